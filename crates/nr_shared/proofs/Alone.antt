@@ -12,48 +12,48 @@ use Rattle.nr_turnstile.proofs.Open.{stays_open}
 use Rattle.nr_shared.specs.declared.entry.Stop.{Stop}
 use Rattle.nr_shared.specs.declared.entry.Entry.{Entry}
 use Rattle.nr_shared.specs.declared.entry.Entry.TheVariants as entries
-use Rattle.nr_shared.specs.declared.entry.Handing.{Handing}
-use Rattle.nr_shared.specs.declared.line.Line.{Line}
+use Rattle.nr_shared.specs.declared.entry.InitialState.{InitialState}
+use Rattle.nr_shared.specs.declared.requester_with_sink.RequesterWithSink.{RequesterWithSink}
 use Rattle.nr_shared.specs.Chains.{last_from, last_place}
-use Rattle.nr_shared.specs.Histories.{closes_of, is_feeding, last_feeding, FeedsInOrder, first_of, handing_in, handed, since, fed_by, bytes_fed, stop_in, stop_of}
+use Rattle.nr_shared.specs.Histories.{closes_of, is_feeding, last_feeding, FeedsInOrder, first_of, initial_in, initial_of, after_initial, fed_by, bytes_fed, stop_in, stop_of}
 use Rattle.nr_shared.specs.Standing.{Stands}
 use Rattle.nr_shared.specs.Callers.{IsFeeding, Writes}
 use Rattle.nr_shared.specs.Draining.{AreWrites}
 use Rattle.nr_shared.proofs.Calls.{none_some}
 use Rattle.nr_shared.proofs.Lists.{at_after, at_either, in_more}
 use Rattle.nr_shared.proofs.Chains.{last_same, no_link_after}
-use Rattle.nr_shared.proofs.Histories.{handed_more, since_more}
+use Rattle.nr_shared.proofs.Histories.{initial_more, since_more}
 
 true_false : true ≡ false → ⊥
 true_false e = absurd cc
 
 -- an entry that doesn't feed has no bytes that were fed, and is no end of feeding
 quiet_bytes : (e : Entry) → is_feeding e ≡ false → fed_by e ≡ []
-quiet_bytes (entries.Handed handing) none = refl
+quiet_bytes (entries.Initial initial) none = refl
 quiet_bytes (entries.Submit call form xid) none = refl
 quiet_bytes (entries.Wrote bytes) none = refl
 quiet_bytes (entries.Fed bytes None) none = refl
 quiet_bytes (entries.Fed bytes (Some k)) none = absurd (true_false none)
-quiet_bytes (entries.Done xid outcome asked) none = refl
-quiet_bytes (entries.Lost xid asked) none = refl
-quiet_bytes (entries.Forget xid asked) none = refl
-quiet_bytes (entries.Revoke xid bytes asked) none = refl
-quiet_bytes entries.Cut none = refl
-quiet_bytes (entries.Stopped cause before) none = refl
-quiet_bytes (entries.Out piece before) none = absurd (true_false none)
+quiet_bytes (entries.Done xid outcome submit) none = refl
+quiet_bytes (entries.Lost xid submit) none = refl
+quiet_bytes (entries.Forget xid submit) none = refl
+quiet_bytes (entries.Revoke xid bytes submit) none = refl
+quiet_bytes entries.WriteFailed none = refl
+quiet_bytes (entries.Stopped cause previous) none = refl
+quiet_bytes (entries.OutOfMemory piece previous) none = absurd (true_false none)
 
 quiet_stop : (e : Entry) → is_feeding e ≡ false → stop_in e ≡ None
-quiet_stop (entries.Handed handing) none = refl
+quiet_stop (entries.Initial initial) none = refl
 quiet_stop (entries.Submit call form xid) none = refl
 quiet_stop (entries.Wrote bytes) none = refl
-quiet_stop (entries.Fed bytes before) none = refl
-quiet_stop (entries.Done xid outcome asked) none = refl
-quiet_stop (entries.Lost xid asked) none = refl
-quiet_stop (entries.Forget xid asked) none = refl
-quiet_stop (entries.Revoke xid bytes asked) none = refl
-quiet_stop entries.Cut none = refl
-quiet_stop (entries.Stopped cause before) none = absurd (true_false none)
-quiet_stop (entries.Out piece before) none = absurd (true_false none)
+quiet_stop (entries.Fed bytes previous) none = refl
+quiet_stop (entries.Done xid outcome submit) none = refl
+quiet_stop (entries.Lost xid submit) none = refl
+quiet_stop (entries.Forget xid submit) none = refl
+quiet_stop (entries.Revoke xid bytes submit) none = refl
+quiet_stop entries.WriteFailed none = refl
+quiet_stop (entries.Stopped cause previous) none = absurd (true_false none)
+quiet_stop (entries.OutOfMemory piece previous) none = absurd (true_false none)
 
 abbrev pub AreQuiet : List Entry → Type 0
 AreQuiet es = AllByRecursion (λ (e : Entry). is_feeding e ≡ false) es
@@ -79,20 +79,20 @@ stop_both [] ys = refl
 stop_both (x ∷ xs) ys = ap (λ o. first_of (stop_in x) o) (stop_both xs ys) ∙ first_assoc (stop_in x) (stop_of xs) (stop_of ys)
 
 -- what was fed, and why no more is, of a history with such entries
-pub bytes_quiet : (xs ys : List Entry) (c : Handing) → handed xs ≡ Some c → AreQuiet ys → bytes_fed (xs ++ ys) ≡ bytes_fed xs
+pub bytes_quiet : (xs ys : List Entry) (c : InitialState) → initial_of xs ≡ Some c → AreQuiet ys → bytes_fed (xs ++ ys) ≡ bytes_fed xs
 bytes_quiet xs ys c is quiet = ap (λ (l : List Entry). flat_map fed_by l) (since_more xs ys c is)
-    ∙ (flat_map-append fed_by (since xs) ys ∙ (ap (λ (l : List ℕ). flat_map fed_by (since xs) ++ l) (none_fed ys quiet) ∙ append-nil (flat_map fed_by (since xs))))
+    ∙ (flat_map-append fed_by (after_initial xs) ys ∙ (ap (λ (l : List ℕ). flat_map fed_by (after_initial xs) ++ l) (none_fed ys quiet) ∙ append-nil (flat_map fed_by (after_initial xs))))
 
 pub stop_quiet : (xs ys : List Entry) → AreQuiet ys → stop_of (xs ++ ys) ≡ stop_of xs
 stop_quiet xs ys quiet = stop_both xs ys ∙ (ap (λ (o : Option Stop). first_of (stop_of xs) o) (none_stops ys quiet) ∙ first_none (stop_of xs))
 
 -- what a pass that fed last knows of feeding is so still
-pub record FeedsAlone {O : Type 0} (p q : Pass (Line O) Entry) : Type 0 where
+pub record FeedsAlone {O : Type 0} (p q : Pass (RequesterWithSink O) Entry) : Type 0 where
   pub feeding : IsFeeding q
   pub bytes : bytes_fed (seen_by q) ≡ bytes_fed (seen_by p)
   pub stop : stop_of (seen_by q) ≡ stop_of (seen_by p)
 
-pub alone : {O : Type 0} (taken : O → Option (List ℕ)) (faults : O → ℕ) (t : Turnstile (Line O) Entry) (p q : Pass (Line O) Entry) (y : Line O) → Lies (seen_by p) (mine_of p) → Gets (Stands taken faults) closes_of t p q → Stands taken faults y (seen_by q)
+pub alone : {O : Type 0} (taken : O → Option (List ℕ)) (faults : O → ℕ) (t : Turnstile (RequesterWithSink O) Entry) (p q : Pass (RequesterWithSink O) Entry) (y : RequesterWithSink O) → Lies (seen_by p) (mine_of p) → Gets (Stands taken faults) closes_of t p q → Stands taken faults y (seen_by q)
     → IsFeeding p → FeedsAlone p q
 alone taken faults t p q y lies g st fe =
     let xs = seen_by p in
@@ -103,13 +103,13 @@ alone taken faults t p q y lies g st fe =
     (λ e i link closes. let (n, (is, at)) = at_after xs ys i.0 e i.1 in stays.1 n e (subst (λ (l : List Entry). get_elem? l n ≡ some e) (sym seen) at) closes) in
     record {
       feeding = record {
-        handing = fe.handing;
-        is_handed = subst (λ (l : List Entry). handed l ≡ Some fe.handing) (sym seen) (handed_more xs ys fe.handing fe.is_handed);
+        initial = fe.initial;
+        is_initial = subst (λ (l : List Entry). initial_of l ≡ Some fe.initial) (sym seen) (initial_more xs ys fe.initial fe.is_initial);
         last = fe.last;
         is_last = ap (λ (l : List Entry). last_feeding l) seen ∙ (last_same is_feeding xs ys quiet ∙ fe.is_last);
         is_open = stays;
       };
-      bytes = ap (λ (l : List Entry). bytes_fed l) seen ∙ bytes_quiet xs ys fe.handing fe.is_handed quiet;
+      bytes = ap (λ (l : List Entry). bytes_fed l) seen ∙ bytes_quiet xs ys fe.initial fe.is_initial quiet;
       stop = ap (λ (l : List Entry). stop_of l) seen ∙ stop_quiet xs ys quiet;
     }
 
@@ -118,35 +118,35 @@ alone taken faults t p q y lies g st fe =
 pub writes_quiet : (es : List Entry) → AreWrites es → AreQuiet es
 writes_quiet [] all = tt
 writes_quiet (entries.Wrote bytes ∷ es) all = (refl, writes_quiet es all)
-writes_quiet (entries.Cut ∷ es) all = (refl, writes_quiet es all)
-writes_quiet (entries.Handed handing ∷ es) all = absurd all
+writes_quiet (entries.WriteFailed ∷ es) all = (refl, writes_quiet es all)
+writes_quiet (entries.Initial initial ∷ es) all = absurd all
 writes_quiet (entries.Submit call form xid ∷ es) all = absurd all
-writes_quiet (entries.Fed bytes before ∷ es) all = absurd all
-writes_quiet (entries.Done xid outcome asked ∷ es) all = absurd all
-writes_quiet (entries.Lost xid asked ∷ es) all = absurd all
-writes_quiet (entries.Forget xid asked ∷ es) all = absurd all
-writes_quiet (entries.Revoke xid bytes asked ∷ es) all = absurd all
-writes_quiet (entries.Stopped cause before ∷ es) all = absurd all
-writes_quiet (entries.Out piece before ∷ es) all = absurd all
+writes_quiet (entries.Fed bytes previous ∷ es) all = absurd all
+writes_quiet (entries.Done xid outcome submit ∷ es) all = absurd all
+writes_quiet (entries.Lost xid submit ∷ es) all = absurd all
+writes_quiet (entries.Forget xid submit ∷ es) all = absurd all
+writes_quiet (entries.Revoke xid bytes submit ∷ es) all = absurd all
+writes_quiet (entries.Stopped cause previous ∷ es) all = absurd all
+writes_quiet (entries.OutOfMemory piece previous ∷ es) all = absurd all
 
 pub writes_close : (es : List Entry) → AreWrites es → (i : ℕ) (e : Entry) → get_elem? es i ≡ some e → closes_of e ≡ None
 writes_close [] all i e at = absurd (some-ne-none e (sym at))
 writes_close (entries.Wrote bytes ∷ es) all zero e at = ap closes_of (sym (some-injective (entries.Wrote bytes) e at))
 writes_close (entries.Wrote bytes ∷ es) all (suc i) e at = writes_close es all i e at
-writes_close (entries.Cut ∷ es) all zero e at = ap closes_of (sym (some-injective entries.Cut e at))
-writes_close (entries.Cut ∷ es) all (suc i) e at = writes_close es all i e at
-writes_close (entries.Handed handing ∷ es) all i e at = absurd all
+writes_close (entries.WriteFailed ∷ es) all zero e at = ap closes_of (sym (some-injective entries.WriteFailed e at))
+writes_close (entries.WriteFailed ∷ es) all (suc i) e at = writes_close es all i e at
+writes_close (entries.Initial initial ∷ es) all i e at = absurd all
 writes_close (entries.Submit call form xid ∷ es) all i e at = absurd all
-writes_close (entries.Fed bytes before ∷ es) all i e at = absurd all
-writes_close (entries.Done xid outcome asked ∷ es) all i e at = absurd all
-writes_close (entries.Lost xid asked ∷ es) all i e at = absurd all
-writes_close (entries.Forget xid asked ∷ es) all i e at = absurd all
-writes_close (entries.Revoke xid bytes asked ∷ es) all i e at = absurd all
-writes_close (entries.Stopped cause before ∷ es) all i e at = absurd all
-writes_close (entries.Out piece before ∷ es) all i e at = absurd all
+writes_close (entries.Fed bytes previous ∷ es) all i e at = absurd all
+writes_close (entries.Done xid outcome submit ∷ es) all i e at = absurd all
+writes_close (entries.Lost xid submit ∷ es) all i e at = absurd all
+writes_close (entries.Forget xid submit ∷ es) all i e at = absurd all
+writes_close (entries.Revoke xid bytes submit ∷ es) all i e at = absurd all
+writes_close (entries.Stopped cause previous ∷ es) all i e at = absurd all
+writes_close (entries.OutOfMemory piece previous ∷ es) all i e at = absurd all
 
 -- an open place stays open
-pub open_writes : {O : Type 0} (p q : Pass (Line O) Entry) (k : ℕ) → Writes p q → IsOpen closes_of (seen_by p) (mine_of p) k → IsOpen closes_of (seen_by q) (mine_of q) k
+pub open_writes : {O : Type 0} (p q : Pass (RequesterWithSink O) Entry) (k : ℕ) → Writes p q → IsOpen closes_of (seen_by p) (mine_of p) k → IsOpen closes_of (seen_by q) (mine_of q) k
 open_writes p q k w o = (
   subst (IsIn k) (sym w.adds.mine) (in_more (mine_of p) w.adds.places k o.0),
   λ n e at closes. ⊎_elim
@@ -155,18 +155,18 @@ open_writes p q k w o = (
       (at_either (seen_by p) w.es n e (subst (λ (l : List Entry). get_elem? l n ≡ some e) w.seen at)),
 )
 
-pub alone_writes : {O : Type 0} (p q : Pass (Line O) Entry) → Writes p q → IsFeeding p → FeedsAlone p q
+pub alone_writes : {O : Type 0} (p q : Pass (RequesterWithSink O) Entry) → Writes p q → IsFeeding p → FeedsAlone p q
 alone_writes p q w fe =
     let xs = seen_by p in
     let quiet = writes_quiet w.es w.are in
     record {
       feeding = record {
-        handing = fe.handing;
-        is_handed = subst (λ (l : List Entry). handed l ≡ Some fe.handing) (sym w.seen) (handed_more xs w.es fe.handing fe.is_handed);
+        initial = fe.initial;
+        is_initial = subst (λ (l : List Entry). initial_of l ≡ Some fe.initial) (sym w.seen) (initial_more xs w.es fe.initial fe.is_initial);
         last = fe.last;
         is_last = ap (λ (l : List Entry). last_feeding l) w.seen ∙ (last_same is_feeding xs w.es quiet ∙ fe.is_last);
         is_open = open_writes p q fe.last w fe.is_open;
       };
-      bytes = ap (λ (l : List Entry). bytes_fed l) w.seen ∙ bytes_quiet xs w.es fe.handing fe.is_handed quiet;
+      bytes = ap (λ (l : List Entry). bytes_fed l) w.seen ∙ bytes_quiet xs w.es fe.initial fe.is_initial quiet;
       stop = ap (λ (l : List Entry). stop_of l) w.seen ∙ stop_quiet xs w.es quiet;
     }

@@ -8,7 +8,7 @@ use Rattle.nr_reduce.specs.declared.call.Call.{Call}
 use Rattle.nr_requester.specs.RequesterState.{RequesterState}
 use Rattle.nr_requester.specs.OpenCalls.{open_call, KeepsTickets, OpensTicket, ClosesTicket}
 use Rattle.nr_shared.specs.declared.entry.Entry.{Entry}
-use Rattle.nr_shared.specs.Histories.{closes_of, IsUnclosed, asked_of, asked_by, IsAskedAt, place_of}
+use Rattle.nr_shared.specs.Histories.{closes_of, IsUnclosed, submitted_call, submits_call, IsCallAt, place_of}
 use Rattle.nr_shared.specs.Standing.{KeepsCalls}
 use Rattle.nr_shared.proofs.Histories.{asked_end, asked_old, place_same, place_new}
 
@@ -26,7 +26,7 @@ none_true o none there = false_true (sym (ap is_some none) ∙ there)
     false_true e = absurd cc
 
 -- an entry that is no call and closes none
-pub calls_kept : (r s : RequesterState) (h : List Entry) (e : Entry) → ((xid : ℕ) → asked_of xid e ≡ None) → KeepsTickets r s → KeepsCalls r h → KeepsCalls s (h ++ e ∷ [])
+pub calls_kept : (r s : RequesterState) (h : List Entry) (e : Entry) → ((xid : ℕ) → submitted_call xid e ≡ None) → KeepsTickets r s → KeepsCalls r h → KeepsCalls s (h ++ e ∷ [])
 calls_kept r s h e none keeps has xid k call asked unclosed =
     let old = has xid k call (asked_old h e xid k call (none xid) asked) (unclosed_old h e k unclosed) in
     (place_same xid h e (ap is_some (none xid)) ∙ old.0, keeps xid ∙ old.1)
@@ -36,23 +36,23 @@ asked_new true call c e = (refl, ap (λ (o : Option Call). unwrap_or o call) e)
 asked_new false call c e = absurd (none_some c e)
 
 -- a call that is accepted
-pub calls_more : (r s : RequesterState) (h : List Entry) (e : Entry) (xid : ℕ) (call : Call) → ((x : ℕ) → asked_of x e ≡ (if eqb xid x then Some call else None)) → OpensTicket xid call r s → KeepsCalls r h
+pub calls_more : (r s : RequesterState) (h : List Entry) (e : Entry) (xid : ℕ) (call : Call) → ((x : ℕ) → submitted_call x e ≡ (if eqb xid x then Some call else None)) → OpensTicket xid call r s → KeepsCalls r h
     → KeepsCalls s (h ++ e ∷ [])
 calls_more r s h e xid call is opens has x k c asked unclosed = ⊎_elim
-    (λ (old : IsAskedAt h x k c).
+    (λ (old : IsCallAt h x k c).
     (let was = has x k c old (unclosed_old h e k unclosed) in ⊎_elim
     (λ (same : x ≡ xid). absurd (none_some c (sym opens.fresh ∙ (ap (λ z. open_call z r) (sym same) ∙ was.1))))
     (λ (other : x ≢ xid).
     (place_same x h e (ap is_some (is x) ∙ ap (λ b. is_some (if b then Some call else None)) (ne_eqb xid x (λ z. other (sym z)))) ∙ was.0, opens.others x other ∙ was.1))
     (cases_eq x xid)))
-    (λ (new : (k ≡ length h) × (asked_of x e ≡ Some c)).
+    (λ (new : (k ≡ length h) × (submitted_call x e ≡ Some c)).
     (let both = asked_new (eqb xid x) call c (sym (is x) ∙ new.1) in
     let same : xid ≡ x = eqb-true xid x both.0 in
     (place_new x h e (ap is_some new.1) ∙ ap (λ n. Some n) (sym new.0), ap (λ z. open_call z s) (sym same) ∙ (opens.own ∙ ap (λ z. Some z) both.1))))
     (asked_end h e x k c asked)
 
 -- a call that is closed
-pub calls_fewer : (r s : RequesterState) (h : List Entry) (e : Entry) (xid k0 : ℕ) (call : Call) → ((x : ℕ) → asked_of x e ≡ None) → closes_of e ≡ Some k0 → IsAskedAt h xid k0 call → IsUnclosed h k0
+pub calls_fewer : (r s : RequesterState) (h : List Entry) (e : Entry) (xid k0 : ℕ) (call : Call) → ((x : ℕ) → submitted_call x e ≡ None) → closes_of e ≡ Some k0 → IsCallAt h xid k0 call → IsUnclosed h k0
     → ClosesTicket xid r s → KeepsCalls r h → KeepsCalls s (h ++ e ∷ [])
 calls_fewer r s h e xid k0 call none closes own before shuts has x k c asked after =
     let was = has x k c (asked_old h e x k c (none x) asked) (unclosed_old h e k after) in

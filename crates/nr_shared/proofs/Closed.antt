@@ -10,16 +10,16 @@ use Rattle.nr_turnstile.specs.declared.turnstile.Pass.{Pass as TurnPass}
 use Rattle.nr_turnstile.specs.Rule.{Begins, Earlier, IsIn, Lies, Owns, in_order}
 use Rattle.nr_turnstile.specs.Passes.{Joins, mine_of, seen_by}
 use Rattle.nr_shared.specs.declared.entry.Entry.{Entry}
-use Rattle.nr_shared.specs.declared.entry.Handing.{Handing}
+use Rattle.nr_shared.specs.declared.entry.InitialState.{InitialState}
 use Rattle.nr_shared.specs.declared.entry.Stop.{Stop}
-use Rattle.nr_shared.specs.declared.feeder.Beside.{Beside}
-use Rattle.nr_shared.specs.declared.feeder.Feeder.{Feeder}
-use Rattle.nr_shared.specs.declared.line.Line.{Line}
+use Rattle.nr_shared.specs.declared.source_reader.InitialSource.{InitialSource}
+use Rattle.nr_shared.specs.declared.source_reader.SourceReader.{SourceReader}
+use Rattle.nr_shared.specs.declared.requester_with_sink.RequesterWithSink.{RequesterWithSink}
 use Rattle.nr_shared.specs.Callers.{IsCaller, IsFeeding}
 use Rattle.nr_shared.specs.Feeding.{FeedsFor, StopHolds}
 use Rattle.nr_shared.specs.Histories.{FeedsInOrder, bytes_fed, closes_of, is_feeding, stop_of}
 use Rattle.nr_shared.specs.Opening.{GivesBack}
-use Rattle.nr_shared.specs.Standing.{Follows, Stands}
+use Rattle.nr_shared.specs.Standing.{RepresentsHistory, Stands}
 use Rattle.nr_shared.proofs.Adding.{begins_then}
 use Rattle.nr_shared.proofs.Alone.{AreQuiet, bytes_quiet, stop_quiet}
 use Rattle.nr_shared.proofs.Chains.{no_link_after}
@@ -33,7 +33,7 @@ module _ {O : Type 0} where
   -- After what the pass that feeds has seen the history has no entry that feeds: such an entry closes a place of this pass, so that it is an entry
   -- of this pass, or of the caller's into which it was joined. It isn't the first, since it comes after what that pass has seen; and a
   -- caller's entries don't feed.
-  after_feeding : (p f j : TurnPass (Line O) Entry) (h : List Entry) (b : Begins (seen_by f) h) → IsCaller p → (fe : IsFeeding f) → Lies (seen_by f) (mine_of f) → FeedsInOrder h
+  after_feeding : (p f j : TurnPass (RequesterWithSink O) Entry) (h : List Entry) (b : Begins (seen_by f) h) → IsCaller p → (fe : IsFeeding f) → Lies (seen_by f) (mine_of f) → FeedsInOrder h
       → Begins (seen_by p) (seen_by j) → mine_of j ≡ in_order (mine_of p) (mine_of f) → Begins (seen_by j) h → Owns closes_of h (mine_of j) → AreQuiet b.0
   after_feeding p f j h b c fe lies chained first mine whole owns =
       let xs = seen_by f in
@@ -53,18 +53,18 @@ module _ {O : Type 0} where
       (in_ordered (mine_of p) (mine_of f) n (subst (IsIn n) mine own))))
 
 -- a history that begins with one entry and has one has that entry
-pub same_beside : {A : Type 0} (b c : A) (p q : List A) → p ≡ b ∷ [] → q ≡ c ∷ [] → Begins p q → c ≡ b
-same_beside b c p q one two begins = some-injective c b (ap (λ l. get_elem? l 0) (sym two ∙ (seen_one p q b c one two begins ∙ one)))
+pub same_initial_source : {A : Type 0} (b c : A) (p q : List A) → p ≡ b ∷ [] → q ≡ c ∷ [] → Begins p q → c ≡ b
+same_initial_source b c p q one two begins = some-injective c b (ap (λ l. get_elem? l 0) (sym two ∙ (seen_one p q b c one two begins ∙ one)))
 
 module _ {I O : Type 0} (left given : I → Option (List ℕ)) (source_faults : I → ℕ) (taken : O → Option (List ℕ)) (sink_faults : O → ℕ) where
-  pub gives_back : (p j : TurnPass (Line O) Entry) (s : Feeder I O) (m : Line O) (b : Beside I O) (h : List Entry) → IsCaller p → FeedsFor left given source_faults b s
+  pub gives_back : (p j : TurnPass (RequesterWithSink O) Entry) (s : SourceReader I O) (m : RequesterWithSink O) (b : InitialSource I O) (h : List Entry) → IsCaller p → FeedsFor left given source_faults b s
       → Joins closes_of p s.pass j → Stands taken sink_faults m h → Begins (seen_by j) h → ((n : ℕ) → IsIn n (mine_of j) → n < length h) → Owns closes_of h (mine_of j) → Earlier closes_of h
       → GivesBack left given source_faults taken sink_faults (seen_by p) (mine_of p) b.source.value m.requester s.source m.sink
   gives_back p j s m b h c f (longer_is, first, second, mine, rising, own, lies_j, missed) st whole inside owns earlier =
       let begins : Begins (seen_by p) h = begins_then (seen_by p) (seen_by j) h first whole in
       let fed : Begins (seen_by s.pass) h = begins_then (seen_by s.pass) (seen_by j) h second whole in
       let quiet = after_feeding p s.pass j h fed c f.feeding f.lies st.in_order first mine whole owns in
-      let bytes : bytes_fed h ≡ bytes_fed (seen_by s.pass) = ap (λ (l : List Entry). bytes_fed l) fed.1 ∙ bytes_quiet (seen_by s.pass) fed.0 f.feeding.handing f.feeding.is_handed quiet in
+      let bytes : bytes_fed h ≡ bytes_fed (seen_by s.pass) = ap (λ (l : List Entry). bytes_fed l) fed.1 ∙ bytes_quiet (seen_by s.pass) fed.0 f.feeding.initial f.feeding.is_initial quiet in
       let stop : stop_of h ≡ stop_of (seen_by s.pass) = ap (λ (l : List Entry). stop_of l) fed.1 ∙ stop_quiet (seen_by s.pass) fed.0 quiet in
       let read : s.read ≡ length (bytes_fed h) = f.read ∙ ap length (sym bytes) in
       record {
@@ -72,14 +72,15 @@ module _ {I O : Type 0} (left given : I → Option (List ℕ)) (source_faults : 
         begins = begins;
         lies = λ k i. (let old = c.lies k i in let len = ap length begins.1 ∙ length-append (seen_by p) begins.0 in omega (arith, old, len));
         earlier = earlier;
-        handing = st.handing;
-        is_handed = st.is_handed;
-        follows = subst (λ (o : Option Stop). Follows st.handing m.requester o h) st.stopped st.follows;
+        initial = st.initial;
+        is_initial = st.is_initial;
+        represents = subst (λ (o : Option Stop). RepresentsHistory st.initial m.requester o h) st.stopped st.represents;
         calls = st.calls;
         took = st.took;
         sink_count = st.never_falls;
-        cut = λ is. st.cut (st.is_cut ∙ is);
-        placed = st.placed;
+        sink_failed = λ is. st.sink_failed (st.write_failed ∙ is);
+        in_order = st.in_order;
+        previous = st.previous;
         output = st.output;
         gave = subst (λ (l : List ℕ). HandsOut (left b.source.value) (given b.source.value) (left s.source) (given s.source) l) (sym bytes) f.gave;
         source_count = f.never_falls;
@@ -88,21 +89,22 @@ module _ {I O : Type 0} (left given : I → Option (List ℕ)) (source_faults : 
       }
 
   -- what wasn't shared
-  pub unshared : (m : Line O) (h : List Entry) (source : I) → Stands taken sink_faults m h → Earlier closes_of h → bytes_fed h ≡ [] → stop_of h ≡ None
+  pub unshared : (m : RequesterWithSink O) (h : List Entry) (source : I) → Stands taken sink_faults m h → Earlier closes_of h → bytes_fed h ≡ [] → stop_of h ≡ None
       → GivesBack left given source_faults taken sink_faults h [] source m.requester source m.sink
   unshared m h source st earlier none going = record {
     history = h;
     begins = ([], sym (append-nil h));
     lies = λ k i. absurd (some-ne-none k (sym i.1));
     earlier = earlier;
-    handing = st.handing;
-    is_handed = st.is_handed;
-    follows = subst (λ (o : Option Stop). Follows st.handing m.requester o h) st.stopped st.follows;
+    initial = st.initial;
+    is_initial = st.is_initial;
+    represents = subst (λ (o : Option Stop). RepresentsHistory st.initial m.requester o h) st.stopped st.represents;
     calls = st.calls;
     took = st.took;
     sink_count = st.never_falls;
-    cut = λ is. st.cut (st.is_cut ∙ is);
-    placed = st.placed;
+    sink_failed = λ is. st.sink_failed (st.write_failed ∙ is);
+    in_order = st.in_order;
+    previous = st.previous;
     output = st.output;
     gave = subst (λ (l : List ℕ). HandsOut (left source) (given source) (left source) (given source) l) (sym none) (HandsOut_nil (left source) (given source));
     source_count = omega arith;

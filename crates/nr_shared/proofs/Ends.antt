@@ -24,20 +24,20 @@ use Rattle.nr_reduce.specs.Run.{client}
 use Rattle.nr_shared.specs.declared.entry.Entry.{Entry}
 use Rattle.nr_shared.specs.declared.entry.Stop.{Stop}
 use Rattle.nr_shared.specs.declared.entry.Stop.TheVariants as causes
-use Rattle.nr_shared.specs.declared.entry.Handing.{Handing}
-use Rattle.nr_shared.specs.declared.line.Line.{Line}
+use Rattle.nr_shared.specs.declared.entry.InitialState.{InitialState}
+use Rattle.nr_shared.specs.declared.requester_with_sink.RequesterWithSink.{RequesterWithSink}
 use Rattle.nr_shared.specs.Ending.{ClientEnded, ClientRefuses, HasCredit, HasEnded, IsRefused}
-use Rattle.nr_shared.specs.Histories.{FitsHanding, FitsHistory, handed, run_of, stop_of}
+use Rattle.nr_shared.specs.Histories.{FitsInitialState, FitsHistory, initial_of, run_of, stop_of}
 use Rattle.nr_turnstile.specs.declared.turn.Turn.{Turn}
 use Rattle.nr_turnstile.specs.declared.turnstile.Pass.{Pass}
 use Rattle.nr_turnstile.specs.Rule.{longer}
 use Rattle.nr_turnstile.specs.Passes.{seen_by}
 use Rattle.nr_turnstile.specs.Turns.{pass_of}
 use Rattle.nr_shared.specs.Callers.{IsReady, KeepsLaw}
-use Rattle.nr_shared.specs.Sharing.{SaysCredit, SaysCreditOut}
+use Rattle.nr_shared.specs.Sharing.{SaysCredit, SaysCreditOutOfMemory}
 use Rattle.nr_shared.specs.Marks.{IsOut}
 use Rattle.nr_reduce.specs.declared.mark.Mark.{Mark}
-use Rattle.nr_shared.specs.Standing.{is_out, Follows, FollowsIf, Stands}
+use Rattle.nr_shared.specs.Standing.{is_out_of_memory, RepresentsHistory, RepresentsHistoryIf, Stands}
 use Rattle.nr_reduce.specs.declared.mark.LinkParameters.{LinkParameters}
 
 -- ---- Ends
@@ -45,12 +45,12 @@ use Rattle.nr_reduce.specs.declared.mark.LinkParameters.{LinkParameters}
 true_false : true ≡ false → ⊥
 true_false e = absurd cc
 
--- a link that fits the history was opened as its handing says
-pub fits_handing : (h : List Entry) (c : Handing) (opened : LinkParameters) (link : ℕ) (before : List Mark) → handed h ≡ Some c → FitsHistory h opened link before → FitsHanding c opened link before
-fits_handing h c opened link before is (d, has, fits) = subst (λ (x : Handing). FitsHanding x opened link before) (ap (λ (o : Option Handing). unwrap_or o c) (sym has ∙ is)) fits
+-- a link that fits the history was opened as its initial state says
+pub fits_initial : (h : List Entry) (c : InitialState) (opened : LinkParameters) (link : ℕ) (before : List Mark) → initial_of h ≡ Some c → FitsHistory h opened link before → FitsInitialState c opened link before
+fits_initial h c opened link before is (d, has, fits) = subst (λ (x : InitialState). FitsInitialState x opened link before) (ap (λ (o : Option InitialState). unwrap_or o c) (sym has ∙ is)) fits
 
-client_ended : (c : Handing) (r : RequesterSide) (h : List Entry) (end : End) → handed h ≡ Some c → FollowsIf false c r h → r.state.side.ended ≡ Some end → ClientEnded end h
-client_ended c r h end is follows ended opened link before fits = let live = follows.1 opened link before (fits_handing h c opened link before is fits) in sym live.stands.keeps.kept.keeps.ended ∙ ended
+client_ended : (c : InitialState) (r : RequesterSide) (h : List Entry) (end : End) → initial_of h ≡ Some c → RepresentsHistoryIf false c r h → r.state.side.ended ≡ Some end → ClientEnded end h
+client_ended c r h end is represents ended opened link before fits = let live = represents.1 opened link before (fits_initial h c opened link before is fits) in sym live.stands.keeps.kept.keeps.ended ∙ ended
 
 -- the end of a requester that ran out of memory
 end_is : (end : End) (o : Option End) → o ≡ Some end → o ≡ Some ends.Memory → end ≡ ends.Memory
@@ -60,7 +60,7 @@ abbrev pub IsMemory : End → Type 0
 IsMemory ends.Memory = ⊤
 IsMemory end = ⊥
 
-pub out_is : (o : Option Stop) → is_out o ≡ true → o ≡ Some causes.Memory
+pub out_is : (o : Option Stop) → is_out_of_memory o ≡ true → o ≡ Some causes.Memory
 out_is None is = absurd cc
 out_is (Some causes.LinkRead) is = absurd cc
 out_is (Some causes.Closed) is = absurd cc
@@ -68,9 +68,9 @@ out_is (Some causes.Budget) is = absurd cc
 out_is (Some causes.Memory) is = refl
 
 -- a requester that ended for another cause hasn't run out of memory
-pub not_out : (o : Option Stop) (c : Handing) (r : RequesterSide) (h : List Entry) (P : Type 0) → (r.state.side.ended ≡ Some ends.Memory → ⊥) → Follows c r o h → (FollowsIf false c r h → P) → P
-not_out o c r h P other follows next = by_out (is_out o) follows where
-  by_out : (b : Bool) → FollowsIf b c r h → P
+pub not_out : (o : Option Stop) (c : InitialState) (r : RequesterSide) (h : List Entry) (P : Type 0) → (r.state.side.ended ≡ Some ends.Memory → ⊥) → RepresentsHistory c r o h → (RepresentsHistoryIf false c r h → P) → P
+not_out o c r h P other represents next = by_out (is_out_of_memory o) represents where
+  by_out : (b : Bool) → RepresentsHistoryIf b c r h → P
   by_out false f = next f
   by_out true f = absurd (other f.0)
 
@@ -78,17 +78,17 @@ pub other_end : (r : RequesterSide) (end : End) → r.state.side.ended ≡ Some 
 other_end r end is other memory = other (subst IsMemory (sym (end_is end r.state.side.ended is memory)) tt)
 
 module _ {O : Type 0} (taken : O → Option (List ℕ)) (faults : O → ℕ) where
-  memory_ended : (m : Line O) (h : List Entry) → Stands taken faults m h → m.requester.state.side.ended ≡ Some ends.Memory → stop_of h ≡ Some causes.Memory
-  memory_ended m h st is = sym st.stopped ∙ by_out (is_out m.stopped) refl where
-    by_out : (b : Bool) → is_out m.stopped ≡ b → m.stopped ≡ Some causes.Memory
+  memory_ended : (m : RequesterWithSink O) (h : List Entry) → Stands taken faults m h → m.requester.state.side.ended ≡ Some ends.Memory → stop_of h ≡ Some causes.Memory
+  memory_ended m h st is = sym st.stopped ∙ by_out (is_out_of_memory m.stopped) refl where
+    by_out : (b : Bool) → is_out_of_memory m.stopped ≡ b → m.stopped ≡ Some causes.Memory
     by_out true out = out_is m.stopped out
-    by_out false out = absurd ((subst (λ b. FollowsIf b st.handing m.requester h) out st.follows).0 is)
+    by_out false out = absurd ((subst (λ b. RepresentsHistoryIf b st.initial m.requester h) out st.represents).0 is)
 
-  other_ended : (m : Line O) (h : List Entry) (end : End) → Stands taken faults m h → (IsMemory end → ⊥) → m.requester.state.side.ended ≡ Some end → ClientEnded end h
-  other_ended m h end st other is = not_out m.stopped st.handing m.requester h (ClientEnded end h) (other_end m.requester end is other) st.follows (λ f. client_ended st.handing m.requester h end st.is_handed f is)
+  other_ended : (m : RequesterWithSink O) (h : List Entry) (end : End) → Stands taken faults m h → (IsMemory end → ⊥) → m.requester.state.side.ended ≡ Some end → ClientEnded end h
+  other_ended m h end st other is = not_out m.stopped st.initial m.requester h (ClientEnded end h) (other_end m.requester end is other) st.represents (λ f. client_ended st.initial m.requester h end st.is_initial f is)
 
   -- the requester has ended so
-  pub ended_is : (m : Line O) (h : List Entry) (end : End) → Stands taken faults m h → m.requester.state.side.ended ≡ Some end → HasEnded end h
+  pub ended_is : (m : RequesterWithSink O) (h : List Entry) (end : End) → Stands taken faults m h → m.requester.state.side.ended ≡ Some end → HasEnded end h
   ended_is m h ends.Memory st is = memory_ended m h st is
   ended_is m h (ends.Bad at reason) st is = other_ended m h (ends.Bad at reason) st (λ no. no) is
   ended_is m h (ends.Denied stag to why) st is = other_ended m h (ends.Denied stag to why) st (λ no. no) is
@@ -105,7 +105,7 @@ abbrev end_in : Submission → Option End
 end_in (submissions.Refused why) = end_in_refused why
 end_in answer = None
 
--- an answer that isn't for want of a credit
+-- an answer for another cause than that no credit is left
 abbrev Credited : Submission → Type 0
 Credited (submissions.Refused why) = HasCredit why
 Credited answer = ⊤
@@ -164,7 +164,7 @@ SaysSo r call form why = why ≢ refusals.Memory → answer_of r call form ≡ s
 said : (r : RequesterState) (call : Call) (form : Form) (why : Refused) → NotMemory why → SaysSo r call form why → answer_of r call form ≡ submissions.Refused why
 said r call form why other says = says (λ same. subst NotMemory same other)
 
--- a call isn't refused for want of a credit while one is left
+-- a call isn't refused with NoCredit while a credit is left
 pub credit_left : (r : RequesterState) (call : Call) (form : Form) (why : Refused) → length r.outstanding < r.grant → SaysSo r call form why → HasCredit why
 credit_left r call form refusals.Memory credit says = tt
 credit_left r call form (refusals.Ended end) credit says = tt
@@ -185,16 +185,16 @@ out_counts opened link r run out =
     )
 
 module _ {O : Type 0} (taken : O → Option (List ℕ)) (faults : O → ℕ) where
-  client_refuses : (m : Line O) (h : List Entry) (call : Call) (form : Form) (why : Refused) → Stands taken faults m h → end_in_refused why ≡ None → NotMemory why → SaysSo m.requester.state call form why → ClientRefuses why call form h
+  client_refuses : (m : RequesterWithSink O) (h : List Entry) (call : Call) (form : Form) (why : Refused) → Stands taken faults m h → end_in_refused why ≡ None → NotMemory why → SaysSo m.requester.state call form why → ClientRefuses why call form h
   client_refuses m h call form why st no_end other says =
       let is = said m.requester.state call form why other says in
       let live : m.requester.state.side.ended ≡ None = sym (answers_end m.requester.state call form) ∙ (ap end_in is ∙ no_end) in
-      not_out m.stopped st.handing m.requester h (ClientRefuses why call form h) (λ memory. none_memory (sym live ∙ memory)) st.follows
-      (λ f opened link before fits. (let l = f.1 opened link before (fits_handing h st.handing opened link before st.is_handed fits) in
+      not_out m.stopped st.initial m.requester h (ClientRefuses why call form h) (λ memory. none_memory (sym live ∙ memory)) st.represents
+      (λ f opened link before fits. (let l = f.1 opened link before (fits_initial h st.initial opened link before st.is_initial fits) in
       sym (answers_as_client opened link m.requester (run_of before 0 link h) call form l.stands) ∙ is))
 
   -- what the requester says of a call that it refuses is said of the history
-  pub refused_is : (m : Line O) (h : List Entry) (call : Call) (form : Form) (why : Refused) → Stands taken faults m h → SaysSo m.requester.state call form why → IsRefused why call form h
+  pub refused_is : (m : RequesterWithSink O) (h : List Entry) (call : Call) (form : Form) (why : Refused) → Stands taken faults m h → SaysSo m.requester.state call form why → IsRefused why call form h
   refused_is m h call form refusals.Memory st says = tt
   refused_is m h call form (refusals.Ended end) st says =
       ended_is taken faults m h end st (sym (answers_end m.requester.state call form) ∙ ap end_in (said m.requester.state call form (refusals.Ended end) tt says))
@@ -203,34 +203,34 @@ module _ {O : Type 0} (taken : O → Option (List ℕ)) (faults : O → ℕ) whe
   refused_is m h call form (refusals.Spent left need) st says = client_refuses m h call form (refusals.Spent left need) st refl tt says
 
   -- whether a credit is left
-  pub says_credit : (m : Line O) (h : List Entry) → Stands taken faults m h → SaysCredit (nat_lt (length m.requester.state.outstanding) m.requester.state.grant) h
-  says_credit m h st other opened link before fits = by_out (is_out m.stopped) refl where
-    by_out : (b : Bool) → is_out m.stopped ≡ b → nat_lt (length m.requester.state.outstanding) m.requester.state.grant ≡ nat_lt (calls_outstanding opened link (run_of before 0 link h)) (credits_granted opened link (run_of before 0 link h))
+  pub says_credit : (m : RequesterWithSink O) (h : List Entry) → Stands taken faults m h → SaysCredit (nat_lt (length m.requester.state.outstanding) m.requester.state.grant) h
+  says_credit m h st other opened link before fits = by_out (is_out_of_memory m.stopped) refl where
+    by_out : (b : Bool) → is_out_of_memory m.stopped ≡ b → nat_lt (length m.requester.state.outstanding) m.requester.state.grant ≡ nat_lt (calls_outstanding opened link (run_of before 0 link h)) (credits_granted opened link (run_of before 0 link h))
     by_out true out = absurd (other (sym st.stopped ∙ out_is m.stopped out))
     by_out false out =
-        let f = subst (λ b. FollowsIf b st.handing m.requester h) out st.follows in
-        let l = f.1 opened link before (fits_handing h st.handing opened link before st.is_handed fits) in
+        let f = subst (λ b. RepresentsHistoryIf b st.initial m.requester h) out st.represents in
+        let l = f.1 opened link before (fits_initial h st.initial opened link before st.is_initial fits) in
         let counts = counts_as_client opened link m.requester (run_of before 0 link h) l.stands in
         ap (λ (n : ℕ). nat_lt n m.requester.state.grant) counts.0 ∙ ap (λ (n : ℕ). nat_lt (calls_outstanding opened link (run_of before 0 link h)) n) counts.1
 
-  pub says_credit_out : (m : Line O) (h : List Entry) → Stands taken faults m h → SaysCreditOut (nat_lt (length m.requester.state.outstanding) m.requester.state.grant) h
-  says_credit_out m h st memory =
-      let f = subst (λ b. FollowsIf b st.handing m.requester h) (ap is_out (st.stopped ∙ memory)) st.follows in (
+  pub says_credit_out_of_memory : (m : RequesterWithSink O) (h : List Entry) → Stands taken faults m h → SaysCreditOutOfMemory (nat_lt (length m.requester.state.outstanding) m.requester.state.grant) h
+  says_credit_out_of_memory m h st memory =
+      let f = subst (λ b. RepresentsHistoryIf b st.initial m.requester h) (ap is_out_of_memory (st.stopped ∙ memory)) st.represents in (
         f.1.0,
         λ opened link before fits.
-            (let counts = out_counts opened link m.requester (run_of before f.1.0 link h) (f.1.1 opened link before (fits_handing h st.handing opened link before st.is_handed fits)) in
+            (let counts = out_counts opened link m.requester (run_of before f.1.0 link h) (f.1.1 opened link before (fits_initial h st.initial opened link before st.is_initial fits)) in
             ap (λ (n : ℕ). nat_lt n m.requester.state.grant) counts.0 ∙ ap (λ (n : ℕ). nat_lt (calls_outstanding opened link (run_of before f.1.0 link h)) n) counts.1),
       )
 
   -- the history keeps the law
-  pub law_of : (m : Line O) (h : List Entry) → Stands taken faults m h → KeepsLaw h
-  law_of m h st = by_out (is_out m.stopped) st.follows where
-    by_out : (b : Bool) → FollowsIf b st.handing m.requester h → KeepsLaw h
-    by_out false f = record { n = 0; law = λ opened link before fits. (let l = f.1 opened link before (fits_handing h st.handing opened link before st.is_handed fits) in (l.asked, l.granted)); output = st.output }
-    by_out true f = record { n = f.1.0; law = λ opened link before fits. (let l = f.1.1 opened link before (fits_handing h st.handing opened link before st.is_handed fits) in (l.asked, l.granted)); output = st.output }
+  pub law_of : (m : RequesterWithSink O) (h : List Entry) → Stands taken faults m h → KeepsLaw h
+  law_of m h st = by_out (is_out_of_memory m.stopped) st.represents where
+    by_out : (b : Bool) → RepresentsHistoryIf b st.initial m.requester h → KeepsLaw h
+    by_out false f = record { n = 0; law = λ opened link before fits. (let l = f.1 opened link before (fits_initial h st.initial opened link before st.is_initial fits) in (l.asked, l.granted)); output = st.output; in_order = st.in_order }
+    by_out true f = record { n = f.1.0; law = λ opened link before fits. (let l = f.1.1 opened link before (fits_initial h st.initial opened link before st.is_initial fits) in (l.asked, l.granted)); output = st.output; in_order = st.in_order }
 
   -- told of the pass after its turn
-  pub law_put_back : (t : Turn (Line O) Entry) (s : Pass (Line O) Entry) → IsReady taken faults t → seen_by s ≡ seen_by (pass_of t) → KeepsLaw (seen_by s)
+  pub law_put_back : (t : Turn (RequesterWithSink O) Entry) (s : Pass (RequesterWithSink O) Entry) → IsReady taken faults t → seen_by s ≡ seen_by (pass_of t) → KeepsLaw (seen_by s)
   law_put_back t s r seen = subst KeepsLaw (sym seen) (law_of r.value (seen_by (pass_of t)) r.stands)
 
 pub law_joined : (xs ys zs : List Entry) → zs ≡ longer xs ys → KeepsLaw xs → KeepsLaw ys → KeepsLaw zs

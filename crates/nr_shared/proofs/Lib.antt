@@ -8,7 +8,7 @@ pub mod Output
 pub mod Steps
 pub mod Asking
 pub mod Moving
-pub mod Looking
+pub mod Polling
 pub mod Resting
 pub mod NextXid
 pub mod Pieces

@@ -1,4 +1,4 @@
--- A requester that is handed in stands for the history that is named, and the first pass feeds.
+-- A requester that is shared stands for the history that is named, and the first pass feeds.
 use Rattle.std.proofs.Common.{◌≡◌, ◌≢◌, ◌⊎◌, ⊎_elim, ℕ, zero, suc, ◌+◌, ◌*◌, ◌^◌, ◌<◌, ◌≤◌, arith, Bool, true, false, is_some, List, [], ◌∷◌, ◌++◌, length, append-nil, Option, Some, None, refl, sym, ap, subst, ◌∙◌}
 use Rattle.std.proofs.lemmas.Bool.{cases_lt}
 use Rattle.std.specs.Io.KnownBytes.{Appends}
@@ -20,34 +20,34 @@ use Rattle.nr_turnstile.specs.Rule.{Earlier, IsIn, Lies, places, places_from}
 use Rattle.nr_turnstile.specs.Passes.{IsOutside, home_of, mine_of, seen_by}
 use Rattle.nr_shared.specs.declared.entry.Entry.{Entry}
 use Rattle.nr_shared.specs.declared.entry.Entry.TheVariants as entries
-use Rattle.nr_shared.specs.declared.entry.Handing.{Handing}
+use Rattle.nr_shared.specs.declared.entry.InitialState.{InitialState}
 use Rattle.nr_shared.specs.declared.entry.Stop.{Stop}
-use Rattle.nr_shared.specs.declared.feeder.Beside.{Beside}
-use Rattle.nr_shared.specs.declared.feeder.Feeder.{Feeder}
-use Rattle.nr_shared.specs.declared.line.Line.{Line}
+use Rattle.nr_shared.specs.declared.source_reader.InitialSource.{InitialSource}
+use Rattle.nr_shared.specs.declared.source_reader.SourceReader.{SourceReader}
+use Rattle.nr_shared.specs.declared.requester_with_sink.RequesterWithSink.{RequesterWithSink}
 use Rattle.nr_shared.specs.Callers.{IsFeeding}
 use Rattle.nr_shared.specs.Feeding.{FeedsFor, StopHolds}
-use Rattle.nr_shared.specs.Histories.{FitsHanding, IsAskedAt, asked_of, bytes_fed, closes_of, handed, last_feeding, run_of, stop_of}
-use Rattle.nr_shared.specs.Opening.{HandsIn}
+use Rattle.nr_shared.specs.Histories.{FitsInitialState, IsCallAt, submitted_call, bytes_fed, closes_of, initial_of, last_feeding, run_of, stop_of}
+use Rattle.nr_shared.specs.Opening.{IsInitialHistory}
 use Rattle.nr_shared.specs.Marks.{IsLive}
-use Rattle.nr_shared.specs.Standing.{Follows, Stands, one_if}
+use Rattle.nr_shared.specs.Standing.{RepresentsHistory, Stands, one_if}
 use Rattle.nr_shared.proofs.Asking.{none_closed}
 use Rattle.nr_shared.proofs.Calls.{none_some}
 use Rattle.nr_shared.proofs.Lists.{at_below, at_end, in_places, place_in, places_len}
 use Rattle.nr_shared.proofs.Output.{output_none}
 use Rattle.nr_shared.proofs.Steps.{false_true}
 
--- ---- The handing in
+-- ---- The initial state
 
--- the handing in closes nothing, and is no call
-earlier_first : (c : Handing) → Earlier closes_of (entries.Handed c ∷ [])
+-- the initial state closes nothing, and is no call
+earlier_first : (c : InitialState) → Earlier closes_of (entries.Initial c ∷ [])
 earlier_first c p q f at is = ⊎_elim
     (λ (old : get_elem? [] q ≡ some f). absurd (some-ne-none f (sym old)))
-    (λ (new : (q ≡ 0) × (entries.Handed c ≡ f)). absurd (none_closed p (ap closes_of new.1 ∙ is)))
-    (at_end [] (entries.Handed c) f q at)
+    (λ (new : (q ≡ 0) × (entries.Initial c ≡ f)). absurd (none_closed p (ap closes_of new.1 ∙ is)))
+    (at_end [] (entries.Initial c) f q at)
 
-not_asked : (e : Entry) (xid k : ℕ) (call : Call) → asked_of xid e ≡ None → IsAskedAt (e ∷ []) xid k call → ⊥
-not_asked e xid zero call none (f, at, is) = none_some call (sym none ∙ (ap (λ (x : Entry). asked_of xid x) (some-injective e f at) ∙ is))
+not_asked : (e : Entry) (xid k : ℕ) (call : Call) → submitted_call xid e ≡ None → IsCallAt (e ∷ []) xid k call → ⊥
+not_asked e xid zero call none (f, at, is) = none_some call (sym none ∙ (ap (λ (x : Entry). submitted_call xid x) (some-injective e f at) ∙ is))
 not_asked e xid (suc k) call none (f, at, is) = some-ne-none f (sym at)
 
 -- ---- The requester
@@ -64,37 +64,37 @@ below_next r xid fresh there = ⊎_elim
     (cases_lt xid r.next_xid)
 
 module _ {O : Type 0} (taken : O → Option (List ℕ)) (faults : O → ℕ) where
-  live_first : (opened : LinkParameters) (link : ℕ) (before : List Mark) (c : Handing) (r : RequesterSide) → c.requester ≡ r → FitsHanding c opened link before → IsLive opened link r (run_of before 0 link (entries.Handed c ∷ []))
+  live_first : (opened : LinkParameters) (link : ℕ) (before : List Mark) (c : InitialState) (r : RequesterSide) → c.requester ≡ r → FitsInitialState c opened link before → IsLive opened link r (run_of before 0 link (entries.Initial c ∷ []))
   unfolding run_of
   live_first opened link before c r is fits = subst (IsLive opened link r) (sym (append-nil before)) (subst (λ (x : RequesterSide). IsLive opened link x before) is fits.live)
 
-  pub opens : (m : Line O) (history : List Entry) → HandsIn taken faults m.requester m.sink history → m.entries ≡ 1 → m.due ≡ true → m.is_cut ≡ false → m.stopped ≡ None
+  pub opens : (m : RequesterWithSink O) (history : List Entry) → IsInitialHistory taken faults m.requester m.sink history → m.entries ≡ 1 → m.pending ≡ true → m.write_failed ≡ false → m.stopped ≡ None
       → ((x : ℕ) → m.requester.state.next_xid ≤ x → IsFresh m.requester.state x) → m.requester.state.next_xid ≤ 2 ^ 32 → Stands taken faults m history
-  opens m history o count due whole going fresh small =
-      let c = o.handing in
-      let e : Entry = entries.Handed c in
+  opens m history o count pending whole going fresh small =
+      let c = o.initial in
+      let e : Entry = entries.Initial c in
       let n : length (places m.requester.state.next_xid) ≡ m.requester.state.next_xid = places_len m.requester.state.next_xid 0 in
-      let is_due : one_if m.due ≡ 1 = ap one_if due in
+      let is_due : one_if m.pending ≡ 1 = ap one_if pending in
       let fed = o.fed in
       subst (Stands taken faults m) (sym o.history_is) (record {
-        handing = c;
-        is_handed = refl;
+        initial = c;
+        is_initial = refl;
         entries = count;
-        follows = subst (λ (s : Option Stop). Follows c m.requester s (e ∷ [])) (sym going) (o.has_memory, λ opened link before fits. live_first opened link before c m.requester o.requester_is fits);
+        represents = subst (λ (s : Option Stop). RepresentsHistory c m.requester s (e ∷ [])) (sym going) (o.has_memory, λ opened link before fits. live_first opened link before c m.requester o.requester_is fits);
         calls = λ xid k call asked unclosed. absurd (not_asked e xid k call refl asked);
         took = subst (λ (t : Option (List ℕ)). Appends t (taken m.sink) []) (sym o.sink_taken) (Appends-nil (taken m.sink));
         never_falls = (let f = o.sink_faults in omega (arith, f));
-        is_cut = whole;
-        cut = λ is. absurd (false_true (sym whole ∙ is));
+        write_failed = whole;
+        sink_failed = λ is. absurd (false_true (sym whole ∙ is));
         stopped = going;
         in_order = ((λ is. refl), tt);
-        placed = tt;
+        previous = tt;
         output = output_none (e ∷ []) (refl, tt);
-        due = λ is. absurd (false_true (sym is ∙ due));
+        pending = λ is. absurd (false_true (sym is ∙ pending));
         within = (let none : length (bytes_fed (e ∷ [])) ≡ 0 = refl in record {
-          asked = places m.requester.state.next_xid;
-          is_asked = λ xid there. place_in m.requester.state.next_xid xid (below_next m.requester.state xid fresh there);
-          few = omega (arith, n, is_due, none);
+          open_xids = places m.requester.state.next_xid;
+          is_open_xid = λ xid there. place_in m.requester.state.next_xid xid (below_next m.requester.state xid fresh there);
+          length_bound = omega (arith, n, is_due, none);
           xids = small;
           bytes = omega (arith, none);
           fed = omega (arith, fed, none);
@@ -103,25 +103,25 @@ module _ {O : Type 0} (taken : O → Option (List ℕ)) (faults : O → ℕ) whe
 
   -- ---- The first pass
 
-  pub earlier_opened : (r : RequesterSide) (sink : O) (history : List Entry) → HandsIn taken faults r sink history → Earlier closes_of history
-  earlier_opened r sink history o = subst (Earlier closes_of) (sym o.history_is) (earlier_first o.handing)
+  pub earlier_opened : (r : RequesterSide) (sink : O) (history : List Entry) → IsInitialHistory taken faults r sink history → Earlier closes_of history
+  earlier_opened r sink history o = subst (Earlier closes_of) (sym o.history_is) (earlier_first o.initial)
 
-  pub short : (r : RequesterSide) (sink : O) (history : List Entry) → HandsIn taken faults r sink history → length history < 2 ^ 63
+  pub short : (r : RequesterSide) (sink : O) (history : List Entry) → IsInitialHistory taken faults r sink history → length history < 2 ^ 63
   short r sink history o =
       let len : length history ≡ 1 = ap length o.history_is in
       omega (arith, len)
 
-  pub first_feeds : (r : RequesterSide) (sink : O) (history : List Entry) (p : Pass (Line O) Entry) → HandsIn taken faults r sink history → seen_by p ≡ history → mine_of p ≡ places (length history) → IsFeeding p
+  pub first_feeds : (r : RequesterSide) (sink : O) (history : List Entry) (p : Pass (RequesterWithSink O) Entry) → IsInitialHistory taken faults r sink history → seen_by p ≡ history → mine_of p ≡ places (length history) → IsFeeding p
   first_feeds r sink history p o seen mine =
-      let c = o.handing in
-      let e : Entry = entries.Handed c in
+      let c = o.initial in
+      let e : Entry = entries.Initial c in
       let is : seen_by p ≡ e ∷ [] = seen ∙ o.history_is in
       let len : length history ≡ 1 = ap length o.history_is in
       let earlier : Earlier closes_of (seen_by p) = subst (Earlier closes_of) (sym is) (earlier_first c) in
       let seen_len : length (seen_by p) ≡ length history = ap length seen in
       record {
-        handing = c;
-        is_handed = ap (λ (l : List Entry). handed l) is;
+        initial = c;
+        is_initial = ap (λ (l : List Entry). initial_of l) is;
         last = 0;
         is_last = ap (λ (l : List Entry). last_feeding l) is;
         is_open = (
@@ -130,22 +130,22 @@ module _ {O : Type 0} (taken : O → Option (List ℕ)) (faults : O → ℕ) whe
         );
       }
 
-  pub first_lies : (history : List Entry) (p : Pass (Line O) Entry) → seen_by p ≡ history → mine_of p ≡ places (length history) → Lies (seen_by p) (mine_of p)
+  pub first_lies : (history : List Entry) (p : Pass (RequesterWithSink O) Entry) → seen_by p ≡ history → mine_of p ≡ places (length history) → Lies (seen_by p) (mine_of p)
   first_lies history p seen mine k i =
       let l = in_places (length history) 0 k (subst (IsIn k) mine i) in
       let same : length (seen_by p) ≡ length history = ap length seen in
       omega (arith, l, same)
 
-  pub opened_fed : (r : RequesterSide) (sink : O) (history : List Entry) → HandsIn taken faults r sink history → bytes_fed history ≡ []
+  pub opened_fed : (r : RequesterSide) (sink : O) (history : List Entry) → IsInitialHistory taken faults r sink history → bytes_fed history ≡ []
   opened_fed r sink history o = ap (λ (l : List Entry). bytes_fed l) o.history_is
 
-  pub opened_stop : (r : RequesterSide) (sink : O) (history : List Entry) → HandsIn taken faults r sink history → stop_of history ≡ None
+  pub opened_stop : (r : RequesterSide) (sink : O) (history : List Entry) → IsInitialHistory taken faults r sink history → stop_of history ≡ None
   opened_stop r sink history o = ap (λ (l : List Entry). stop_of l) o.history_is
 
--- the source beside it
-pub first_feeder : {I O : Type 0} (left given : I → Option (List ℕ)) (faults : I → ℕ) (b : Beside I O) (s : Feeder I O) → home_of s.pass ≡ home_of b.pass.value → IsOutside s.pass → Lies (seen_by s.pass) (mine_of s.pass) → IsFeeding s.pass
+-- its source
+pub first_reader : {I O : Type 0} (left given : I → Option (List ℕ)) (faults : I → ℕ) (b : InitialSource I O) (s : SourceReader I O) → home_of s.pass ≡ home_of b.pass.value → IsOutside s.pass → Lies (seen_by s.pass) (mine_of s.pass) → IsFeeding s.pass
     → s.source ≡ b.source.value → bytes_fed (seen_by s.pass) ≡ [] → stop_of (seen_by s.pass) ≡ None → s.read ≡ 0 → length s.buf.items ≡ piece_max → FeedsFor left given faults b s
-first_feeder left given faults b s home outside lies feeding source none going read room = record {
+first_reader left given faults b s home outside lies feeding source none going read room = record {
   home = home;
   outside = outside;
   lies = lies;

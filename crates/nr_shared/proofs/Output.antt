@@ -27,15 +27,15 @@ use Rattle.nr_turnstile.specs.Passes.{seen_by}
 use Rattle.nr_turnstile.specs.Turns.{pass_of}
 use Rattle.nr_shared.specs.declared.entry.Entry.{Entry}
 use Rattle.nr_shared.specs.declared.entry.Entry.TheVariants as entries
-use Rattle.nr_shared.specs.declared.line.Line.{Line}
+use Rattle.nr_shared.specs.declared.requester_with_sink.RequesterWithSink.{RequesterWithSink}
 use Rattle.nr_shared.specs.Callers.{IsReady}
 use Rattle.nr_shared.specs.HandedBack.{HavePlaced, regions_placed}
-use Rattle.nr_shared.specs.Histories.{handed, has_cut, is_feeding, run_of, stop_of}
+use Rattle.nr_shared.specs.Histories.{initial_of, has_write_failed, is_feeding, run_of, stop_of}
 use Rattle.nr_shared.specs.Marks.{IsLive, IsOut}
-use Rattle.nr_shared.specs.Output.{HasWrittenDue, OutputBeforeInput, is_piece}
-use Rattle.nr_shared.specs.private.Emptied.{HasEmptied, IsEmptied}
-use Rattle.nr_shared.specs.Standing.{FollowsIf, Stands, is_out}
-use Rattle.nr_shared.proofs.Ends.{fits_handing, out_is}
+use Rattle.nr_shared.specs.Output.{HasWrittenOutput, OutputBeforeInput, is_piece}
+use Rattle.nr_shared.specs.private.Flushed.{HasFlushed, IsFlushed}
+use Rattle.nr_shared.specs.Standing.{RepresentsHistoryIf, Stands, is_out_of_memory}
+use Rattle.nr_shared.proofs.Ends.{fits_initial, out_is}
 
 true_false : true ≡ false → ⊥
 true_false e = absurd cc
@@ -68,9 +68,9 @@ split_end {A} (x ∷ xs) (b ∷ bs) later e f is =
     (λ (more : (rest : List A) × (xs ≡ bs ++ e ∷ rest)). inr (more.0, λ i. head i ∷ more.1 i))
     (split_end xs bs later e f (rest_same x b (xs ++ f ∷ []) (bs ++ e ∷ later) is))
 
-pub output_end : (h : List Entry) (e : Entry) → (is_piece e ≡ true → HasWrittenDue h) → OutputBeforeInput h → OutputBeforeInput (h ++ e ∷ [])
+pub output_end : (h : List Entry) (e : Entry) → (is_piece e ≡ true → HasWrittenOutput h) → OutputBeforeInput h → OutputBeforeInput (h ++ e ∷ [])
 output_end h e own all before later f is piece = ⊎_elim
-    (λ (last : (h ≡ before) × (e ≡ f)). subst HasWrittenDue last.0 (own (ap is_piece last.1 ∙ piece)))
+    (λ (last : (h ≡ before) × (e ≡ f)). subst HasWrittenOutput last.0 (own (ap is_piece last.1 ∙ piece)))
     (λ (more : (rest : List Entry) × (h ≡ before ++ f ∷ rest)). all before more.0 f more.1 piece)
     (split_end h before later f e is)
 
@@ -82,17 +82,17 @@ pub output_same : (h : List Entry) (e : Entry) → is_piece e ≡ false → Outp
 output_same h e none all = output_end h e (λ is. absurd (false_true (sym none ∙ is))) all
 
 pub no_piece : (e : Entry) → is_feeding e ≡ false → is_piece e ≡ false
-no_piece (entries.Handed handing) none = refl
+no_piece (entries.Initial initial) none = refl
 no_piece (entries.Submit call form xid) none = refl
 no_piece (entries.Wrote bytes) none = refl
-no_piece (entries.Fed bytes before) none = none
-no_piece (entries.Done xid outcome asked) none = refl
-no_piece (entries.Lost xid asked) none = refl
-no_piece (entries.Forget xid asked) none = refl
-no_piece (entries.Revoke xid bytes asked) none = refl
-no_piece entries.Cut none = refl
-no_piece (entries.Stopped cause before) none = refl
-no_piece (entries.Out piece before) none = absurd (true_false none)
+no_piece (entries.Fed bytes previous) none = none
+no_piece (entries.Done xid outcome submit) none = refl
+no_piece (entries.Lost xid submit) none = refl
+no_piece (entries.Forget xid submit) none = refl
+no_piece (entries.Revoke xid bytes submit) none = refl
+no_piece entries.WriteFailed none = refl
+no_piece (entries.Stopped cause previous) none = refl
+no_piece (entries.OutOfMemory piece previous) none = absurd (true_false none)
 
 -- before anything was fed
 at_middle : (before later : List Entry) (e : Entry) → AllByRecursion (λ (x : Entry). is_piece x ≡ false) (before ++ e ∷ later) → is_piece e ≡ false
@@ -109,17 +109,17 @@ written_now opened link run r none live =
     sym (append-nil (bytes_sent link Initiator run)) ∙ ap (λ (l : List ℕ). bytes_sent link Initiator run ++ l) (sym none) ∙ live.stands.keeps.kept.output
 
 module _ {O : Type 0} (taken : O → Option (List ℕ)) (faults : O → ℕ) where
-  pub written_due : (m : Line O) (h : List Entry) → IsEmptied m → Stands taken faults m h → HasWrittenDue h
-  written_due m h (inl cut) st whole going opened link before fits = absurd (true_false (sym cut ∙ (st.is_cut ∙ whole)))
-  written_due m h (inr none) st whole going opened link before fits = by_out (is_out m.stopped) refl where
-    by_out : (b : Bool) → is_out m.stopped ≡ b → HasWritten opened link Initiator (run_of before 0 link h)
+  pub output_written : (m : RequesterWithSink O) (h : List Entry) → IsFlushed m → Stands taken faults m h → HasWrittenOutput h
+  output_written m h (inl sink_failed) st whole going opened link before fits = absurd (true_false (sym sink_failed ∙ (st.write_failed ∙ whole)))
+  output_written m h (inr none) st whole going opened link before fits = by_out (is_out_of_memory m.stopped) refl where
+    by_out : (b : Bool) → is_out_of_memory m.stopped ≡ b → HasWritten opened link Initiator (run_of before 0 link h)
     by_out true out = absurd (going (sym st.stopped ∙ out_is m.stopped out))
     by_out false out =
-        let f = subst (λ b. FollowsIf b st.handing m.requester h) out st.follows in
-        written_now opened link (run_of before 0 link h) m.requester (st.due none) (f.1 opened link before (fits_handing h st.handing opened link before st.is_handed fits))
+        let f = subst (λ b. RepresentsHistoryIf b st.initial m.requester h) out st.represents in
+        written_now opened link (run_of before 0 link h) m.requester (st.pending none) (f.1 opened link before (fits_initial h st.initial opened link before st.is_initial fits))
 
-  pub turn_written : (t : Turn (Line O) Entry) → IsReady taken faults t → HasEmptied t → HasWrittenDue (seen_by (pass_of t))
-  turn_written t r emptied = written_due r.value (seen_by (pass_of t)) (emptied r.value r.has) r.stands
+  pub turn_written : (t : Turn (RequesterWithSink O) Entry) → IsReady taken faults t → HasFlushed t → HasWrittenOutput (seen_by (pass_of t))
+  turn_written t r flushed = output_written r.value (seen_by (pass_of t)) (flushed r.value r.has) r.stands
 
 -- ---- The buffers of an answer
 
@@ -142,8 +142,8 @@ out_placed opened link r run xid a out there = answer_placed opened link r run x
 
 module _ {O : Type 0} (taken : O → Option (List ℕ)) (faults : O → ℕ) where
   -- an answer that the requester has
-  pub have_placed : (m : Line O) (h : List Entry) (xid : ℕ) (a : AnsweredCall) → found_answer xid m.requester.state ≡ Some a → Stands taken faults m h → HavePlaced xid a.buffers h
-  have_placed m h xid a there st = by_out (is_out m.stopped) st.follows where
-    by_out : (b : Bool) → FollowsIf b st.handing m.requester h → HavePlaced xid a.buffers h
-    by_out false f = record { n = 0; placed = λ opened link before fits. live_placed opened link m.requester (run_of before 0 link h) xid a (f.1 opened link before (fits_handing h st.handing opened link before st.is_handed fits)) there }
-    by_out true f = record { n = f.1.0; placed = λ opened link before fits. out_placed opened link m.requester (run_of before f.1.0 link h) xid a (f.1.1 opened link before (fits_handing h st.handing opened link before st.is_handed fits)) there }
+  pub have_placed : (m : RequesterWithSink O) (h : List Entry) (xid : ℕ) (a : AnsweredCall) → found_answer xid m.requester.state ≡ Some a → Stands taken faults m h → HavePlaced xid a.buffers h
+  have_placed m h xid a there st = by_out (is_out_of_memory m.stopped) st.represents where
+    by_out : (b : Bool) → RepresentsHistoryIf b st.initial m.requester h → HavePlaced xid a.buffers h
+    by_out false f = record { n = 0; placed = λ opened link before fits. live_placed opened link m.requester (run_of before 0 link h) xid a (f.1 opened link before (fits_initial h st.initial opened link before st.is_initial fits)) there }
+    by_out true f = record { n = f.1.0; placed = λ opened link before fits. out_placed opened link m.requester (run_of before f.1.0 link h) xid a (f.1.1 opened link before (fits_initial h st.initial opened link before st.is_initial fits)) there }

@@ -27,15 +27,15 @@ use Rattle.nr_requester.proofs.OpenTickets.{lost_keeps_law, open_is_awaited, ope
 use Rattle.nr_requester.proofs.RevokedBytes.{left_are_placed, revoked_out_lem}
 use Rattle.nr_shared.specs.declared.entry.Entry.{Entry}
 use Rattle.nr_shared.specs.declared.entry.Entry.TheVariants as entries
-use Rattle.nr_shared.specs.declared.entry.Handing.{Handing}
+use Rattle.nr_shared.specs.declared.entry.InitialState.{InitialState}
 use Rattle.nr_shared.specs.declared.entry.Stop.{Stop}
-use Rattle.nr_shared.specs.declared.line.Line.{Line}
-use Rattle.nr_shared.specs.HandedBack.{IsAwaitedStill, IsLostWith, lost_entry}
-use Rattle.nr_shared.specs.Histories.{IsAskedAt, IsUnclosed, asked_of, closes_of, is_feeding, run_of}
+use Rattle.nr_shared.specs.declared.requester_with_sink.RequesterWithSink.{RequesterWithSink}
+use Rattle.nr_shared.specs.HandedBack.{IsAwaitedStill, IsLostWith, IsUnanswered, lost_entry}
+use Rattle.nr_shared.specs.Histories.{IsCallAt, IsUnclosed, submitted_call, closes_of, is_feeding, run_of}
 use Rattle.nr_shared.specs.Marks.{IsLive, IsOut}
-use Rattle.nr_shared.specs.Standing.{Follows, FollowsIf, IsWithin, Stands, is_out}
+use Rattle.nr_shared.specs.Standing.{RepresentsHistory, RepresentsHistoryIf, IsWithin, Stands, is_out_of_memory}
 use Rattle.nr_shared.proofs.Calls.{calls_fewer}
-use Rattle.nr_shared.proofs.Ends.{fits_handing, not_out, other_end}
+use Rattle.nr_shared.proofs.Ends.{fits_initial, not_out, other_end}
 use Rattle.nr_shared.proofs.Givings.{out_revoke, revoked_ended, revoked_kept}
 use Rattle.nr_shared.proofs.Histories.{fed_same, run_end}
 use Rattle.nr_shared.proofs.Steps.{IsOfCall, call_entry, follows_by, within_close}
@@ -76,27 +76,31 @@ none_came opened link r run xid k awaited none c there own = of_answer xid c r.s
     (ap (λ (x : ℕ). is_due link run x) own ∙ due_by link run xid awaited)))
     own none
 
+not_some : {A : Type 0} (o : Option A) → is_some o ≡ false → o ≡ None
+not_some None is = refl
+not_some (Some a) is = absurd cc
+
 -- ---- The entry
 
 none_memory : None ≡ Some ends.Memory → ⊥
 none_memory e = absurd cc
 
 -- what the history says of a requester that goes on, or has ended
-follows_lost : (c : Handing) (r s : RequesterSide) (o : Option Stop) (h : List Entry) (xid k : ℕ) (end : End) → (r.state.side.ended ≡ Some ends.Memory → ⊥) → r.state.side.ended ≡ Some end → is_some (open_call xid r.state) ≡ true → found_answer xid r.state ≡ None
-    → s ≡ after_revoke r xid → StandsOn r (λ link. marks.Lost link xid) s → Follows c r o h → Follows c s o (h ++ entries.Lost xid k ∷ [])
-follows_lost c r s o h xid k end other ended there none after on follows =
+follows_lost : (c : InitialState) (r s : RequesterSide) (o : Option Stop) (h : List Entry) (xid k : ℕ) (end : End) → (r.state.side.ended ≡ Some ends.Memory → ⊥) → r.state.side.ended ≡ Some end → is_some (open_call xid r.state) ≡ true → found_answer xid r.state ≡ None
+    → s ≡ after_revoke r xid → StandsOn r (λ link. marks.Lost link xid) s → RepresentsHistory c r o h → RepresentsHistory c s o (h ++ entries.Lost xid k ∷ [])
+follows_lost c r s o h xid k end other ended there none after on represents =
     follows_by o c r s h (entries.Lost xid k) (λ link. marks.Lost link xid) (λ n link. refl) (revoked_ended r s xid after)
     (λ opened link run l. (let kept = lost_keeps_law opened link r run xid end l.stands ended there none l.asked l.granted in record { stands = on opened link run l.stands; asked = kept.0; granted = kept.1 }))
-    (λ opened link run out. absurd (other out.stands.out.ended)) follows
+    (λ opened link run out. absurd (other out.stands.out.ended)) represents
 
 -- the same of one that ran out of memory: the call's memory is revoked
-follows_out : (c : Handing) (r s : RequesterSide) (o : Option Stop) (h : List Entry) (xid k : ℕ) (bytes : List ℕ) → r.state.side.ended ≡ Some ends.Memory → bytes ≡ bytes_of_buffers (buffers_of xid r.state) → is_some (open_call xid r.state) ≡ true
-    → s ≡ after_revoke r xid → StopsRevoked r xid bytes s → Follows c r o h → Follows c s o (h ++ entries.Revoke xid bytes k ∷ [])
-follows_out c r s o h xid k bytes memory are there after stops follows = by_out (is_out o) follows where
+follows_out : (c : InitialState) (r s : RequesterSide) (o : Option Stop) (h : List Entry) (xid k : ℕ) (bytes : List ℕ) → r.state.side.ended ≡ Some ends.Memory → bytes ≡ bytes_of_buffers (buffers_of xid r.state) → is_some (open_call xid r.state) ≡ true
+    → s ≡ after_revoke r xid → StopsRevoked r xid bytes s → RepresentsHistory c r o h → RepresentsHistory c s o (h ++ entries.Revoke xid bytes k ∷ [])
+follows_out c r s o h xid k bytes memory are there after stops represents = by_out (is_out_of_memory o) represents where
   run_is : (before : List Mark) (n link : ℕ) → run_of before n link (h ++ entries.Revoke xid bytes k ∷ []) ≡ run_of before n link h ++ marks.Revoke link xid bytes ∷ []
   run_is before n link = run_end before n link h (entries.Revoke xid bytes k)
 
-  by_out : (b : Bool) → FollowsIf b c r h → FollowsIf b c s (h ++ entries.Revoke xid bytes k ∷ [])
+  by_out : (b : Bool) → RepresentsHistoryIf b c r h → RepresentsHistoryIf b c s (h ++ entries.Revoke xid bytes k ∷ [])
   by_out false f = absurd (f.0 memory)
   by_out true f = (
     revoked_ended r s xid after ∙ memory,
@@ -105,65 +109,88 @@ follows_out c r s o h xid k bytes memory are there after stops follows = by_out 
 
 module _ {O : Type 0} (taken : O → Option (List ℕ)) (faults : O → ℕ) where
   -- neither an answer nor an end has come
-  pub still_awaited : (m : Line O) (h : List Entry) (xid k : ℕ) (call : Call) → found_answer xid m.requester.state ≡ None → m.requester.state.side.ended ≡ None → IsAskedAt h xid k call → IsUnclosed h k → Stands taken faults m h → IsAwaitedStill xid h
+  pub still_awaited : (m : RequesterWithSink O) (h : List Entry) (xid k : ℕ) (call : Call) → found_answer xid m.requester.state ≡ None → m.requester.state.side.ended ≡ None → IsCallAt h xid k call → IsUnclosed h k → Stands taken faults m h → IsAwaitedStill xid h
   still_awaited m h xid k call none going asked unclosed st =
       let there : is_some (open_call xid m.requester.state) ≡ true = ap is_some (st.calls xid k call asked unclosed).1 in
-      not_out m.stopped st.handing m.requester h (IsAwaitedStill xid h) (λ bad. none_memory (sym going ∙ bad)) st.follows
+      not_out m.stopped st.initial m.requester h (IsAwaitedStill xid h) (λ bad. none_memory (sym going ∙ bad)) st.represents
       (λ f opened link before fits.
-      (let l = f.1 opened link before (fits_handing h st.handing opened link before st.is_handed fits) in
+      (let l = f.1 opened link before (fits_initial h st.initial opened link before st.is_initial fits) in
       (sym l.stands.keeps.kept.keeps.ended ∙ going, none_came opened link m.requester (run_of before 0 link h) xid l.stands.answers (open_is_awaited opened link m.requester (run_of before 0 link h) xid l.stands there) none)))
 
-  -- what goes back of a call that is lost
-  pub lost_with : (m : Line O) (h : List Entry) (xid k : ℕ) (call : Call) (buffers : Buffers) → found_answer xid m.requester.state ≡ None → buffers ≡ buffers_of xid m.requester.state → IsAskedAt h xid k call → IsUnclosed h k → Stands taken faults m h → IsLostWith xid buffers h
-  lost_with m h xid k call buffers none are asked unclosed st = by_out (is_out m.stopped) st.follows where
+  -- a call whose answer isn't there
+  pub none_has_come : (m : RequesterWithSink O) (h : List Entry) (xid k : ℕ) (call : Call) → is_some (found_answer xid m.requester.state) ≡ false → IsCallAt h xid k call → IsUnclosed h k → Stands taken faults m h → IsUnanswered xid h
+  none_has_come m h xid k call lacks asked unclosed st = by_out (is_out_of_memory m.stopped) st.represents where
     there : is_some (open_call xid m.requester.state) ≡ true
     there = ap is_some (st.calls xid k call asked unclosed).1
 
-    by_out : (b : Bool) → FollowsIf b st.handing m.requester h → IsLostWith xid buffers h
+    not_there : found_answer xid m.requester.state ≡ None
+    not_there = not_some (found_answer xid m.requester.state) lacks
+
+    by_out : (b : Bool) → RepresentsHistoryIf b st.initial m.requester h → IsUnanswered xid h
+    by_out false f = record {
+      n = 0;
+      none = λ opened link before fits.
+          (let l = f.1 opened link before (fits_initial h st.initial opened link before st.is_initial fits) in
+          none_came opened link m.requester (run_of before 0 link h) xid l.stands.answers (open_is_awaited opened link m.requester (run_of before 0 link h) xid l.stands there) not_there);
+    }
+    by_out true f = record {
+      n = f.1.0;
+      none = λ opened link before fits.
+          (let l = f.1.1 opened link before (fits_initial h st.initial opened link before st.is_initial fits) in
+          none_came opened link m.requester (run_of before f.1.0 link h) xid l.stands.answers (open_out opened link m.requester l.stopped (run_of before f.1.0 link h) xid l.stands there) not_there);
+    }
+
+  -- what goes back of a call that is lost
+  pub lost_with : (m : RequesterWithSink O) (h : List Entry) (xid k : ℕ) (call : Call) (buffers : Buffers) → found_answer xid m.requester.state ≡ None → buffers ≡ buffers_of xid m.requester.state → IsCallAt h xid k call → IsUnclosed h k → Stands taken faults m h → IsLostWith xid buffers h
+  lost_with m h xid k call buffers none are asked unclosed st = by_out (is_out_of_memory m.stopped) st.represents where
+    there : is_some (open_call xid m.requester.state) ≡ true
+    there = ap is_some (st.calls xid k call asked unclosed).1
+
+    by_out : (b : Bool) → RepresentsHistoryIf b st.initial m.requester h → IsLostWith xid buffers h
     by_out false f = record {
       n = 0;
       placed = λ opened link before fits.
-          (let l = f.1 opened link before (fits_handing h st.handing opened link before st.is_handed fits) in
+          (let l = f.1 opened link before (fits_initial h st.initial opened link before st.is_initial fits) in
           ap bytes_of_buffers are ∙ left_are_placed opened link m.requester (run_of before 0 link h) xid l.stands (open_remains m.requester.state xid there));
       none = λ opened link before fits.
-          (let l = f.1 opened link before (fits_handing h st.handing opened link before st.is_handed fits) in
+          (let l = f.1 opened link before (fits_initial h st.initial opened link before st.is_initial fits) in
           none_came opened link m.requester (run_of before 0 link h) xid l.stands.answers (open_is_awaited opened link m.requester (run_of before 0 link h) xid l.stands there) none);
     }
     by_out true f = record {
       n = f.1.0;
       placed = λ opened link before fits.
-          (let l = f.1.1 opened link before (fits_handing h st.handing opened link before st.is_handed fits) in
+          (let l = f.1.1 opened link before (fits_initial h st.initial opened link before st.is_initial fits) in
           ap bytes_of_buffers are ∙ revoked_out_lem opened link m.requester l.stopped (run_of before f.1.0 link h) xid l.stands (open_remains m.requester.state xid there));
       none = λ opened link before fits.
-          (let l = f.1.1 opened link before (fits_handing h st.handing opened link before st.is_handed fits) in
+          (let l = f.1.1 opened link before (fits_initial h st.initial opened link before st.is_initial fits) in
           none_came opened link m.requester (run_of before f.1.0 link h) xid l.stands.answers (open_out opened link m.requester l.stopped (run_of before f.1.0 link h) xid l.stands there) none);
     }
 
   -- one entry that closes the place of a call that comes back
-  lost_any : (m m' : Line O) (xid k : ℕ) (call : Call) (e : Entry) (h : List Entry) → IsOfCall e → closes_of e ≡ Some k → ((x : ℕ) → asked_of x e ≡ None) → m'.sink ≡ m.sink → m'.entries ≡ m.entries + 1 → m'.due ≡ m.due → m'.is_cut ≡ m.is_cut → m'.stopped ≡ m.stopped
-      → m'.requester ≡ after_revoke m.requester xid → ClosesTicket xid m.requester.state m'.requester.state → fed_bytes m'.requester ≡ fed_bytes m.requester → IsAskedAt h xid k call → IsUnclosed h k → (st : Stands taken faults m h)
-      → Follows st.handing m'.requester m.stopped (h ++ e ∷ []) → Stands taken faults m' (h ++ e ∷ [])
-  lost_any m m' xid k call e h quiet closes no_call sink count due cut stopped after shuts fed asked unclosed st follows =
-      let c = st.handing in
+  lost_any : (m m' : RequesterWithSink O) (xid k : ℕ) (call : Call) (e : Entry) (h : List Entry) → IsOfCall e → closes_of e ≡ Some k → ((x : ℕ) → submitted_call x e ≡ None) → m'.sink ≡ m.sink → m'.entries ≡ m.entries + 1 → m'.pending ≡ m.pending → m'.write_failed ≡ m.write_failed → m'.stopped ≡ m.stopped
+      → m'.requester ≡ after_revoke m.requester xid → ClosesTicket xid m.requester.state m'.requester.state → fed_bytes m'.requester ≡ fed_bytes m.requester → IsCallAt h xid k call → IsUnclosed h k → (st : Stands taken faults m h)
+      → RepresentsHistory st.initial m'.requester m.stopped (h ++ e ∷ []) → Stands taken faults m' (h ++ e ∷ [])
+  lost_any m m' xid k call e h quiet closes no_call sink count pending sink_failed stopped after shuts fed asked unclosed st represents =
+      let c = st.initial in
       let there : is_some (open_call xid m.requester.state) ≡ true = ap is_some (st.calls xid k call asked unclosed).1 in
       let kept = revoked_kept m.requester m'.requester xid after fed in
-      call_entry taken faults m m' h e quiet st sink count cut stopped follows
+      call_entry taken faults m m' h e quiet st sink count sink_failed stopped represents
       (calls_fewer m.requester.state m'.requester.state h e xid k call no_call closes asked unclosed shuts st.calls)
-      (λ is. kept.queue ∙ st.due (sym due ∙ is))
-      (subst (λ b. IsWithin m'.requester b m.is_cut m.stopped (h ++ e ∷ [])) (sym due)
-      (within_close m.requester m'.requester m.due m.is_cut m.stopped h e xid (fed_same h e c st.is_handed quiet.fed) there shuts kept st.within))
+      (λ is. kept.queue ∙ st.pending (sym pending ∙ is))
+      (subst (λ b. IsWithin m'.requester b m.write_failed m.stopped (h ++ e ∷ [])) (sym pending)
+      (within_close m.requester m'.requester m.pending m.write_failed m.stopped h e xid (fed_same h e c st.is_initial quiet.fed) there shuts kept st.within))
 
   -- nothing changed
-  pub stands_same : (m m' : Line O) (h : List Entry) → m'.sink ≡ m.sink → m'.entries ≡ m.entries → m'.due ≡ m.due → m'.is_cut ≡ m.is_cut → m'.stopped ≡ m.stopped → m'.requester ≡ m.requester → Stands taken faults m h → Stands taken faults m' h
-  stands_same m m' h sink count due cut stopped requester st = subst (λ (x : Line O). Stands taken faults x h)
-      (λ i. record { requester = sym requester i; sink = sym sink i; entries = sym count i; due = sym due i; is_cut = sym cut i; stopped = sym stopped i }) st
+  pub stands_same : (m m' : RequesterWithSink O) (h : List Entry) → m'.sink ≡ m.sink → m'.entries ≡ m.entries → m'.pending ≡ m.pending → m'.write_failed ≡ m.write_failed → m'.stopped ≡ m.stopped → m'.requester ≡ m.requester → Stands taken faults m h → Stands taken faults m' h
+  stands_same m m' h sink count pending sink_failed stopped requester st = subst (λ (x : RequesterWithSink O). Stands taken faults x h)
+      (λ i. record { requester = sym requester i; sink = sym sink i; entries = sym count i; pending = sym pending i; write_failed = sym sink_failed i; stopped = sym stopped i }) st
 
   -- what a take gave that found the call lost
-  pub record Loses (m m' : Line O) (xid : ℕ) (buffers : Buffers) : Type 0 where
+  pub record Loses (m m' : RequesterWithSink O) (xid : ℕ) (buffers : Buffers) : Type 0 where
     pub sink : m'.sink ≡ m.sink
     pub count : m'.entries ≡ m.entries + 1
-    pub due : m'.due ≡ m.due
-    pub cut : m'.is_cut ≡ m.is_cut
+    pub pending : m'.pending ≡ m.pending
+    pub sink_failed : m'.write_failed ≡ m.write_failed
     pub stopped : m'.stopped ≡ m.stopped
     pub none : found_answer xid m.requester.state ≡ None
     pub are : buffers ≡ buffers_of xid m.requester.state
@@ -173,20 +200,20 @@ module _ {O : Type 0} (taken : O → Option (List ℕ)) (faults : O → ℕ) whe
     pub shuts : ClosesTicket xid m.requester.state m'.requester.state
     pub fed : fed_bytes m'.requester ≡ fed_bytes m.requester
 
-  lost_live : (m m' : Line O) (xid k : ℕ) (call : Call) (buffers : Buffers) (end : End) (h : List Entry) → Loses m m' xid buffers → (m.requester.state.side.ended ≡ Some ends.Memory → ⊥) → m.requester.state.side.ended ≡ Some end → IsAskedAt h xid k call → IsUnclosed h k
+  lost_live : (m m' : RequesterWithSink O) (xid k : ℕ) (call : Call) (buffers : Buffers) (end : End) (h : List Entry) → Loses m m' xid buffers → (m.requester.state.side.ended ≡ Some ends.Memory → ⊥) → m.requester.state.side.ended ≡ Some end → IsCallAt h xid k call → IsUnclosed h k
       → Stands taken faults m h → Stands taken faults m' (h ++ entries.Lost xid k ∷ [])
   lost_live m m' xid k call buffers end h l other ended asked unclosed st =
-      lost_any m m' xid k call (entries.Lost xid k) h (record { written = refl; fed = refl; cut = refl; stop = refl; feeding = refl; placed = refl }) refl (λ x. refl) l.sink l.count l.due l.cut l.stopped l.after l.shuts l.fed asked unclosed st
-      (follows_lost st.handing m.requester m'.requester m.stopped h xid k end other ended (ap is_some (st.calls xid k call asked unclosed).1) l.none l.after l.on st.follows)
+      lost_any m m' xid k call (entries.Lost xid k) h (record { written = refl; fed = refl; sink_failed = refl; stop = refl; feeding = refl; previous = refl }) refl (λ x. refl) l.sink l.count l.pending l.sink_failed l.stopped l.after l.shuts l.fed asked unclosed st
+      (follows_lost st.initial m.requester m'.requester m.stopped h xid k end other ended (ap is_some (st.calls xid k call asked unclosed).1) l.none l.after l.on st.represents)
 
-  lost_out : (m m' : Line O) (xid k : ℕ) (call : Call) (buffers : Buffers) (h : List Entry) → Loses m m' xid buffers → m.requester.state.side.ended ≡ Some ends.Memory → IsAskedAt h xid k call → IsUnclosed h k
+  lost_out : (m m' : RequesterWithSink O) (xid k : ℕ) (call : Call) (buffers : Buffers) (h : List Entry) → Loses m m' xid buffers → m.requester.state.side.ended ≡ Some ends.Memory → IsCallAt h xid k call → IsUnclosed h k
       → Stands taken faults m h → Stands taken faults m' (h ++ entries.Revoke xid (bytes_of_buffers buffers) k ∷ [])
   lost_out m m' xid k call buffers h l memory asked unclosed st =
-      lost_any m m' xid k call (entries.Revoke xid (bytes_of_buffers buffers) k) h (record { written = refl; fed = refl; cut = refl; stop = refl; feeding = refl; placed = refl }) refl (λ x. refl) l.sink l.count l.due l.cut l.stopped l.after l.shuts l.fed asked unclosed st
-      (follows_out st.handing m.requester m'.requester m.stopped h xid k (bytes_of_buffers buffers) memory (ap bytes_of_buffers l.are) (ap is_some (st.calls xid k call asked unclosed).1) l.after l.stops st.follows)
+      lost_any m m' xid k call (entries.Revoke xid (bytes_of_buffers buffers) k) h (record { written = refl; fed = refl; sink_failed = refl; stop = refl; feeding = refl; previous = refl }) refl (λ x. refl) l.sink l.count l.pending l.sink_failed l.stopped l.after l.shuts l.fed asked unclosed st
+      (follows_out st.initial m.requester m'.requester m.stopped h xid k (bytes_of_buffers buffers) memory (ap bytes_of_buffers l.are) (ap is_some (st.calls xid k call asked unclosed).1) l.after l.stops st.represents)
 
   -- a call is lost
-  pub loses : (m m' : Line O) (xid k : ℕ) (call : Call) (buffers : Buffers) (end : End) (h : List Entry) → Loses m m' xid buffers → m.requester.state.side.ended ≡ Some end → IsAskedAt h xid k call → IsUnclosed h k
+  pub loses : (m m' : RequesterWithSink O) (xid k : ℕ) (call : Call) (buffers : Buffers) (end : End) (h : List Entry) → Loses m m' xid buffers → m.requester.state.side.ended ≡ Some end → IsCallAt h xid k call → IsUnclosed h k
       → Stands taken faults m h → Stands taken faults m' (h ++ lost_entry end xid buffers k ∷ [])
   loses m m' xid k call buffers ends.Memory h l ended asked unclosed st = lost_out m m' xid k call buffers h l ended asked unclosed st
   loses m m' xid k call buffers (ends.Bad at reason) h l ended asked unclosed st = lost_live m m' xid k call buffers (ends.Bad at reason) h l (other_end m.requester (ends.Bad at reason) ended (λ no. no)) ended asked unclosed st

@@ -16,7 +16,7 @@ use Rattle.nr_shared.specs.declared.call_end.CallEnd.{CallEnd}
 use Rattle.nr_shared.specs.declared.call_end.CallEnd.TheVariants as calls
 use Rattle.nr_shared.specs.declared.entry.Entry.{Entry}
 use Rattle.nr_shared.specs.declared.entry.Stop.TheVariants as causes
-use Rattle.nr_shared.specs.Histories.{FitsHistory, has_cut, run_of, stop_of}
+use Rattle.nr_shared.specs.Histories.{FitsHistory, has_write_failed, run_of, stop_of}
 
 -- the client of the run has ended so, whatever else the link was opened with
 abbrev pub ClientEnded : End → List Entry → Type 0
@@ -41,7 +41,7 @@ IsRefused why call form history = ClientRefuses why call form history
 -- Why no answer comes over the link any more: the requester has ended, a write failed, or no more is fed.
 abbrev pub LinkEnded : CallEnd → List Entry → Type 0
 LinkEnded (calls.Ended end) history = HasEnded end history
-LinkEnded calls.LinkWrite history = has_cut history ≡ true
+LinkEnded calls.LinkWrite history = has_write_failed history ≡ true
 LinkEnded calls.LinkRead history = stop_of history ≡ Some causes.LinkRead
 LinkEnded calls.Closed history = stop_of history ≡ Some causes.Closed
 LinkEnded (calls.Budget read) history = (read ≡ read_max) × (stop_of history ≡ Some causes.Budget)

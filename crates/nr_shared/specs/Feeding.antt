@@ -8,23 +8,23 @@ use Rattle.nr_turnstile.specs.Rule.{Lies}
 use Rattle.nr_turnstile.specs.Passes.{IsOutside, home_of, seen_by, mine_of}
 use Rattle.nr_shared.specs.declared.entry.Stop.{Stop}
 use Rattle.nr_shared.specs.declared.entry.Stop.TheVariants as causes
-use Rattle.nr_shared.specs.declared.feeder.Feeder.{Feeder}
-use Rattle.nr_shared.specs.declared.feeder.Beside.{Beside}
+use Rattle.nr_shared.specs.declared.source_reader.SourceReader.{SourceReader}
+use Rattle.nr_shared.specs.declared.source_reader.InitialSource.{InitialSource}
 use Rattle.nr_shared.specs.Callers.{IsFeeding}
 use Rattle.nr_shared.specs.Histories.{bytes_fed, stop_of}
 
-abbrev pub closes_none : {I O : Type 0} → Beside I O → Option ℕ
+abbrev pub closes_none : {I O : Type 0} → InitialSource I O → Option ℕ
 closes_none b = None
 
--- Why the history says that no more is fed, by the source: a read failed since it was handed in; it is at its end; the maximum was read.
+-- Why the history says that no more is fed, by the source: a read failed since it was shared; it is at its end; the maximum was read.
 abbrev pub StopHolds : Option Stop → (faults faults' : ℕ) → Option (List ℕ) → (read : ℕ) → Type 0
 StopHolds (Some causes.LinkRead) faults faults' left read = Rises faults faults'
 StopHolds (Some causes.Closed) faults faults' left read = IsAtEnd left
 StopHolds (Some causes.Budget) faults faults' left read = read ≡ read_max
 StopHolds stopped faults faults' left read = ⊤
 
--- What was fed is what the source gave since it was handed in. The last entry that feeds is the pass's own and open: so no other pass can feed.
-pub record FeedsFor {I O : Type 0} (left given : I → Option (List ℕ)) (faults : I → ℕ) (b : Beside I O) (s : Feeder I O) : Type 0 where
+-- What was fed is what the source gave since it was shared. The last entry that feeds is the pass's own and open: so no other pass can feed.
+pub record FeedsFor {I O : Type 0} (left given : I → Option (List ℕ)) (faults : I → ℕ) (b : InitialSource I O) (s : SourceReader I O) : Type 0 where
   pub home : home_of s.pass ≡ home_of b.pass.value
   pub outside : IsOutside s.pass
   pub lies : Lies (seen_by s.pass) (mine_of s.pass)
@@ -36,6 +36,6 @@ pub record FeedsFor {I O : Type 0} (left given : I → Option (List ℕ)) (fault
   pub stop : StopHolds (stop_of (seen_by s.pass)) (faults b.source.value) (faults s.source) (left s.source) s.read
   pub room : length s.buf.items ≡ piece_max
 
--- it has one entry: the source as it was handed in, and the pass that fed first
-abbrev pub Feeds : {I O : Type 0} → (I → Option (List ℕ)) → (I → Option (List ℕ)) → (I → ℕ) → Feeder I O → List (Beside I O) → Type 0
-Feeds {I} {O} left given faults s history = (b : Beside I O) × (history ≡ b ∷ []) × FeedsFor left given faults b s
+-- it has one entry: the source when it was shared, and the pass that fed first
+abbrev pub Feeds : {I O : Type 0} → (I → Option (List ℕ)) → (I → Option (List ℕ)) → (I → ℕ) → SourceReader I O → List (InitialSource I O) → Type 0
+Feeds {I} {O} left given faults s history = (b : InitialSource I O) × (history ≡ b ∷ []) × FeedsFor left given faults b s

@@ -31,15 +31,20 @@ pub record IsLostWith (xid : ℕ) (buffers : Buffers) (history : List Entry) : T
   pub placed : (opened : LinkParameters) (link : ℕ) (before : List Mark) → FitsHistory history opened link before → bytes_of_buffers buffers ≡ revoked_bytes opened link (run_of before n link history) xid
   pub none : (opened : LinkParameters) (link : ℕ) (before : List Mark) → FitsHistory history opened link before → (c : CompletedCall) → Contains (client opened link (run_of before n link history)).state.outcomes c → c.xid ≢ xid
 
+-- No message brought an outcome of the call by this history.
+pub record IsUnanswered (xid : ℕ) (history : List Entry) : Type 0 where
+  pub n : ℕ
+  pub none : (opened : LinkParameters) (link : ℕ) (before : List Mark) → FitsHistory history opened link before → (c : CompletedCall) → Contains (client opened link (run_of before n link history)).state.outcomes c → c.xid ≢ xid
+
 -- The client of the run hasn't ended, and no message brought an outcome of the call.
 abbrev pub IsAwaitedStill : (xid : ℕ) → List Entry → Type 0
 IsAwaitedStill xid history = (opened : LinkParameters) (link : ℕ) (before : List Mark) → FitsHistory history opened link before →
     ((client opened link (run_of before 0 link history)).ended ≡ None) × ((c : CompletedCall) → Contains (client opened link (run_of before 0 link history)).state.outcomes c → c.xid ≢ xid)
 
 -- A call that stands at this place is lost; or, if memory ran out for a frame, so that the client of the run hasn't ended, its memory is revoked.
-abbrev pub lost_entry : End → (xid : ℕ) → Buffers → (asked : ℕ) → Entry
-lost_entry ends.Memory xid buffers asked = entries.Revoke xid (bytes_of_buffers buffers) asked
-lost_entry end xid buffers asked = entries.Lost xid asked
+abbrev pub lost_entry : End → (xid : ℕ) → Buffers → (submit : ℕ) → Entry
+lost_entry ends.Memory xid buffers submit = entries.Revoke xid (bytes_of_buffers buffers) submit
+lost_entry end xid buffers submit = entries.Lost xid submit
 
 abbrev pub lost_by : List Entry → End → (xid : ℕ) → Buffers → Entry
 lost_by history end xid buffers = lost_entry end xid buffers (place_or_none (place_of xid history))

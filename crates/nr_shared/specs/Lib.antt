@@ -12,4 +12,5 @@ pub mod Waiting
 pub mod Draining
 pub mod Ending
 pub mod Opening
+pub mod Laws
 pub mod private

@@ -1,4 +1,4 @@
--- A requester that is handed in, and what is given back at the end.
+-- A requester that is shared, and what is given back at the end.
 use Rattle.std.specs.Prelude.{◌≡◌, ◌≢◌, ℕ, ◌≤◌, true, List, [], ◌∷◌, length, Option, Some}
 use Rattle.std.specs.Io.KnownBytes.{Appends}
 use Rattle.nr_outside.specs.Content.{HandsOut}
@@ -9,38 +9,39 @@ use Rattle.nr_requester.specs.Fed.{fed_bytes}
 use Rattle.nr_turnstile.specs.Rule.{Begins, Earlier, Lies}
 use Rattle.nr_shared.specs.declared.entry.Entry.{Entry}
 use Rattle.nr_shared.specs.declared.entry.Entry.TheVariants as entries
-use Rattle.nr_shared.specs.declared.entry.Handing.{Handing}
-use Rattle.nr_shared.specs.Histories.{ArePlaced, closes_of, handed, bytes_written, bytes_fed, has_cut, stop_of}
-use Rattle.nr_shared.specs.Standing.{Follows, KeepsCalls, bytes_before}
+use Rattle.nr_shared.specs.declared.entry.InitialState.{InitialState}
+use Rattle.nr_shared.specs.Histories.{FeedsInOrder, HavePrevious, closes_of, initial_of, bytes_written, bytes_fed, has_write_failed, stop_of}
+use Rattle.nr_shared.specs.Standing.{RepresentsHistory, KeepsCalls, bytes_before}
 use Rattle.nr_shared.specs.Feeding.{StopHolds}
 use Rattle.nr_shared.specs.Output.{OutputBeforeInput}
 
--- The history that is named has the handing in of this requester and this sink, and nothing before it. The requester hasn't run out of memory.
-pub record HandsIn {O : Type 0} (taken : O → Option (List ℕ)) (faults : O → ℕ) (r : RequesterSide) (sink : O) (history : List Entry) : Type 0 where
-  pub handing : Handing
-  pub history_is : history ≡ entries.Handed handing ∷ []
-  pub requester_is : handing.requester ≡ r
+-- The history has the initial state of this requester and this sink, and nothing else. The requester hasn't run out of memory.
+pub record IsInitialHistory {O : Type 0} (taken : O → Option (List ℕ)) (faults : O → ℕ) (r : RequesterSide) (sink : O) (history : List Entry) : Type 0 where
+  pub initial : InitialState
+  pub history_is : history ≡ entries.Initial initial ∷ []
+  pub requester_is : initial.requester ≡ r
   pub has_memory : r.state.side.ended ≢ Some ends.Memory
   pub fed : fed_bytes r ≤ bytes_before
-  pub sink_taken : handing.taken ≡ taken sink
-  pub sink_faults : handing.faults ≡ faults sink
+  pub sink_taken : initial.taken ≡ taken sink
+  pub sink_faults : initial.faults ≡ faults sink
 
 -- What is given back, by a caller that has seen this history and has these places, stands for a history that begins so and has the places. The
--- requester follows it, and has each call whose place isn't closed. Since the handing in the sink took the bytes that it says were written, and the
+-- requester represents it, and has each call whose place isn't closed. Since the initial state the sink took the bytes that it says were written, and the
 -- source gave those that it says were fed. The fault counts, and what the source has left, are as it says why bytes don't move any more.
 pub record GivesBack {I O : Type 0} (left given : I → Option (List ℕ)) (source_faults : I → ℕ) (taken : O → Option (List ℕ)) (sink_faults : O → ℕ) (seen : List Entry) (mine : List ℕ) (first : I) (r : RequesterSide) (source : I) (sink : O) : Type 0 where
   pub history : List Entry
   pub begins : Begins seen history
   pub lies : Lies history mine
   pub earlier : Earlier closes_of history
-  pub handing : Handing
-  pub is_handed : handed history ≡ Some handing
-  pub follows : Follows handing r (stop_of history) history
+  pub initial : InitialState
+  pub is_initial : initial_of history ≡ Some initial
+  pub represents : RepresentsHistory initial r (stop_of history) history
   pub calls : KeepsCalls r.state history
-  pub took : Appends handing.taken (taken sink) (bytes_written history)
-  pub sink_count : handing.faults ≤ sink_faults sink
-  pub cut : has_cut history ≡ true → Rises handing.faults (sink_faults sink)
-  pub placed : ArePlaced history
+  pub took : Appends initial.taken (taken sink) (bytes_written history)
+  pub sink_count : initial.faults ≤ sink_faults sink
+  pub sink_failed : has_write_failed history ≡ true → Rises initial.faults (sink_faults sink)
+  pub in_order : FeedsInOrder history
+  pub previous : HavePrevious history
   pub output : OutputBeforeInput history
   pub gave : HandsOut (left first) (given first) (left source) (given source) (bytes_fed history)
   pub source_count : source_faults first ≤ source_faults source

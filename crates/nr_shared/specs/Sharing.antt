@@ -10,7 +10,7 @@ use Rattle.nr_turnstile.specs.Passes.{Rests, Misses, home_of, id_of, seen_by}
 use Rattle.nr_shared.specs.declared.entry.Entry.{Entry}
 use Rattle.nr_shared.specs.declared.entry.Entry.TheVariants as entries
 use Rattle.nr_shared.specs.declared.entry.Stop.TheVariants as causes
-use Rattle.nr_shared.specs.declared.feeder.Beside.{Beside}
+use Rattle.nr_shared.specs.declared.source_reader.InitialSource.{InitialSource}
 use Rattle.nr_shared.specs.declared.shared.SharedRequester.{SharedRequester}
 use Rattle.nr_shared.specs.declared.shared.Pass.{Pass}
 use Rattle.nr_shared.specs.declared.shared.TrySubmit.{TrySubmit}
@@ -21,9 +21,9 @@ use Rattle.nr_shared.specs.declared.shared.TryRevoke.{TryRevoke}
 use Rattle.nr_shared.specs.declared.shared.TryRevoke.TheVariants as revokes
 use Rattle.nr_shared.specs.Histories.{FitsHistory, run_of, stop_of}
 use Rattle.nr_shared.specs.Adding.{Adds}
-use Rattle.nr_shared.specs.Callers.{IsAsked, IsCaller, KeepsLaw, KeepsOpen, KeepsOthers}
+use Rattle.nr_shared.specs.Callers.{HasOpenCall, IsCaller, KeepsLaw, KeepsOpen, KeepsOthers}
 use Rattle.nr_shared.specs.Ending.{IsRefused}
-use Rattle.nr_shared.specs.Waiting.{AtCall, TakesUp}
+use Rattle.nr_shared.specs.Waiting.{AtCall, IsTakeTurn, OpensCall}
 
 -- whether a credit is left, by the run of a history at which memory didn't run out
 abbrev pub SaysCredit : Bool → List Entry → Type 0
@@ -31,31 +31,31 @@ SaysCredit has history = stop_of history ≢ Some causes.Memory → (opened : Li
     has ≡ nat_lt (calls_outstanding opened link (run_of before 0 link history)) (credits_granted opened link (run_of before 0 link history))
 
 -- the same if memory ran out: by what was fed before, of which `n` bytes are of the piece at which it ran out
-abbrev pub SaysCreditOut : Bool → List Entry → Type 0
-SaysCreditOut has history = stop_of history ≡ Some causes.Memory → (n : ℕ) × ((opened : LinkParameters) (link : ℕ) (before : List Mark) → FitsHistory history opened link before →
+abbrev pub SaysCreditOutOfMemory : Bool → List Entry → Type 0
+SaysCreditOutOfMemory has history = stop_of history ≡ Some causes.Memory → (n : ℕ) × ((opened : LinkParameters) (link : ℕ) (before : List Mark) → FitsHistory history opened link before →
     has ≡ nat_lt (calls_outstanding opened link (run_of before n link history)) (credits_granted opened link (run_of before n link history)))
 
 module _ {I O : Type 0} where
-  -- The pass is a caller's, of this shared requester, and outside of both turns. Its source stands beside this requester. What it has seen keeps
+  -- The pass is a caller's, of this shared requester, and outside of both turns. Its source is that of this requester. What it has seen keeps
   -- the law of a client.
   pub record SharedRests (s : SharedRequester I O) (p : Pass I O) : Type 0 where
     pub main : Rests s.main p.main
     pub source : Rests s.source p.source
-    pub beside : Beside I O
-    pub has_seen : seen_by p.source ≡ beside ∷ []
-    pub home : home_of beside.pass.value ≡ id_of s.main
+    pub initial_source : InitialSource I O
+    pub has_seen : seen_by p.source ≡ initial_source ∷ []
+    pub home : home_of initial_source.pass.value ≡ id_of s.main
     pub caller : IsCaller p.main
     pub law : KeepsLaw (seen_by p.main)
 
   -- One requester call under one turn, or the turn was taken and all comes back.
   abbrev pub TrySubmits : Pass I O → Pass I O → Call → Form → TrySubmit → Type 0
-  TrySubmits p q call form (submits.Submitted xid) = Adds p.main q.main (entries.Submit call form xid ∷ []) × (IsAsked q.main xid × KeepsOpen p.main q.main)
+  TrySubmits p q call form (submits.Submitted xid) = OpensCall p.main q.main call form xid × HasOpenCall q.main xid
   TrySubmits p q call form (submits.Refused c why) = Adds p.main q.main [] × (KeepsOpen p.main q.main × ((c ≡ call) × IsRefused why call form (seen_by q.main)))
   TrySubmits p q call form (submits.Busy c f) = Misses p.main q.main × ((c ≡ call) × (f ≡ form))
 
   -- the same of a take
   abbrev pub TryTakes : Pass I O → Pass I O → (xid : ℕ) → TryTake → Type 0
-  TryTakes p q xid (tries.Taken take) = TakesUp p.main q.main xid take
+  TryTakes p q xid (tries.Taken take) = IsTakeTurn p.main q.main xid take
   TryTakes p q xid (tries.Busy ticket) = Misses p.main q.main × (ticket ≡ xid)
 
   -- the same of a revoke: the Revoke closes the place of the call, which comes back

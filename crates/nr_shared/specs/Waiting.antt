@@ -12,25 +12,25 @@ use Rattle.nr_requester.specs.declared.taking.Take.TheVariants as takes
 use Rattle.nr_turnstile.specs.declared.turnstile.Pass.{Pass}
 use Rattle.nr_turnstile.specs.Rule.{IsIn, IsOpen}
 use Rattle.nr_turnstile.specs.Passes.{mine_of, seen_by}
-use Rattle.nr_shared.specs.Histories.{IsAskedAt, closes_of}
+use Rattle.nr_shared.specs.Histories.{IsCallAt, closes_of}
 use Rattle.nr_shared.specs.declared.call_end.CallEnd.{CallEnd}
-use Rattle.nr_shared.specs.declared.finding.Look.{Look}
-use Rattle.nr_shared.specs.declared.finding.Look.TheVariants as looks
-use Rattle.nr_shared.specs.declared.finding.Attempt.{Attempt}
-use Rattle.nr_shared.specs.declared.finding.Attempt.TheVariants as attempts
+use Rattle.nr_shared.specs.declared.caller_turns.PollTurn.{PollTurn}
+use Rattle.nr_shared.specs.declared.caller_turns.PollTurn.TheVariants as polls
+use Rattle.nr_shared.specs.declared.caller_turns.SubmitTurn.{SubmitTurn}
+use Rattle.nr_shared.specs.declared.caller_turns.SubmitTurn.TheVariants as submit_turns
 use Rattle.nr_shared.specs.declared.entry.Entry.{Entry}
 use Rattle.nr_shared.specs.declared.entry.Entry.TheVariants as entries
-use Rattle.nr_shared.specs.declared.line.Line.{Line}
+use Rattle.nr_shared.specs.declared.requester_with_sink.RequesterWithSink.{RequesterWithSink}
 use Rattle.nr_shared.specs.Adding.{Adds}
 use Rattle.nr_shared.specs.Callers.{KeepsOpen, KeepsOthers}
 use Rattle.nr_shared.specs.Draining.{AreWrites}
 use Rattle.nr_shared.specs.Ending.{HasEnded, IsCause, LinkEnded}
-use Rattle.nr_shared.specs.HandedBack.{HavePlaced, IsAwaitedStill, IsLostWith, lost_entry}
-use Rattle.nr_shared.specs.Output.{HasWrittenDue}
+use Rattle.nr_shared.specs.HandedBack.{HavePlaced, IsAwaitedStill, IsLostWith, IsUnanswered, lost_entry}
+use Rattle.nr_shared.specs.Output.{HasWrittenOutput}
 
 module _ {O : Type 0} where
-  -- the outcome of the call that stands at this place is handed over, with what its regions hold by the history before
-  pub record TakesAt (p q : Pass (Line O) Entry) (xid k : ℕ) (call : Call) (done : Done) : Type 0 where
+  -- the outcome of the call that stands at this place is delivered, with what its regions hold by the history before
+  pub record TakesAt (p q : Pass (RequesterWithSink O) Entry) (xid k : ℕ) (call : Call) (done : Done) : Type 0 where
     pub own : done.call ≡ call
     pub adds : Adds p q (entries.Done xid done.outcome k ∷ [])
     pub keeps : KeepsOthers k p q
@@ -39,33 +39,34 @@ module _ {O : Type 0} where
     pub buffers : HavePlaced xid done.buffers before
 
   -- the call that stands at this place is forgotten
-  pub record ForgetsAt (p q : Pass (Line O) Entry) (xid k : ℕ) : Type 0 where
+  pub record ForgetsAt (p q : Pass (RequesterWithSink O) Entry) (xid k : ℕ) : Type 0 where
     pub adds : Adds p q (entries.Forget xid k ∷ [])
     pub keeps : KeepsOthers k p q
 
-  -- the same, since the link had ended so by the history before
-  pub record GivesUpAt (p q : Pass (Line O) Entry) (xid k : ℕ) (end : CallEnd) : Type 0 where
+  -- the same, since the link had ended so by the history before, and no answer had come
+  pub record GivesUpAt (p q : Pass (RequesterWithSink O) Entry) (xid k : ℕ) (end : CallEnd) : Type 0 where
     pub adds : Adds p q (entries.Forget xid k ∷ [])
     pub keeps : KeepsOthers k p q
     pub before : List Entry
     pub seen : seen_by q ≡ before ++ entries.Forget xid k ∷ []
     pub ended : LinkEnded end before
+    pub unanswered : IsUnanswered xid before
 
   -- such is so of the place at which a call of this xid stands, open and the pass's own
-  abbrev pub AtCall : Pass (Line O) Entry → ℕ → (ℕ → Call → Type 0) → Type 0
-  AtCall p xid Says = (k : ℕ) (call : Call) → IsAskedAt (seen_by p) xid k call → IsOpen closes_of (seen_by p) (mine_of p) k → Says k call
+  abbrev pub AtCall : Pass (RequesterWithSink O) Entry → ℕ → (ℕ → Call → Type 0) → Type 0
+  AtCall p xid Says = (k : ℕ) (call : Call) → IsCallAt (seen_by p) xid k call → IsOpen closes_of (seen_by p) (mine_of p) k → Says k call
 
-  abbrev pub TakesAnswer : Pass (Line O) Entry → Pass (Line O) Entry → ℕ → Done → Type 0
+  abbrev pub TakesAnswer : Pass (RequesterWithSink O) Entry → Pass (RequesterWithSink O) Entry → ℕ → Done → Type 0
   TakesAnswer p q xid done = AtCall p xid (λ k call. TakesAt p q xid k call done)
 
-  abbrev pub ForgetsCall : Pass (Line O) Entry → Pass (Line O) Entry → ℕ → Type 0
+  abbrev pub ForgetsCall : Pass (RequesterWithSink O) Entry → Pass (RequesterWithSink O) Entry → ℕ → Type 0
   ForgetsCall p q xid = AtCall p xid (λ k call. ForgetsAt p q xid k)
 
-  abbrev pub GivesUp : Pass (Line O) Entry → Pass (Line O) Entry → ℕ → CallEnd → Type 0
+  abbrev pub GivesUp : Pass (RequesterWithSink O) Entry → Pass (RequesterWithSink O) Entry → ℕ → CallEnd → Type 0
   GivesUp p q xid end = AtCall p xid (λ k call. GivesUpAt p q xid k end)
 
   -- the call that stands at this place comes back with its buffers, since the requester had ended so by the history before
-  pub record LosesAt (p q : Pass (Line O) Entry) (xid k : ℕ) (call c : Call) (buffers : Buffers) (end : End) : Type 0 where
+  pub record LosesAt (p q : Pass (RequesterWithSink O) Entry) (xid k : ℕ) (call c : Call) (buffers : Buffers) (end : End) : Type 0 where
     pub own : c ≡ call
     pub adds : Adds p q (lost_entry end xid buffers k ∷ [])
     pub keeps : KeepsOthers k p q
@@ -74,74 +75,83 @@ module _ {O : Type 0} where
     pub ended : HasEnded end before
     pub lost : IsLostWith xid buffers before
 
-  -- What a ticket is answered: the outcome is handed over; or neither it nor an end has come, and nothing is added; or the call is lost.
-  abbrev pub TakesUp : Pass (Line O) Entry → Pass (Line O) Entry → ℕ → Take → Type 0
-  TakesUp p q xid (takes.Done done) = TakesAnswer p q xid done
-  TakesUp p q xid (takes.NotYet ticket) = (ticket ≡ xid) × (IsAwaitedStill xid (seen_by q) × (Adds p q [] × KeepsOpen p q))
-  TakesUp p q xid (takes.Failed c buffers end) = AtCall p xid (λ k call. LosesAt p q xid k call c buffers end)
+  -- What a ticket is answered: the outcome is delivered; or neither it nor an end has come, and nothing is added; or the call is lost.
+  abbrev pub IsTakeTurn : Pass (RequesterWithSink O) Entry → Pass (RequesterWithSink O) Entry → ℕ → Take → Type 0
+  IsTakeTurn p q xid (takes.Done done) = TakesAnswer p q xid done
+  IsTakeTurn p q xid (takes.NotYet ticket) = (ticket ≡ xid) × (IsAwaitedStill xid (seen_by q) × (Adds p q [] × KeepsOpen p q))
+  IsTakeTurn p q xid (takes.Failed c buffers end) = AtCall p xid (λ k call. LosesAt p q xid k call c buffers end)
 
-  -- The answer is handed over; or it isn't there, and nothing is added; or none comes, and the call is forgotten.
-  abbrev pub LooksUp : Pass (Line O) Entry → Pass (Line O) Entry → ℕ → Look → Type 0
-  LooksUp p q xid (looks.Answered done) = TakesAnswer p q xid done
-  LooksUp p q xid (looks.NotYet ticket) = (ticket ≡ xid) × (Adds p q [] × KeepsOpen p q)
-  LooksUp p q xid (looks.Ends end) = GivesUp p q xid end
+  -- The answer is delivered; or it isn't there, and nothing is added; or none comes, and the call is forgotten.
+  abbrev pub IsPollTurn : Pass (RequesterWithSink O) Entry → Pass (RequesterWithSink O) Entry → ℕ → PollTurn → Type 0
+  IsPollTurn p q xid (polls.Answered done) = TakesAnswer p q xid done
+  IsPollTurn p q xid (polls.NotYet ticket) = (ticket ≡ xid) × (Adds p q [] × KeepsOpen p q)
+  IsPollTurn p q xid (polls.Ended end) = GivesUp p q xid end
 
   -- the same, with all turns that it took
-  abbrev pub Waits : Pass (Line O) Entry → Pass (Line O) Entry → ℕ → Result Done CallEnd → Type 0
+  abbrev pub Waits : Pass (RequesterWithSink O) Entry → Pass (RequesterWithSink O) Entry → ℕ → Result Done CallEnd → Type 0
   Waits p q xid (Ok done) = TakesAnswer p q xid done
   Waits p q xid (Err end) = GivesUp p q xid end
 
-  -- The call is submitted. Before that and after it bytes are written: all that is due.
-  pub record Sends (p q : Pass (Line O) Entry) (call : Call) (form : Form) (xid : ℕ) : Type 0 where
-    pub waits : List Entry
-    pub are_waits : AreWrites waits
-    pub moved : List Entry
-    pub are_moved : AreWrites moved
-    pub adds : Adds p q (waits ++ entries.Submit call form xid ∷ moved)
+  -- The call is submitted: the Submit is added, and its place is open.
+  pub record OpensCall (p q : Pass (RequesterWithSink O) Entry) (call : Call) (form : Form) (xid : ℕ) : Type 0 where
+    pub adds : Adds p q (entries.Submit call form xid ∷ [])
     pub keeps : KeepsOpen p q
     pub at : ℕ
     pub stands : get_elem? (seen_by q) at ≡ some (entries.Submit call form xid)
     pub new : length (seen_by p) ≤ at
     pub opened : IsOpen closes_of (seen_by q) (mine_of q) at
-    pub written : HasWrittenDue (seen_by q)
+
+  -- The call is submitted. Before that and after it bytes are written: all that is due.
+  pub record Sends (p q : Pass (RequesterWithSink O) Entry) (call : Call) (form : Form) (xid : ℕ) : Type 0 where
+    pub writes_before : List Entry
+    pub are_writes_before : AreWrites writes_before
+    pub writes_after : List Entry
+    pub are_writes_after : AreWrites writes_after
+    pub adds : Adds p q (writes_before ++ entries.Submit call form xid ∷ writes_after)
+    pub keeps : KeepsOpen p q
+    pub at : ℕ
+    pub stands : get_elem? (seen_by q) at ≡ some (entries.Submit call form xid)
+    pub new : length (seen_by p) ≤ at
+    pub opened : IsOpen closes_of (seen_by q) (mine_of q) at
+    pub written : HasWrittenOutput (seen_by q)
 
   -- the call is not submitted, since the history says so; bytes are written
-  pub record SendsNone (p q : Pass (Line O) Entry) (call : Call) (form : Form) (end : CallEnd) : Type 0 where
-    pub waits : List Entry
-    pub are_waits : AreWrites waits
-    pub adds : Adds p q waits
+  pub record SendsNone (p q : Pass (RequesterWithSink O) Entry) (call : Call) (form : Form) (end : CallEnd) : Type 0 where
+    pub writes_before : List Entry
+    pub are_writes_before : AreWrites writes_before
+    pub adds : Adds p q writes_before
     pub keeps : KeepsOpen p q
     pub cause : IsCause end call form (seen_by q)
 
   -- no credit is left, and the call comes back; bytes are written
-  pub record LacksCredit (p q : Pass (Line O) Entry) (call c : Call) (form f : Form) : Type 0 where
-    pub waits : List Entry
-    pub are_waits : AreWrites waits
-    pub adds : Adds p q waits
+  pub record LacksCredit (p q : Pass (RequesterWithSink O) Entry) (call c : Call) (form f : Form) : Type 0 where
+    pub writes_before : List Entry
+    pub are_writes_before : AreWrites writes_before
+    pub adds : Adds p q writes_before
     pub keeps : KeepsOpen p q
     pub same_call : c ≡ call
     pub same_form : f ≡ form
 
-  abbrev pub Attempts : Pass (Line O) Entry → Pass (Line O) Entry → Call → Form → Attempt → Type 0
-  Attempts p q call form (attempts.Sent xid) = Sends p q call form xid
-  Attempts p q call form (attempts.Waits c f) = LacksCredit p q call c form f
-  Attempts p q call form (attempts.Ends end) = SendsNone p q call form end
+  abbrev pub IsSubmitTurn : Pass (RequesterWithSink O) Entry → Pass (RequesterWithSink O) Entry → Call → Form → SubmitTurn → Type 0
+  IsSubmitTurn p q call form (submit_turns.Accepted xid) = Sends p q call form xid
+  IsSubmitTurn p q call form (submit_turns.NoCredit c f) = LacksCredit p q call c form f
+  IsSubmitTurn p q call form (submit_turns.Ended end) = SendsNone p q call form end
 
-  abbrev pub Submits : Pass (Line O) Entry → Pass (Line O) Entry → Call → Form → Result ℕ CallEnd → Type 0
+  abbrev pub Submits : Pass (RequesterWithSink O) Entry → Pass (RequesterWithSink O) Entry → Call → Form → Result ℕ CallEnd → Type 0
   Submits p q call form (Ok xid) = Sends p q call form xid
   Submits p q call form (Err end) = SendsNone p q call form end
 
   -- The call has its own answer: a Submit of it, and the Done that closes the Submit's place, with bytes that are written before and between.
   -- Its buffers have what its regions hold by the history before.
-  pub record OwnAnswer (p q : Pass (Line O) Entry) (asked : Call) (form : Form) (done : Done) : Type 0 where
-    pub waits : List Entry
-    pub are_waits : AreWrites waits
-    pub moved : List Entry
-    pub are_moved : AreWrites moved
+  pub record OwnAnswer (p q : Pass (RequesterWithSink O) Entry) (asked : Call) (form : Form) (done : Done) : Type 0 where
+    pub writes_before : List Entry
+    pub are_writes_before : AreWrites writes_before
+    pub writes_after : List Entry
+    pub are_writes_after : AreWrites writes_after
     pub xid : ℕ
     pub at : ℕ
     pub stands : get_elem? (seen_by q) at ≡ some (entries.Submit asked form xid)
-    pub adds : Adds p q ((waits ++ entries.Submit asked form xid ∷ moved) ++ entries.Done xid done.outcome at ∷ [])
+    pub adds : Adds p q ((writes_before ++ entries.Submit asked form xid ∷ writes_after) ++ entries.Done xid done.outcome at ∷ [])
     pub new : length (seen_by p) ≤ at
     pub own : IsIn at (mine_of q)
     pub keeps : KeepsOpen p q
@@ -150,23 +160,24 @@ module _ {O : Type 0} where
     pub seen : seen_by q ≡ before ++ entries.Done xid done.outcome at ∷ []
     pub buffers : HavePlaced xid done.buffers before
 
-  -- The call was submitted and forgotten, since the link had ended so by the history before.
-  pub record NoAnswer (p q : Pass (Line O) Entry) (call : Call) (form : Form) (end : CallEnd) : Type 0 where
-    pub waits : List Entry
-    pub are_waits : AreWrites waits
-    pub moved : List Entry
-    pub are_moved : AreWrites moved
+  -- The call was submitted and forgotten, since the link had ended so by the history before, and no answer had come.
+  pub record NoAnswer (p q : Pass (RequesterWithSink O) Entry) (call : Call) (form : Form) (end : CallEnd) : Type 0 where
+    pub writes_before : List Entry
+    pub are_writes_before : AreWrites writes_before
+    pub writes_after : List Entry
+    pub are_writes_after : AreWrites writes_after
     pub xid : ℕ
     pub at : ℕ
     pub stands : get_elem? (seen_by q) at ≡ some (entries.Submit call form xid)
-    pub adds : Adds p q ((waits ++ entries.Submit call form xid ∷ moved) ++ entries.Forget xid at ∷ [])
+    pub adds : Adds p q ((writes_before ++ entries.Submit call form xid ∷ writes_after) ++ entries.Forget xid at ∷ [])
     pub new : length (seen_by p) ≤ at
     pub own : IsIn at (mine_of q)
     pub keeps : KeepsOpen p q
     pub before : List Entry
     pub seen : seen_by q ≡ before ++ entries.Forget xid at ∷ []
     pub ended : LinkEnded end before
+    pub unanswered : IsUnanswered xid before
 
-  abbrev pub Calls : Pass (Line O) Entry → Pass (Line O) Entry → Call → Form → Result Done CallEnd → Type 0
+  abbrev pub Calls : Pass (RequesterWithSink O) Entry → Pass (RequesterWithSink O) Entry → Call → Form → Result Done CallEnd → Type 0
   Calls p q call form (Ok done) = OwnAnswer p q call form done
   Calls p q call form (Err end) = SendsNone p q call form end ⊎ NoAnswer p q call form end

@@ -1,4 +1,4 @@
 -- Definitions that only private code cites.
-pub mod Finding
-pub mod Emptied
+pub mod CreditState
+pub mod Flushed
 pub mod Taking

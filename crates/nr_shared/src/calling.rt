@@ -5,15 +5,15 @@ ghost use Rattle.nr_rpc.specs.Credential.{CanWriteCred};
 ghost use Rattle.nr_turnstile.specs.Passes.{Rests, mine_of, seen_by};
 ghost use Rattle.nr_turnstile.specs.Rule.{Lies};
 ghost use Rattle.nr_shared.specs.Adding.{Adds};
-ghost use Rattle.nr_shared.specs.Callers.{IsAsked, KeepsLaw, KeepsOpen};
-ghost use Rattle.nr_shared.specs.Sharing.{SaysCredit, SaysCreditOut, SharedRests};
-ghost use Rattle.nr_shared.specs.Waiting.{Attempts, Calls, ForgetsCall, LooksUp, Submits, Waits};
+ghost use Rattle.nr_shared.specs.Callers.{HasOpenCall, KeepsLaw, KeepsOpen};
+ghost use Rattle.nr_shared.specs.Sharing.{SaysCredit, SaysCreditOutOfMemory, SharedRests};
+ghost use Rattle.nr_shared.specs.Waiting.{IsSubmitTurn, Calls, ForgetsCall, IsPollTurn, Submits, Waits};
 
 use crate::call_end::CallEnd;
-use crate::finding::{Attempt, Look, attempt_at, credit_at, look_at};
-use crate::line::Line;
+use crate::caller_turns::{PollTurn, SubmitTurn, credit_under, poll_under, submit_if_credit_under};
+use crate::requester_with_sink::MainPass;
 use crate::shared::{Pass, SharedRequester};
-use crate::turns::forget_at;
+use crate::turns::forget_under;
 use nr_outside::{Sink, Source};
 use nr_reduce::{Call, Form};
 use nr_requester::{Done, Ticket};
@@ -59,18 +59,18 @@ impl<I: Source, O: Sink> SharedRequester<I, O> {
         ensures source { seen_by pass.new.source ≡ seen_by pass.old.source }
         ensures submitted { Submits pass.old.main pass.new.main call form result }
     {
-        let mut wanted = call;
-        let mut wished = form;
+        let mut unsent_call = call;
+        let mut unsent_form = form;
         for _ in rt.forever() {
-            match self.attempt(rt, &mut pass.main, wanted, wished) {
-                Attempt::Sent(ticket) => return Ok(ticket),
-                Attempt::Ends(end) => return Err(end),
-                Attempt::Waits(call, form) => {
-                    wanted = call;
-                    wished = form;
+            match self.submit_turn(rt, &mut pass.main, unsent_call, unsent_form) {
+                SubmitTurn::Accepted(ticket) => return Ok(ticket),
+                SubmitTurn::Ended(end) => return Err(end),
+                SubmitTurn::NoCredit(call, form) => {
+                    unsent_call = call;
+                    unsent_form = form;
                 }
             }
-            self.pump(rt, &mut pass.source, None);
+            self.receive(rt, &mut pass.source, None);
         }
         unreachable!()
     }
@@ -83,19 +83,19 @@ impl<I: Source, O: Sink> SharedRequester<I, O> {
         ticket: Ticket,
     ) -> Result<Done, CallEnd>
         requires rests { SharedRests self.now pass.old }
-        requires asked { IsAsked pass.old.main ticket }
+        requires has_call { HasOpenCall pass.old.main ticket }
         ensures rests { SharedRests self.now pass.new }
         ensures source { seen_by pass.new.source ≡ seen_by pass.old.source }
         ensures waited { Waits pass.old.main pass.new.main ticket result }
     {
         let mut waiting = ticket;
         for _ in rt.forever() {
-            match self.look(rt, &mut pass.main, waiting) {
-                Look::Answered(done) => return Ok(done),
-                Look::Ends(end) => return Err(end),
-                Look::NotYet(ticket) => waiting = ticket,
+            match self.poll_turn(rt, &mut pass.main, waiting) {
+                PollTurn::Answered(done) => return Ok(done),
+                PollTurn::Ended(end) => return Err(end),
+                PollTurn::NotYet(ticket) => waiting = ticket,
             }
-            self.pump(rt, &mut pass.source, Some(&waiting));
+            self.receive(rt, &mut pass.source, Some(&waiting));
         }
         unreachable!()
     }
@@ -103,12 +103,12 @@ impl<I: Source, O: Sink> SharedRequester<I, O> {
     /// Forgets a call of the pass's own, whether or not its answer has come.
     pub fn forget<R: Wait>(&self, rt: &R, pass: &mut Pass<I, O>, ticket: Ticket)
         requires rests { SharedRests self.now pass.old }
-        requires asked { IsAsked pass.old.main ticket }
+        requires has_call { HasOpenCall pass.old.main ticket }
         ensures rests { SharedRests self.now pass.new }
         ensures source { seen_by pass.new.source ≡ seen_by pass.old.source }
         ensures forgotten { ForgetsCall pass.old.main pass.new.main ticket }
     {
-        self.give_up(rt, &mut pass.main, ticket);
+        self.forget_turn(rt, &mut pass.main, ticket);
     }
 
     /// Whether a credit is left at this moment.
@@ -119,47 +119,47 @@ impl<I: Source, O: Sink> SharedRequester<I, O> {
         ensures added { Adds pass.old.main pass.new.main [] }
         ensures keeps { KeepsOpen pass.old.main pass.new.main }
         ensures credit { SaysCredit result (seen_by pass.new.main) }
-        ensures credit_out { SaysCreditOut result (seen_by pass.new.main) }
+        ensures credit_out_of_memory { SaysCreditOutOfMemory result (seen_by pass.new.main) }
     {
-        self.sees_credit(rt, &mut pass.main)
+        self.credit_turn(rt, &mut pass.main)
     }
 
     // One turn of a caller that submits.
-    fn attempt<R: Wait>(
+    fn submit_turn<R: Wait>(
         &self,
         rt: &R,
-        main: &mut nr_turnstile::Pass<Line<O>>,
+        main: &mut MainPass<O>,
         call: Call,
         form: Form,
-    ) -> Attempt
+    ) -> SubmitTurn
         requires writable { CanWriteCred call.cred }
         requires rests { Rests self.now.main main.old }
         requires lies { Lies (seen_by main.old) (mine_of main.old) }
         ensures rests { Rests self.now.main main.new }
         ensures law { KeepsLaw (seen_by main.new) }
-        ensures attempted { Attempts main.old main.new call form result }
+        ensures submitted { IsSubmitTurn main.old main.new call form result }
     {
         let mut turn = self.main.take_turn(rt, main);
-        let tried = attempt_at(&mut turn, call, form);
+        let tried = submit_if_credit_under(&mut turn, call, form);
         turn.put_back();
         tried
     }
 
     // One turn of a caller that gives a call up.
-    fn give_up<R: Wait>(&self, rt: &R, main: &mut nr_turnstile::Pass<Line<O>>, ticket: Ticket)
+    fn forget_turn<R: Wait>(&self, rt: &R, main: &mut MainPass<O>, ticket: Ticket)
         requires rests { Rests self.now.main main.old }
-        requires asked { IsAsked main.old ticket }
+        requires has_call { HasOpenCall main.old ticket }
         ensures rests { Rests self.now.main main.new }
         ensures law { KeepsLaw (seen_by main.new) }
         ensures forgotten { ForgetsCall main.old main.new ticket }
     {
         let mut turn = self.main.take_turn(rt, main);
-        forget_at(&mut turn, ticket);
+        forget_under(&mut turn, ticket);
         turn.put_back();
     }
 
     // One turn of a caller that asks for a credit.
-    fn sees_credit<R: Wait>(&self, rt: &R, main: &mut nr_turnstile::Pass<Line<O>>) -> bool
+    fn credit_turn<R: Wait>(&self, rt: &R, main: &mut MainPass<O>) -> bool
         requires rests { Rests self.now.main main.old }
         requires lies { Lies (seen_by main.old) (mine_of main.old) }
         ensures rests { Rests self.now.main main.new }
@@ -167,24 +167,24 @@ impl<I: Source, O: Sink> SharedRequester<I, O> {
         ensures added { Adds main.old main.new [] }
         ensures keeps { KeepsOpen main.old main.new }
         ensures credit { SaysCredit result (seen_by main.new) }
-        ensures credit_out { SaysCreditOut result (seen_by main.new) }
+        ensures credit_out_of_memory { SaysCreditOutOfMemory result (seen_by main.new) }
     {
         let mut turn = self.main.take_turn(rt, main);
-        let has = credit_at(&mut turn);
+        let has = credit_under(&mut turn);
         turn.put_back();
         has
     }
 
     // One turn of a caller that waits.
-    fn look<R: Wait>(&self, rt: &R, main: &mut nr_turnstile::Pass<Line<O>>, ticket: Ticket) -> Look
+    fn poll_turn<R: Wait>(&self, rt: &R, main: &mut MainPass<O>, ticket: Ticket) -> PollTurn
         requires rests { Rests self.now.main main.old }
-        requires asked { IsAsked main.old ticket }
+        requires has_call { HasOpenCall main.old ticket }
         ensures rests { Rests self.now.main main.new }
         ensures law { KeepsLaw (seen_by main.new) }
-        ensures looked { LooksUp main.old main.new ticket result }
+        ensures polled { IsPollTurn main.old main.new ticket result }
     {
         let mut turn = self.main.take_turn(rt, main);
-        let found = look_at(&mut turn, ticket);
+        let found = poll_under(&mut turn, ticket);
         turn.put_back();
         found
     }

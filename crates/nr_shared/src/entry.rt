@@ -17,8 +17,8 @@ pub enum Stop {
     Memory,
 }
 
-/// A requester and its sink when both were handed in.
-pub struct Handing {
+/// A requester and its sink when they were shared.
+pub struct InitialState {
     /// The requester.
     pub requester: Requester,
     /// The fault count of the sink.
@@ -27,11 +27,11 @@ pub struct Handing {
     pub taken: Option<LinkedList<u8>>,
 }
 
-/// An entry. `asked` is the place of the call's Submit, which the entry closes. `before` is the place of the bytes that were fed
+/// An entry. `submit` is the place of the call's Submit, which the entry closes. `previous` is the place of the entry that fed
 /// before, which the entry closes.
 pub enum Entry {
-    /// The requester was handed in.
-    Handed(Handing),
+    /// The requester was shared, in this state.
+    Initial(InitialState),
     /// A call was accepted.
     Submit {
         call: Call,
@@ -42,43 +42,43 @@ pub enum Entry {
     Wrote {
         bytes: LinkedList<u8>,
     },
-    /// Bytes were fed; none before the requester was handed in.
+    /// Bytes were fed. `previous` is none for bytes that were fed before the requester was shared.
     Fed {
         bytes: LinkedList<u8>,
-        before: Option<u64>,
+        previous: Option<u64>,
     },
-    /// The outcome of a call was handed over.
+    /// The outcome of a call was delivered.
     Done {
         xid: u32,
         outcome: Outcome,
-        asked: u64,
+        submit: u64,
     },
     /// A call was lost.
     Lost {
         xid: u32,
-        asked: u64,
+        submit: u64,
     },
     /// A call was forgotten.
     Forget {
         xid: u32,
-        asked: u64,
+        submit: u64,
     },
     /// The memory of a call was revoked.
     Revoke {
         xid: u32,
         bytes: LinkedList<u8>,
-        asked: u64,
+        submit: u64,
     },
     /// A write failed.
-    Cut,
-    /// No bytes are fed any more, for another cause than memory.
+    WriteFailed,
+    /// No bytes are fed any more, for a cause other than out of memory.
     Stopped {
         cause: Stop,
-        before: Option<u64>,
+        previous: Option<u64>,
     },
     /// Memory ran out for a frame of this piece. Its first bytes, up to that frame, were fed.
-    Out {
+    OutOfMemory {
         piece: LinkedList<u8>,
-        before: Option<u64>,
+        previous: Option<u64>,
     },
 }

@@ -1,18 +1,18 @@
-//! A requester is handed in to be shared, and given back.
+//! A requester is shared, and given back.
 
 ghost use Rattle.std.specs.Prelude.{◌≡◌, [], ◌∷◌, List, IfOk, IfErr};
 ghost use Rattle.nr_turnstile.specs.Passes.{Rests, home_of, id_of, seen_by, mine_of};
-ghost use Rattle.nr_shared.specs.declared.feeder.Beside.{Beside};
+ghost use Rattle.nr_shared.specs.declared.source_reader.InitialSource.{InitialSource};
 ghost use Rattle.nr_shared.specs.Callers.{IsCaller};
 ghost use Rattle.nr_shared.specs.Feeding.{FeedsFor};
-ghost use Rattle.nr_shared.specs.Opening.{GivesBack, HandsIn};
+ghost use Rattle.nr_shared.specs.Opening.{GivesBack, IsInitialHistory};
 ghost use Rattle.nr_shared.specs.Sharing.{SharedRests};
 
+use crate::appending::Appended;
 use crate::entry::Entry;
-use crate::feeder::{Beside, Feeder};
-use crate::line::Line;
-use crate::notes::Noted;
+use crate::requester_with_sink::RequesterWithSink;
 use crate::shared::{Pass, SharedRequester};
+use crate::source_reader::{InitialSource, SourceReader};
 use nr_links::PIECE_MAX;
 use nr_outside::{Sink, Source};
 use nr_requester::Requester;
@@ -22,75 +22,82 @@ use std::marker::{Brand, PhantomData};
 use std::snapshot::Snapshot;
 use std::sync::Wait;
 
-/// The history of a requester without marks, whose one entry is its handing in.
-pub struct HandedIn<K> {
+/// The history whose one entry is the initial state of a requester.
+pub struct InitialHistory<K> {
     of: PhantomData<K>,
 }
 
-impl<K: Noted> OpeningHistory<Entry> for HandedIn<K> {
+impl<K: Appended> OpeningHistory<Entry> for InitialHistory<K> {
     ghost history = { K.entry ∷ [] };
 }
 
 /// The history of a source, for the proof.
-pub trait Placed<I, O> {
-    ghost use Rattle.nr_shared.specs.declared.feeder.Beside.{Beside};
+pub trait SourceHistory<I, O> {
+    ghost use Rattle.nr_shared.specs.declared.source_reader.InitialSource.{InitialSource};
 
-    ghost placed: { List (Beside I O) };
+    ghost source_history: { List (InitialSource I O) };
 }
 
-impl<I, O> Placed<I, O> for Brand {
-    ghost placed = { [] };
+impl<I, O> SourceHistory<I, O> for Brand {
+    ghost source_history = { [] };
 }
 
 /// Its name.
-pub struct PlacedBy<K> {
+pub struct SourceHistoryOf<K> {
     of: PhantomData<K>,
 }
 
-impl<I: Source, O: Sink, K: Placed<I, O>> OpeningHistory<Beside<I, O>> for PlacedBy<K> {
-    ghost history = { K.placed };
+impl<I: Source, O: Sink, K: SourceHistory<I, O>> OpeningHistory<InitialSource<I, O>>
+    for SourceHistoryOf<K> {
+    ghost history = { K.source_history };
 }
 
-/// Puts the source with the pass that feeds behind a turnstile.
-fn place<I: Source, O: Sink, K: Placed<I, O>>(
+/// Puts the source, with the pass that feeds, in a turnstile.
+fn share_reader<I: Source, O: Sink, K: SourceHistory<I, O>>(
     alloc: Global,
-    feeder: Feeder<I, O>,
+    reader: SourceReader<I, O>,
     _source: &Snapshot<I>,
-    _pass: &Snapshot<nr_turnstile::Pass<Line<O>>>,
-) -> Result<(Turnstile<Feeder<I, O>>, nr_turnstile::Pass<Feeder<I, O>>), Feeder<I, O>>
+    _pass: &Snapshot<nr_turnstile::Pass<RequesterWithSink<O>>>,
+) -> Result<
+    (
+        Turnstile<SourceReader<I, O>>,
+        nr_turnstile::Pass<SourceReader<I, O>>,
+    ),
+    SourceReader<I, O>,
+>
 where
     I: Drop,
     O: Drop,
-    requires placed { record { source = _source.now; pass = _pass.now } ∷ [] ≡ K.placed }
-    requires feeds { FeedsFor I.left I.given I.faults (record { source = _source.now; pass = _pass.now }) feeder }
+    requires source_history { record { source = _source.now; pass = _pass.now } ∷ [] ≡ K.source_history }
+    requires feeds { FeedsFor I.left I.given I.faults (record { source = _source.now; pass = _pass.now }) reader }
     ensures ok { IfOk result (λ t. Rests t.0 t.1 × (seen_by t.1 ≡ record { source = _source.now; pass = _pass.now } ∷ [])) }
     ensures err { IfErr result (FeedsFor I.left I.given I.faults (record { source = _source.now; pass = _pass.now })) }
 {
-    match Turnstile::new_or_value::<PlacedBy<K>>(alloc, feeder) {
-        Ok(placed) => Ok(placed),
-        Err(feeder) => Err(feeder),
+    match Turnstile::new_or_value::<SourceHistoryOf<K>>(alloc, reader) {
+        Ok(pair) => Ok(pair),
+        Err(reader) => Err(reader),
     }
 }
 
 /// Takes the requester and the sink out of their turnstile, with the pass of a caller and the one that feeds.
 fn take_back<R: Wait, I: Source, O: Sink>(
     rt: &R,
-    main: Turnstile<Line<O>>,
-    mut caller: nr_turnstile::Pass<Line<O>>,
-    feeder: Feeder<I, O>,
+    main: Turnstile<RequesterWithSink<O>>,
+    mut caller: nr_turnstile::Pass<RequesterWithSink<O>>,
+    reader: SourceReader<I, O>,
 ) -> (Requester, I, O)
     requires rests { Rests main caller }
     requires caller { IsCaller caller }
-    requires feeds { (b : Beside I O) × (FeedsFor I.left I.given I.faults b feeder × (home_of b.pass.value ≡ id_of main)) }
-    ensures { (b : Beside I O) → FeedsFor I.left I.given I.faults b feeder → GivesBack I.left I.given I.faults O.taken O.faults (seen_by caller) (mine_of caller) b.source.value result.0 result.1 result.2 }
+    requires feeds { (b : InitialSource I O) × (FeedsFor I.left I.given I.faults b reader × (home_of b.pass.value ≡ id_of main)) }
+    ensures { (b : InitialSource I O) → FeedsFor I.left I.given I.faults b reader → GivesBack I.left I.given I.faults O.taken O.faults (seen_by caller) (mine_of caller) b.source.value result.0 result.1 result.2 }
 {
-    let Feeder {
+    let SourceReader {
         source,
         pass: feeding,
         ..
-    } = feeder;
+    } = reader;
     main.join(&mut caller, feeding);
-    let Line {
+    let RequesterWithSink {
         requester,
         sink,
         ..
@@ -99,8 +106,8 @@ fn take_back<R: Wait, I: Source, O: Sink>(
 }
 
 impl<I: Source, O: Sink> SharedRequester<I, O> {
-    /// Lets callers share a requester with its source and its sink. `H` names the history that it is handed in with, which is the entry of
-    /// the handing in. The pass has seen this history, and nothing is its own. After out of memory all three come back.
+    /// Lets callers share a requester with its source and its sink. `H` names the history that it begins with, whose one entry is the initial
+    /// state. The pass has seen this history, and nothing is its own. After out of memory all three come back.
     pub fn new<H: OpeningHistory<Entry>, R: Wait>(
         rt: &R,
         alloc: Global,
@@ -111,43 +118,43 @@ impl<I: Source, O: Sink> SharedRequester<I, O> {
     where
         I: Drop,
         O: Drop,
-        requires { HandsIn O.taken O.faults requester sink H.history }
+        requires { IsInitialHistory O.taken O.faults requester sink H.history }
         ensures rests { IfOk result (λ t. SharedRests t.0 t.1) }
         ensures seen { IfOk result (λ t. (seen_by t.1.main ≡ H.history) × (mine_of t.1.main ≡ [])) }
-        ensures source { IfOk result (λ t. (b : Beside I O) × ((seen_by t.1.source ≡ b ∷ []) × (b.source.value ≡ source))) }
+        ensures source { IfOk result (λ t. (b : InitialSource I O) × ((seen_by t.1.source ≡ b ∷ []) × (b.source.value ≡ source))) }
         ensures err { IfErr result (λ back. GivesBack I.left I.given I.faults O.taken O.faults H.history [] source back.0 back.1 back.2) }
     {
-        let line = Line::handed_in(requester, sink);
+        let with_sink = RequesterWithSink::of_parts(requester, sink);
         let Ok(buf) = vec![in alloc; 0u8; PIECE_MAX] else {
-            let Line {
+            let RequesterWithSink {
                 requester,
                 sink,
                 ..
-            } = line;
+            } = with_sink;
             return Err((requester, source, sink));
         };
-        let (main, mut feeding) = match Turnstile::new_or_value::<H>(alloc, line) {
+        let (main, mut feeding) = match Turnstile::new_or_value::<H>(alloc, with_sink) {
             Ok(opened) => opened,
-            Err(line) => {
+            Err(with_sink) => {
                 drop(buf);
-                let Line {
+                let RequesterWithSink {
                     requester,
                     sink,
                     ..
-                } = line;
+                } = with_sink;
                 return Err((requester, source, sink));
             }
         };
         let caller = main.split(&mut feeding);
-        let handed = Snapshot::of(&source);
+        let first_source = Snapshot::of(&source);
         let first = Snapshot::of(&feeding);
-        let feeder = Feeder {
+        let reader = SourceReader {
             source,
             pass: feeding,
             read: 0,
             buf,
         };
-        match place::<I, O, Brand>(alloc, feeder, &handed, &first) {
+        match share_reader::<I, O, Brand>(alloc, reader, &first_source, &first) {
             Ok((source, pass)) => Ok((
                 SharedRequester { main, source },
                 Pass {
@@ -155,21 +162,21 @@ impl<I: Source, O: Sink> SharedRequester<I, O> {
                     source: pass,
                 },
             )),
-            Err(feeder) => Err(take_back(rt, main, caller, feeder)),
+            Err(reader) => Err(take_back(rt, main, caller, reader)),
         }
     }
 
     /// Waits until both turns are free, and gives the requester, the source and the sink back.
     pub fn close<R: Wait>(self, rt: &R, pass: Pass<I, O>) -> (Requester, I, O)
         requires { SharedRests self pass }
-        ensures { (b : Beside I O) × ((seen_by pass.source ≡ b ∷ []) × GivesBack I.left I.given I.faults O.taken O.faults (seen_by pass.main) (mine_of pass.main) b.source.value result.0 result.1 result.2) }
+        ensures { (b : InitialSource I O) × ((seen_by pass.source ≡ b ∷ []) × GivesBack I.left I.given I.faults O.taken O.faults (seen_by pass.main) (mine_of pass.main) b.source.value result.0 result.1 result.2) }
     {
         let SharedRequester { main, source } = self;
         let Pass {
             main: caller,
-            source: beside,
+            source: reading,
         } = pass;
-        let feeder = source.close(rt, beside);
-        take_back(rt, main, caller, feeder)
+        let reader = source.close(rt, reading);
+        take_back(rt, main, caller, reader)
     }
 }

@@ -6,37 +6,37 @@ ghost use Rattle.nr_requester.specs.OpenCalls.{found_answer};
 ghost use Rattle.nr_turnstile.specs.Passes.{mine_of, seen_by};
 ghost use Rattle.nr_turnstile.specs.Rule.{IsOpen};
 ghost use Rattle.nr_turnstile.specs.Turns.{pass_of, Has, IsSameTurn};
-ghost use Rattle.nr_shared.specs.declared.line.Line.{Line};
+ghost use Rattle.nr_shared.specs.declared.requester_with_sink.RequesterWithSink.{RequesterWithSink};
 ghost use Rattle.nr_shared.specs.Histories.{bytes_fed, closes_of, forget_by};
 ghost use Rattle.nr_shared.specs.Ending.{HasCredit, IsRefused};
-ghost use Rattle.nr_shared.specs.private.Finding.{LeavesCredit};
-ghost use Rattle.nr_shared.specs.private.Emptied.{HasEmptied};
+ghost use Rattle.nr_shared.specs.private.CreditState.{LeavesCredit};
+ghost use Rattle.nr_shared.specs.private.Flushed.{HasFlushed};
+ghost use Rattle.nr_shared.specs.private.Taking.{IsDone};
 ghost use Rattle.nr_shared.specs.declared.entry.Entry.TheVariants as entries;
-ghost use Rattle.nr_shared.specs.Callers.{IsAsked, IsFeeding, IsReady, KeepsOpen, KeepsOthers};
+ghost use Rattle.nr_shared.specs.Callers.{HasOpenCall, IsFeeding, IsReady, KeepsOpen, KeepsOthers};
 ghost use Rattle.nr_shared.specs.Adding.{Adds};
 ghost use Rattle.nr_shared.specs.Callers.{Writes};
-ghost use Rattle.nr_shared.specs.Waiting.{AtCall, ForgetsCall, TakesAnswer, TakesUp};
+ghost use Rattle.nr_shared.specs.Waiting.{AtCall, ForgetsCall, IsTakeTurn};
 ghost use Rattle.nr_shared.specs.Draining.{fed_after, stopped_after};
 ghost use Rattle.nr_shared.specs.declared.entry.Stop.TheVariants as causes;
 ghost use Rattle.nr_requester.specs.Buffers.{bytes_of_buffers};
 ghost use Rattle.nr_links.specs.Limits.{read_max};
 
-use crate::entry::Stop;
-use crate::line::{Drained, Line};
-use crate::notes::{
-    note_cut, note_done, note_fed, note_forget, note_lost, note_revoke, note_stopped, note_submit,
-    note_wrote,
+use crate::appending::{
+    append_done, append_fed, append_forget, append_lost, append_revoke, append_stopped,
+    append_submit, append_write_failed, append_wrote,
 };
+use crate::entry::Stop;
+use crate::requester_with_sink::{Drained, MainTurn};
 use nr_outside::Sink;
 use nr_reduce::{Call, Form, Refused};
-use nr_requester::{Buffers, Done, Take, Ticket};
-use nr_turnstile::Turn;
+use nr_requester::{Buffers, Take, Ticket};
 use std::marker::Brand;
 use std::snapshot::Snapshot;
 
 /// Submits a call.
-pub(crate) fn submit_at<O: Sink>(
-    turn: &mut Turn<'_, Line<O>>,
+pub(crate) fn submit_under<O: Sink>(
+    turn: &mut MainTurn<'_, O>,
     call: Call,
     form: Form,
 ) -> Result<Ticket, (Call, Refused)>
@@ -44,7 +44,7 @@ pub(crate) fn submit_at<O: Sink>(
     requires ready { IsReady O.taken O.faults turn.old }
     ensures same { IsSameTurn turn.old turn.new }
     ensures ready { IsReady O.taken O.faults turn.new }
-    ensures accepted { IfOk result (λ xid. Adds (pass_of turn.old) (pass_of turn.new) (entries.Submit call form xid ∷ []) × IsAsked (pass_of turn.new) xid) }
+    ensures accepted { IfOk result (λ xid. Adds (pass_of turn.old) (pass_of turn.new) (entries.Submit call form xid ∷ []) × HasOpenCall (pass_of turn.new) xid) }
     ensures refused { OnErr result (Adds (pass_of turn.old) (pass_of turn.new) []) }
     ensures returned { IfErr result (λ e. e.0 ≡ call) }
     ensures keeps { KeepsOpen (pass_of turn.old) (pass_of turn.new) }
@@ -56,117 +56,101 @@ pub(crate) fn submit_at<O: Sink>(
 {
     let asked = Snapshot::of(&call);
     let asked_in = Snapshot::of(&form);
-    let line = turn.value();
-    match line.submit(call, form) {
+    let with_sink = turn.value();
+    match with_sink.submit(call, form) {
         Ok(ticket) => {
-            note_submit::<O, Brand>(turn, &asked, &asked_in, &ticket);
+            append_submit::<O, Brand>(turn, &asked, &asked_in, &ticket);
             Ok(ticket)
         }
         Err(refused) => Err(refused),
     }
 }
 
-/// Takes the answer of a call of the pass's own, which is there.
-pub(crate) fn take_at<O: Sink>(turn: &mut Turn<'_, Line<O>>, ticket: Ticket) -> Done
-    requires ready { IsReady O.taken O.faults turn.old }
-    requires there { (y : Line O) → Has turn.old y → is_some (found_answer ticket y.requester.state) ≡ true }
-    requires asked { IsAsked (pass_of turn.old) ticket }
-    ensures same { IsSameTurn turn.old turn.new }
-    ensures ready { IsReady O.taken O.faults turn.new }
-    ensures taken { TakesAnswer (pass_of turn.old) (pass_of turn.new) ticket result }
-{
-    let xid = ticket.xid();
-    let line = turn.value();
-    let done = line.take_answer(ticket);
-    let outcome = Snapshot::of(&done.outcome);
-    note_done::<O, Brand>(turn, xid, &outcome);
-    done
-}
-
 /// Takes the answer of a call of the pass's own; or the call comes back with its buffers, if the requester has ended before.
-pub(crate) fn try_take_at<O: Sink>(turn: &mut Turn<'_, Line<O>>, ticket: Ticket) -> Take
+pub(crate) fn try_take_under<O: Sink>(turn: &mut MainTurn<'_, O>, ticket: Ticket) -> Take
     requires ready { IsReady O.taken O.faults turn.old }
-    requires asked { IsAsked (pass_of turn.old) ticket }
+    requires has_call { HasOpenCall (pass_of turn.old) ticket }
     ensures same { IsSameTurn turn.old turn.new }
     ensures ready { IsReady O.taken O.faults turn.new }
-    ensures taken { TakesUp (pass_of turn.old) (pass_of turn.new) ticket result }
+    ensures taken { IsTakeTurn (pass_of turn.old) (pass_of turn.new) ticket result }
+    ensures there { ((y : RequesterWithSink O) → Has turn.old y → is_some (found_answer ticket y.requester.state) ≡ true) → IsDone result }
 {
     let xid = ticket.xid();
-    let line = turn.value();
-    match line.try_take(ticket) {
+    let with_sink = turn.value();
+    match with_sink.try_take(ticket) {
         Take::NotYet(ticket) => Take::NotYet(ticket),
         Take::Done(done) => {
             let outcome = Snapshot::of(&done.outcome);
-            note_done::<O, Brand>(turn, xid, &outcome);
+            append_done::<O, Brand>(turn, xid, &outcome);
             Take::Done(done)
         }
         Take::Failed { call, buffers, end } => {
             let held = Snapshot::of(&buffers);
-            note_lost::<O, Brand>(turn, end, xid, &held);
+            append_lost::<O, Brand>(turn, end, xid, &held);
             Take::Failed { call, buffers, end }
         }
     }
 }
 
 /// Forgets a call of the pass's own.
-pub(crate) fn forget_at<O: Sink>(turn: &mut Turn<'_, Line<O>>, ticket: Ticket)
+pub(crate) fn forget_under<O: Sink>(turn: &mut MainTurn<'_, O>, ticket: Ticket)
     requires ready { IsReady O.taken O.faults turn.old }
-    requires asked { IsAsked (pass_of turn.old) ticket }
+    requires has_call { HasOpenCall (pass_of turn.old) ticket }
     ensures same { IsSameTurn turn.old turn.new }
     ensures ready { IsReady O.taken O.faults turn.new }
     ensures forgotten { ForgetsCall (pass_of turn.old) (pass_of turn.new) ticket }
     ensures seen { seen_by (pass_of turn.new) ≡ seen_by (pass_of turn.old) ++ forget_by (seen_by (pass_of turn.old)) ticket ∷ [] }
 {
     let xid = ticket.xid();
-    let line = turn.value();
-    line.forget(ticket);
-    note_forget::<O, Brand>(turn, xid);
+    let with_sink = turn.value();
+    with_sink.forget(ticket);
+    append_forget::<O, Brand>(turn, xid);
 }
 
 /// Hands the output to the sink, unless a write failed before.
-pub(crate) fn drain_at<O: Sink>(turn: &mut Turn<'_, Line<O>>)
+pub(crate) fn drain_under<O: Sink>(turn: &mut MainTurn<'_, O>)
     requires ready { IsReady O.taken O.faults turn.old }
     ensures same { IsSameTurn turn.old turn.new }
     ensures ready { IsReady O.taken O.faults turn.new }
     ensures wrote { Writes (pass_of turn.old) (pass_of turn.new) }
-    ensures emptied { HasEmptied turn.new }
+    ensures flushed { HasFlushed turn.new }
 {
-    let line = turn.value();
-    let before = Snapshot::of(&line.requester);
-    let drained = line.drain();
-    let after = Snapshot::of(&line.requester);
+    let with_sink = turn.value();
+    let before = Snapshot::of(&with_sink.requester);
+    let drained = with_sink.drain();
+    let after = Snapshot::of(&with_sink.requester);
     match drained {
         Drained::Nothing => {}
-        Drained::Wrote => note_wrote::<O, Brand>(turn, &before, &after),
-        Drained::Cut => {
-            note_wrote::<O, Brand>(turn, &before, &after);
-            note_cut::<O, Brand>(turn);
+        Drained::Wrote => append_wrote::<O, Brand>(turn, &before, &after),
+        Drained::WriteFailed => {
+            append_wrote::<O, Brand>(turn, &before, &after);
+            append_write_failed::<O, Brand>(turn);
         }
     }
 }
 
 /// Revokes the memory of a call of the pass's own.
-pub(crate) fn revoke_at<O: Sink>(turn: &mut Turn<'_, Line<O>>, ticket: Ticket) -> (Call, Buffers)
+pub(crate) fn revoke_under<O: Sink>(turn: &mut MainTurn<'_, O>, ticket: Ticket) -> (Call, Buffers)
     requires ready { IsReady O.taken O.faults turn.old }
-    requires asked { IsAsked (pass_of turn.old) ticket }
+    requires has_call { HasOpenCall (pass_of turn.old) ticket }
     ensures same { IsSameTurn turn.old turn.new }
     ensures ready { IsReady O.taken O.faults turn.new }
     ensures revoked { AtCall (pass_of turn.old) ticket (λ k asked. (result.0 ≡ asked) × (Adds (pass_of turn.old) (pass_of turn.new) (entries.Revoke ticket (bytes_of_buffers result.1) k ∷ []) × KeepsOthers k (pass_of turn.old) (pass_of turn.new))) }
 {
     let xid = ticket.xid();
-    let line = turn.value();
-    let given = line.revoke(ticket);
+    let with_sink = turn.value();
+    let given = with_sink.revoke(ticket);
     let buffers = Snapshot::of(&given.1);
-    note_revoke::<O, Brand>(turn, xid, &buffers);
+    append_revoke::<O, Brand>(turn, xid, &buffers);
     given
 }
 
 /// Feeds a piece that was read, after a drain. Answers whether memory ran out for a frame of it.
-pub(crate) fn feed_at<O: Sink>(turn: &mut Turn<'_, Line<O>>, piece: &[u8]) -> bool
+pub(crate) fn feed_under<O: Sink>(turn: &mut MainTurn<'_, O>, piece: &[u8]) -> bool
     requires ready { IsReady O.taken O.faults turn.old }
     requires feeding { IsFeeding (pass_of turn.old) }
-    requires goes { (y : Line O) → Has turn.old y → y.stopped ≡ None }
-    requires emptied { HasEmptied turn.old }
+    requires goes { (y : RequesterWithSink O) → Has turn.old y → y.stopped ≡ None }
+    requires flushed { HasFlushed turn.old }
     requires some { 0 < length piece.now }
     requires room { length (bytes_fed (seen_by (pass_of turn.old))) + length piece.now ≤ read_max }
     ensures same { IsSameTurn turn.old turn.new }
@@ -175,17 +159,17 @@ pub(crate) fn feed_at<O: Sink>(turn: &mut Turn<'_, Line<O>>, piece: &[u8]) -> bo
     ensures seen { seen_by (pass_of turn.new) ≡ seen_by (pass_of turn.old) ++ fed_after (seen_by (pass_of turn.old)) result piece.now ∷ [] }
     ensures fed { Adds (pass_of turn.old) (pass_of turn.new) (fed_after (seen_by (pass_of turn.old)) result piece.now ∷ []) }
 {
-    let line = turn.value();
-    let out = line.feed(piece);
-    note_fed::<O, Brand>(turn, out, piece);
-    out
+    let with_sink = turn.value();
+    let out_of_memory = with_sink.feed(piece);
+    append_fed::<O, Brand>(turn, out_of_memory, piece);
+    out_of_memory
 }
 
 /// No more is fed.
-pub(crate) fn stop_at<O: Sink>(turn: &mut Turn<'_, Line<O>>, cause: Stop)
+pub(crate) fn stop_under<O: Sink>(turn: &mut MainTurn<'_, O>, cause: Stop)
     requires ready { IsReady O.taken O.faults turn.old }
     requires feeding { IsFeeding (pass_of turn.old) }
-    requires goes { (y : Line O) → Has turn.old y → y.stopped ≡ None }
+    requires goes { (y : RequesterWithSink O) → Has turn.old y → y.stopped ≡ None }
     requires cause { cause ≢ causes.Memory }
     ensures same { IsSameTurn turn.old turn.new }
     ensures ready { IsReady O.taken O.faults turn.new }
@@ -193,7 +177,7 @@ pub(crate) fn stop_at<O: Sink>(turn: &mut Turn<'_, Line<O>>, cause: Stop)
     ensures seen { seen_by (pass_of turn.new) ≡ seen_by (pass_of turn.old) ++ stopped_after (seen_by (pass_of turn.old)) cause ∷ [] }
     ensures stopped { Adds (pass_of turn.old) (pass_of turn.new) (stopped_after (seen_by (pass_of turn.old)) cause ∷ []) }
 {
-    let line = turn.value();
-    line.stop(cause);
-    note_stopped::<O, Brand>(turn, cause);
+    let with_sink = turn.value();
+    with_sink.stop(cause);
+    append_stopped::<O, Brand>(turn, cause);
 }

@@ -1,5 +1,5 @@
 //! Tests of `nr_turnstile`, over three values that stand for a history: a counter, a list, and a desk of questions and
-//! answers; and over a value with a pass of another turnstile. Tests of `nr_cache`.
+//! answers; and over a value with a pass of another turnstile. Tests of `nr_cache` and of `nr_shared`.
 #![tactic(auto)]
 
 mod additions;
@@ -7,13 +7,21 @@ mod asks;
 #[cfg(test)]
 mod cache;
 #[cfg(test)]
+mod callers;
+#[cfg(test)]
 mod compare;
 mod counter;
 mod feeder;
+#[cfg(test)]
+mod held;
 mod jobs;
 mod log;
 mod open;
 mod pumping;
+#[cfg(test)]
+mod shared;
+#[cfg(test)]
+mod sharing;
 #[cfg(test)]
 mod turns;
 

@@ -1,9 +1,9 @@
 use Rattle.std.proofs.Common.{inl, inr}
-use Rattle.nr_shared.proofs.Submitting.{no_answer, own_answer, sent_asked}
+use Rattle.nr_shared.proofs.Submitting.{no_answer, own_answer, sent_open_call}
 use Rattle.nr_shared.proofs.shared.SharedRequester.call.Goals as goal
 
-pub wait-requires-clause-asked : goal.wait-requires-clause-asked
-wait-requires-clause-asked g c = sent_asked c.args.pass.now.main c.submit.new.pass.main c.args.call c.args.form c.in-Ok.ticket c.in-Ok.ensures.rests.caller.lies c.in-Ok.ensures.submitted
+pub wait-requires-clause-has_call : goal.wait-requires-clause-has_call
+wait-requires-clause-has_call g c = sent_open_call c.args.pass.now.main c.submit.new.pass.main c.args.call c.args.form c.in-Ok.ticket c.in-Ok.ensures.rests.caller.lies c.in-Ok.ensures.submitted
 
 pub returns-in-Err-clause-called : goal.returns-in-Err-clause-called
 returns-in-Err-clause-called g c = inl c.in-Err.ensures.submitted

@@ -9,7 +9,7 @@ returns-clause-rests g c =
       record {
         main = (u.0.0 ∙ r.main.0, ap (λ m. m.1) u.1 ∙ r.main.1, ap (λ m. m.0.stage) u.1 ∙ r.main.2);
         source = (v.0.0 ∙ r.source.0, ap (λ m. m.1) v.1 ∙ r.source.1, ap (λ m. m.0.stage) v.1 ∙ r.source.2);
-        beside = r.beside;
+        initial_source = r.initial_source;
         has_seen = ap (λ m. m.0.seen) v.1 ∙ r.has_seen;
         home = r.home;
         caller = caller_same c.args.pass.now.main c.split.new.pass (ap (λ m. m.0.seen) u.1) (ap (λ m. m.0.mine) u.1) r.caller;
@@ -18,7 +18,7 @@ returns-clause-rests g c =
       record {
         main = c.split.ensures.new.0;
         source = c.split-2.ensures.new.0;
-        beside = r.beside;
+        initial_source = r.initial_source;
         has_seen = ap (λ w. w.seen) c.split-2.ensures.new.1 ∙ r.has_seen;
         home = r.home;
         caller = new_caller c.split.result (ap (λ w. w.mine) c.split.ensures.new.1);

@@ -1,0 +1,32 @@
+use Rattle.std.proofs.Common.{◌≡◌, List, refl, sym, ap, subst, ◌∙◌}
+use Rattle.nr_turnstile.specs.Passes.{seen_by}
+use Rattle.nr_turnstile.specs.Turns.{pass_of}
+use Rattle.nr_turnstile.proofs.Held.{same_value, written}
+use Rattle.nr_shared.specs.declared.requester_with_sink.RequesterWithSink.{RequesterWithSink}
+use Rattle.nr_shared.specs.Standing.{Stands}
+use Rattle.nr_shared.specs.Sharing.{SaysCredit, SaysCreditOutOfMemory}
+use Rattle.nr_shared.proofs.Ends.{says_credit, says_credit_out_of_memory}
+use Rattle.nr_shared.proofs.caller_turns.credit_under.Goals as goal
+
+pub returns-clause-ready : goal.returns-clause-ready
+returns-clause-ready g c =
+    let r = c.requires.ready in let f = c.value-with_sink.result.now in let e = c.value-with_sink.ensures.value in
+    record {
+      value = f;
+      has = (r.has.0, written _ _ f e, r.has.2);
+      stands = subst (λ (z : RequesterWithSink g.row.O.Denot). Stands g.O.Sink.taken g.O.Sink.faults z (seen_by (pass_of c.args.turn.now))) (same_value _ r.value f r.has.1 e) r.stands;
+      lies = r.lies;
+      earlier = r.earlier;
+    }
+
+pub returns-clause-credit : goal.returns-clause-credit
+returns-clause-credit g c =
+    let r = c.requires.ready in let f = c.value-with_sink.result.now in let seen = seen_by (pass_of c.args.turn.now) in
+    let st : Stands g.O.Sink.taken g.O.Sink.faults f seen = subst (λ (z : RequesterWithSink g.row.O.Denot). Stands g.O.Sink.taken g.O.Sink.faults z seen) (same_value _ r.value f r.has.1 c.value-with_sink.ensures.value) r.stands in
+    subst (λ b. SaysCredit b seen) (sym c.has_credit.ensures) (says_credit g.O.Sink.taken g.O.Sink.faults f seen st)
+
+pub returns-clause-credit_out_of_memory : goal.returns-clause-credit_out_of_memory
+returns-clause-credit_out_of_memory g c =
+    let r = c.requires.ready in let f = c.value-with_sink.result.now in let seen = seen_by (pass_of c.args.turn.now) in
+    let st : Stands g.O.Sink.taken g.O.Sink.faults f seen = subst (λ (z : RequesterWithSink g.row.O.Denot). Stands g.O.Sink.taken g.O.Sink.faults z seen) (same_value _ r.value f r.has.1 c.value-with_sink.ensures.value) r.stands in
+    subst (λ b. SaysCreditOutOfMemory b seen) (sym c.has_credit.ensures) (says_credit_out_of_memory g.O.Sink.taken g.O.Sink.faults f seen st)

@@ -1,6 +1,0 @@
-use Rattle.std.proofs.Common.{refl}
-use Rattle.nr_shared.proofs.Opened.{opens}
-use Rattle.nr_shared.proofs.line.Line.handed_in.Goals as goal
-
-pub returns : goal.returns
-returns g c = λ history o. opens g.O.Sink.taken g.O.Sink.faults _ history o refl refl refl refl c.facts.ensures.fresh c.facts.ensures.xid

@@ -1,0 +1,30 @@
+use Rattle.std.proofs.Common.{sym, subst, ◌∙◌}
+use Rattle.nr_turnstile.specs.declared.turnstile.Pass.{Pass}
+use Rattle.nr_turnstile.specs.Passes.{seen_by}
+use Rattle.nr_turnstile.specs.Turns.{pass_of}
+use Rattle.nr_shared.specs.declared.entry.Entry.{Entry}
+use Rattle.nr_shared.specs.declared.requester_with_sink.RequesterWithSink.{RequesterWithSink}
+use Rattle.nr_shared.specs.Histories.{closes_of}
+use Rattle.nr_shared.specs.Callers.{KeepsLaw}
+use Rattle.nr_shared.specs.Standing.{Stands}
+use Rattle.nr_shared.specs.Waiting.{IsPollTurn}
+use Rattle.nr_shared.proofs.Adding.{got}
+use Rattle.nr_shared.proofs.Asking.{open_call_got, keeps_got}
+use Rattle.nr_shared.proofs.Polling.{polls_after}
+use Rattle.nr_shared.proofs.Ends.{law_put_back}
+use Rattle.nr_shared.proofs.shared.SharedRequester.poll_turn.Goals as goal
+
+pub poll_under-found-requires-clause-has_call : goal.poll_under-found-requires-clause-has_call
+poll_under-found-requires-clause-has_call g c = let t = c.take_turn-turn.ensures.got.1 in
+    open_call_got g.O.Sink.taken g.O.Sink.faults c.take_turn-turn.result.turnstile.now c.args.main.now (pass_of c.take_turn-turn.result) c.args.ticket t c.requires.has_call
+
+pub returns-clause-polled : goal.returns-clause-polled
+returns-clause-polled g c = let t = c.take_turn-turn.ensures.got.1 in
+    subst (λ (z : Pass (RequesterWithSink g.row.O.Denot) Entry). IsPollTurn c.args.main.now z c.args.ticket c.poll_under-found.result) (sym (c.main-1.given.1 (sym (c.poll_under-found.ensures.same.1 ∙ c.take_turn-turn.ensures.borrow))))
+    (polls_after c.args.main.now (pass_of c.take_turn-turn.result) (pass_of c.poll_under-found.new.turn) c.put_back.new.self.1.0 c.args.ticket c.poll_under-found.result (got (Stands g.O.Sink.taken g.O.Sink.faults) closes_of c.take_turn-turn.result.turnstile.now c.args.main.now (pass_of c.take_turn-turn.result) t)
+    (keeps_got g.O.Sink.taken g.O.Sink.faults c.take_turn-turn.result.turnstile.now c.args.main.now (pass_of c.take_turn-turn.result) c.requires.has_call.lies t) c.poll_under-found.ensures.polled c.put_back.ensures.1 c.put_back.ensures.2)
+
+pub returns-clause-law : goal.returns-clause-law
+returns-clause-law g c =
+    subst (λ (z : Pass (RequesterWithSink g.row.O.Denot) Entry). KeepsLaw (seen_by z)) (sym (c.main-1.given.1 (sym (c.poll_under-found.ensures.same.1 ∙ c.take_turn-turn.ensures.borrow))))
+    (law_put_back g.O.Sink.taken g.O.Sink.faults c.poll_under-found.new.turn c.put_back.new.self.1.0 c.poll_under-found.ensures.ready c.put_back.ensures.1)

@@ -1,0 +1,166 @@
+//! What a caller finds and does under one turn.
+
+ghost use Rattle.std.specs.Prelude.{◌≡◌, ◌<◌, length, None, true, IfSome, [], ◌∷◌};
+ghost use Rattle.nr_rpc.specs.Credential.{CanWriteCred};
+ghost use Rattle.nr_turnstile.specs.Passes.{seen_by, mine_of};
+ghost use Rattle.nr_turnstile.specs.Turns.{pass_of, Has, IsSameTurn};
+ghost use Rattle.nr_shared.specs.declared.requester_with_sink.RequesterWithSink.{RequesterWithSink};
+ghost use Rattle.nr_shared.specs.Callers.{HasOpenCall, IsReady};
+ghost use Rattle.nr_shared.specs.Ending.{LinkEnded};
+ghost use Rattle.nr_shared.specs.private.CreditState.{IsCreditState};
+ghost use Rattle.nr_shared.specs.Histories.{stop_of};
+ghost use Rattle.nr_shared.specs.Sharing.{SaysCredit, SaysCreditOutOfMemory};
+ghost use Rattle.nr_shared.specs.Waiting.{IsSubmitTurn, IsPollTurn};
+
+use crate::call_end::CallEnd;
+use crate::requester_with_sink::MainTurn;
+use crate::turns::{drain_under, forget_under, submit_under, try_take_under};
+use nr_outside::Sink;
+use nr_reduce::{Call, Form};
+use nr_requester::{Done, Take, Ticket};
+
+/// What a turn of a caller that waits finds.
+#[derive(Drop)]
+pub enum PollTurn {
+    /// The answer.
+    Answered(Done),
+    /// Neither an answer nor an end.
+    NotYet(Ticket),
+    /// An end: the call was forgotten.
+    Ended(CallEnd),
+}
+
+/// What a turn of a caller that submits finds.
+#[derive(Drop)]
+pub enum SubmitTurn {
+    /// The call was accepted.
+    Accepted(Ticket),
+    /// No credit is left.
+    NoCredit(Call, Form),
+    /// The call isn't accepted.
+    Ended(CallEnd),
+}
+
+/// Whether a call can be submitted.
+#[derive(Clone, Copy)]
+pub enum CreditState {
+    /// A credit is left.
+    Left,
+    /// No credit is left.
+    NoCredit,
+    /// The link has ended.
+    Ended(CallEnd),
+}
+
+/// Takes the answer of a call of the pass's own, if it is there; or forgets the call, if none comes any more.
+pub(crate) fn poll_under<O: Sink>(turn: &mut MainTurn<'_, O>, ticket: Ticket) -> PollTurn
+    requires ready { IsReady O.taken O.faults turn.old }
+    requires has_call { HasOpenCall (pass_of turn.old) ticket }
+    ensures same { IsSameTurn turn.old turn.new }
+    ensures ready { IsReady O.taken O.faults turn.new }
+    ensures polled { IsPollTurn (pass_of turn.old) (pass_of turn.new) ticket result }
+{
+    let with_sink = turn.value();
+    let there = with_sink.requester.has_outcome(&ticket);
+    let end = with_sink.end();
+    if there {
+        match try_take_under(turn, ticket) {
+            Take::Done(done) => return PollTurn::Answered(done),
+            Take::NotYet(_) => unreachable!(),
+            Take::Failed { .. } => unreachable!(),
+        }
+    }
+    match end {
+        None => PollTurn::NotYet(ticket),
+        Some(end) => {
+            forget_under(turn, ticket);
+            PollTurn::Ended(end)
+        }
+    }
+}
+
+/// Whether a credit is left, or the link has ended.
+fn credit_state_under<O: Sink>(turn: &mut MainTurn<'_, O>) -> CreditState
+    requires ready { IsReady O.taken O.faults turn.old }
+    ensures same { IsSameTurn turn.old turn.new }
+    ensures ready { IsReady O.taken O.faults turn.new }
+    ensures seen { seen_by (pass_of turn.new) ≡ seen_by (pass_of turn.old) }
+    ensures mine { mine_of (pass_of turn.new) ≡ mine_of (pass_of turn.old) }
+    ensures found { IsCreditState turn.new result }
+{
+    let with_sink = turn.value();
+    if let Some(end) = with_sink.end() {
+        return CreditState::Ended(end);
+    }
+    if with_sink.has_credit() {
+        CreditState::Left
+    } else {
+        CreditState::NoCredit
+    }
+}
+
+/// Writes the output that is due. Then, if a credit is left, submits a call and writes it.
+pub(crate) fn submit_if_credit_under<O: Sink>(
+    turn: &mut MainTurn<'_, O>,
+    call: Call,
+    form: Form,
+) -> SubmitTurn
+    requires writable { CanWriteCred call.cred }
+    requires ready { IsReady O.taken O.faults turn.old }
+    ensures same { IsSameTurn turn.old turn.new }
+    ensures ready { IsReady O.taken O.faults turn.new }
+    ensures submitted { IsSubmitTurn (pass_of turn.old) (pass_of turn.new) call form result }
+{
+    drain_under(turn);
+    match credit_state_under(turn) {
+        CreditState::Ended(end) => return SubmitTurn::Ended(end),
+        CreditState::NoCredit => return SubmitTurn::NoCredit(call, form),
+        CreditState::Left => {}
+    }
+    match submit_under(turn, call, form) {
+        Ok(ticket) => {
+            drain_under(turn);
+            SubmitTurn::Accepted(ticket)
+        }
+        Err((call, refused)) => {
+            drop(call);
+            SubmitTurn::Ended(CallEnd::of_refused(refused))
+        }
+    }
+}
+
+/// Whether more of the stream is needed: nothing has ended, and the answer of the call isn't there, or no credit is left.
+pub(crate) fn needs_input_under<O: Sink>(
+    turn: &mut MainTurn<'_, O>,
+    ticket: Option<&Ticket>,
+) -> bool
+    requires ready { IsReady O.taken O.faults turn.old }
+    ensures same { IsSameTurn turn.old turn.new }
+    ensures ready { IsReady O.taken O.faults turn.new }
+    ensures seen { seen_by (pass_of turn.new) ≡ seen_by (pass_of turn.old) }
+    ensures mine { mine_of (pass_of turn.new) ≡ mine_of (pass_of turn.old) }
+    ensures needs_input { result ≡ true → stop_of (seen_by (pass_of turn.old)) ≡ None }
+{
+    let with_sink = turn.value();
+    if with_sink.end().is_some() {
+        return false;
+    }
+    match ticket {
+        Some(ticket) => !with_sink.requester.has_outcome(ticket),
+        None => !with_sink.has_credit(),
+    }
+}
+
+/// Whether a credit is left.
+pub(crate) fn credit_under<O: Sink>(turn: &mut MainTurn<'_, O>) -> bool
+    requires ready { IsReady O.taken O.faults turn.old }
+    ensures same { IsSameTurn turn.old turn.new }
+    ensures ready { IsReady O.taken O.faults turn.new }
+    ensures seen { seen_by (pass_of turn.new) ≡ seen_by (pass_of turn.old) }
+    ensures mine { mine_of (pass_of turn.new) ≡ mine_of (pass_of turn.old) }
+    ensures credit { SaysCredit result (seen_by (pass_of turn.old)) }
+    ensures credit_out_of_memory { SaysCreditOutOfMemory result (seen_by (pass_of turn.old)) }
+{
+    let with_sink = turn.value();
+    with_sink.has_credit()
+}

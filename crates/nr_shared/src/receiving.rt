@@ -1,0 +1,127 @@
+//! The pass that feeds reads the source, and feeds what it gives.
+
+ghost use Rattle.std.specs.Prelude.{◌≡◌, ◌≢◌, ◌+◌, ◌<◌, ◌≤◌, ◌++◌, length, None, Some, true, MatchBool, [], ◌∷◌};
+ghost use Rattle.nr_links.specs.Limits.{read_max};
+ghost use Rattle.nr_turnstile.specs.Passes.{Rests, home_of, id_of, seen_by, mine_of};
+ghost use Rattle.nr_turnstile.specs.Rule.{Lies};
+ghost use Rattle.nr_shared.specs.declared.entry.Stop.TheVariants as causes;
+ghost use Rattle.nr_shared.specs.declared.source_reader.InitialSource.{InitialSource};
+ghost use Rattle.nr_shared.specs.Callers.{IsFeeding};
+ghost use Rattle.nr_shared.specs.Feeding.{FeedsFor};
+ghost use Rattle.nr_shared.specs.Histories.{bytes_fed, stop_of};
+
+use crate::caller_turns::needs_input_under;
+use crate::entry::Stop;
+use crate::requester_with_sink::MainPass;
+use crate::shared::SharedRequester;
+use crate::source_reader::SourceReader;
+use crate::turns::{drain_under, feed_under, stop_under};
+use nr_outside::{Sink, Source};
+use nr_requester::Ticket;
+use std::sync::Wait;
+
+impl<I: Source, O: Sink> SharedRequester<I, O> {
+    // The source's turn: reads a piece and feeds it, if the answer of the call isn't there, or no credit is left.
+    pub(crate) fn receive<R: Wait>(
+        &self,
+        rt: &R,
+        source: &mut nr_turnstile::Pass<SourceReader<I, O>>,
+        ticket: Option<&Ticket>,
+    )
+        requires rests { Rests self.now.source source.old }
+        requires initial_source { (b : InitialSource I O) × ((seen_by source.old ≡ b ∷ []) × (home_of b.pass.value ≡ id_of self.now.main)) }
+        ensures rests { Rests self.now.source source.new }
+        ensures seen { seen_by source.new ≡ seen_by source.old }
+    {
+        let mut turn = self.source.take_turn(rt, source);
+        let reader = turn.value();
+        self.receive_piece(rt, reader, ticket);
+        turn.put_back();
+    }
+
+    // No turn is held during the read but the source's.
+    fn receive_piece<R: Wait>(
+        &self,
+        rt: &R,
+        reader: &mut SourceReader<I, O>,
+        ticket: Option<&Ticket>,
+    )
+        requires { (b : InitialSource I O) × (FeedsFor I.left I.given I.faults b reader.old × (home_of b.pass.value ≡ id_of self.now.main)) }
+        ensures { (b : InitialSource I O) → FeedsFor I.left I.given I.faults b reader.old → home_of b.pass.value ≡ id_of self.now.main → FeedsFor I.left I.given I.faults b reader.new }
+    {
+        if !self.needs_input(rt, &mut reader.pass, ticket) {
+            return;
+        }
+        match reader.read_piece() {
+            Ok(n) => {
+                let (piece, _) = reader.buf.split_at(n);
+                self.feed(rt, &mut reader.pass, piece);
+            }
+            Err(cause) => self.stop(rt, &mut reader.pass, cause),
+        }
+    }
+
+    // Writes the output that is due. Whether more of the stream is needed, by the pass that feeds.
+    fn needs_input<R: Wait>(
+        &self,
+        rt: &R,
+        feeding: &mut MainPass<O>,
+        ticket: Option<&Ticket>,
+    ) -> bool
+        requires rests { Rests self.now.main feeding.old }
+        requires feeding { IsFeeding feeding.old }
+        requires lies { Lies (seen_by feeding.old) (mine_of feeding.old) }
+        ensures rests { Rests self.now.main feeding.new }
+        ensures feeding { IsFeeding feeding.new }
+        ensures lies { Lies (seen_by feeding.new) (mine_of feeding.new) }
+        ensures fed { bytes_fed (seen_by feeding.new) ≡ bytes_fed (seen_by feeding.old) }
+        ensures stop { stop_of (seen_by feeding.new) ≡ stop_of (seen_by feeding.old) }
+        ensures needs_input { result ≡ true → stop_of (seen_by feeding.new) ≡ None }
+    {
+        let mut turn = self.main.take_turn(rt, feeding);
+        drain_under(&mut turn);
+        let needs_input = needs_input_under(&mut turn, ticket);
+        turn.put_back();
+        needs_input
+    }
+
+    // A piece is fed by the pass that feeds. Output that is due is written before it and after it. Answers whether memory ran out for a frame of it.
+    fn feed<R: Wait>(&self, rt: &R, feeding: &mut MainPass<O>, piece: &[u8]) -> bool
+        requires rests { Rests self.now.main feeding.old }
+        requires feeding { IsFeeding feeding.old }
+        requires lies { Lies (seen_by feeding.old) (mine_of feeding.old) }
+        requires goes { stop_of (seen_by feeding.old) ≡ None }
+        requires some { 0 < length piece.now }
+        requires room { length (bytes_fed (seen_by feeding.old)) + length piece.now ≤ read_max }
+        ensures rests { Rests self.now.main feeding.new }
+        ensures feeding { IsFeeding feeding.new }
+        ensures lies { Lies (seen_by feeding.new) (mine_of feeding.new) }
+        ensures fed { bytes_fed (seen_by feeding.new) ≡ bytes_fed (seen_by feeding.old) ++ piece.now }
+        ensures stop { MatchBool result (stop_of (seen_by feeding.new) ≡ Some causes.Memory) (stop_of (seen_by feeding.new) ≡ None) }
+    {
+        let mut turn = self.main.take_turn(rt, feeding);
+        drain_under(&mut turn);
+        let out_of_memory = feed_under(&mut turn, piece);
+        drain_under(&mut turn);
+        turn.put_back();
+        out_of_memory
+    }
+
+    // No more is fed: the pass that feeds appends that.
+    fn stop<R: Wait>(&self, rt: &R, feeding: &mut MainPass<O>, cause: Stop)
+        requires rests { Rests self.now.main feeding.old }
+        requires feeding { IsFeeding feeding.old }
+        requires lies { Lies (seen_by feeding.old) (mine_of feeding.old) }
+        requires goes { stop_of (seen_by feeding.old) ≡ None }
+        requires cause { cause ≢ causes.Memory }
+        ensures rests { Rests self.now.main feeding.new }
+        ensures feeding { IsFeeding feeding.new }
+        ensures lies { Lies (seen_by feeding.new) (mine_of feeding.new) }
+        ensures stopped { stop_of (seen_by feeding.new) ≡ Some cause }
+        ensures fed { bytes_fed (seen_by feeding.new) ≡ bytes_fed (seen_by feeding.old) }
+    {
+        let mut turn = self.main.take_turn(rt, feeding);
+        stop_under(&mut turn, cause);
+        turn.put_back();
+    }
+}

@@ -1,0 +1,246 @@
+//! A requester with its sink. Each call of it adds entries to one history.
+
+ghost use Rattle.std.specs.Prelude.{◌≡◌, ◌≢◌, ℕ, ◌+◌, ◌<◌, ◌≤◌, length, None, Some, true, is_some, [], ◌∷◌, ◌++◌, List, nat_lt, IfOk, IfErr, IfSome, OnErr};
+ghost use Rattle.nr_rpc.specs.Credential.{CanWriteCred};
+ghost use Rattle.nr_reduce.specs.declared.call.Submission.TheVariants as submissions;
+ghost use Rattle.nr_reduce.specs.declared.call.Refused.TheVariants as refusals;
+ghost use Rattle.nr_reduce.specs.declared.call.Call.{Call};
+ghost use Rattle.nr_requester.specs.Answers.{answer_of};
+ghost use Rattle.nr_requester.specs.OpenCalls.{found_answer};
+
+use crate::call_end::CallEnd;
+use crate::entry::{Entry, Stop};
+use nr_link::End;
+use nr_links::READ_MAX;
+use nr_outside::Sink;
+use nr_reduce::{Call, Form, Refused};
+use nr_requester::{Buffers, Done, Requester, Take, Ticket};
+use nr_turnstile::{Machine, Pass, Turn};
+
+/// What a drain did.
+#[derive(Clone, Copy)]
+pub enum Drained {
+    /// Nothing.
+    Nothing,
+    /// The sink took all that was pending.
+    Wrote,
+    /// The sink took the first bytes of it, and a write failed.
+    WriteFailed,
+}
+
+/// A requester with its sink.
+#[derive(Drop)]
+pub struct RequesterWithSink<O> {
+    pub(crate) requester: Requester,
+    pub(crate) sink: O,
+    // The length of the history.
+    pub(crate) entries: u64,
+    // Whether output may be pending.
+    pub(crate) pending: bool,
+    // Whether a write failed.
+    pub(crate) write_failed: bool,
+    // Why no more is fed.
+    pub(crate) stopped: Option<Stop>,
+}
+
+/// A turn of a caller, and what it takes turns with.
+pub(crate) type MainTurn<'a, O> = Turn<'a, RequesterWithSink<O>>;
+
+pub(crate) type MainPass<O> = Pass<RequesterWithSink<O>>;
+
+impl<O: Sink> Machine for RequesterWithSink<O> {
+    ghost use Rattle.nr_shared.specs.Standing.{Stands};
+    ghost use Rattle.nr_shared.specs.Histories.{closes_of};
+
+    type Entry = Entry;
+
+    ghost stands = { Stands O.taken O.faults };
+
+    ghost closes = { closes_of };
+
+    fn entries(&self) -> u64 {
+        self.entries
+    }
+}
+
+impl<O: Sink> RequesterWithSink<O> {
+    ghost use Rattle.nr_shared.specs.declared.entry.Entry.{Entry};
+    ghost use Rattle.nr_shared.specs.declared.entry.Entry.TheVariants as entries;
+    ghost use Rattle.nr_shared.specs.Standing.{Stands, Becomes};
+    ghost use Rattle.nr_shared.specs.Histories.{IsCallAt, IsUnclosed, bytes_fed, last_feeding};
+    ghost use Rattle.nr_shared.specs.Draining.{drained_entries, fed_entry};
+    ghost use Rattle.nr_shared.specs.private.Flushed.{IsFlushed};
+    ghost use Rattle.nr_shared.specs.private.Taking.{IsDone, TakenBy};
+    ghost use Rattle.nr_shared.specs.declared.entry.Stop.TheVariants as causes;
+    ghost use Rattle.nr_links.specs.Limits.{read_max};
+    ghost use Rattle.nr_requester.specs.Buffers.{bytes_of_buffers};
+    ghost use Rattle.nr_requester.specs.OpenCalls.{KeepsTickets};
+    ghost use Rattle.nr_shared.specs.Ending.{LinkEnded};
+    ghost use Rattle.nr_shared.specs.Opening.{IsInitialHistory};
+
+    /// A requester that is shared, with its sink. Output may be pending.
+    pub(crate) fn of_parts(requester: Requester, sink: O) -> RequesterWithSink<O>
+        ensures { (history : List Entry) → IsInitialHistory O.taken O.faults requester sink history → Stands O.taken O.faults result history }
+    {
+        requester.facts();
+        RequesterWithSink {
+            requester,
+            sink,
+            entries: 1,
+            pending: true,
+            write_failed: false,
+            stopped: None,
+        }
+    }
+
+    /// Why no answer comes any more, if so.
+    pub(crate) fn end(&self) -> Option<CallEnd>
+        ensures some { IfSome result (λ end. (history : List Entry) → Stands O.taken O.faults self.now history → LinkEnded end history) }
+        ensures none { result ≡ None → (self.now.requester.state.side.ended ≡ None) × (self.now.stopped ≡ None) }
+    {
+        if let Some(end) = self.requester.end() {
+            return Some(CallEnd::Ended(end));
+        }
+        if self.write_failed {
+            return Some(CallEnd::LinkWrite);
+        }
+        match self.stopped {
+            None => None,
+            Some(Stop::LinkRead) => Some(CallEnd::LinkRead),
+            Some(Stop::Closed) => Some(CallEnd::Closed),
+            Some(Stop::Budget) => Some(CallEnd::Budget { read: READ_MAX }),
+            Some(Stop::Memory) => Some(CallEnd::Ended(End::Memory)),
+        }
+    }
+
+    /// Whether a credit is left.
+    pub(crate) fn has_credit(&self) -> bool
+        ensures { result ≡ nat_lt (length self.now.requester.state.outstanding) self.now.requester.state.grant }
+    {
+        self.requester.outstanding() < self.requester.grant() as usize
+    }
+
+    /// Submits a call.
+    pub(crate) fn submit(&mut self, call: Call, form: Form) -> Result<Ticket, (Call, Refused)>
+        requires writable { CanWriteCred call.cred }
+        requires stands { (history : List Entry) × Stands O.taken O.faults self.old history }
+        ensures accepted { IfOk result (λ xid. Becomes O.taken O.faults self.old self.new (entries.Submit call form xid ∷ [])) }
+        ensures refused { IfErr result (λ e. e.1 ≢ refusals.Memory → answer_of self.old.requester.state call form ≡ submissions.Refused e.1) }
+        ensures returned { IfErr result (λ e. e.0 ≡ call) }
+        ensures err { OnErr result (self.new ≡ self.old) }
+    {
+        match self.requester.submit(call, form) {
+            Ok(ticket) => {
+                self.entries += 1;
+                self.pending = true;
+                Ok(ticket)
+            }
+            Err(refused) => Err(refused),
+        }
+    }
+
+    /// Hands the output to the sink, unless a write failed before.
+    pub(crate) fn drain(&mut self) -> Drained
+        requires stands { (history : List Entry) × Stands O.taken O.faults self.old history }
+        ensures drained { Becomes O.taken O.faults self.old self.new (drained_entries self.old.requester.state self.new.requester.state result) }
+        ensures tickets { KeepsTickets self.old.requester.state self.new.requester.state }
+        ensures stopped { self.new.stopped ≡ self.old.stopped }
+        ensures flushed { IsFlushed self.new }
+    {
+        if self.write_failed {
+            return Drained::Nothing;
+        }
+        if !self.pending {
+            return Drained::Nothing;
+        }
+        match self.requester.drain_into(&mut self.sink) {
+            Ok(()) => {
+                self.pending = false;
+                self.entries += 1;
+                Drained::Wrote
+            }
+            Err(_) => {
+                self.write_failed = true;
+                self.entries += 2;
+                Drained::WriteFailed
+            }
+        }
+    }
+
+    /// Feeds a piece that was read, after a drain. Answers whether memory ran out for a frame of it.
+    pub(crate) fn feed(&mut self, piece: &[u8]) -> bool
+        requires some { 0 < length piece.now }
+        requires goes { self.old.stopped ≡ None }
+        requires flushed { IsFlushed self.old }
+        requires stands { (history : List Entry) × (Stands O.taken O.faults self.old history × (length (bytes_fed history) + length piece.now ≤ read_max)) }
+        ensures fed { (history : List Entry) (last : ℕ) → Stands O.taken O.faults self.old history → last_feeding history ≡ Some last → length (bytes_fed history) + length piece.now ≤ read_max →
+            Stands O.taken O.faults self.new (history ++ fed_entry result piece.now last ∷ []) }
+        ensures tickets { KeepsTickets self.old.requester.state self.new.requester.state }
+    {
+        self.entries += 1;
+        self.pending = true;
+        match self.requester.feed(piece) {
+            Ok(()) => false,
+            Err(end) => match end {
+                End::Memory => {
+                    self.stopped = Some(Stop::Memory);
+                    true
+                }
+                _ => false,
+            },
+        }
+    }
+
+    /// No more is fed.
+    pub(crate) fn stop(&mut self, cause: Stop)
+        requires cause { cause ≢ causes.Memory }
+        requires goes { self.old.stopped ≡ None }
+        requires stands { (history : List Entry) × Stands O.taken O.faults self.old history }
+        ensures stopped { (history : List Entry) (last : ℕ) → Stands O.taken O.faults self.old history → last_feeding history ≡ Some last →
+            Stands O.taken O.faults self.new (history ++ entries.Stopped cause (Some last) ∷ []) }
+    {
+        self.stopped = Some(cause);
+        self.entries += 1;
+    }
+
+    /// Takes the answer of a call; or the call comes back with its buffers, if the requester has ended before.
+    pub(crate) fn try_take(&mut self, ticket: Ticket) -> Take
+        requires has_call { (history : List Entry) × (k : ℕ) × (call : Call) × (Stands O.taken O.faults self.old history × (IsCallAt history ticket k call × IsUnclosed history k)) }
+        ensures taken { (history : List Entry) (k : ℕ) (call : Call) → Stands O.taken O.faults self.old history → IsCallAt history ticket k call → IsUnclosed history k →
+            TakenBy O.taken O.faults history ticket k call result self.new }
+        ensures there { is_some (found_answer ticket self.old.requester.state) ≡ true → IsDone result }
+    {
+        match self.requester.try_take(ticket) {
+            Take::NotYet(ticket) => Take::NotYet(ticket),
+            Take::Done(done) => {
+                self.entries += 1;
+                Take::Done(done)
+            }
+            Take::Failed { call, buffers, end } => {
+                self.entries += 1;
+                Take::Failed { call, buffers, end }
+            }
+        }
+    }
+
+    /// Forgets a call.
+    pub(crate) fn forget(&mut self, ticket: Ticket)
+        requires has_call { (history : List Entry) × (k : ℕ) × (call : Call) × (Stands O.taken O.faults self.old history × (IsCallAt history ticket k call × IsUnclosed history k)) }
+        ensures forgotten { (history : List Entry) (k : ℕ) (call : Call) → Stands O.taken O.faults self.old history → IsCallAt history ticket k call → IsUnclosed history k →
+            Stands O.taken O.faults self.new (history ++ entries.Forget ticket k ∷ []) }
+    {
+        self.requester.forget(ticket);
+        self.entries += 1;
+    }
+
+    /// Revokes the memory of a call. The call and its buffers come back.
+    pub(crate) fn revoke(&mut self, ticket: Ticket) -> (Call, Buffers)
+        requires has_call { (history : List Entry) × (k : ℕ) × (call : Call) × (Stands O.taken O.faults self.old history × (IsCallAt history ticket k call × IsUnclosed history k)) }
+        ensures revoked { (history : List Entry) (k : ℕ) (call : Call) → Stands O.taken O.faults self.old history → IsCallAt history ticket k call → IsUnclosed history k →
+            Stands O.taken O.faults self.new (history ++ entries.Revoke ticket (bytes_of_buffers result.1) k ∷ []) × (result.0 ≡ call) }
+    {
+        let given = self.requester.revoke(ticket);
+        self.entries += 1;
+        given
+    }
+}
