@@ -43,7 +43,7 @@ impl Endpoint {
 
     /// Whether the hellos of both sides agree on Sends with Invalidate: a responder's replies are such, and an initiator takes them. Takes no memory.
     pub fn invalidates(&self) -> bool
-        ensures agreed { result ≡ self.now.link.state.agreed.invalidates }
+        ensures { result ≡ self.now.link.state.agreed.invalidates }
     {
         self.link.agreed.invalidates
     }

@@ -25,11 +25,12 @@ use Rattle.nr_reduce.specs.Chunks.{answers_offer, reply_conveyed}
 use Rattle.nr_reduce.specs.ClientState.{ClientState, OutstandingCall, client_memory_at, is_sent}
 use Rattle.nr_reduce.specs.ClientMessages.{ReplyVerdict, reply_verdict, reply_by_head, reply_by_payload, by_lists, reply_by_body, by_call, answered_call, reply_by_header, reply_xid}
 use Rattle.nr_reduce.specs.ClientMessages.ReplyVerdict.{EndsLink, GivesOutcome}
-use Rattle.nr_reduce.specs.Client.{client_segment, client_end, client_state_after, end_of_verdict, outstanding_of, outcomes_of, revoked_call, with_message, with_request, with_segment, segment_message, client_message_end, with_hello, due_with_response}
+use Rattle.nr_reduce.specs.Client.{client_segment, client_end, client_state_after, end_of_verdict, outstanding_of, outcomes_of, revoked_call, with_message, with_request, with_segment, segment_message, client_message_end, with_hello, due_with_response, segment_names}
 use Rattle.nr_laws.proofs.DistinctKeys.{any_append, or_left_lem, or_right_lem}
 use Rattle.nr_laws.proofs.TotalsAtClient.{taken}
 use Rattle.nr_laws.proofs.Basics.{some_not, each_all, each_kept}
 use Rattle.nr_laws.proofs.HeaderXid.{header_xid}
+use Rattle.nr_laws.proofs.NamedReplies.{stays_as_plain}
 
 -- ---- A message that doesn't end the client gives an outcome of the call of its xid, or that call's memory was revoked
 
@@ -204,7 +205,7 @@ frame_accounts opened gone xids k f e h = by (is_hello f) refl
     by false is =
         let unended = taken k f is e in
         segment_accounts gone xids k f (client_segment k f)
-        (λ message m. ap (λ (o : Option (List ℕ)). client_message_end k f o) (sym m) ∙ unended) h
+        (λ message m. stays_as_plain k f (segment_names (client_segment k f)) message (ap (λ (o : Option (List ℕ)). client_message_end k f (segment_names (client_segment k f)) o) (sym m) ∙ unended)) h
 
 -- ---- Other events
 

@@ -9,6 +9,7 @@ use Rattle.nr_link.specs.Frames.{Frame, is_hello}
 use Rattle.nr_link.specs.ReceiveState.{ReadRequest, read_request_of, message_completed}
 use Rattle.nr_link.specs.SegmentFaults.{segment_reason}
 use Rattle.nr_link.specs.Ending.{frame_segment, missing_access, is_hello_reason}
+use Rattle.nr_link.proofs.TakenSegments.{taken_read}
 use Rattle.nr_reduce.proofs.OwnLimits.{ClientLimits}
 use Rattle.nr_reduce.specs.declared.mark.LinkParameters.{LinkParameters}
 use Rattle.nr_reduce.specs.declared.outline.Plan.{Plan}
@@ -70,14 +71,13 @@ quiet_response k place (Some q) h =
     record { words = h q refl; completes = completes_tagged (response_segments q.sink q.sink_to held) tagged }
 
 segment_quiet : (k : ClientState) (f : Frame) → IsBytes f.bytes → is_hello f ≡ false → client_end k (FrameReceived f) ≡ None → IsQuiet (response_outputs k f.end (segment_request (client_segment k f)))
-unfolding frame_segment
 segment_quiet k f bytes behind stays = by (client_segment k f) refl
   where
     by : (r : Result Segment ℕ) → client_segment k f ≡ r → IsQuiet (response_outputs k f.end (segment_request r))
     by (Err reason) is = quiet_none
     by (Ok segment) is =
         quiet_response k f.end (read_request_of segment)
-        (λ q own. response_words k f.end segment (payload_bytes_lem f.bytes segment bytes is) q own
+        (λ q own. response_words k f.end segment (payload_bytes_lem f.bytes segment bytes (taken_read k.invalidates f.bytes segment is)) q own
         (λ last opcode w queue msn offset payload same.
         formed (client_readiness k (missing_access (region_grants f.end k.regions) f segment)) last opcode w queue msn offset payload
         (subst (λ (s : Segment). segment_reason (client_readiness k (missing_access (region_grants f.end k.regions) f segment)) s ≡ None) same (client_has_no_fault k f segment behind is stays))))

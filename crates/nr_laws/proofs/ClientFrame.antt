@@ -73,12 +73,12 @@ by_end k f (Some end) e = absurd cc
 
 pub request_ends : (k : ClientState) (f : Frame) (n : ℕ) (payload : List ℕ) → is_hello f ≡ false → client_segment k f ≡ Ok (Untagged true OPCODE_READ_REQUEST 0 QUEUE_READ_REQUEST n 0 payload) → client_end k (FrameReceived f) ≡ None
     → (read_request_in payload).sink_to + (read_request_in payload).size ≤ 2 ^ 64
-unfolding client_end frame_end
+unfolding client_end
 request_ends k f n payload behind is e =
     let segment : Segment = Untagged true OPCODE_READ_REQUEST 0 QUEUE_READ_REQUEST n 0 payload in
     let grants = region_grants f.end k.regions in
-    let found : frame_end (client_readiness k) grants f ≡ None =
-    by_end k f (frame_end (client_readiness k) grants f) ((λ i. cond (sym behind i) (hello_end (hello_of Responder f.bytes)) (or_message_end k f (frame_end (client_readiness k) grants f))) ∙ e) in
+    let found : frame_end_by (client_readiness k) grants f (client_segment k f) ≡ None =
+    by_end k f (frame_end_by (client_readiness k) grants f (client_segment k f)) ((λ i. cond (sym behind i) (hello_end (hello_of Responder f.bytes)) (or_message_end k f (frame_end_by (client_readiness k) grants f (client_segment k f)))) ∙ e) in
     let none : end_of_fault f segment (segment_reason (client_readiness k (missing_access grants f segment)) segment) ≡ None =
     ap (λ (r : Result Segment ℕ). frame_end_by (client_readiness k) grants f r) (sym is) ∙ found in
     let malformed = not_malformed (client_readiness k (missing_access grants f segment)) n payload (no_flaw f segment _ none) in

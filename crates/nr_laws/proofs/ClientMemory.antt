@@ -2,7 +2,7 @@
 -- allowed.
 use Rattle.std.proofs.Common.{◌≡◌, ℕ, ◌+◌, ◌≤◌, Bool, true, false, cond, not, eqb, List, [], ◌∷◌, ◌++◌, length, map, Option, None, Some, Result, Ok, Err, refl, sym, ap, subst, ◌∙◌, arith, append_assoc, append-nil, eq-eqb, ne_eqb}
 use Rattle.std.specs.List.{filter, find}
-use Rattle.nr_wire.specs.Segment.{Segment}
+use Rattle.nr_wire.specs.Segment.{Segment, segment_of}
 use Rattle.nr_wire.specs.Segment.Segment.{Tagged, Untagged}
 use Rattle.nr_regions.specs.Access.{TaggedSegment}
 use Rattle.nr_link.specs.declared.end.End.{End as Stop}
@@ -24,6 +24,7 @@ use Rattle.nr_reduce.proofs.OwnStags.{AreNumbered, numbered_buffers, ClientNumbe
 use Rattle.nr_laws.proofs.EventOutputs.{IsNext, GoesOn, along, place_after, places_after}
 use Rattle.nr_reduce.proofs.Steps.{end_state_after_append}
 use Rattle.nr_laws.proofs.ClientSays.{ClientGood, accepted_in, asked, asked_quiet, asked_submit, client_after}
+use Rattle.nr_laws.proofs.ReadFrames.{client_read}
 use Rattle.nr_laws.proofs.Memory.{Gathering, Settled, settled_later, settled_closed, settled_append, settled_more, revoked_settled}
 
 -- ---- Regions
@@ -306,17 +307,20 @@ keeps_step opened es place k (Some end) (ServerTold what) next good numbers afte
 
 pub client_gathers : (opened : LinkParameters) → Gathering (client_rules opened) (λ (k : ClientState). k.accesses_received)
 unfolding client_state_after
-client_gathers opened k (FrameReceived f) = by (is_hello f) (client_segment k f)
+client_gathers opened k (FrameReceived f) lives = by (is_hello f) refl
   where
-    by : (b : Bool) (r : Result Segment ℕ) → (cond b (with_hello opened k f) (with_segment k f r)).accesses_received ≡ cond b k.accesses_received (k.accesses_received ++ tagged_accesses f r)
-    by true r = refl
-    by false (Ok s) = refl
-    by false (Err reason) = sym (append-nil k.accesses_received)
-client_gathers opened k (CallSubmitted p a) = refl
-client_gathers opened k (MemoryRevoked p xid) = refl
-client_gathers opened k (CallExecuted e) = refl
-client_gathers opened k (QueueWritten taken) = refl
-client_gathers opened k (ServerTold what) = refl
+    one : (r : Result Segment ℕ) → (with_segment k f r).accesses_received ≡ k.accesses_received ++ tagged_accesses f r
+    one (Ok s) = refl
+    one (Err reason) = sym (append-nil k.accesses_received)
+
+    by : (b : Bool) → is_hello f ≡ b → (cond b (with_hello opened k f) (with_segment k f (client_segment k f))).accesses_received ≡ cond b k.accesses_received (k.accesses_received ++ tagged_accesses f (segment_of f.bytes))
+    by true first = refl
+    by false behind = one (client_segment k f) ∙ ap (λ (r : Result Segment ℕ). k.accesses_received ++ tagged_accesses f r) (client_read k f behind lives)
+client_gathers opened k (CallSubmitted p a) lives = refl
+client_gathers opened k (MemoryRevoked p xid) lives = refl
+client_gathers opened k (CallExecuted e) lives = refl
+client_gathers opened k (QueueWritten taken) lives = refl
+client_gathers opened k (ServerTold what) lives = refl
 
 pub keeps_nothing : (opened : LinkParameters) → ClientKeeps opened [] 0 (initial_client opened).state
 keeps_nothing opened = record { settled = tt; owns = tt; backed = tt }

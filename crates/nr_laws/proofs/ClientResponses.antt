@@ -6,13 +6,13 @@ use Rattle.nr_xdr.specs.Fields.{word_at}
 use Rattle.nr_link.specs.Output.{segment_count}
 use Rattle.nr_laws.specs.MessageSegments.{message_segment}
 use Rattle.nr_wire.specs.Constants.{OPCODE_READ_REQUEST}
-use Rattle.nr_wire.specs.Segment.{Segment}
+use Rattle.nr_wire.specs.Segment.{Segment, segment_of}
 use Rattle.nr_wire.specs.Segment.Segment.{Tagged, Untagged}
 use Rattle.nr_link.specs.declared.end.End.{End as Stop}
 use Rattle.nr_link.specs.declared.end.End.TheVariants as ends
 use Rattle.nr_link.specs.Ending.{is_hello_reason}
 use Rattle.nr_link.specs.Frames.{Frame, is_hello}
-use Rattle.nr_link.specs.Ending.{frame_segment, missing_access}
+use Rattle.nr_link.specs.Ending.{missing_access}
 use Rattle.nr_link.specs.ReceiveState.{read_request_in, read_request_of, message_completed}
 use Rattle.nr_regions.specs.declared.right.Right.TheVariants.{Fetch}
 use Rattle.nr_regions.specs.RegisteredMemory.{Access}
@@ -29,6 +29,7 @@ use Rattle.nr_reduce.proofs.OwnStags.{ClientNumbers, own_stags, client_numbers}
 use Rattle.nr_reduce.proofs.Steps.{end_state_after_append}
 use Rattle.nr_reduce.proofs.Touches.{client_touched}
 use Rattle.nr_laws.proofs.EventOutputs.{GoesOn, along, outputs_by, outputs_in, outputs_all}
+use Rattle.nr_laws.proofs.ReadFrames.{client_read}
 use Rattle.nr_laws.proofs.Brought.{Brings}
 use Rattle.nr_laws.proofs.ClientMemory.{find_left, find_closed}
 use Rattle.nr_laws.proofs.ClientSays.{ClientGood}
@@ -60,7 +61,7 @@ heard_by (Err reason) = []
 
 abbrev pub heard_in : List RunEvent → List (List ℕ)
 heard_in [] = []
-heard_in (FrameReceived f ∷ es) = cond (is_hello f) [] (heard_by (frame_segment f)) ++ heard_in es
+heard_in (FrameReceived f ∷ es) = cond (is_hello f) [] (heard_by (segment_of f.bytes)) ++ heard_in es
 heard_in (CallSubmitted p a ∷ es) = heard_in es
 heard_in (MemoryRevoked p xid ∷ es) = heard_in es
 heard_in (CallExecuted e ∷ es) = heard_in es
@@ -70,7 +71,7 @@ heard_in (ServerTold what ∷ es) = heard_in es
 heard_append : (es more : List RunEvent) → heard_in (es ++ more) ≡ heard_in es ++ heard_in more
 heard_append [] more = refl
 heard_append (FrameReceived f ∷ es) more =
-    let own : List (List ℕ) = cond (is_hello f) [] (heard_by (frame_segment f)) in
+    let own : List (List ℕ) = cond (is_hello f) [] (heard_by (segment_of f.bytes)) in
     ap (λ (ps : List (List ℕ)). own ++ ps) (heard_append es more) ∙ sym (append_assoc own (heard_in es) (heard_in more))
 heard_append (CallSubmitted p a ∷ es) more = heard_append es more
 heard_append (MemoryRevoked p xid ∷ es) more = heard_append es more
@@ -81,7 +82,7 @@ heard_append (ServerTold what ∷ es) more = heard_append es more
 pub heard_brought : (es : List RunEvent) (came : List Output) → Brings es came → heard_in es ≡ requests_in came
 heard_brought [] came b = ap requests_in (sym b)
 heard_brought (FrameReceived f ∷ es) [] b = absurd b
-heard_brought (FrameReceived f ∷ es) (AHello bytes ∷ came) b = (λ i. cond (b.0.0 i) [] (heard_by (frame_segment f)) ++ heard_brought es came b.1 i)
+heard_brought (FrameReceived f ∷ es) (AHello bytes ∷ came) b = (λ i. cond (b.0.0 i) [] (heard_by (segment_of f.bytes)) ++ heard_brought es came b.1 i)
 heard_brought (FrameReceived f ∷ es) (ASegment s ∷ came) b = (λ i. cond (b.0.0 i) [] (heard_by (b.0.1 i)) ++ heard_brought es came b.1 i)
 heard_brought (CallSubmitted p a ∷ es) came b = heard_brought es came b
 heard_brought (MemoryRevoked p xid ∷ es) came b = heard_brought es came b
@@ -224,10 +225,10 @@ fetched_request opened k f opcode w queue msn offset last payload own behind is 
 heard_answers : (opened : LinkParameters) (es : List RunEvent) (k : ClientState) (outs : List Output) (f : Frame) → HaveOwnStags (region_grants f.end k.regions) → is_hello f ≡ false → client_end k (FrameReceived f) ≡ None → ClientAnswers opened es k None outs
     → (r : Result Segment ℕ) → client_segment k f ≡ r → ClientAnswers opened (es ++ FrameReceived f ∷ []) (with_segment k f r) None (outs ++ response_outputs k f.end (segment_request r))
 heard_answers opened es k outs f own behind stays h (Err reason) is =
-    quiet_answers opened es (FrameReceived f) k k None None outs [] refl (λ n. (refl, (λ i. cond (behind i) [] (heard_by (is i)) ++ []))) (λ a d. d) h
+    quiet_answers opened es (FrameReceived f) k k None None outs [] refl (λ n. (refl, (λ i. cond (behind i) [] (heard_by ((sym (client_read k f behind stays) ∙ is) i)) ++ []))) (λ a d. d) h
 heard_answers opened es k outs f own behind stays h (Ok (Tagged last opcode stag to payload)) is =
     let s : Segment = Tagged last opcode stag to payload in
-    quiet_answers opened es (FrameReceived f) k (with_segment k f (Ok s)) None None outs [] refl (λ n. (refl, (λ i. cond (behind i) [] (heard_by (is i)) ++ []))) (segment_regions k f (Ok s)) h
+    quiet_answers opened es (FrameReceived f) k (with_segment k f (Ok s)) None None outs [] refl (λ n. (refl, (λ i. cond (behind i) [] (heard_by ((sym (client_read k f behind stays) ∙ is) i)) ++ []))) (segment_regions k f (Ok s)) h
 heard_answers opened es k outs f own behind stays h (Ok (Untagged last opcode w queue msn offset payload)) is = by (eqb opcode OPCODE_READ_REQUEST) refl
   where
     s : Segment
@@ -240,7 +241,7 @@ heard_answers opened es k outs f own behind stays h (Ok (Untagged last opcode w 
     one = record { request = payload; bytes = take (read_request_in payload).size (drop (read_request_in payload).to (client_memory_at k f.end (read_request_in payload).stag)) }
 
     heard : heard_in (FrameReceived f ∷ []) ≡ cond (eqb opcode OPCODE_READ_REQUEST) (payload ∷ []) [] ++ []
-    heard = (λ i. cond (behind i) [] (heard_by (is i)) ++ [])
+    heard = (λ i. cond (behind i) [] (heard_by ((sym (client_read k f behind stays) ∙ is) i)) ++ [])
 
     by : (b : Bool) → eqb opcode OPCODE_READ_REQUEST ≡ b → ClientAnswers opened (es ++ FrameReceived f ∷ []) after None (outs ++ response_outputs k f.end (cond b (Some (read_request_in payload)) None))
     by false asks = quiet_answers opened es (FrameReceived f) k after None None outs [] refl (λ n. (refl, heard ∙ ap (λ (b : Bool). cond b (payload ∷ []) [] ++ []) asks)) (segment_regions k f (Ok s)) h

@@ -212,11 +212,11 @@ request_ends last payload bytes e =
 -- why a frame that isn't the hello doesn't end a client: no fault of its segment
 pub client_has_no_fault : (k : ClientState) (f : Frame) (segment : Segment) → is_hello f ≡ false → client_segment k f ≡ Ok segment → client_end k (FrameReceived f) ≡ None
     → segment_reason (client_readiness k (missing_access (region_grants f.end k.regions) f segment)) segment ≡ None
-unfolding client_end frame_end
+unfolding client_end
 client_has_no_fault k f segment behind is e =
-    let others : or_message_end k f (frame_end (client_readiness k) (region_grants f.end k.regions) f) ≡ None =
-    ap (λ (b : Bool). cond b (hello_end (hello_of Responder f.bytes)) (or_message_end k f (frame_end (client_readiness k) (region_grants f.end k.regions) f))) (sym behind) ∙ e in
-    let none : frame_end (client_readiness k) (region_grants f.end k.regions) f ≡ None = by_end (frame_end (client_readiness k) (region_grants f.end k.regions) f) others in
+    let others : or_message_end k f (frame_end_by (client_readiness k) (region_grants f.end k.regions) f (client_segment k f)) ≡ None =
+    ap (λ (b : Bool). cond b (hello_end (hello_of Responder f.bytes)) (or_message_end k f (frame_end_by (client_readiness k) (region_grants f.end k.regions) f (client_segment k f)))) (sym behind) ∙ e in
+    let none : frame_end_by (client_readiness k) (region_grants f.end k.regions) f (client_segment k f) ≡ None = by_end (frame_end_by (client_readiness k) (region_grants f.end k.regions) f (client_segment k f)) others in
     let by_segment : end_of_fault f segment (segment_reason (client_readiness k (missing_access (region_grants f.end k.regions) f segment)) segment) ≡ None =
     ap (λ (r : Result Segment ℕ). frame_end_by (client_readiness k) (region_grants f.end k.regions) f r) (sym is) ∙ none in
     no_flaw f segment _ by_segment

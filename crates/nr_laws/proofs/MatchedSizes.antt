@@ -5,7 +5,7 @@ use Rattle.nr_wire.specs.Hello.{hello_of}
 use Rattle.nr_link.specs.declared.agreement.Agreement.{Agreement}
 use Rattle.nr_link.specs.declared.end.End.{End as Stop}
 use Rattle.nr_link.specs.Frames.{is_hello, Frame}
-use Rattle.nr_link.specs.Ending.{frame_end, hello_end}
+use Rattle.nr_link.specs.Ending.{frame_end, hello_end, frame_end_by}
 use Rattle.nr_reduce.specs.declared.mark.Mark.{Mark}
 use Rattle.nr_reduce.specs.declared.mark.LinkParameters.{LinkParameters}
 use Rattle.nr_reduce.specs.Events.{RunEvent, events}
@@ -173,7 +173,7 @@ client_quiet opened place r t ended up down h = record {
 hello_stays : (opened : LinkParameters) (k : ClientState) (f : Frame) → is_hello f ≡ true → IsHelloFrame Responder f.bytes → client_end k (FrameReceived f) ≡ None
 unfolding client_end
 hello_stays opened k f is read =
-    ap (λ (b : Bool). cond b (hello_end (hello_of Responder f.bytes)) (or_message_end k f (frame_end (client_readiness k) (region_grants f.end k.regions) f))) is ∙ ap hello_end read.says
+    ap (λ (b : Bool). cond b (hello_end (hello_of Responder f.bytes)) (or_message_end k f (frame_end_by (client_readiness k) (region_grants f.end k.regions) f (client_segment k f)))) is ∙ ap hello_end read.says
 
 client_frame : (opened : LinkParameters) (place : ℕ) (k : ClientState) (f : Frame) → IsNext place (FrameReceived f) → (is_hello f ≡ true → f.bytes ≡ first_hello opened Responder) → ClientMatched opened place (record { state = k; ended = None })
     → (o : Option Stop) → client_end k (FrameReceived f) ≡ o → ClientMatched opened f.end (next_end_state_by (client_rules opened) k (FrameReceived f) o)

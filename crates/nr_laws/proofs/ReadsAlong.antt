@@ -2,7 +2,7 @@
 -- done had the last segment of a response.
 use Rattle.std.proofs.Common.{◌≡◌, ℕ, ◌+◌, Bool, true, false, cond, ◌&&◌, not, eqb, List, [], ◌∷◌, ◌++◌, length, take, map, Option, None, Some, Result, Ok, Err, refl, sym, ap, subst, ◌∙◌, arith, append_assoc, append-nil, length-append, eqb-true}
 use Rattle.nr_wire.specs.Constants.{OPCODE_READ_RESPONSE, OPCODE_READ_REQUEST}
-use Rattle.nr_wire.specs.Segment.{Segment}
+use Rattle.nr_wire.specs.Segment.{Segment, segment_of}
 use Rattle.nr_wire.specs.Segment.Segment.{Tagged, Untagged}
 use Rattle.nr_regions.specs.declared.denied.Denied.{Denied}
 use Rattle.nr_link.specs.declared.end.End.{End as Stop}
@@ -11,6 +11,7 @@ use Rattle.nr_link.specs.ReceiveState.{ReceiveState, received_after, message_com
 use Rattle.nr_link.specs.SegmentFaults.{Readiness, segment_reason, reason_if, missing_fault, is_unexpected, is_expected}
 use Rattle.nr_link.specs.Reasons.{REASON_RESPONSE}
 use Rattle.nr_link.specs.Ending.{frame_segment, frame_end, frame_end_by, end_of_fault, hello_end, missing_access}
+use Rattle.nr_link.proofs.TakenSegments.{frame_read}
 use Rattle.nr_wire.specs.Hello.{hello_of}
 use Rattle.nr_wire.specs.declared.hello.Side.TheVariants.{Initiator}
 use Rattle.nr_reduce.specs.declared.mark.LinkParameters.{LinkParameters}
@@ -99,7 +100,7 @@ last_of (Err reason) = 0
 
 abbrev pub lasts_in : List RunEvent → ℕ
 lasts_in [] = 0
-lasts_in (FrameReceived f ∷ es) = cond (is_hello f) 0 (last_of (frame_segment f)) + lasts_in es
+lasts_in (FrameReceived f ∷ es) = cond (is_hello f) 0 (last_of (segment_of f.bytes)) + lasts_in es
 lasts_in (CallSubmitted p a ∷ es) = lasts_in es
 lasts_in (MemoryRevoked p xid ∷ es) = lasts_in es
 lasts_in (CallExecuted e ∷ es) = lasts_in es
@@ -218,7 +219,7 @@ frame_reads opened es k outs f s behind is stays own numbered h =
           ∙ (λ i. h.requests i ++ (requests_append (message_sends (k.messages_queued + 1) e.errors) (request_outputs (k.requests_sent + 1) (newly_open_reads e))
           ∙ (λ j. requests_sends (k.messages_queued + 1) e.errors j ++ requests_reads (k.requests_sent + 1) (newly_open_reads e) j)) i)
           ∙ sym (map-append request_payload (h.done ++ take 8 k.reads) (newly_open_reads e)) ∙ ap (λ (rs : List PendingRead). map request_payload rs) (sym effect.opened);
-      lasts = x.count ∙ (let l = h.lasts in let a = lasts_append es (FrameReceived f ∷ []) in let b = ap (λ (c : Bool). cond c 0 (last_of (frame_segment f))) behind in let c = ap last_of is in omega (arith, l, a, b, c));
+      lasts = x.count ∙ (let l = h.lasts in let a = lasts_append es (FrameReceived f ∷ []) in let b = ap (λ (c : Bool). cond c 0 (last_of (segment_of f.bytes))) behind in let c = ap last_of (frame_read f s is) in omega (arith, l, a, b, c));
     }
 
 quiet_reads : (opened : LinkParameters) (es : List RunEvent) (e : RunEvent) (k : ServerState) (outs more : List Output) → lasts_in (e ∷ []) ≡ 0 → requests_in more ≡ [] → ReadsAt opened es k outs → ReadsAt opened (es ++ e ∷ []) k (outs ++ more)

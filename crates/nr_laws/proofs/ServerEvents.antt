@@ -12,6 +12,7 @@ use Rattle.nr_link.specs.Frames.{Frame, is_hello}
 use Rattle.nr_link.specs.Output.{refusing_hello}
 use Rattle.nr_link.specs.ReceiveState.{ReceiveState, received_after, message_completed, begun_bytes, is_send, send_continued}
 use Rattle.nr_link.specs.Ending.{frame_segment}
+use Rattle.nr_link.proofs.TakenSegments.{frame_read}
 use Rattle.nr_reduce.specs.Hellos.{server_hello}
 use Rattle.nr_reduce.proofs.OwnLimits.{ServerLimits, server_limits}
 use Rattle.nr_reduce.specs.declared.mark.LinkParameters.{LinkParameters}
@@ -132,7 +133,7 @@ later_shape place r outs some (inr h) = h.1
 segment_step : (opened : LinkParameters) (es : List RunEvent) (place : ℕ) (k : ServerState) (outs : List Output) (f : Frame) (s : Segment) → IsNext place (FrameReceived f) → is_hello f ≡ false → frame_segment f ≡ Ok s
     → ServerTells opened es place (record { state = k; ended = None }) outs → (o : Option Stop) → server_end opened k (FrameReceived f) ≡ o
     → Grows opened es place (record { state = k; ended = None }) outs (FrameReceived f) (outputs_by (server_rules opened) (server_says opened) server_final_outputs k (FrameReceived f) o)
-unfolding server_says server_output server_state_after frame_segment
+unfolding server_says server_output server_state_after
 segment_step opened es place k outs f s next behind is t (Some end) stops =
     let rules = server_rules opened in
     let same : next_end_state rules (record { state = k; ended = None }) (FrameReceived f) ≡ record { state = k; ended = Some end } = ap (λ (o : Option Stop). next_end_state_by rules k (FrameReceived f) o) stops in
@@ -154,8 +155,8 @@ segment_step opened es place k outs f s next behind is t None stays =
     let same : next_end_state rules (record { state = k; ended = None }) (FrameReceived f) ≡ record { state = with_effect k f effect; ended = None } =
     ap (λ (o : Option Stop). next_end_state_by rules k (FrameReceived f) o) stays ∙ ap (λ (b : Bool). record { state = cond b (with_own_hello opened k f) (with_effect k f effect); ended = None }) behind in
     let greeted = later_shape place (record { state = k; ended = None }) outs (let p = above_zero f.at behind in let e = next.0 in omega (arith, p, e)) t.shape in
-    let payload : IsBytes (payload_by s) = payload_bytes_lem f.bytes s next.2 is in
-    let fine : IsFine effect = fine_frame k f (λ x m own whole. completed_bytes k.received x m t.begun (payload_bytes_lem f.bytes x next.2 own) whole) t.fit in
+    let payload : IsBytes (payload_by s) = payload_bytes_lem f.bytes s next.2 (frame_read f s is) in
+    let fine : IsFine effect = fine_frame k f (λ x m own whole. completed_bytes k.received x m t.begun (payload_bytes_lem f.bytes x next.2 (frame_read f x own)) whole) t.fit in
     let own : AreFine (effect_outputs k effect) effect.errors = fine_effect k effect fine in
     let says : cond (is_hello f) (AHello (server_hello opened f) ∷ []) (effect_outputs k effect) ≡ effect_outputs k effect = ap (λ (b : Bool). cond b (AHello (server_hello opened f) ∷ []) (effect_outputs k effect)) behind in
     record {

@@ -18,12 +18,12 @@ use Rattle.nr_link.specs.Limits.{segment_max}
 use Rattle.nr_link.specs.Output.{msn_word, segment_count, segment_payload}
 use Rattle.nr_link.specs.Frames.{Frame, is_hello}
 use Rattle.nr_link.specs.ReceiveState.{read_request_in, begun_bytes}
-use Rattle.nr_link.specs.Ending.{frame_end, hello_end}
+use Rattle.nr_link.specs.Ending.{frame_end, hello_end, frame_end_by}
 use Rattle.nr_reduce.specs.OfferedRegions.{region_grants}
 use Rattle.nr_reduce.specs.Events.RunEvent.{FrameReceived, CallSubmitted, QueueWritten}
 use Rattle.nr_reduce.specs.ClientState.{ClientState, OutstandingCall, is_sent, client_memory_at, initial_client_state as client_initial_state}
 use Rattle.nr_reduce.specs.ClientMessages.{reply_verdict, reply_by_header, by_call, answered_call}
-use Rattle.nr_reduce.specs.Client.{client_segment, end_of_verdict, client_message_end, or_message_end, segment_message, client_readiness, client_end, client_state_after, with_segment, outstanding_of, segment_request, with_hello, call_output, call_ends, submitted_ends, response_output}
+use Rattle.nr_reduce.specs.Client.{client_segment, end_of_verdict, client_message_end, or_message_end, segment_message, client_readiness, client_end, client_state_after, with_segment, outstanding_of, segment_request, with_hello, call_output, call_ends, submitted_ends, response_output, segment_names}
 use Rattle.nr_reduce.specs.ServerState.{ServerState, initial_server_state as server_initial_state}
 use Rattle.nr_laws.proofs.FrameContents.{FrameContent, Carries, total_of, sends_in, requests_in, responses_in, hellos_in, one_if_response, tagged_frame, tagged_frames, response_frames, client_frames, SentMessage, part_segment, last_segment, send_frames, calls_frames}
 use Rattle.nr_laws.proofs.FrameContents.FrameContent.{HelloFrame, PartFrame, SendFrame, RequestFrame, TaggedFrame}
@@ -38,6 +38,7 @@ use Rattle.nr_reduce.specs.Written.{ends_waiting}
 use Rattle.nr_reduce.proofs.WholeWrotes.{ClientEnds, none_waiting}
 use Rattle.nr_laws.proofs.EndsWaiting.{waiting_append, all_waiting_lem, one_waiting, calls_above, calls_length, send_some, output_some}
 use Rattle.nr_reduce.proofs.Waiting.{or_message}
+use Rattle.nr_laws.proofs.NamedReplies.{message_end_in, stays_as_plain}
 
 -- ---- A message that the client takes is under the xid of a call that is out
 
@@ -61,11 +62,11 @@ pub out_there : (k : ClientState) (f : Frame) (message : List ℕ) → end_of_ve
 unfolding reply_verdict
 out_there k f message e = out_header k f message (header_of message) refl e
 
-pub taken : (k : ClientState) (f : Frame) → is_hello f ≡ false → client_end k (FrameReceived f) ≡ None → client_message_end k f (segment_message k (client_segment k f)) ≡ None
+pub taken : (k : ClientState) (f : Frame) → is_hello f ≡ false → client_end k (FrameReceived f) ≡ None → message_end_in k f (client_segment k f) ≡ None
 unfolding client_end
 taken k f behind e =
-    or_message k f (frame_end (client_readiness k) (region_grants f.end k.regions) f)
-    ((λ i. cond (sym behind i) (hello_end (hello_of Responder f.bytes)) (or_message_end k f (frame_end (client_readiness k) (region_grants f.end k.regions) f))) ∙ e)
+    or_message k f (frame_end_by (client_readiness k) (region_grants f.end k.regions) f (client_segment k f))
+    ((λ i. cond (sym behind i) (hello_end (hello_of Responder f.bytes)) (or_message_end k f (frame_end_by (client_readiness k) (region_grants f.end k.regions) f (client_segment k f)))) ∙ e)
 
 -- ---- The client receives a message
 
@@ -97,7 +98,8 @@ totals_send_down opened k s w f message rest c first p stays apart =
     let segment : Segment = last_segment k.received.sends message in
     let is : client_segment k f ≡ Ok segment = segment_is k.received.sends k.received.requests f (SendFrame message) segment p refl in
     let whole : List ℕ = begun_bytes k.received.begun ++ message.payload in
-    let unended : end_of_verdict f (reply_verdict k f.end whole) ≡ None = ap (λ (r : Result Segment ℕ). client_message_end k f (segment_message k r)) (sym is) ∙ taken k f p.behind stays in
+    let unended : end_of_verdict f (reply_verdict k f.end whole) ≡ None =
+    stays_as_plain k f (segment_names (Ok segment)) whole (ap (λ (r : Result Segment ℕ). message_end_in k f r) (sym is) ∙ taken k f p.behind stays) in
     let fewer = length_fewer (λ (o : OutstandingCall). o.xid) (word_at 0 whole) k.outstanding apart (out_there k f whole unended) in
     let front = at_front k.received.begun w.down w.queued_down (SendFrame message) rest first c.whole_down in
     let m : TotalsAgree (with_segment k f (Ok segment)) s (down_one w [] rest) = record {
