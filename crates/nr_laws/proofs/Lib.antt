@@ -209,3 +209,4 @@ pub mod ReadFrames
 pub mod PlainOutputs
 pub mod NamedReplies
 pub mod PlainSegments
+pub mod NamedStags

@@ -23,15 +23,15 @@ use Rattle.nr_reduce.specs.ServerReads.{expected_read_response, reads_of, region
 use Rattle.nr_reduce.specs.ServerMessages.{Verdict, verdict}
 use Rattle.nr_reduce.specs.ServerMessages.Verdict.{EndsLink, OtherVersion, BadChunks, MakesPending}
 use Rattle.nr_reduce.specs.ServerFrames.{FrameEffect, no_effect, message_effect, response_effect, call_of_number, by_message, with_access, effect_in, frame_effect}
-use Rattle.nr_reduce.specs.Server.{server_end, server_state_after, with_effect, received_by, or_refusal, server_readiness, newly_open_reads, offer_of}
+use Rattle.nr_reduce.specs.Server.{server_end, server_state_after, with_effect, received_by, or_refusal, server_readiness, newly_open_reads, offer_of, stag_named}
 use Rattle.nr_reduce.specs.Holds.{Answer, answer_message, chunk_error}
 use Rattle.nr_link.specs.Output.{segment_count}
-use Rattle.nr_laws.specs.MessageSegments.{message_segment}
+use Rattle.nr_laws.specs.MessageSegments.{message_segment, named_segment}
 use Rattle.std.specs.List.{range_with_len}
 use Rattle.nr_header.specs.declared.header.ChunkLists.{ChunkLists}
 use Rattle.nr_reduce.proofs.Once.{NumberIs, verdict_number, whole_with, rises_with}
 use Rattle.nr_reduce.proofs.OwnStags.{AreNumbered, closed_length}
-use Rattle.nr_laws.proofs.Outputs.{Output, effect_outputs, answer_outputs, answer_of_call, message_sends, message_outputs, request_outputs, request_payload}
+use Rattle.nr_laws.proofs.Outputs.{Output, effect_outputs, answer_outputs, answer_of_call, message_sends, message_outputs, request_outputs, request_payload, named_outputs}
 use Rattle.nr_laws.proofs.Outputs.Output.{AHello, ASegment}
 use Rattle.nr_laws.proofs.TaggedSegments.{AreTagged}
 use Rattle.nr_laws.proofs.ClientSays.{no_reason}
@@ -59,12 +59,16 @@ requests_append [] ys = refl
 requests_append (AHello bytes ∷ xs) ys = requests_append xs ys
 requests_append (ASegment s ∷ xs) ys = ap (λ (ps : List (List ℕ)). request_in s ++ ps) (requests_append xs ys) ∙ sym (append_assoc (request_in s) (requests_in xs) (requests_in ys))
 
-requests_pieces : (msn : ℕ) (message is : List ℕ) → requests_in (map ASegment (map (message_segment msn message) is)) ≡ []
-requests_pieces msn message [] = refl
-requests_pieces msn message (i ∷ is) = requests_pieces msn message is
+requests_pieces : (named : Option ℕ) (msn : ℕ) (message is : List ℕ) → requests_in (map ASegment (map (named_segment named msn message) is)) ≡ []
+requests_pieces named msn message [] = refl
+requests_pieces None msn message (i ∷ is) = requests_pieces None msn message is
+requests_pieces (Some stag) msn message (i ∷ is) = requests_pieces (Some stag) msn message is
+
+requests_named : (named : Option ℕ) (msn : ℕ) (message : List ℕ) → requests_in (named_outputs named msn message) ≡ []
+requests_named named msn message = requests_pieces named msn message (range_with_len 0 (segment_count message))
 
 requests_message : (msn : ℕ) (message : List ℕ) → requests_in (message_outputs msn message) ≡ []
-requests_message msn message = requests_pieces msn message (range_with_len 0 (segment_count message))
+requests_message msn message = requests_named None msn message
 
 requests_sends : (msn : ℕ) (ms : List (List ℕ)) → requests_in (message_sends msn ms) ≡ []
 requests_sends msn [] = refl
@@ -84,9 +88,9 @@ requests_tagged (Untagged last opcode w queue msn offset payload ∷ segments) h
 requests_answer : (k : ServerState) (xid : ℕ) (offer : ChunkLists) (o : Option Answer) → requests_in (answer_outputs k xid offer o) ≡ []
 requests_answer k xid offer None = requests_message (k.messages_queued + 1) (chunk_error xid (credit_word k))
 requests_answer k xid offer (Some a) =
-    requests_append (map ASegment (Rattle.nr_reduce.specs.ChunkBytes.answer_segments offer a)) (message_outputs (k.messages_queued + 1) (answer_message xid (credit_word k) offer a))
+    requests_append (map ASegment (Rattle.nr_reduce.specs.ChunkBytes.answer_segments offer a)) (named_outputs (stag_named k.invalidates offer) (k.messages_queued + 1) (answer_message xid (credit_word k) offer a))
     ∙ (λ i. requests_tagged (Rattle.nr_reduce.specs.ChunkBytes.answer_segments offer a) (tagged_answer offer a) i
-    ++ requests_message (k.messages_queued + 1) (answer_message xid (credit_word k) offer a) i)
+    ++ requests_named (stag_named k.invalidates offer) (k.messages_queued + 1) (answer_message xid (credit_word k) offer a) i)
 
 -- ---- Last segments of responses
 
