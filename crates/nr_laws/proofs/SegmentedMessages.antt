@@ -58,7 +58,7 @@ named_word (Some stag) msn message i lt short h =
 pub segments_read_back : SegmentsReadBack
 segments_read_back named msn message i lt short h = (payload_size message i, (encoding_is (named_segment named msn message i) (named_word named msn message i lt short h)).says)
 
-names_none : (last : Bool) → None ≡ cond last None None
+names_none : (last : Bool) → ◌≡◌ {A = Option ℕ} None (cond last None None)
 names_none true = refl
 names_none false = refl
 
