@@ -1,5 +1,5 @@
 -- What a server's memory holds: each tagged segment that it received was allowed, so a sink holds its bytes with them laid over.
-use Rattle.std.proofs.Common.{◌≡◌, ℕ, ◌≤◌, Bool, true, false, cond, List, [], ◌++◌, Option, None, Some, Result, Ok, refl, sym, subst, ◌∙◌, arith, append-nil, inl, inr}
+use Rattle.std.proofs.Common.{◌≡◌, ℕ, ◌≤◌, Bool, true, false, cond, List, [], ◌++◌, Option, None, Some, Result, Ok, refl, sym, subst, ◌∙◌, arith, append-nil, inl, inr, ap}
 use Rattle.nr_wire.specs.Segment.{Segment, segment_of}
 use Rattle.nr_wire.specs.Segment.Segment.{Tagged, Untagged}
 use Rattle.nr_regions.specs.Access.{TaggedSegment}

@@ -2,7 +2,7 @@
 use Rattle.std.proofs.Common.{◌≡◌, ◌≢◌, ℕ, ◌+◌, ◌-◌, ◌≤◌, Bool, true, false, not, ◌&&◌, ◌||◌, eqb, cond, List, [], ◌∷◌, ◌++◌, length, drop, Some, refl, sym, ap, subst, ◌∙◌, arith, length-append, is_some, Option, None}
 use Rattle.std.specs.List.{AllByRecursion, list_any, filter}
 use Rattle.std.proofs.lemmas.Bool.{eqb-true, eqb-false}
-use Rattle.nr_link.specs.Output.{send}
+use Rattle.nr_link.specs.Output.{send_by}
 use Rattle.nr_endpoint.specs.SendQueue.{SendQueue, output_len, send_output, with_fpdus, with_send, with_send_by, written}
 use Rattle.nr_endpoint.specs.LinkState.{LinkState}
 use Rattle.nr_reduce.specs.declared.mark.LinkParameters.{LinkParameters}

@@ -1,5 +1,5 @@
 -- How many bytes a queue has, by the Sends that haven't left it, and by the reads that wait.
-use Rattle.std.proofs.Common.{◌≡◌, ℕ, ◌+◌, ◌*◌, ◌≤◌, List, [], ◌∷◌, length, refl, arith}
+use Rattle.std.proofs.Common.{◌≡◌, ℕ, ◌+◌, ◌*◌, ◌≤◌, List, [], ◌∷◌, length, refl, arith, Option}
 use Rattle.nr_wire.specs.declared.hello.Side.{Side}
 use Rattle.nr_link.specs.declared.end.End.{End}
 use Rattle.nr_wire.specs.Constants.{UNITS_MAX}

@@ -1,5 +1,5 @@
 -- What a responder's side of the link queues is what is due of the server of a run.
-use Rattle.std.proofs.Common.{◌≡◌, ◌≢◌, ℕ, ◌+◌, ◌-◌, ◌<◌, ◌≤◌, ◌^◌, Bool, true, false, eqb, cond, List, [], ◌∷◌, ◌++◌, length, drop, refl, sym, ap, ◌∙◌, arith, append_assoc, subst, length-append, length-drop}
+use Rattle.std.proofs.Common.{◌≡◌, ◌≢◌, ℕ, ◌+◌, ◌-◌, ◌<◌, ◌≤◌, ◌^◌, Bool, true, false, eqb, cond, List, [], ◌∷◌, ◌++◌, length, drop, refl, sym, ap, ◌∙◌, arith, append_assoc, subst, length-append, length-drop, Option, None, Some}
 use Rattle.std.specs.List.{AllByRecursion}
 use Rattle.std.proofs.lemmas.Bool.{eqb-true, le-ltb}
 use Rattle.std.proofs.lemmas.List.{append-nil, drop_all}
@@ -9,7 +9,7 @@ use Rattle.nr_wire.specs.Constants.{REASON_FLAGS}
 use Rattle.nr_wire.specs.Segment.Segment.{Untagged}
 use Rattle.nr_link.specs.declared.end.End.{End}
 use Rattle.nr_link.specs.declared.end.End.TheVariants as ends
-use Rattle.nr_link.specs.Output.{cut, msn_word, send, refusing_hello, terminate_message}
+use Rattle.nr_link.specs.Output.{cut, msn_word, send, send_by, send_invalidating, refusing_hello, terminate_message}
 use Rattle.nr_link.specs.Ending.{final_output, last_output, rejection}
 use Rattle.nr_endpoint.specs.SendQueue.{SendQueue, writable, next_number, with_hello, with_send, with_send_by, with_fpdus, with_end, written, output_len, send_output, ends_left}
 use Rattle.nr_responder.specs.ResponderState.{queued_bytes}
