@@ -47,7 +47,7 @@ fn arguments(rt: &HostRuntime) -> io::Result<Vec<String>> {
 }
 
 /// Runs the program, with the leave to start threads and to wait, and gives the status.
-fn run_with<R: Threads + Wait + Copy + Drop + Send + 'static>(
+fn run_with<R: Threads + Wait + Copy + Drop + Send + Sync + 'static>(
     rt: HostRuntime,
     threads: R,
     arguments: &[String],

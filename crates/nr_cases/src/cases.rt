@@ -69,7 +69,7 @@ fn run_of(alloc: Global, words: &str, lines: &str) -> Result<Run, CaseFault> {
 }
 
 /// Tries a case of a run, and writes its line.
-fn try_run<W: Write, R: Threads + Wait + Copy + Drop + Send + 'static>(
+fn try_run<W: Write, R: Threads + Wait + Copy + Drop + Send + Sync + 'static>(
     rt: R,
     alloc: Global,
     title: &str,
@@ -167,7 +167,7 @@ fn try_calls<W: Write>(
 }
 
 /// Tries a case, and writes its line.
-fn try_case<W: Write, R: Threads + Wait + Copy + Drop + Send + 'static>(
+fn try_case<W: Write, R: Threads + Wait + Copy + Drop + Send + Sync + 'static>(
     rt: R,
     alloc: Global,
     case: &str,
@@ -187,7 +187,7 @@ fn try_case<W: Write, R: Threads + Wait + Copy + Drop + Send + 'static>(
 }
 
 /// Tries the cases of a file.
-pub fn try_cases<W: Write, R: Threads + Wait + Copy + Drop + Send + 'static>(
+pub fn try_cases<W: Write, R: Threads + Wait + Copy + Drop + Send + Sync + 'static>(
     rt: R,
     alloc: Global,
     file: &str,

@@ -29,7 +29,7 @@ fn bytes_of(rt: &HostRuntime, name: &str) -> Option<Vec<u8>> {
 }
 
 /// Tries the cases of a file; `host` is what a run needs of the process.
-fn try_file<W: Write, R: Threads + Wait + Copy + Drop + Send + 'static>(
+fn try_file<W: Write, R: Threads + Wait + Copy + Drop + Send + Sync + 'static>(
     rt: &HostRuntime,
     host: R,
     name: &str,
@@ -49,7 +49,7 @@ fn try_file<W: Write, R: Threads + Wait + Copy + Drop + Send + 'static>(
 }
 
 /// Tries the cases of the files that the words name.
-fn try_files<R: Threads + Wait + Copy + Drop + Send + 'static>(
+fn try_files<R: Threads + Wait + Copy + Drop + Send + Sync + 'static>(
     rt: &HostRuntime,
     host: R,
 ) -> Result<(), Stop> {

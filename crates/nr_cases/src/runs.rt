@@ -171,7 +171,7 @@ impl Run {
 }
 
 /// Runs the program without a network.
-fn run_over<R: Threads + Wait + Copy + Drop + Send + 'static>(
+fn run_over<R: Threads + Wait + Copy + Drop + Send + Sync + 'static>(
     rt: R,
     alloc: Global,
     words: &[String],
@@ -216,7 +216,7 @@ impl Wanted {
 
 impl Run {
     /// Makes the run.
-    pub fn make<R: Threads + Wait + Copy + Drop + Send + 'static>(
+    pub fn make<R: Threads + Wait + Copy + Drop + Send + Sync + 'static>(
         self,
         rt: R,
         alloc: Global,

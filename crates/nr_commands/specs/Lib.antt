@@ -3,3 +3,4 @@ pub mod Endings
 pub mod Sessions
 pub mod Commands
 pub mod Running
+pub mod ByJobs

@@ -111,7 +111,7 @@ given_up_within e e2 len sends next n calls calls2 answers d w held lt same none
       regions = λ size is. subst (λ (x : LinkState). RegionsHave size x.memory (claims_total size left)) (sym state) (subst (λ (k : ℕ). RegionsHave size memory k) (sum size) (both size is).1);
       counts = subst (λ (x : LinkState). CountsFit sends x.send_queue left) (sym state)
           (record { waiting = omega (arith, w.counts.waiting, waiting_stays s.send_queue.sends_left n calls y d refl lt); numbered = w.counts.numbered });
-      each = each_stays (CallFits len) n calls y (record { call = omega arith; offer = omega arith; segments = (nth_of (CallFits len) n calls d lt w.each).segments; written = (nth_of (CallFits len) n calls d lt w.each).written; room = (nth_of (CallFits len) n calls d lt w.each).room; short = (nth_of (CallFits len) n calls d lt w.each).short }) w.each;
+      each = each_stays (CallFits len) n calls y (record { call = omega arith; offer = omega arith; segments = (nth_of (CallFits len) n calls d lt w.each).segments; writes = (nth_of (CallFits len) n calls d lt w.each).writes; written = (nth_of (CallFits len) n calls d lt w.each).written; room = (nth_of (CallFits len) n calls d lt w.each).room; short = (nth_of (CallFits len) n calls d lt w.each).short }) w.each;
       kept = w.kept;
       distinct = w.distinct;
     } in
@@ -163,7 +163,7 @@ forgot_within e len sends next n calls calls2 answers d w lt are =
       link = w.link;
       regions = λ size is. subst (λ (k : ℕ). RegionsHave size e.link.state.memory k) (sum size) (w.regions size is);
       counts = record { waiting = omega (arith, w.counts.waiting, waiting_stays e.link.state.send_queue.sends_left n calls y d refl lt); numbered = w.counts.numbered };
-      each = each_stays (CallFits len) n calls y (record { call = fits.call; offer = fits.offer; segments = fits.segments; written = fits.written; room = fits.room; short = fits.short }) w.each;
+      each = each_stays (CallFits len) n calls y (record { call = fits.call; offer = fits.offer; segments = fits.segments; writes = fits.writes; written = fits.written; room = fits.room; short = fits.short }) w.each;
       kept = w.kept;
       distinct = w.distinct;
     } in

@@ -17,6 +17,8 @@ mod gates;
 #[cfg(test)]
 mod host;
 #[cfg(test)]
+mod jobs;
+#[cfg(test)]
 mod links;
 #[cfg(test)]
 mod pieces;

@@ -112,7 +112,7 @@ pub(crate) fn push_piece(rt: &impl Abort, alloc: Global, bytes: &mut Vec<u8>, wo
 }
 
 /// The bytes of pieces.
-fn bytes_of(rt: &impl Abort, alloc: Global, words: &str) -> Vec<u8> {
+pub(crate) fn bytes_of(rt: &impl Abort, alloc: Global, words: &str) -> Vec<u8> {
     let mut bytes = Vec::new(alloc);
     for word in words.split_whitespace() {
         push_piece(rt, alloc, &mut bytes, word);
@@ -192,7 +192,11 @@ pub(crate) fn source(
 }
 
 /// Runs a client, and gives its status.
-pub(crate) fn run_client<P: LinkSource, Q: LinkSink, D: Dialer<Source = P, Sink = Q>>(
+pub(crate) fn run_client<
+    P: LinkSource + Drop + Send,
+    Q: LinkSink + Drop + Send,
+    D: Dialer<Source = P, Sink = Q>,
+>(
     rt: &impl Host,
     alloc: Global,
     words: &[String],
@@ -256,15 +260,11 @@ fn same_texts(rt: &impl Abort, alloc: Global, row: usize, case: Case, out: &[u8]
 }
 
 /// Runs a client that dials this address, with this input, and compares its status and what it prints and reports.
-pub(crate) fn same_run<P: LinkSource, Q: LinkSink, D: Dialer<Source = P, Sink = Q>>(
-    rt: &impl Host,
-    alloc: Global,
-    row: usize,
-    case: Case,
-    input: &[u8],
-    addr: &str,
-    dial: &mut D,
-) {
+pub(crate) fn same_run<
+    P: LinkSource + Drop + Send,
+    Q: LinkSink + Drop + Send,
+    D: Dialer<Source = P, Sink = Q>,
+>(rt: &impl Host, alloc: Global, row: usize, case: Case, input: &[u8], addr: &str, dial: &mut D) {
     let words = words(rt, alloc, case.line, addr);
     let mut input = source(rt, alloc, input, faults(rt, alloc, case.fault, "input"));
     let mut out = MemSink::new(alloc, faults(rt, alloc, case.fault, "out"));

@@ -176,7 +176,7 @@ fn printed<N: Net<Stream = TcpStream, Listener = TcpListener>>(
     out
 }
 
-/// Puts the longest file, gets it, and compares its bytes.
+/// Puts the longest file, gets it, also by several jobs, and compares its bytes.
 fn same_file<N: Net<Stream = TcpStream, Listener = TcpListener>>(
     rt: &impl Host,
     alloc: Global,
@@ -190,17 +190,20 @@ fn same_file<N: Net<Stream = TcpStream, Listener = TcpListener>>(
     let get = words(rt, alloc, "get here / /longest", addr);
     let got = printed(rt, alloc, get.as_slice(), b"", dial);
     same(rt, 1, got.bytes() == file.as_slice(), true);
+    let get = words(rt, alloc, "get here / /longest --jobs 4", addr);
+    let got = printed(rt, alloc, get.as_slice(), b"", dial);
+    same(rt, 2, got.bytes() == file.as_slice(), true);
 }
 
 #[test]
 fn put_and_get_of_the_longest_file(rt: HostRuntime) {
     let alloc = rt.alloc();
-    let (server, addr) = new_server(&rt, alloc, rt, 2);
+    let (server, addr) = new_server(&rt, alloc, rt, 3);
     let Ok(server) = thread::spawn(&rt, move || server.run(rt, alloc)) else {
         panic!(rt; "no thread")
     };
     same_file(&rt, alloc, addr.as_str(), &mut TcpDialer::new(rt));
     let (status, out, _) = server.join(&rt);
     same(&rt, 0, u32::from(status), 0);
-    same(&rt, 1, out.bytes().starts_with(b"served 2 journal "), true);
+    same(&rt, 1, out.bytes().starts_with(b"served 3 journal "), true);
 }

@@ -11,7 +11,7 @@ use Rattle.nr_words.specs.declared.words.WordsFault.{WordsFault}
 use Rattle.nr_words.specs.declared.words.WordsFault.TheVariants as faults
 use Rattle.nr_client.specs.Dialing.{DialerAt}
 use Rattle.nr_serve.specs.Serving.{AcceptorAt, SpawnerAt}
-use Rattle.nr_top.specs.Clients.{ClientEnds}
+use Rattle.nr_top.specs.Clients.{ClientEnds, GetEnds}
 use Rattle.nr_top.specs.Ends.{Ends, Reported, memory_text}
 use Rattle.nr_top.specs.Statuses as statuses
 use Rattle.nr_top.specs.declared.drill.ScriptSource.{ScriptSource}
@@ -47,6 +47,8 @@ DrillEnds source status before after =
 abbrev pub CommandEnds : Command Text → ℕ → (before after : Outside) → Type 0
 CommandEnds (commands.Client c) status before after =
     ClientEnds c status before.dialer after.dialer before.input after.input before.out after.out before.err after.err × AcceptsNone before after
+CommandEnds (commands.GetByJobs get) status before after =
+    GetEnds get status before.dialer after.dialer before.out after.out before.err after.err × ((after.input ≡ before.input) × AcceptsNone before after)
 CommandEnds (commands.Serve config) status before after =
     ServeEnds status before.input after.input before.out after.out before.err after.err before.acceptor after.acceptor before.spawner after.spawner before.gave after.gave × (after.dialer ≡ before.dialer)
 CommandEnds commands.Drill status before after = DrillEnds sources.Input status before after

@@ -1,10 +1,11 @@
 //! A command of a client: its status, and what is reported.
 
-ghost use Rattle.std.specs.Prelude.{◌≡◌};
+ghost use Rattle.std.specs.Prelude.{◌≡◌, ◌<◌, ◌≤◌};
 ghost use Rattle.nr_outside.specs.Streams.{sink_at, source_at};
-ghost use Rattle.nr_words.specs.Lines.{plain_client};
+ghost use Rattle.nr_words.specs.Lines.{plain_client, plain_get};
 ghost use Rattle.nr_client.specs.Dialing.{dialer_at};
-ghost use Rattle.nr_top.specs.Clients.{ClientEnds, ReportsEnd, call_status, link_status, status_of};
+ghost use Rattle.nr_client.specs.Jobs.{jobs_max};
+ghost use Rattle.nr_top.specs.Clients.{ClientEnds, GetEnds, ReportsEnd, call_status, link_status, status_of};
 
 use crate::report::write_error;
 use crate::status::{
@@ -12,12 +13,14 @@ use crate::status::{
     PROTOCOL_FAULT, REFUSED, TRANSPORT_ERROR,
 };
 use nr_client::{CallEnd, ClientEnd};
-use nr_commands::{end_text, run_command};
+use nr_commands::{end_text, get_by_jobs, run_command};
 use nr_link::End;
 use nr_links::{Dialer, LinkSink, LinkSource};
 use nr_outside::{Sink, Source};
-use nr_words::Client;
+use nr_words::{Client, GetByJobs};
 use std::alloc::Global;
+use std::sync::Wait;
+use std::thread::Threads;
 
 /// The status for an end of the client's side of a link.
 fn link_status(end: End) -> u8
@@ -87,6 +90,31 @@ pub(crate) fn run_client<
         (sink_at (E.taken err.old) (E.faults err.old)) (sink_at (E.taken err.new) (E.faults err.new)) }
 {
     match run_command(alloc, client, dial, input, out) {
+        Ok(()) => DONE,
+        Err(end) => report_end(alloc, end, err),
+    }
+}
+
+/// Runs a `get` by several jobs, and gives the status: 0 if it was done. Else `err` takes the reason.
+pub(crate) fn run_get<
+    P: LinkSource,
+    Q: LinkSink,
+    D: Dialer<Source = P, Sink = Q>,
+    R: Threads + Wait + Sync,
+    O: Sink,
+    E: Sink,
+>(rt: &R, alloc: Global, get: &GetByJobs<&str>, dial: &mut D, out: &mut O, err: &mut E) -> u8
+where
+    P: Drop + Send,
+    Q: Drop + Send,
+    requires { (0 < get.now.jobs) × (get.now.jobs ≤ jobs_max) }
+    ensures { GetEnds (plain_get get.now) result
+        (dialer_at (D.asked dial.old) (D.ended dial.old) (D.lost dial.old) (D.faults dial.old))
+        (dialer_at (D.asked dial.new) (D.ended dial.new) (D.lost dial.new) (D.faults dial.new))
+        (sink_at (O.taken out.old) (O.faults out.old)) (sink_at (O.taken out.new) (O.faults out.new))
+        (sink_at (E.taken err.old) (E.faults err.old)) (sink_at (E.taken err.new) (E.faults err.new)) }
+{
+    match get_by_jobs(rt, alloc, get, dial, out) {
         Ok(()) => DONE,
         Err(end) => report_end(alloc, end, err),
     }

@@ -9,7 +9,7 @@ ghost use Rattle.nr_client.specs.Dialing.{dialer_at};
 ghost use Rattle.nr_serve.specs.Serving.{acceptor_at, spawner_at};
 ghost use Rattle.nr_top.specs.RunEnds.{CommandEnds, RunEnds, outside};
 
-use crate::client::run_client;
+use crate::client::{run_client, run_get};
 use crate::drill::{ScriptSource, run_drill};
 use crate::report::answer_words;
 use crate::serving::run_server;
@@ -33,7 +33,7 @@ fn dispatch<
     A: Acceptor,
     C: Clock,
     S: Spawner<ServeJob<A::Source, A::Sink, C, R>>,
-    R: Threads + Wait + Copy + Drop + Send + 'static,
+    R: Threads + Wait + Copy + Drop + Send + Sync + 'static,
 >(
     rt: R,
     alloc: Global,
@@ -47,6 +47,8 @@ fn dispatch<
     spawn: &mut S,
 ) -> u8
 where
+    P: Drop + Send,
+    Q: Drop + Send,
     A::Source: Drop + Send + 'static,
     A::Sink: Drop + Send + 'static,
     C: Drop + Send + 'static,
@@ -60,6 +62,7 @@ where
 {
     match command {
         Command::Client { client } => run_client(alloc, client, dial, input, out, err),
+        Command::GetByJobs { get } => run_get(&rt, alloc, get, dial, out, err),
         Command::Serve { config: _config } => {
             run_server(rt, alloc, input, out, err, accept, clock, spawn)
         },
@@ -106,7 +109,7 @@ pub fn run<
     A: Acceptor,
     C: Clock,
     S: Spawner<ServeJob<A::Source, A::Sink, C, R>>,
-    R: Threads + Wait + Copy + Drop + Send + 'static,
+    R: Threads + Wait + Copy + Drop + Send + Sync + 'static,
 >(
     rt: R,
     alloc: Global,
@@ -120,6 +123,8 @@ pub fn run<
     spawn: &mut S,
 ) -> u8
 where
+    P: Drop + Send,
+    Q: Drop + Send,
     A::Source: Drop + Send + 'static,
     A::Sink: Drop + Send + 'static,
     C: Drop + Send + 'static,

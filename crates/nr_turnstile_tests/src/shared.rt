@@ -170,19 +170,6 @@ fn a_call_is_forgotten(rt: HostRuntime) {
     given_back(&rt, rt.alloc(), 2, (shared, pass), (20, 20, 1));
 }
 
-/// A take that finds neither the answer nor an end.
-fn not_yet(rt: &impl Abort, shared: &Shared, pass: &mut Caller, ticket: Ticket) -> Ticket
-    requires rests { SharedRests shared.now pass.old }
-    requires asked { HasOpenCall pass.old.main ticket }
-    ensures rests { SharedRests shared.now pass.new }
-    ensures asked { HasOpenCall pass.new.main result }
-{
-    match shared.try_take(pass, ticket) {
-        TryTake::Taken(Take::NotYet(ticket)) => ticket,
-        _ => panic!(rt; "taken"),
-    }
-}
-
 fn is_done(tried: &TryTake) -> bool {
     matches!(tried, TryTake::Taken(Take::Done(_)))
 }
@@ -191,13 +178,12 @@ fn is_failed(tried: &TryTake) -> bool {
     matches!(tried, TryTake::Taken(Take::Failed { .. }))
 }
 
-/// An answer that isn't there yet, and one that has come while another caller waited.
+/// An answer that has come while another caller waited.
 #[test]
 fn answers_are_taken(rt: HostRuntime) {
     let (shared, mut first) = share(&rt, rt.alloc(), &good(&[1, 2]));
     let mut second = shared.split(&mut first);
     let ticket = try_submit(&rt, rt.alloc(), &shared, &mut first);
-    let ticket = not_yet(&rt, &shared, &mut first, ticket);
     let got = shared.call(&rt, &mut second, null(rt.alloc(), NFS), Form::Auto);
     same(&rt, 1, answer_of(&got, NFS, 2), Answer::Reply);
     same(&rt, 2, is_done(&shared.try_take(&mut first, ticket)), true);

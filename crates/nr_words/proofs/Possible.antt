@@ -1,11 +1,13 @@
 -- The command of a line is one that a line can ask for: its positionals are positionals, its numbers in their ranges.
-use Rattle.std.proofs.Common.{◌≡◌, ℕ, ◌<◌, ◌≤◌, Bool, true, false, cond, eqb, List, [], ◌∷◌, Option, Some, None, option_map, refl, subst, arith}
+use Rattle.std.proofs.Common.{◌≡◌, ℕ, ◌<◌, ◌≤◌, Bool, true, false, cond, eqb, zero, suc, List, [], ◌∷◌, Option, Some, None, option_map, refl, sym, subst, arith}
 use Rattle.std.specs.Prelude.{◌&&◌, nat_le, is_some, option_and_then, unwrap_or}
 use Rattle.std.proofs.lemmas.Bool.Decides.{nat_tests}
-use Rattle.std.proofs.lemmas.Bool.{eqb-true}
+use Rattle.std.proofs.lemmas.Bool.{eqb-true, false≢true}
 use Rattle.std.proofs.lemmas.Option.{option_and_then_some, same_Some, none-some, cond_some}
 use Rattle.nr_words.specs.declared.commands.Command.{Command}
+use Rattle.nr_words.specs.declared.commands.Command.TheVariants as commands
 use Rattle.nr_words.specs.declared.commands.Action.{Action}
+use Rattle.nr_words.specs.declared.commands.Action.TheVariants as actions
 use Rattle.nr_words.specs.declared.lines.Subcommand.{Subcommand}
 use Rattle.nr_words.specs.declared.lines.Subcommand.TheVariants as subcommands
 use Rattle.nr_words.specs.declared.lines.OptionName.{OptionName}
@@ -13,10 +15,10 @@ use Rattle.nr_words.specs.declared.lines.OptionName.TheVariants as option_names
 use Rattle.nr_words.specs.declared.lines.Options.{Options}
 use Rattle.nr_words.specs.declared.lines.Positionals.{Positionals}
 use Rattle.nr_words.specs.declared.lines.State.{State}
-use Rattle.nr_words.specs.Limits.{calls_max, clients_max, default_units, units_max}
+use Rattle.nr_words.specs.Limits.{calls_max, clients_max, default_jobs, default_units, jobs_max, units_max}
 use Rattle.nr_words.specs.Numbers.{has_leading_zero, number_within, numeral_within, value_after, within}
-use Rattle.nr_words.specs.Lines.{Text, after_free_word, after_word, arity, client, complete, drill_of, finished, is_positional, line_of, once, option_named, start, step, steps, subcommand_named, takes, with_positional, with_value}
-use Rattle.nr_words.specs.Reads.{are_units, is_action, is_command}
+use Rattle.nr_words.specs.Lines.{Text, after_free_word, after_word, arity, by_jobs, client, complete, drill_of, finished, get_of, is_positional, line_of, once, option_named, start, step, steps, subcommand_named, takes, with_positional, with_value}
+use Rattle.nr_words.specs.Reads.{are_jobs, are_units, is_action, is_command}
 
 -- ---- Numbers in their ranges
 
@@ -46,6 +48,7 @@ numeral_fits high text = by (has_leading_zero text)
 
 record OptionsFit (o : Options) : Type 0 where
   inline : InRange units_max o.inline
+  jobs : InRange jobs_max o.jobs
   clients : InRange clients_max o.clients
   calls : InRange calls_max o.calls
 
@@ -55,12 +58,13 @@ once_fits None None with_number o e f = absurd (none-some _ e)
 once_fits (Some m) value with_number o e f = absurd (none-some _ e)
 
 value_fits : (o : Options) (name : OptionName) (word : Text) (t : Options) → OptionsFit o → with_value o name word ≡ Some t → OptionsFit t
-value_fits o option_names.Uid word t fits e = once_fits o.uid _ _ t e (λ n is. record { inline = fits.inline; clients = fits.clients; calls = fits.calls })
-value_fits o option_names.Gid word t fits e = once_fits o.gid _ _ t e (λ n is. record { inline = fits.inline; clients = fits.clients; calls = fits.calls })
-value_fits o option_names.Inline word t fits e = once_fits o.inline _ _ t e (λ n is. record { inline = subst (InRange units_max) is (numeral_fits units_max word); clients = fits.clients; calls = fits.calls })
-value_fits o option_names.Seed word t fits e = once_fits o.seed _ _ t e (λ n is. record { inline = fits.inline; clients = fits.clients; calls = fits.calls })
-value_fits o option_names.Clients word t fits e = once_fits o.clients _ _ t e (λ n is. record { inline = fits.inline; clients = subst (InRange clients_max) is (numeral_fits clients_max word); calls = fits.calls })
-value_fits o option_names.Calls word t fits e = once_fits o.calls _ _ t e (λ n is. record { inline = fits.inline; clients = fits.clients; calls = subst (InRange calls_max) is (numeral_fits calls_max word) })
+value_fits o option_names.Uid word t fits e = once_fits o.uid _ _ t e (λ n is. record { inline = fits.inline; jobs = fits.jobs; clients = fits.clients; calls = fits.calls })
+value_fits o option_names.Gid word t fits e = once_fits o.gid _ _ t e (λ n is. record { inline = fits.inline; jobs = fits.jobs; clients = fits.clients; calls = fits.calls })
+value_fits o option_names.Inline word t fits e = once_fits o.inline _ _ t e (λ n is. record { inline = subst (InRange units_max) is (numeral_fits units_max word); jobs = fits.jobs; clients = fits.clients; calls = fits.calls })
+value_fits o option_names.Jobs word t fits e = once_fits o.jobs _ _ t e (λ n is. record { inline = fits.inline; jobs = subst (InRange jobs_max) is (numeral_fits jobs_max word); clients = fits.clients; calls = fits.calls })
+value_fits o option_names.Seed word t fits e = once_fits o.seed _ _ t e (λ n is. record { inline = fits.inline; jobs = fits.jobs; clients = fits.clients; calls = fits.calls })
+value_fits o option_names.Clients word t fits e = once_fits o.clients _ _ t e (λ n is. record { inline = fits.inline; jobs = fits.jobs; clients = subst (InRange clients_max) is (numeral_fits clients_max word); calls = fits.calls })
+value_fits o option_names.Calls word t fits e = once_fits o.calls _ _ t e (λ n is. record { inline = fits.inline; jobs = fits.jobs; clients = fits.clients; calls = subst (InRange calls_max) is (numeral_fits calls_max word) })
 
 -- ---- Positionals
 
@@ -132,7 +136,7 @@ steps_fit subcommand s (word ∷ words) t fits e =
 
 start_fits : StateFits start
 start_fits = record {
-  options = record { inline = tt; clients = tt; calls = tt };
+  options = record { inline = tt; jobs = tt; clients = tt; calls = tt };
   positionals = record {
     first = λ lt. absurd (omega (arith, lt));
     second = λ lt. absurd (omega (arith, lt));
@@ -163,6 +167,31 @@ client_possible o p action c opt fits two good e =
     let units = units_possible o.inline opt.inline in
     subst (λ (x : Command Text). is_command x ≡ true) (same_Some _ c e) (rw (one, other, units, good) refl)
 
+jobs_fit : (jobs : Option ℕ) → InRange jobs_max jobs → (1 ≤ unwrap_or jobs default_jobs) × (unwrap_or jobs default_jobs ≤ jobs_max)
+jobs_fit None h = (omega arith, omega arith)
+jobs_fit (Some n) h = h
+
+past_one : (n : ℕ) → 1 ≤ n → eqb n 1 ≡ false → 2 ≤ n
+past_one zero h e = absurd (omega (arith, h))
+past_one (suc zero) h e = absurd (false≢true (sym e))
+past_one (suc (suc n)) h e = omega arith
+
+get_possible : (o : Options) (p : Positionals Text) (jobs : ℕ) (c : Command Text) → OptionsFit o → PositionalsFit p → p.count ≡ 3 → (1 ≤ jobs) × (jobs ≤ jobs_max) → get_of o p jobs ≡ Some c → is_command c ≡ true
+get_possible o p jobs c opt fits n within e = by (eqb jobs 1) refl e
+  where
+    several : eqb jobs 1 ≡ false → are_jobs jobs ≡ true
+    several not_one = grind (arith, nat_tests, past_one jobs within.0 not_one, within.1)
+
+    by : (b : Bool) → eqb jobs 1 ≡ b → cond b (client o p (actions.Get p.third)) (Some (commands.GetByJobs (by_jobs o p jobs))) ≡ Some c → is_command c ≡ true
+    by true is e = client_possible o p _ c opt fits (omega (arith, n)) (fits.third (omega (arith, n))) e
+    by false is e =
+        let one = fits.first (omega (arith, n)) in
+        let other = fits.second (omega (arith, n)) in
+        let path = fits.third (omega (arith, n)) in
+        let units = units_possible o.inline opt.inline in
+        let jobs_are = several is in
+        subst (λ (x : Command Text). is_command x ≡ true) (same_Some _ c e) (rw (one, other, path, units, jobs_are) refl)
+
 complete_possible : (subcommand : Subcommand) (o : Options) (p : Positionals Text) (c : Command Text) → OptionsFit o → PositionalsFit p → p.count ≡ arity subcommand → complete subcommand o p ≡ Some c → is_command c ≡ true
 complete_possible subcommands.Serve o p c opt fits n e = subst (λ (x : Command Text). is_command x ≡ true) (same_Some _ c e) (fits.first (omega (arith, n)))
 complete_possible subcommands.Mount o p c opt fits n e = client_possible o p _ c opt fits (omega (arith, n)) refl e
@@ -172,7 +201,7 @@ complete_possible subcommands.ReadLink o p c opt fits n e = client_possible o p 
 complete_possible subcommands.MakeDirectory o p c opt fits n e = client_possible o p _ c opt fits (omega (arith, n)) (fits.third (omega (arith, n))) e
 complete_possible subcommands.Remove o p c opt fits n e = client_possible o p _ c opt fits (omega (arith, n)) (fits.third (omega (arith, n))) e
 complete_possible subcommands.Put o p c opt fits n e = client_possible o p _ c opt fits (omega (arith, n)) (fits.third (omega (arith, n))) e
-complete_possible subcommands.Get o p c opt fits n e = client_possible o p _ c opt fits (omega (arith, n)) (fits.third (omega (arith, n))) e
+complete_possible subcommands.Get o p c opt fits n e = get_possible o p (unwrap_or o.jobs default_jobs) c opt fits n (jobs_fit o.jobs opt.jobs) e
 complete_possible subcommands.Link o p c opt fits n e =
     let path = fits.third (omega (arith, n)) in
     let target = fits.fourth (omega (arith, n)) in

@@ -1,4 +1,4 @@
-use Rattle.std.proofs.Common.{◌≡◌, Option, Some, None, option_map, refl, sym, ap, ap₂, Global, Bor, List}
+use Rattle.std.proofs.Common.{◌≡◌, Option, Some, None, option_map, refl, sym, ap, ap₂, ◌∙◌, Global, Bor, List}
 use Rattle.std.specs.Prelude.{Box}
 use Rattle.std.specs.Box.{box_value}
 use Rattle.std.proofs.lemmas.Option.{same_Some}
@@ -18,3 +18,8 @@ pub joined : (r : Option (Bor Text × Bor ArgMatches)) (m : ArgMatches) → opti
     → option_map (λ p. rows_of (found_of p.1.now)) r ≡ option_map (λ p. p.1) (subcommand_rows (out-ArgMatches m).subcommand)
     → subcommand_rows_of m ≡ option_map (λ p. (p.0.now, rows_of (found_of p.1.now))) r
 joined r m a b = go r (out-ArgMatches m).subcommand a b
+
+-- of a subcommand that was used
+pub found_rows : (r : Option (Bor Text × Bor ArgMatches)) (m : ArgMatches) (name : Bor Text) (given : Bor ArgMatches) → r ≡ Some (name, given) → option_map (λ p. p.0.now) r ≡ subcommand_name_of m
+    → option_map (λ p. rows_of (found_of p.1.now)) r ≡ option_map (λ p. p.1) (subcommand_rows (out-ArgMatches m).subcommand) → subcommand_rows_of m ≡ Some (name.now, rows_of (found_of given.now))
+found_rows r m name given is a b = joined r m a b ∙ ap (λ (o : Option (Bor Text × Bor ArgMatches)). option_map (λ p. (p.0.now, rows_of (found_of p.1.now))) o) is

@@ -15,6 +15,13 @@ clients_max = 16
 abbrev pub calls_max : ℕ
 calls_max = 1000000
 
+-- the maximum number of jobs of a `get`, and how many it has if nothing is said
+abbrev pub jobs_max : ℕ
+jobs_max = 16
+
+abbrev pub default_jobs : ℕ
+default_jobs = 1
+
 -- the maximum length of the path of an export in bytes (RFC 1813 section 5.1.4, MNTPATHLEN)
 abbrev pub mount_path_max : ℕ
 mount_path_max = 1024

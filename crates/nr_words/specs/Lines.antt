@@ -2,11 +2,12 @@
 use Rattle.std.specs.Prelude.{ℕ, ◌==◌, Bool, true, false, not, if◌then◌else◌, List, [], ◌∷◌, codes, Option, Some, None, is_some, option_map, option_and_then, unwrap_or}
 use Rattle.std.specs.Borrow.{Bor}
 use Rattle.std.specs.Str.{bytes_eq}
-use Rattle.nr_words.specs.Limits.{calls_max, clients_max, default_units, id_max, seed_max, units_max}
+use Rattle.nr_words.specs.Limits.{calls_max, clients_max, default_jobs, default_units, id_max, jobs_max, seed_max, units_max}
 use Rattle.nr_words.specs.Numbers.{numeral_within}
 use Rattle.nr_words.specs.declared.commands.Command.{Command}
 use Rattle.nr_words.specs.declared.commands.Command.TheVariants as commands
 use Rattle.nr_words.specs.declared.commands.Client.{Client}
+use Rattle.nr_words.specs.declared.commands.GetByJobs.{GetByJobs}
 use Rattle.nr_words.specs.declared.commands.Action.{Action}
 use Rattle.nr_words.specs.declared.commands.Action.TheVariants as actions
 use Rattle.nr_words.specs.declared.lines.Subcommand.{Subcommand}
@@ -41,17 +42,22 @@ option_named word =
     if bytes_eq word (codes "--uid") then Some option_names.Uid
     else if bytes_eq word (codes "--gid") then Some option_names.Gid
     else if bytes_eq word (codes "--inline") then Some option_names.Inline
+    else if bytes_eq word (codes "--jobs") then Some option_names.Jobs
     else if bytes_eq word (codes "--seed") then Some option_names.Seed
     else if bytes_eq word (codes "--clients") then Some option_names.Clients
     else if bytes_eq word (codes "--calls") then Some option_names.Calls
     else None
 
--- the options of each client command, and of `drill`
+-- the options of each client command, of `get`, and of `drill`
 abbrev pub is_of_client : OptionName → Bool
 is_of_client option_names.Uid = true
 is_of_client option_names.Gid = true
 is_of_client option_names.Inline = true
 is_of_client _ = false
+
+abbrev pub is_of_get : OptionName → Bool
+is_of_get option_names.Jobs = true
+is_of_get name = is_of_client name
 
 abbrev pub is_of_drill : OptionName → Bool
 is_of_drill option_names.Seed = true
@@ -62,6 +68,7 @@ is_of_drill _ = false
 abbrev pub takes : Subcommand → OptionName → Bool
 takes subcommands.Serve name = false
 takes subcommands.Drill name = is_of_drill name
+takes subcommands.Get name = is_of_get name
 takes _ name = is_of_client name
 
 -- CONFIG; ADDR EXPORT; ADDR EXPORT PATH; ADDR EXPORT PATH TARGET
@@ -81,6 +88,7 @@ abbrev pub with_value : Options → OptionName → Text → Option Options
 with_value o option_names.Uid word = once o.uid (numeral_within 0 id_max word) (λ n. record o { uid = Some n })
 with_value o option_names.Gid word = once o.gid (numeral_within 0 id_max word) (λ n. record o { gid = Some n })
 with_value o option_names.Inline word = once o.inline (numeral_within 1 units_max word) (λ n. record o { inline = Some n })
+with_value o option_names.Jobs word = once o.jobs (numeral_within 1 jobs_max word) (λ n. record o { jobs = Some n })
 with_value o option_names.Seed word = once o.seed (numeral_within 0 seed_max word) (λ n. record o { seed = Some n })
 with_value o option_names.Clients word = once o.clients (numeral_within 1 clients_max word) (λ n. record o { clients = Some n })
 with_value o option_names.Calls word = once o.calls (numeral_within 1 calls_max word) (λ n. record o { calls = Some n })
@@ -124,6 +132,14 @@ abbrev pub client : Options → Positionals Text → Action Text → Option (Com
 client o p action =
     Some (commands.Client (record { addr = p.first; export = p.second; uid = unwrap_or o.uid 0; gid = unwrap_or o.gid 0; units = unwrap_or o.inline default_units; action = action }))
 
+-- `get` by this many jobs: by one it is a command as the others are
+abbrev pub by_jobs : Options → Positionals Text → (jobs : ℕ) → GetByJobs Text
+by_jobs o p jobs =
+    record { addr = p.first; export = p.second; path = p.third; uid = unwrap_or o.uid 0; gid = unwrap_or o.gid 0; units = unwrap_or o.inline default_units; jobs = jobs }
+
+abbrev pub get_of : Options → Positionals Text → (jobs : ℕ) → Option (Command Text)
+get_of o p jobs = if jobs == 1 then client o p (actions.Get p.third) else Some (commands.GetByJobs (by_jobs o p jobs))
+
 abbrev pub complete : Subcommand → Options → Positionals Text → Option (Command Text)
 complete subcommands.Serve o p = Some (commands.Serve p.first)
 complete subcommands.Mount o p = client o p actions.Mount
@@ -133,7 +149,7 @@ complete subcommands.ReadLink o p = client o p (actions.ReadLink p.third)
 complete subcommands.MakeDirectory o p = client o p (actions.MakeDirectory p.third)
 complete subcommands.Remove o p = client o p (actions.Remove p.third)
 complete subcommands.Put o p = client o p (actions.Put p.third)
-complete subcommands.Get o p = client o p (actions.Get p.third)
+complete subcommands.Get o p = get_of o p (unwrap_or o.jobs default_jobs)
 complete subcommands.Link o p = client o p (actions.Link p.third p.fourth)
 complete subcommands.Drill o p = drill_of o.seed o.clients o.calls
 
@@ -144,7 +160,7 @@ abbrev pub finished : Subcommand → State Text → Option (Command Text)
 finished subcommand s = if is_some s.waiting then None else command_of subcommand s.options s.positionals
 
 abbrev pub no_options : Options
-no_options = record { uid = None; gid = None; inline = None; seed = None; clients = None; calls = None }
+no_options = record { uid = None; gid = None; inline = None; jobs = None; seed = None; clients = None; calls = None }
 
 abbrev pub start : State Text
 start = record { waiting = None; options = no_options; positionals = record { count = 0; first = []; second = []; third = []; fourth = [] } }
@@ -177,8 +193,12 @@ plain_action (actions.Link path target) = actions.Link path.now target.now
 abbrev pub plain_client : Client (Bor Text) → Client Text
 plain_client c = record { addr = c.addr.now; export = c.export.now; uid = c.uid; gid = c.gid; units = c.units; action = plain_action c.action }
 
+abbrev pub plain_get : GetByJobs (Bor Text) → GetByJobs Text
+plain_get g = record { addr = g.addr.now; export = g.export.now; path = g.path.now; uid = g.uid; gid = g.gid; units = g.units; jobs = g.jobs }
+
 abbrev pub plain_command : Command (Bor Text) → Command Text
 plain_command (commands.Serve config) = commands.Serve config.now
 plain_command (commands.Client client) = commands.Client (plain_client client)
+plain_command (commands.GetByJobs get) = commands.GetByJobs (plain_get get)
 plain_command commands.Drill = commands.Drill
 plain_command (commands.GeneratedDrill seed clients calls) = commands.GeneratedDrill seed clients calls

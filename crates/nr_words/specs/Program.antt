@@ -6,7 +6,7 @@ use Rattle.clap.specs.declared.builder.command.Command.TheViews.{out-Command}
 use Rattle.clap.specs.declared.builder.command.Command.{Command}
 use Rattle.clap.specs.declared.builder.value_parser.ValueParser.{ValueParser}
 use Rattle.clap.specs.declared.builder.value_parser.ValueParser.TheVariants as parsers
-use Rattle.nr_words.specs.Limits.{calls_max, clients_max, id_max, seed_max, units_max}
+use Rattle.nr_words.specs.Limits.{calls_max, clients_max, id_max, jobs_max, seed_max, units_max}
 
 abbrev pub positional_rule : Text → Rule
 positional_rule name = record (new_rule name) { required = true }
@@ -28,6 +28,9 @@ client_app name = with_client_options (with_rule (with_rule (new_app name) (posi
 abbrev pub path_app : Text → App
 path_app name = with_rule (client_app name) (positional_rule (codes "PATH"))
 
+abbrev pub get_app : App
+get_app = with_rule (path_app (codes "get")) (number_rule (codes "jobs") (parsers.Signed (pos 1) (pos jobs_max)))
+
 abbrev pub link_app : App
 link_app = with_rule (path_app (codes "ln")) (positional_rule (codes "TARGET"))
 
@@ -47,23 +50,23 @@ plain_app = record (new_app (codes "nfsrdma")) {
 abbrev pub with_command : App → App → App
 with_command app command = with_subcommand app command.top
 
--- with the commands of a client that have a PATH and no TARGET
+-- with the commands of a client that have a PATH and no TARGET, but for `get`
 abbrev pub with_paths : App → App
 with_paths app =
-    with_command (with_command (with_command (with_command (with_command (with_command (with_command app
+    with_command (with_command (with_command (with_command (with_command (with_command app
     (path_app (codes "ls")))
     (path_app (codes "stat")))
     (path_app (codes "readlink")))
     (path_app (codes "mkdir")))
     (path_app (codes "rm")))
-    (path_app (codes "put")))
-    (path_app (codes "get"))
+    (path_app (codes "put"))
 
 unfoldable pub program_app : App
 program_app =
-    with_command (with_command (with_paths (with_command (with_command plain_app
+    with_command (with_command (with_command (with_paths (with_command (with_command plain_app
     serve_app)
     (client_app (codes "mount"))))
+    get_app)
     link_app)
     drill_app
 

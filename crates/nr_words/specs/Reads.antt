@@ -11,7 +11,7 @@ use Rattle.nr_words.specs.declared.commands.Action.{Action}
 use Rattle.nr_words.specs.declared.commands.Action.TheVariants as actions
 use Rattle.nr_words.specs.declared.words.WordsFault.{WordsFault}
 use Rattle.nr_words.specs.declared.words.WordsFault.TheVariants as faults
-use Rattle.nr_words.specs.Limits.{calls_max, clients_max, units_max}
+use Rattle.nr_words.specs.Limits.{calls_max, clients_max, jobs_max, units_max}
 use Rattle.nr_words.specs.Lines.{Text, is_positional, line_of, plain_command}
 use Rattle.nr_words.specs.Spelled.{spelled}
 use Rattle.nr_words.specs.Program.{program_app}
@@ -31,9 +31,14 @@ is_action (actions.Link path target) = is_positional path && is_positional targe
 abbrev pub are_units : ℕ → Bool
 are_units units = nat_le 1 units && nat_le units units_max
 
+-- several jobs, which a `get` can have
+abbrev pub are_jobs : ℕ → Bool
+are_jobs jobs = nat_le 2 jobs && nat_le jobs jobs_max
+
 abbrev pub is_command : Command Text → Bool
 is_command (commands.Serve config) = is_positional config
 is_command (commands.Client c) = is_positional c.addr && is_positional c.export && are_units c.units && is_action c.action
+is_command (commands.GetByJobs g) = is_positional g.addr && is_positional g.export && is_positional g.path && are_units g.units && are_jobs g.jobs
 is_command commands.Drill = true
 is_command (commands.GeneratedDrill seed clients calls) = nat_le 1 clients && nat_le clients clients_max && nat_le 1 calls && nat_le calls calls_max
 

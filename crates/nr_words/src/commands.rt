@@ -67,12 +67,44 @@ impl<T: Copy> Clone for Client<T> {
 
 impl<T: Copy> Copy for Client<T> {}
 
+/// A file that several jobs read, which is written to standard output.
+pub struct GetByJobs<T> {
+    /// The address of the server.
+    pub addr: T,
+    /// The path of the export.
+    pub export: T,
+    /// The path of the file.
+    pub path: T,
+    /// The user ID of its calls, as a client has it.
+    pub uid: u32,
+    /// The group ID of its calls, as a client has it.
+    pub gid: u32,
+    /// The units of its Sends in each direction, as a client has them.
+    pub units: u8,
+    /// The number of jobs: 2 to [`JOBS_MAX`](crate::JOBS_MAX).
+    pub jobs: u8,
+}
+
+impl<T: Copy> Clone for GetByJobs<T> {
+    ghost is_clone = { λ x y. y ≡ x };
+
+    ghost is_infallible = { λ _. ⊤ };
+
+    fn clone(&self) -> Result<GetByJobs<T>, AllocError> {
+        Ok(*self)
+    }
+}
+
+impl<T: Copy> Copy for GetByJobs<T> {}
+
 /// What the words of a run ask for.
 pub enum Command<T> {
     /// Serve by the configuration in this file.
     Serve { config: T },
     /// Run a client.
     Client { client: Client<T> },
+    /// Run a client that writes a file to standard output, which several jobs read.
+    GetByJobs { get: GetByJobs<T> },
     /// Run a script from standard input.
     Drill,
     /// Run a script that is generated from this seed, of 1 to [`CLIENTS_MAX`](crate::CLIENTS_MAX) clients and 1 to

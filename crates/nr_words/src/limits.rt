@@ -12,6 +12,12 @@ pub const CLIENTS_MAX: u64 = 16;
 /// The maximum number of calls of a script that is generated.
 pub const CALLS_MAX: u64 = 1_000_000;
 
+/// The maximum number of jobs of a `get`.
+pub const JOBS_MAX: u64 = 16;
+
+/// How many jobs a `get` has if nothing is said.
+pub const DEFAULT_JOBS: u8 = 1;
+
 /// The maximum length of the path of an export in bytes (RFC 1813 section 5.1.4, `MNTPATHLEN`).
 pub const MOUNT_PATH_MAX: usize = 1024;
 

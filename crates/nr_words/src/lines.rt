@@ -1,10 +1,12 @@
 //! The lines of the program: words in the one spelling that is never refused.
 
 ghost use Rattle.std.specs.Prelude.{◌≡◌, ⊤, map, option_map, string_bytes};
-ghost use Rattle.nr_words.specs.Lines.{option_named, takes, with_value, with_positional, is_positional, step, steps, start, arity, drill_of, subcommand_named, command_of, finished, line_of, plain_state, plain_positionals, plain_command, plain_client};
+ghost use Rattle.nr_words.specs.Lines.{option_named, takes, with_value, with_positional, is_positional, step, steps, start, arity, by_jobs, drill_of, subcommand_named, command_of, finished, line_of, plain_state, plain_positionals, plain_command, plain_client, plain_get};
 
-use crate::commands::{Action, Client, Command};
-use crate::limits::{CALLS_MAX, CLIENTS_MAX, DEFAULT_UNITS, ID_MAX, SEED_MAX, UNITS_MAX};
+use crate::commands::{Action, Client, Command, GetByJobs};
+use crate::limits::{
+    CALLS_MAX, CLIENTS_MAX, DEFAULT_JOBS, DEFAULT_UNITS, ID_MAX, JOBS_MAX, SEED_MAX, UNITS_MAX,
+};
 use crate::numbers::numeral_within;
 use std::alloc::AllocError;
 
@@ -30,6 +32,7 @@ pub(crate) enum OptionName {
     Uid,
     Gid,
     Inline,
+    Jobs,
     Seed,
     Clients,
     Calls,
@@ -41,6 +44,7 @@ pub(crate) struct Options {
     pub(crate) uid: Option<u32>,
     pub(crate) gid: Option<u32>,
     pub(crate) inline: Option<u8>,
+    pub(crate) jobs: Option<u8>,
     pub(crate) seed: Option<u64>,
     pub(crate) clients: Option<u32>,
     pub(crate) calls: Option<u32>,
@@ -114,6 +118,7 @@ fn option_named(word: &str) -> Option<OptionName>
         "--uid" => Some(OptionName::Uid),
         "--gid" => Some(OptionName::Gid),
         "--inline" => Some(OptionName::Inline),
+        "--jobs" => Some(OptionName::Jobs),
         "--seed" => Some(OptionName::Seed),
         "--clients" => Some(OptionName::Clients),
         "--calls" => Some(OptionName::Calls),
@@ -130,6 +135,10 @@ fn takes(subcommand: Subcommand, name: OptionName) -> bool
         Subcommand::Drill => matches!(
             name,
             OptionName::Seed | OptionName::Clients | OptionName::Calls
+        ),
+        Subcommand::Get => matches!(
+            name,
+            OptionName::Uid | OptionName::Gid | OptionName::Inline | OptionName::Jobs
         ),
         _ => matches!(name, OptionName::Uid | OptionName::Gid | OptionName::Inline),
     }
@@ -173,6 +182,13 @@ fn with_value(options: Options, name: OptionName, word: &str) -> Option<Options>
         ) {
             (None, Some(value)) => Some(Options {
                 inline: Some(value as u8),
+                ..options
+            }),
+            _ => None,
+        },
+        OptionName::Jobs => match (options.jobs, numeral_within(1, JOBS_MAX, word.as_bytes())) {
+            (None, Some(value)) => Some(Options {
+                jobs: Some(value as u8),
                 ..options
             }),
             _ => None,
@@ -305,6 +321,22 @@ fn drill_of<'a>(
     }
 }
 
+/// The `get` of these options and positionals, by this many jobs.
+fn by_jobs<'a>(options: Options, positionals: Positionals<&'a str>, jobs: u8) -> GetByJobs<&'a str>
+    ensures { plain_get result ≡ by_jobs options (plain_positionals positionals.entry) jobs }
+{
+    let units = options.inline.unwrap_or(DEFAULT_UNITS);
+    GetByJobs {
+        addr: positionals.first,
+        export: positionals.second,
+        path: positionals.third,
+        uid: options.uid.unwrap_or(0),
+        gid: options.gid.unwrap_or(0),
+        units,
+        jobs,
+    }
+}
+
 /// The command of these options and positionals, if none is missing.
 pub(crate) fn command_of<'a>(
     subcommand: Subcommand,
@@ -331,7 +363,14 @@ pub(crate) fn command_of<'a>(
         Subcommand::MakeDirectory => Action::MakeDirectory { path },
         Subcommand::Remove => Action::Remove { path },
         Subcommand::Put => Action::Put { path },
-        Subcommand::Get => Action::Get { path },
+        Subcommand::Get => {
+            let jobs = options.jobs.unwrap_or(DEFAULT_JOBS);
+            if jobs != 1 {
+                let get = by_jobs(options, positionals, jobs);
+                return Some(Command::GetByJobs { get });
+            }
+            Action::Get { path }
+        }
         Subcommand::Link => Action::Link {
             path,
             target: positionals.fourth,
@@ -369,6 +408,7 @@ fn steps<'a>(subcommand: Subcommand, words: &'a [String]) -> Option<State<&'a st
             uid: None,
             gid: None,
             inline: None,
+            jobs: None,
             seed: None,
             clients: None,
             calls: None,

@@ -2,9 +2,9 @@
 
 ghost use Rattle.std.specs.Prelude.{◌≡◌, IfOk, false};
 ghost use Rattle.clap.specs.Words.{new_app, rule_of};
-ghost use Rattle.nr_words.specs.Program.{Adds, AddsClientOptions, AddsPaths, AddsRule, AddsTo, Builds, client_app, number_rule, path_app, positional_rule, plain_app, program_app, drill_app, link_app, serve_app};
+ghost use Rattle.nr_words.specs.Program.{Adds, AddsClientOptions, AddsPaths, AddsRule, AddsTo, Builds, client_app, number_rule, path_app, positional_rule, plain_app, program_app, drill_app, get_app, link_app, serve_app};
 
-use crate::limits::{CALLS_MAX, CLIENTS_MAX, ID_MAX, SEED_MAX, UNITS_MAX};
+use crate::limits::{CALLS_MAX, CLIENTS_MAX, ID_MAX, JOBS_MAX, SEED_MAX, UNITS_MAX};
 use clap::builder::ValueParser;
 use clap::{Arg, Command};
 use std::alloc::{AllocError, Global};
@@ -26,6 +26,8 @@ const GID_HELP: &str = "The group ID of the calls; 0 if it is left out";
 
 const INLINE_HELP: &str =
     "The maximum length of a Send in each direction, in units of 1024 bytes, 1 to 16; 1 if it is left out";
+
+const JOBS_HELP: &str = "The number of jobs that read the file, 1 to 16; 1 if it is left out";
 
 const SEED_HELP: &str = "The number from which a script is generated, with --clients and --calls";
 
@@ -113,6 +115,14 @@ fn with_path<'a>(alloc: Global, name: &'a str, about: &'a str) -> Result<Command
     add_positional(alloc, command, "PATH", PATH_HELP)
 }
 
+fn get<'a>(alloc: Global) -> Result<Command<'a>, AllocError>
+    ensures { IfOk result (Builds get_app) }
+{
+    let command = with_path(alloc, "get", "Writes a file to standard output")?;
+    let jobs = ValueParser::Signed(1, JOBS_MAX as i64);
+    add_number(alloc, command, "jobs", JOBS_HELP, jobs)
+}
+
 fn link<'a>(alloc: Global) -> Result<Command<'a>, AllocError>
     ensures { IfOk result (Builds link_app) }
 {
@@ -173,7 +183,7 @@ fn add_path<'a>(
     add(program, with_path(alloc, name, about))
 }
 
-/// The program with the commands of a client with a PATH and no TARGET.
+/// The program with the commands of a client with a PATH and no TARGET, but for `get`.
 fn add_paths<'a>(alloc: Global, program: Command<'a>) -> Result<Command<'a>, AllocError>
     ensures { IfOk result (AddsPaths program.entry) }
 {
@@ -187,8 +197,7 @@ fn add_paths<'a>(alloc: Global, program: Command<'a>) -> Result<Command<'a>, All
     )?;
     let program = add_path(alloc, program, "mkdir", "Makes a directory")?;
     let program = add_path(alloc, program, "rm", "Removes a file")?;
-    let program = add_path(alloc, program, "put", "Writes standard input to a file")?;
-    add_path(alloc, program, "get", "Writes a file to standard output")
+    add_path(alloc, program, "put", "Writes standard input to a file")
 }
 
 /// The program with its commands.
@@ -199,6 +208,7 @@ pub(crate) fn program<'a>(alloc: Global) -> Result<Command<'a>, AllocError>
     let mount = client(alloc, "mount", "Prints the handle of an export");
     let program = add(program, mount)?;
     let program = add_paths(alloc, program)?;
+    let program = add(program, get(alloc))?;
     let program = add(program, link(alloc))?;
     add(program, drill(alloc))
 }

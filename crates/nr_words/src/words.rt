@@ -3,11 +3,12 @@
 ghost use Rattle.std.specs.Prelude.{◌≡◌, IfOk, None, Some, map, true, option_map, string_bytes};
 ghost use Rattle.clap.specs.Words.{found_of, kind_of, rows_of, subcommand_rows_of};
 ghost use Rattle.nr_words.specs.Spelled.{narrow, narrow_to_byte, number_of, options_of, positionals_of, spelled, text_of, without_sign};
-ghost use Rattle.nr_words.specs.Reads.{Reads, ReadsOther, IsFaultOf, are_units, is_command, is_action};
-ghost use Rattle.nr_words.specs.Lines.{plain_command, plain_action, plain_positionals};
+ghost use Rattle.nr_words.specs.Reads.{Reads, ReadsOther, IsFaultOf, are_jobs, are_units, is_command, is_action};
+ghost use Rattle.nr_words.specs.declared.commands.Command.TheVariants as commands;
+ghost use Rattle.nr_words.specs.Lines.{plain_command, plain_action, plain_get, plain_positionals};
 
-use crate::commands::{Action, Command};
-use crate::limits::{CALLS_MAX, CLIENTS_MAX, ID_MAX, SEED_MAX, UNITS_MAX};
+use crate::commands::{Action, Command, GetByJobs};
+use crate::limits::{CALLS_MAX, CLIENTS_MAX, ID_MAX, JOBS_MAX, SEED_MAX, UNITS_MAX};
 use crate::lines::{
     Options, Positionals, Subcommand, arity, command_of, is_positional, read_line, subcommand_named,
 };
@@ -99,6 +100,24 @@ fn are_units(units: u8) -> bool
     1 <= units && u64::from(units) <= UNITS_MAX
 }
 
+/// Whether a line can ask for this number of jobs, more than one.
+fn are_jobs(jobs: u8) -> bool
+    ensures { result ≡ are_jobs jobs }
+{
+    2 <= jobs && u64::from(jobs) <= JOBS_MAX
+}
+
+/// Whether a line can ask for this `get`.
+fn is_get(get: &GetByJobs<&str>) -> bool
+    ensures { result ≡ is_command (commands.GetByJobs (plain_get get.now)) }
+{
+    is_positional(get.addr)
+        && is_positional(get.export)
+        && is_positional(get.path)
+        && are_units(get.units)
+        && are_jobs(get.jobs)
+}
+
 /// Whether a line can ask for this command.
 fn is_command(command: &Command<&str>) -> bool
     ensures { result ≡ is_command (plain_command command.now) }
@@ -111,6 +130,7 @@ fn is_command(command: &Command<&str>) -> bool
                 && are_units(client.units)
                 && is_action(&client.action)
         }
+        Command::GetByJobs { get } => is_get(get),
         Command::Drill => true,
         Command::GeneratedDrill {
             seed: _,
@@ -165,6 +185,7 @@ fn options_of(given: &ArgMatches<'_>) -> Options
         uid: narrow(number_of(given, "uid", 0, ID_MAX)),
         gid: narrow(number_of(given, "gid", 0, ID_MAX)),
         inline: narrow_to_byte(number_of(given, "inline", 1, UNITS_MAX)),
+        jobs: narrow_to_byte(number_of(given, "jobs", 1, JOBS_MAX)),
         seed: number_of(given, "seed", 0, SEED_MAX),
         clients: narrow(number_of(given, "clients", 1, CLIENTS_MAX)),
         calls: narrow(number_of(given, "calls", 1, CALLS_MAX)),

@@ -1,9 +1,10 @@
 use Rattle.std.proofs.Common.{refl}
+use denote.Param.Send.{sendable}
 use Rattle.nr_client.specs.Dialing.{dialer_at}
 use Rattle.nr_outside.specs.Streams.{sink_at, source_at}
 use Rattle.nr_serve.specs.Serving.{acceptor_at, spawner_at}
 use Rattle.nr_top.specs.RunEnds.{outside}
-use Rattle.nr_top.proofs.Lines.{client_ends, drill_ends, generated_ends, has_ranges, serve_ends}
+use Rattle.nr_top.proofs.Lines.{client_ends, drill_ends, generated_ends, get_ends, has_jobs, has_ranges, serve_ends}
 use Rattle.nr_top.proofs.running.dispatch.Goals as goal
 
 pub returns-in-Client : goal.returns-in-Client
@@ -11,6 +12,12 @@ returns-in-Client g c =
     client_ends c.args.command.now _ c.run_client.result (outside (source_at (g.I.Source.left c.args.input.now) (g.I.Source.given c.args.input.now) (g.I.Source.faults c.args.input.now)) (sink_at (g.O.Sink.taken c.args.out.now) (g.O.Sink.faults c.args.out.now)) (sink_at (g.E.Sink.taken c.args.err.now) (g.E.Sink.faults c.args.err.now)) (dialer_at (g.D.Dialer.asked c.args.dial.now) (g.D.Dialer.ended c.args.dial.now) (g.D.Dialer.lost c.args.dial.now) (g.D.Dialer.faults c.args.dial.now)) (acceptor_at (g.A.Acceptor.asked c.args.accept.now) (g.A.Acceptor.ended c.args.accept.now) (g.A.Acceptor.lost c.args.accept.now) (g.A.Acceptor.faults c.args.accept.now)) (spawner_at (g.S.Spawner.started c.args.spawn.now) (g.S.Spawner.ended c.args.spawn.now) (g.S.Spawner.faults c.args.spawn.now)) (g.C.Clock.gave c.args.clock.now))
     (outside (source_at (g.I.Source.left c.run_client.new.input) (g.I.Source.given c.run_client.new.input) (g.I.Source.faults c.run_client.new.input)) (sink_at (g.O.Sink.taken c.run_client.new.out) (g.O.Sink.faults c.run_client.new.out)) (sink_at (g.E.Sink.taken c.run_client.new.err) (g.E.Sink.faults c.run_client.new.err)) (dialer_at (g.D.Dialer.asked c.run_client.new.dial) (g.D.Dialer.ended c.run_client.new.dial) (g.D.Dialer.lost c.run_client.new.dial) (g.D.Dialer.faults c.run_client.new.dial)) (acceptor_at (g.A.Acceptor.asked c.args.accept.now) (g.A.Acceptor.ended c.args.accept.now) (g.A.Acceptor.lost c.args.accept.now) (g.A.Acceptor.faults c.args.accept.now)) (spawner_at (g.S.Spawner.started c.args.spawn.now) (g.S.Spawner.ended c.args.spawn.now) (g.S.Spawner.faults c.args.spawn.now)) (g.C.Clock.gave c.args.clock.now))
     c.in-Client.is c.run_client.ensures (record { acceptor = refl; spawner = refl; gave = refl })
+
+pub returns-in-GetByJobs : goal.returns-in-GetByJobs
+returns-in-GetByJobs g c =
+    get_ends c.args.command.now _ c.run_get.result (outside (source_at (g.I.Source.left c.args.input.now) (g.I.Source.given c.args.input.now) (g.I.Source.faults c.args.input.now)) (sink_at (g.O.Sink.taken c.args.out.now) (g.O.Sink.faults c.args.out.now)) (sink_at (g.E.Sink.taken c.args.err.now) (g.E.Sink.faults c.args.err.now)) (dialer_at (g.D.Dialer.asked c.args.dial.now) (g.D.Dialer.ended c.args.dial.now) (g.D.Dialer.lost c.args.dial.now) (g.D.Dialer.faults c.args.dial.now)) (acceptor_at (g.A.Acceptor.asked c.args.accept.now) (g.A.Acceptor.ended c.args.accept.now) (g.A.Acceptor.lost c.args.accept.now) (g.A.Acceptor.faults c.args.accept.now)) (spawner_at (g.S.Spawner.started c.args.spawn.now) (g.S.Spawner.ended c.args.spawn.now) (g.S.Spawner.faults c.args.spawn.now)) (g.C.Clock.gave c.args.clock.now))
+    (outside (source_at (g.I.Source.left c.args.input.now) (g.I.Source.given c.args.input.now) (g.I.Source.faults c.args.input.now)) (sink_at (g.O.Sink.taken c.run_get.new.out) (g.O.Sink.faults c.run_get.new.out)) (sink_at (g.E.Sink.taken c.run_get.new.err) (g.E.Sink.faults c.run_get.new.err)) (dialer_at (g.D.Dialer.asked c.run_get.new.dial) (g.D.Dialer.ended c.run_get.new.dial) (g.D.Dialer.lost c.run_get.new.dial) (g.D.Dialer.faults c.run_get.new.dial)) (acceptor_at (g.A.Acceptor.asked c.args.accept.now) (g.A.Acceptor.ended c.args.accept.now) (g.A.Acceptor.lost c.args.accept.now) (g.A.Acceptor.faults c.args.accept.now)) (spawner_at (g.S.Spawner.started c.args.spawn.now) (g.S.Spawner.ended c.args.spawn.now) (g.S.Spawner.faults c.args.spawn.now)) (g.C.Clock.gave c.args.clock.now))
+    c.in-GetByJobs.is c.run_get.ensures refl (record { acceptor = refl; spawner = refl; gave = refl })
 
 pub returns-in-Serve : goal.returns-in-Serve
 returns-in-Serve g c =
@@ -32,3 +39,6 @@ returns-in-GeneratedDrill g c =
 
 pub run_drill-requires-in-GeneratedDrill : goal.run_drill-requires-in-GeneratedDrill
 run_drill-requires-in-GeneratedDrill g c = has_ranges c.args.command.now _ _ _ c.in-GeneratedDrill.is c.requires.line
+
+pub run_get-requires : goal.run_get-requires
+run_get-requires g c = (search sendable depth 40, (search sendable depth 40, (search sendable depth 40, has_jobs c.args.command.now _ c.in-GetByJobs.is c.requires.line)))

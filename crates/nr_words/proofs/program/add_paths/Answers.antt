@@ -3,13 +3,12 @@ use Rattle.nr_words.proofs.program.add_paths.Goals as goal
 
 pub returns : goal.returns
 returns c =
-    IfOk-weaker c.add_path-7.result _ _
+    IfOk-weaker c.add_path-6.result _ _
     (λ more adds app a.
     let s1 = c.in_ok-program.ensures _ a in
     let s2 = c.in_ok-program-2.ensures _ s1 in
     let s3 = c.in_ok-program-3.ensures _ s2 in
     let s4 = c.in_ok-program-4.ensures _ s3 in
     let s5 = c.in_ok-program-5.ensures _ s4 in
-    let s6 = c.in_ok-program-6.ensures _ s5 in
-    adds _ s6)
-    c.add_path-7.ensures
+    adds _ s5)
+    c.add_path-6.ensures
