@@ -19,7 +19,8 @@ use Rattle.nr_rpc.proofs.Calls.{call_begins, call_written}
 use Rattle.nr_outside.specs.declared.moment.Moment.{Moment}
 use Rattle.nr_plain.specs.Setup.{Parameters, State}
 use Rattle.nr_plain.specs.Replies.{Answer, answer_by, call_by_cred, cred_refusal, plain_answer, program_call}
-use Rattle.nr_gate_laws.specs.Forwarded.{answer_with_xid, forwarded, forwarded_by, with_xid}
+use Rattle.nr_gate.specs.Forwarding.{forwarded, forwarded_by, with_xid}
+use Rattle.nr_gate_laws.specs.Forwarded.{answer_with_xid}
 use Rattle.nr_gate_laws.proofs.Worded.{IsWorded, alike, call_worded}
 
 -- ---- items that were read

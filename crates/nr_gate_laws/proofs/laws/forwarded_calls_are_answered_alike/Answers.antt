@@ -3,7 +3,7 @@ use Rattle.std.specs.Option.{option_map}
 use Rattle.nr_rpc.specs.Reading.{head_xid}
 use Rattle.nr_plain.specs.Journal.{state_of}
 use Rattle.nr_plain.specs.Replies.{Answer, plain_answer}
-use Rattle.nr_gate_laws.specs.Forwarded.{forwarded}
+use Rattle.nr_gate.specs.Forwarding.{forwarded}
 use Rattle.nr_gate_laws.proofs.Forwarding.{answered_alike, comes_back, replies_map}
 use Rattle.nr_gate_laws.proofs.laws.forwarded_calls_are_answered_alike.Goals as goal
 
