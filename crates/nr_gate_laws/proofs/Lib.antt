@@ -1,2 +1,4 @@
 pub mod Worded
 pub mod Forwarding
+pub mod Remote
+pub mod GatedReplies

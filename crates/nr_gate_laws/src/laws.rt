@@ -1,5 +1,6 @@
 //! Laws of calls that are forwarded with another xid.
 
+ghost use Rattle.nr_gate_laws.specs.GatedReplies.{GatedRepliesArePlain};
 ghost use Rattle.nr_gate_laws.specs.Forwarded.{ForwardedAnswersAreAlike, ForwardedCallsAreNoLonger, ForwardedRepliesAreAlike, RepliesComeBack};
 
 /// Over every state the plain server answers a forwarded call of RPC version 2 (RFC 5531 section 9) as the call itself: both
@@ -14,4 +15,10 @@ pub fn forwarded_calls_are_answered_alike()
 /// A forwarded call has at most as many bytes as the call.
 pub fn forwarded_calls_are_no_longer()
     ensures { ForwardedCallsAreNoLonger }
+{}
+
+/// If the remote link of a gateway is matched and served, each record that a connection of the gateway answered has the reply of the plain server to
+/// the record's own call, with its own xid, at a place of the server's one journal; the places don't fall within the connection.
+pub fn gated_replies_are_plain<O>()
+    ensures { GatedRepliesArePlain O }
 {}
