@@ -194,6 +194,7 @@ module _ {S : Type 0} (Did : S → S → List Exchange → Option Unanswered →
       by_end (ends.Bad n reason) e = absurd e
       by_end (ends.Budget n) e = absurd e
       by_end ends.Memory e = absurd e
+      by_end ends.Unanswered e = absurd e
 
     -- the maximum was read
     pub read_enough : k.fault ≡ None → read ≡ read_max → IsServedBy Did first (loop_at left given taken u) (ends.Budget read)
