@@ -1,6 +1,6 @@
 -- A connection of a gateway: the records that were forwarded, each by one call of the shared requester; how the connection
 -- ends, and why.
-use Rattle.std.specs.Prelude.{◌≡◌, ◌≢◌, ◌⊎◌, ℕ, List, [], ◌∷◌, Option, None, Some, Result, Ok, Err}
+use Rattle.std.specs.Prelude.{◌≡◌, ◌⊎◌, ℕ, List, [], ◌∷◌, Option, None, Some, Result, Ok, Err}
 use Rattle.nr_rpc.specs.Constants.{RPC_VERSION}
 use Rattle.nr_rpc.specs.Reading.{call_of}
 use Rattle.nr_rpc.specs.Reply.{reply_encoding}
@@ -71,7 +71,7 @@ module _ {O : Type 0} where
     pub xid : ℕ
     pub asked : Call
     pub asks : Asks bytes xid asked
-    pub calls : Calls p q asked forms.Auto result
+    pub made : Calls p q asked forms.Auto result
 
   -- the same, with an outcome that is no reply
   pub record HasOutcome (p q : Pass (RequesterWithSink O) Entry) (bytes : List ℕ) (outcome : Outcome) : Type 0 where
@@ -82,7 +82,8 @@ module _ {O : Type 0} where
   -- Why the record's call has no reply, by the end that it made: the remote call ended so, for another reason than out of
   -- memory, or its outcome was an error message.
   abbrev pub EndsRemotely : GateEnd → Pass (RequesterWithSink O) Entry → Pass (RequesterWithSink O) Entry → (bytes : List ℕ) → Type 0
-  EndsRemotely (ends.Remote end) p q bytes = (end ≢ call_ends.Memory) × Makes p q bytes (Err end)
+  EndsRemotely (ends.Remote call_ends.Memory) p q bytes = ⊥
+  EndsRemotely (ends.Remote end) p q bytes = Makes p q bytes (Err end)
   EndsRemotely ends.Chunk p q bytes = HasOutcome p q bytes outcomes.Chunk
   EndsRemotely (ends.Version low high) p q bytes = HasOutcome p q bytes (outcomes.Version low high)
   EndsRemotely end p q bytes = ⊥

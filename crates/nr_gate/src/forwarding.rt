@@ -160,8 +160,12 @@ fn forward<I: Source, O: Sink, R: Wait>(
     ensures limit { IfOk result (λ reply. length reply < 2 ^ 31) }
     ensures err { IfErr result (λ failure. (bytes : List ℕ) → Asks bytes xid asked → FailsSo failure pass.old.main pass.new.main bytes) }
 {
-    match remote.call(rt, pass, asked, Form::Auto) {
-        Ok(done) => reply_of(alloc, done, xid),
-        Err(end) => Err(failure_of(end)),
+    let done = match remote.call(rt, pass, asked, Form::Auto) {
+        Ok(done) => done,
+        Err(end) => return Err(failure_of(end)),
+    };
+    match reply_of(alloc, done, xid) {
+        Ok(reply) => Ok(reply),
+        Err(failure) => Err(failure),
     }
 }

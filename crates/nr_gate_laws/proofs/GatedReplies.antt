@@ -52,6 +52,7 @@ use Rattle.nr_gate.specs.declared.gate_end.GateEnd.{GateEnd}
 use Rattle.nr_gate.specs.declared.gate_end.GateEnd.TheVariants as ends
 use Rattle.nr_gate.specs.Forwarding.{Asks, forwarded, forwarded_by, with_xid}
 use Rattle.nr_gate.specs.Gating.{EndsRemotely, Forwards, ForwardsAll, Gates, HasOutcome, IsForwarded, IsGated, IsMismatch, Makes, Unforwarded}
+use Rattle.nr_gate.proofs.Steps.{remote_made}
 use Rattle.nr_gate_laws.specs.GatedReplies.{ArePlain, GatedRepliesArePlain, IsRemoteLink}
 use Rattle.nr_gate_laws.proofs.Forwarding.{reply_comes_back}
 use Rattle.nr_gate_laws.proofs.Remote.{Between, Kept, between, kept, run_at, shorter_begins}
@@ -83,9 +84,9 @@ module _ {O : Type 0} where
       c
 
   ended_grows : (end : GateEnd) (p q : Pass (RequesterWithSink O) Entry) (bytes : List ℕ) → EndsRemotely end p q bytes → Begins (seen_by p) (seen_by q)
-  ended_grows (ends.Remote end) p q bytes made = call_grows p q made.1.asked (Err end) made.1.calls
-  ended_grows ends.Chunk p q bytes made = call_grows p q made.makes.asked (Ok made.done) made.makes.calls
-  ended_grows (ends.Version low high) p q bytes made = call_grows p q made.makes.asked (Ok made.done) made.makes.calls
+  ended_grows (ends.Remote end) p q bytes ended = (let m = remote_made end p q bytes ended in call_grows p q m.asked (Err end) m.made)
+  ended_grows ends.Chunk p q bytes made = call_grows p q made.makes.asked (Ok made.done) made.makes.made
+  ended_grows (ends.Version low high) p q bytes made = call_grows p q made.makes.asked (Ok made.done) made.makes.made
   ended_grows ends.Closed p q bytes made = absurd made
   ended_grows (ends.Cut at) p q bytes made = absurd made
   ended_grows ends.LinkRead p q bytes made = absurd made
@@ -98,7 +99,7 @@ module _ {O : Type 0} where
   last_grows end reasons.NotCall p q bytes same = begins_same (seen_by p) (seen_by q) (ap seen_by same)
   last_grows end reasons.Memory p q bytes out = ⊎_elim
       (λ (same : q ≡ p). begins_same (seen_by p) (seen_by q) (ap seen_by same))
-      (λ (made : (result : Result Done CallEnd) × Makes p q bytes result). call_grows p q made.1.asked made.0 made.1.calls)
+      (λ (made : (result : Result Done CallEnd) × Makes p q bytes result). call_grows p q made.1.asked made.0 made.1.made)
       out
   last_grows end reasons.Other p q bytes made = ended_grows end p q bytes made
 

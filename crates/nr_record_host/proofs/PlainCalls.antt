@@ -6,7 +6,7 @@ use Rattle.nr_links.specs.Moments.{Gives}
 use Rattle.nr_record.specs.Constants.{REASON_RECORD}
 use Rattle.nr_plain.specs.History.{Answered, Executes, OnlyOthersAdded, PassView}
 use Rattle.nr_plain.proofs.PassCalls.{over_executed, over_others, over_none}
-use Rattle.nr_record_loop.specs.Connections.{BreaksOffIn, Exchange, IsNext, IsNoCall, IsServedBy, IsTooLong, Unanswered, calls as exchanged_calls, loop_at, written as exchanged_replies}
+use Rattle.nr_record_loop.specs.Connections.{BreaksOffIn, Exchange, IsNext, IsNoCall, IsServedBy, IsTooLong, Unanswered, SinkCount as LoopSinkCount, SourceCount as LoopSourceCount, calls as exchanged_calls, loop_at, written as exchanged_replies}
 use Rattle.nr_record_loop.specs.declared.answering.NoReply.{NoReply}
 use Rattle.nr_record_loop.specs.declared.answering.NoReply.TheVariants as reasons
 use Rattle.nr_record_loop.specs.declared.loop_end.LoopEnd.{LoopEnd}
@@ -137,3 +137,24 @@ module _ {S : Type 0} (gave_of : S → Option (List Moment)) (view_of : S → Pa
   plainly_served (loops.Budget read) s = as_end (loops.Budget read) (ends.Budget read) s s.unread_is (replies_are (loops.Budget read) s s.took_is) (no_moment (loops.Budget read) s s.more_is) s.cause
   plainly_served loops.Memory s = as_end loops.Memory ends.Memory s tt (replies_are loops.Memory s s.took_is) (one_at_most s.more s.serves.did.given s.serves.did.given_for) tt
   plainly_served loops.Unanswered s = absurd (never_unanswered loops.Unanswered s refl)
+
+-- the counts at the end of the loop are those at the end of the connection
+pub source_same : (end : LoopEnd) (before after : ℕ) → LoopSourceCount end before after → SourceCount (record_end end) before after
+source_same loops.Closed before after same = same
+source_same (loops.Cut at) before after same = same
+source_same loops.LinkRead before after rises = rises
+source_same loops.LinkWrite before after same = same
+source_same (loops.Bad at reason) before after same = same
+source_same (loops.Budget read) before after same = same
+source_same loops.Memory before after same = same
+source_same loops.Unanswered before after same = same
+
+pub sink_same : (end : LoopEnd) (before after : ℕ) → LoopSinkCount end before after → SinkCount (record_end end) before after
+sink_same loops.Closed before after same = same
+sink_same (loops.Cut at) before after same = same
+sink_same loops.LinkRead before after same = same
+sink_same loops.LinkWrite before after rises = rises
+sink_same (loops.Bad at reason) before after same = same
+sink_same (loops.Budget read) before after same = same
+sink_same loops.Memory before after same = same
+sink_same loops.Unanswered before after same = same
