@@ -22,14 +22,16 @@ pub(crate) fn read_record(alloc: Global, bytes: &[u8]) -> Result<RecordCall, NoR
     ensures { IsAsked result bytes.now }
 {
     match read_call(alloc, bytes) {
-        Ok(CallHead::Version2 {
-            xid,
-            prog,
-            vers,
-            proc,
-            cred,
-            args_at,
-        }) => {
+        Ok(
+            CallHead::Version2 {
+                xid,
+                prog,
+                vers,
+                proc,
+                cred,
+                args_at,
+            },
+        ) => {
             let (_, rest) = bytes.split_at(args_at);
             let Ok(args) = Octets::from_slice(alloc, rest) else {
                 drop(cred);

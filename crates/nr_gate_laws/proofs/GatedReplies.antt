@@ -286,9 +286,19 @@ module _ (s : Setup) (J : List JournalEntry) (opened : LinkParameters) (link : �
       let to_here = begins_then (seen_by m) (seen_by q) history (all_grow m q xs later) begins in
       let e = executed p m x.call x.reply f bytes.0 to_here.0 to_here.1 least prior in
       (e.place, (e.moment, (e.rises, (e.plain, all_plain m q xs e.place later begins bytes.1 e.next)))))
-      (λ (at_once : IsMismatch p m x.call x.reply).
-      (least, (no_moment, (le_refl least, (mismatch_plain s J least no_moment p m x.call x.reply at_once,
-      all_plain m q xs least later begins bytes.1 (subst (λ (t : Pass (RequesterWithSink O) Entry). IsLeast (seen_by t) least) (sym at_once.unchanged) prior))))))
+      (λ (at_once : IsMismatch p m x.call x.reply). (
+        least,
+        (
+          no_moment,
+          (
+            le_refl least,
+            (
+              mismatch_plain s J least no_moment p m x.call x.reply at_once,
+              all_plain m q xs least later begins bytes.1 (subst (λ (t : Pass (RequesterWithSink O) Entry). IsLeast (seen_by t) least) (sym at_once.unchanged) prior),
+            ),
+          ),
+        ),
+      ))
       one
 
 all_front : {A : Type 0} (P : A → Type 0) (xs ys : List A) → AllByRecursion P (xs ++ ys) → AllByRecursion P xs
