@@ -1,23 +1,30 @@
 #!/bin/sh
-# Real links over loopback: GETATTRs of `nfsrdma serve` beside raw round trips of the same bytes; READs and WRITEs of 32 KiB, one at a time
-# and with 16 outstanding; GETATTRs, and READs and WRITEs of 2 and 8 KiB, with Sends of 1 and of 16 units, beside raw round trips of the
-# bytes of the latter; and `get` and `put` of 16 MiB, beside raw bytes one way; the server's processor time a GETATTR; the memory of a
-# server with a file of 16 MiB. Beside `get` and `put` it prints what has no part in the raw bytes: a new file's bytes written, and an input
-# read piece by piece and sent in the passes of WRITEs, one at a time, to a server that keeps it. Run by hand, at the top of the
-# repository, once `rt run` has built nfsrdma and nr_bench; or with the paths of both programs. It needs a C compiler, for bench/echo.c.
-# The least of several runs counts, of the two sides in turn; TIMES says of how many. PART=0.02 makes a fiftieth of the calls, to see that
-# all runs.
+# Real links over loopback: GETATTRs of `nfsrdma serve` beside raw round trips of the same bytes; READs and WRITEs of 32 KiB and of 1 MiB, one
+# at a time and with 16 outstanding, beside raw bytes one way; GETATTRs, and READs and WRITEs of 2 and 8 KiB, with Sends of 1 and of 16
+# units, beside raw round trips of the bytes of the latter; and `get` and `put` of 16 MiB, beside raw bytes one way; the server's processor
+# time a GETATTR; the greatest memory of a server with a file of 16 MiB and 16 idle connections. Beside `get` and `put` it prints what has no
+# part in the raw bytes: a new file's bytes written, and an input read piece by piece and sent in the passes of WRITEs, one at a time, to a
+# server that keeps it. Run by hand, at the top of the repository, once `rt run` has built nfsrdma and nr_bench; or with the paths of both
+# programs. It needs a C compiler, for bench/echo.c. The least of several runs counts, of the two sides in turn; TIMES says of how many.
+# PART=0.02 makes a fiftieth of the calls, to see that all runs.
 exec python3 - "${1:-crates/nfsrdma/out/nfsrdma}" "${2:-crates/nr_bench/out/nr_bench}" <<'PYTHON'
 import contextlib, os, re, socket, subprocess, sys, tempfile, time
 
 NFSRDMA, LINKS = map(os.path.abspath, sys.argv[1:3])
 TIMES, PART = int(os.environ.get("TIMES", "5")), float(os.environ.get("PART", "1"))
+# The sizes of a READ and a WRITE, each with the goals of both, one at a time and with 16 outstanding; how many bytes a WRITE of `put` has at most;
+# and how many are sent at a time beside them.
+GOALS = {32_768: ((0.25, 0.4), (0.25, 0.4)), 1 << 20: ((0.7, None), (0.5, None))}
+MOST = 1 << 20
 SIZE = 32_768
 FILE = 16 << 20
+IDLE = 16
 # The frames of a GETATTR with an AUTH_SYS credential without a name and of its reply, in bytes: length 2, DDP and RDMAP header 18, transport
 # header 28, RPC message 72 and 112, CRC field 4.
 CALL, REPLY = 124, 164
 TURNS, CALLS = int(20_000 * PART), int(2_000 * PART)
+# How many bytes are read or written in calls of a size.
+TOTAL = max(4 << 20, int((64 << 20) * PART))
 
 
 def port():
@@ -89,6 +96,19 @@ def frames(what, size):
     return (sent(112), sent(156 + size)) if what == "read" else (sent(120 + size), sent(188))
 
 
+def idle(address, count):
+    """This number of connections, over which both hellos went and nothing else."""
+    host, at = address.split(":")
+    links = []
+    for _ in range(count):
+        link = socket.create_connection((host, int(at)))
+        link.sendall(b"MPA ID Req Frame" + bytes((0, 1, 0, 0)))
+        if link.recv(20, socket.MSG_WAITALL)[:16] != b"MPA ID Rep Frame":
+            sys.exit("no hello")
+        links.append(link)
+    return links
+
+
 def command(words, **streams):
     begun = time.perf_counter()
     subprocess.run(words, check=True, **streams)
@@ -112,7 +132,6 @@ def main(folder):
         with server(folder, 1) as (address, result):
             note("getattr", calls(address, "getattr", TURNS, 1) / TURNS)
         with_calls = result[0]
-        note("memory", result[1])
         with server(folder, 1) as (address, result):
             calls(address, "getattr", 1, 1)
         note("server", (with_calls - result[0]) / TURNS * 1e6)
@@ -120,16 +139,22 @@ def main(folder):
             for size in (2048, 8192):
                 request, reply = frames(what, size)
                 note(("raw", what, size), raw(echo, request, reply, "turns", str(request), str(reply), str(CALLS))[0] / CALLS)
-        note("raw 32 KiB", raw(echo, 1, 0, "send", str(CALLS * SIZE), str(SIZE))[0] / CALLS)
+        for size in GOALS:
+            note(("raw", size), raw(echo, 1, 0, "send", str(TOTAL // size * size), str(size))[0] / (TOTAL // size))
         note("raw 16 MiB", raw(echo, 1, 0, "send", str(FILE), str(SIZE))[0])
         with open(f"{folder}/raw", "wb") as out:
             note("raw into a file", pair(echo, ["save"], ["send", FILE, SIZE], stdout=out)[0])
         with open(f"{folder}/file", "rb") as data:
-            note("raw put", pair(echo, ["store", SIZE], ["put", SIZE], stdin=data)[0])
-        with server(folder, 17) as (address, result):
+            note("raw put", pair(echo, ["store", MOST], ["put", MOST], stdin=data)[0])
+        with server(folder, IDLE) as (address, result):
+            for link in idle(address, IDLE):
+                link.close()
+        note("memory", result[1])
+        with server(folder, 13 + 4 * len(GOALS)) as (address, result):
             for what in ("read", "write"):
-                for outstanding in (1, 16):
-                    note((what, outstanding), calls(address, what, CALLS, outstanding) / CALLS)
+                for size in GOALS:
+                    for outstanding in (1, 16):
+                        note((what, size, "outstanding", outstanding), calls(address, what, TOTAL // size, outstanding, size) / (TOTAL // size))
             for what, size in (("getattr", 0), ("read", 2048), ("read", 8192), ("write", 2048), ("write", 8192)):
                 for units in (1, 16):
                     note((what, size, units), calls(address, what, CALLS, 1, size, units) / CALLS)
@@ -142,22 +167,23 @@ def main(folder):
           f" share {least['turn'] / least['getattr']:.2f} (goal 0.7)")
     print(f"the server's processor time: {least['echo server']:.1f} microseconds a raw round trip, {least['server']:.1f} a GETATTR:"
           f" {least['server'] / least['echo server']:.2f} times (goal 2.5)")
-    for what in ("read", "write"):
-        for outstanding, goal in ((1, 0.25), (16, 0.4)):
-            took = least[what, outstanding]
-            print(f"{what.upper()} of 32 KiB, {outstanding} outstanding: {took:.1f} microseconds; raw bytes one way {least['raw 32 KiB']:.1f};"
-                  f" share {least['raw 32 KiB'] / took:.2f} (goal {goal})")
+    for size, goals in GOALS.items():
+        for what, both in zip(("read", "write"), goals):
+            for outstanding, goal in zip((1, 16), both):
+                took, alone = least[what, size, "outstanding", outstanding], least["raw", size]
+                print(f"{what.upper()} of {size >> 10} KiB, {outstanding} outstanding: {took:.1f} microseconds; raw bytes one way {alone:.1f};"
+                      f" share {alone / took:.2f}" + (f" (goal {goal})" if goal else ""))
     for what, size in (("read", 2048), ("read", 8192), ("write", 2048), ("write", 8192)):
         raw_turn, one, sixteen = least["raw", what, size], least[what, size, 1], least[what, size, 16]
         print(f"{what.upper()} of {size} bytes: {one:.1f} microseconds with Sends of one unit, {sixteen:.1f} with 16: {sixteen / one:.2f} times (goal: below 1);"
               f" a raw round trip of the same bytes inline {raw_turn:.1f}")
     print(f"a GETATTR with Sends of one unit {least['getattr', 0, 1]:.1f} microseconds, with 16 {least['getattr', 0, 16]:.1f}")
-    for what in ("get into /dev/null", "get into a file", "put from a file"):
-        print(f"{what}, 16 MiB: {least[what] / 1000:.1f} ms; raw bytes {least['raw 16 MiB'] / 1000:.1f}: {least[what] / least['raw 16 MiB']:.1f} times (goal 4)")
+    for what, goal in (("get into /dev/null", 3), ("get into a file", 3), ("put from a file", 4)):
+        print(f"{what}, 16 MiB: {least[what] / 1000:.1f} ms; raw bytes {least['raw 16 MiB'] / 1000:.1f}: {least[what] / least['raw 16 MiB']:.1f} times (goal {goal})")
     print(f"raw bytes into a file, 16 MiB: {least['raw into a file'] / 1000:.1f} ms: `get` takes {least['get into a file'] / least['raw into a file']:.1f} times that")
     print(f"a file read piece by piece, and sent in the passes of WRITEs into memory, 16 MiB: {least['raw put'] / 1000:.1f} ms:"
           f" `put` takes {least['put from a file'] / least['raw put']:.1f} times that")
-    print(f"the greatest resident memory of a server with a file of 16 MiB: {least['memory'] / (1 << 20):.0f} MiB (goal 40)")
+    print(f"the greatest resident memory of a server with a file of 16 MiB and {IDLE} idle connections: {least['memory'] / (1 << 20):.0f} MiB (goal 48)")
 
 
 with tempfile.TemporaryDirectory() as folder:

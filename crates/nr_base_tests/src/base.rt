@@ -1,207 +1,212 @@
-//! Tests of nr_nfs_base: values in words, and the offset of each field.
+//! Tests of nr_nfs_base: each type with rows of words, as [`same_rows`] reads them, and the offset of each field that is skipped to. Which
+//! field of a value is which shows in the calls of nr_cases.
 
-use crate::compare::{Want, again, bytes_of, encoded_as, row_gives, same};
+use crate::compare::{bytes_of, same, same_rows};
 use nr_nfs_base::*;
 use nr_xdr::{Memory, Octets, Reader, RoomWriter};
 use std::alloc::Global;
 use std::process::Abort;
 
-#[derive(Clone, Copy)]
-enum Type {
-    Word,
-    Hyper,
-    Boolean,
-    Nothing,
-    Time,
-    Verifier,
-    FileType,
-    StableHow,
-    TimeHow,
-    Answer,
-    MountAnswer,
-    SpecialData,
-    Attributes,
-    PostOpAttributes,
-    WccAttributes,
-    WccData,
-    SetTime,
-    SetAttributes,
-    Handle,
-    PostOpHandle,
-    Name,
-    Path,
-    Data,
-    MountPath,
-    LinkedList,
-    Array,
-}
+// RFC 4506 sections 4.2, 4.5, 4.4
+static WORD: &str = "\
+ffffffff\n\
+|! 0\n\
+1 2 |! 4\n\
+";
 
-/// Reads the bytes as a value of the type, and writes that.
-fn again_as(kind: Type, alloc: Global, bytes: &[u8]) -> Result<Octets, ValueFault> {
-    match kind {
-        Type::Word => again::<u32>(alloc, bytes),
-        Type::Hyper => again::<u64>(alloc, bytes),
-        Type::Boolean => again::<bool>(alloc, bytes),
-        Type::Nothing => again::<()>(alloc, bytes),
-        Type::Time => again::<Time>(alloc, bytes),
-        Type::Verifier => again::<Verifier>(alloc, bytes),
-        Type::FileType => again::<FileType>(alloc, bytes),
-        Type::StableHow => again::<StableHow>(alloc, bytes),
-        Type::TimeHow => again::<TimeHow>(alloc, bytes),
-        Type::Answer => again::<StatusUnion<u32, ()>>(alloc, bytes),
-        Type::MountAnswer => again::<StatusUnion<(), u32, MountStatus>>(alloc, bytes),
-        Type::SpecialData => again::<SpecialData>(alloc, bytes),
-        Type::Attributes => again::<Attributes>(alloc, bytes),
-        Type::PostOpAttributes => again::<Option<Attributes>>(alloc, bytes),
-        Type::WccAttributes => again::<WccAttributes>(alloc, bytes),
-        Type::WccData => again::<WccData>(alloc, bytes),
-        _ => other_again_as(kind, alloc, bytes),
-    }
-}
+static HYPER: &str = "\
+1 2\n\
+1 |! 0\n\
+";
 
-/// The same of the types that are not matched there: those that are set, and those of any length.
-fn other_again_as(kind: Type, alloc: Global, bytes: &[u8]) -> Result<Octets, ValueFault> {
-    match kind {
-        Type::SetTime => again::<SetTime>(alloc, bytes),
-        Type::SetAttributes => again::<SetAttributes>(alloc, bytes),
-        Type::Handle => again::<Handle>(alloc, bytes),
-        Type::PostOpHandle => again::<Option<Handle>>(alloc, bytes),
-        Type::Name => again::<Name>(alloc, bytes),
-        Type::Path => again::<Path>(alloc, bytes),
-        Type::Data => again::<Data>(alloc, bytes),
-        Type::MountPath => again::<MountPath>(alloc, bytes),
-        Type::LinkedList => again::<LinkedList<u32>>(alloc, bytes),
-        _ => again::<Array<u32>>(alloc, bytes),
-    }
-}
+static BOOLEAN: &str = "\
+0\n\
+1\n\
+2 |! 0\n\
+";
 
-use Want::{Bad, Same, Words};
+static NOTHING: &str = "\
+\n\
+0 |! 0\n\
+";
 
-struct Row(Type, &'static [u32], Want);
+// RFC 1813 section 2.5, nfstime3
+static TIME: &str = "\
+1 2\n\
+1 |! 4\n\
+1 2 3 |! 8\n\
+";
 
-const FATTR: [u32; 21] = [
-    2, 0o755, 3, 1, 2, 0, 4096, 0, 8192, 5, 6, 0, 1, 0, 9, 10, 11, 12, 13, 14, 15,
-];
+// RFC 1813 section 2.5, writeverf3
+static VERIFIER: &str = "1020304 5\n";
 
-static TABLE: [Row; 76] = [
-    // RFC 4506 sections 4.2, 4.5, 4.4
-    Row(Type::Word, &[0xffff_ffff], Same),
-    Row(Type::Word, &[], Bad(0)),
-    Row(Type::Word, &[1, 2], Bad(4)),
-    Row(Type::Hyper, &[1, 2], Same),
-    Row(Type::Hyper, &[1], Bad(0)),
-    Row(Type::Boolean, &[0], Same),
-    Row(Type::Boolean, &[1], Same),
-    Row(Type::Boolean, &[2], Bad(0)),
-    Row(Type::Nothing, &[], Same),
-    Row(Type::Nothing, &[0], Bad(0)),
-    // RFC 1813 section 2.5, nfstime3
-    Row(Type::Time, &[1, 2], Same),
-    Row(Type::Time, &[1], Bad(4)),
-    Row(Type::Time, &[1, 2, 3], Bad(8)),
-    // RFC 1813 section 2.5, writeverf3
-    Row(Type::Verifier, &[0x0102_0304, 5], Same),
-    // RFC 1813 section 2.5, ftype3
-    Row(Type::FileType, &[1], Same),
-    Row(Type::FileType, &[7], Same),
-    Row(Type::FileType, &[0], Bad(0)),
-    Row(Type::FileType, &[8], Bad(0)),
-    // RFC 1813 section 3.3.7, stable_how
-    Row(Type::StableHow, &[0], Same),
-    Row(Type::StableHow, &[2], Same),
-    Row(Type::StableHow, &[3], Bad(0)),
-    // RFC 1813 section 2.5, time_how
-    Row(Type::TimeHow, &[0], Same),
-    Row(Type::TimeHow, &[2], Same),
-    Row(Type::TimeHow, &[3], Bad(0)),
-    // RFC 1813 section 2.5, nfsstat3
-    Row(Type::Answer, &[0, 7], Same),
-    Row(Type::Answer, &[1], Same),
-    Row(Type::Answer, &[10008], Same),
-    Row(Type::Answer, &[3], Bad(0)),
-    Row(Type::Answer, &[10009], Bad(0)),
-    Row(Type::Answer, &[1, 7], Bad(4)),
-    // RFC 1813 section 5.1.5, mountstat3
-    Row(Type::MountAnswer, &[0], Same),
-    Row(Type::MountAnswer, &[1, 7], Same),
-    Row(Type::MountAnswer, &[10006, 7], Same),
-    Row(Type::MountAnswer, &[10007, 7], Bad(0)),
-    // RFC 1813 section 2.5, specdata3 and fattr3
-    Row(Type::SpecialData, &[5, 6], Same),
-    Row(Type::Attributes, &FATTR, Same),
-    Row(Type::PostOpAttributes, &[0], Same),
-    Row(
-        Type::PostOpAttributes,
-        &[
-            1, 2, 0o755, 3, 1, 2, 0, 4096, 0, 8192, 5, 6, 0, 1, 0, 9, 10, 11, 12, 13, 14, 15,
-        ],
-        Same,
-    ),
-    Row(Type::PostOpAttributes, &[2], Bad(0)),
-    Row(Type::PostOpAttributes, &[1, 8], Bad(4)),
-    // RFC 1813 section 2.5, wcc_attr and wcc_data
-    Row(Type::WccAttributes, &[0, 1, 2, 3, 4, 5], Same),
-    Row(Type::WccData, &[0, 0], Same),
-    Row(Type::WccData, &[1, 0, 1, 2, 3, 4, 5, 0], Same),
-    Row(Type::WccData, &[1, 0, 1, 2, 3, 4, 5, 2], Bad(28)),
-    // RFC 1813 section 2.5, set_mtime and sattr3
-    Row(Type::SetTime, &[0], Same),
-    Row(Type::SetTime, &[1], Same),
-    Row(Type::SetTime, &[2, 8, 9], Same),
-    Row(Type::SetTime, &[2, 8], Bad(8)),
-    Row(Type::SetTime, &[3], Bad(0)),
-    Row(Type::SetAttributes, &[0, 0, 0, 0, 0, 0], Same),
-    Row(
-        Type::SetAttributes,
-        &[1, 0o644, 1, 10, 1, 20, 1, 0, 5, 2, 8, 9, 1],
-        Same,
-    ),
-    Row(Type::SetAttributes, &[0, 0, 0, 0, 0, 3], Bad(20)),
-    // RFC 1813 section 2.5, nfs_fh3
-    Row(Type::Handle, &[0], Same),
-    Row(Type::Handle, &[8, 0, 1], Same),
-    // section 2.4, NFS3_FHSIZE: the count 64 and 64 bytes; the count 65, alone and with all bytes and pads
-    Row(Type::Handle, &[64; 17], Same),
-    Row(Type::Handle, &[65], Bad(0)),
-    Row(Type::Handle, &[65; 18], Bad(0)),
-    Row(Type::PostOpHandle, &[0], Same),
-    Row(Type::PostOpHandle, &[1, 8, 0, 1], Same),
-    // RFC 1813 section 2.5, filename3; RFC 4506 section 4.11: `a.txt`
-    Row(
-        Type::Name,
-        &[5, 0x612e_7478, 0x7400_00ff],
-        Words(&[5, 0x612e_7478, 0x7400_0000]),
-    ),
-    Row(Type::Name, &[5, 0x612e_7478], Bad(0)),
-    // names, link paths and data have no limit: 256 bytes and 1028
-    Row(Type::Name, &[256; 65], Same),
-    Row(Type::Path, &[1028; 258], Same),
-    Row(Type::Data, &[1028; 258], Same),
-    // RFC 1813 section 5.1.5, dirpath
-    Row(Type::MountPath, &[1, 0x2f00_0000], Same),
-    // section 5.1.4, MNTPATHLEN: the count 1024 and 1024 bytes; the count 1025, alone and with all bytes and pads
-    Row(Type::MountPath, &[1024; 257], Same),
-    Row(Type::MountPath, &[1025], Bad(0)),
-    Row(Type::MountPath, &[1025; 258], Bad(0)),
-    // RFC 4506 section 4.19
-    Row(Type::LinkedList, &[0], Same),
-    Row(Type::LinkedList, &[1, 7, 0], Same),
-    Row(Type::LinkedList, &[1, 7, 1, 8, 1, 9, 0], Same),
-    Row(Type::LinkedList, &[1, 7], Bad(8)),
-    // RFC 4506 section 4.13
-    Row(Type::Array, &[0], Same),
-    Row(Type::Array, &[1, 7], Same),
-    Row(Type::Array, &[3, 7, 8, 9], Same),
-    Row(Type::Array, &[2, 7], Bad(8)),
-];
+// RFC 1813 section 2.5, ftype3
+static FILE_TYPE: &str = "\
+1\n\
+7\n\
+0 |! 0\n\
+8 |! 0\n\
+";
+
+// RFC 1813 section 3.3.7, stable_how
+static STABLE_HOW: &str = "\
+0\n\
+2\n\
+3 |! 0\n\
+";
+
+// RFC 1813 section 2.5, time_how
+static TIME_HOW: &str = "\
+0\n\
+2\n\
+3 |! 0\n\
+";
+
+// RFC 1813 section 2.5, nfsstat3
+static ANSWER: &str = "\
+0 7\n\
+1\n\
+2718\n\
+3 |! 0\n\
+2719 |! 0\n\
+1 7 |! 4\n\
+";
+
+// RFC 1813 section 5.1.5, mountstat3
+static MOUNT_ANSWER: &str = "\
+0\n\
+1 7\n\
+2716 7\n\
+2717 7 |! 0\n\
+";
 
 #[test]
-fn each_row_is_read_and_written(rt: HostRuntime) {
-    for (row, Row(kind, words, want)) in TABLE.iter().enumerate() {
-        let bytes = bytes_of(&rt, rt.alloc(), words);
-        let got = again_as(*kind, rt.alloc(), &bytes);
-        row_gives(&rt, rt.alloc(), row, got, words, *want);
-    }
+fn numbers_and_enumerations(rt: HostRuntime) {
+    let alloc = rt.alloc();
+    same_rows::<u32>(&rt, alloc, WORD);
+    same_rows::<u64>(&rt, alloc, HYPER);
+    same_rows::<bool>(&rt, alloc, BOOLEAN);
+    same_rows::<()>(&rt, alloc, NOTHING);
+    same_rows::<Time>(&rt, alloc, TIME);
+    same_rows::<Verifier>(&rt, alloc, VERIFIER);
+    same_rows::<FileType>(&rt, alloc, FILE_TYPE);
+    same_rows::<StableHow>(&rt, alloc, STABLE_HOW);
+    same_rows::<TimeHow>(&rt, alloc, TIME_HOW);
+    same_rows::<StatusUnion<u32, ()>>(&rt, alloc, ANSWER);
+    same_rows::<StatusUnion<(), u32, MountStatus>>(&rt, alloc, MOUNT_ANSWER);
+}
+
+// RFC 1813 section 2.5, specdata3 and fattr3
+static SPECIAL_DATA: &str = "5 6\n";
+
+static ATTRIBUTES: &str = "2 1ed 3 1 2 0 1000 0 2000 5 6 0 1 0 9 a b c d e f\n";
+
+static POST_OP_ATTRIBUTES: &str = "\
+0\n\
+1 2 1ed 3 1 2 0 1000 0 2000 5 6 0 1 0 9 a b c d e f\n\
+2 |! 0\n\
+1 8 |! 4\n\
+";
+
+// RFC 1813 section 2.5, wcc_attr and wcc_data
+static WCC_ATTRIBUTES: &str = "0 1 2 3 4 5\n";
+
+static WCC_DATA: &str = "\
+0 0\n\
+1 0 1 2 3 4 5 0\n\
+1 0 1 2 3 4 5 2 |! 28\n\
+";
+
+// RFC 1813 section 2.5, set_mtime and sattr3
+static SET_TIME: &str = "\
+0\n\
+1\n\
+2 8 9\n\
+2 8 |! 8\n\
+3 |! 0\n\
+";
+
+static SET_ATTRIBUTES: &str = "\
+0*6\n\
+1 1a4 1 a 1 14 1 0 5 2 8 9 1\n\
+0*5 3 |! 20\n\
+";
+
+#[test]
+fn attributes(rt: HostRuntime) {
+    let alloc = rt.alloc();
+    same_rows::<SpecialData>(&rt, alloc, SPECIAL_DATA);
+    same_rows::<Attributes>(&rt, alloc, ATTRIBUTES);
+    same_rows::<Option<Attributes>>(&rt, alloc, POST_OP_ATTRIBUTES);
+    same_rows::<WccAttributes>(&rt, alloc, WCC_ATTRIBUTES);
+    same_rows::<WccData>(&rt, alloc, WCC_DATA);
+    same_rows::<SetTime>(&rt, alloc, SET_TIME);
+    same_rows::<SetAttributes>(&rt, alloc, SET_ATTRIBUTES);
+}
+
+// RFC 1813 section 2.5, nfs_fh3
+// section 2.4, NFS3_FHSIZE: the count 64 and 64 bytes; the count 65, alone and with all bytes and pads
+static HANDLE: &str = "\
+0\n\
+8 0 1\n\
+40*17\n\
+41 |! 0\n\
+41*18 |! 0\n\
+";
+
+static POST_OP_HANDLE: &str = "\
+0\n\
+1 8 0 1\n\
+";
+
+// RFC 1813 section 2.5, filename3; RFC 4506 section 4.11: `a.txt`
+// names, link paths and data have no limit: 256 bytes and 1028
+static NAME: &str = "\
+5 612e7478 740000ff | 5 612e7478 74000000\n\
+5 612e7478 |! 0\n\
+100*65\n\
+";
+
+static PATH: &str = "404*258\n";
+
+static DATA: &str = "404*258\n";
+
+// RFC 1813 section 5.1.5, dirpath
+// section 5.1.4, MNTPATHLEN: the count 1024 and 1024 bytes; the count 1025, alone and with all bytes and pads
+static MOUNT_PATH: &str = "\
+1 2f000000\n\
+400*257\n\
+401 |! 0\n\
+401*258 |! 0\n\
+";
+
+// RFC 4506 section 4.19
+static LINKED_LIST: &str = "\
+0\n\
+1 7 0\n\
+1 7 1 8 1 9 0\n\
+1 7 |! 8\n\
+";
+
+// RFC 4506 section 4.13
+static ARRAY: &str = "\
+0\n\
+1 7\n\
+3 7 8 9\n\
+2 7 |! 8\n\
+";
+
+#[test]
+fn data_of_any_length(rt: HostRuntime) {
+    let alloc = rt.alloc();
+    same_rows::<Handle>(&rt, alloc, HANDLE);
+    same_rows::<Option<Handle>>(&rt, alloc, POST_OP_HANDLE);
+    same_rows::<Name>(&rt, alloc, NAME);
+    same_rows::<Path>(&rt, alloc, PATH);
+    same_rows::<Data>(&rt, alloc, DATA);
+    same_rows::<MountPath>(&rt, alloc, MOUNT_PATH);
+    same_rows::<LinkedList<u32>>(&rt, alloc, LINKED_LIST);
+    same_rows::<Array<u32>>(&rt, alloc, ARRAY);
 }
 
 /// The length of a name that is made, taken apart and made again.
@@ -249,79 +254,6 @@ fn an_enumeration_stands_among_others(rt: HostRuntime) {
     same(&rt, 0, numbered_front(rt.alloc(), &bytes), Some((5, 4)));
     let want = bytes_of(&rt, rt.alloc(), &[5, 1, 0, 1, 0, 2]);
     same(&rt, 1, bytes, want);
-}
-
-#[test]
-fn each_field_has_its_place(rt: HostRuntime) {
-    // RFC 1813 section 2.5, fattr3
-    let atime = Time {
-        seconds: 13,
-        nanoseconds: 14,
-    };
-    let mtime = Time {
-        seconds: 15,
-        nanoseconds: 16,
-    };
-    let ctime = Time {
-        seconds: 17,
-        nanoseconds: 18,
-    };
-    let attributes = Attributes {
-        file_type: FileType::Chr,
-        mode: 0o644,
-        nlink: 2,
-        uid: 1000,
-        gid: 100,
-        size: 0x3_0000_0004,
-        used: 0x5_0000_0006,
-        rdev: SpecialData { major: 7, minor: 8 },
-        fsid: 0x9_0000_000a,
-        fileid: 0xb_0000_000c,
-        atime,
-        mtime,
-        ctime,
-    };
-    // section 2.5, wcc_data
-    let before = WccAttributes {
-        size: 0x1_0000_0002,
-        mtime,
-        ctime,
-    };
-    let wcc = WccData {
-        before: Some(before),
-        after: None,
-    };
-    // section 2.5, sattr3
-    let set = SetAttributes {
-        mode: Some(0o600),
-        uid: Some(1000),
-        gid: None,
-        size: Some(0x3_0000_0004),
-        atime: SetTime::ServerTime,
-        mtime: SetTime::ClientTime(mtime),
-    };
-    let other = SetAttributes {
-        mode: None,
-        uid: None,
-        gid: Some(100),
-        size: None,
-        atime: SetTime::ClientTime(atime),
-        mtime: SetTime::Leave,
-    };
-    encoded_as(
-        &rt,
-        rt.alloc(),
-        0,
-        &(attributes, (wcc, (set, other))),
-        &[
-            &[
-                4, 0o644, 2, 1000, 100, 3, 4, 5, 6, 7, 8, 9, 10, 11, 12, 13, 14, 15, 16, 17, 18,
-            ],
-            &[1, 1, 2, 15, 16, 17, 18, 0],
-            &[1, 0o600, 1, 1000, 0, 1, 3, 4, 1, 2, 15, 16],
-            &[0, 0, 1, 100, 0, 2, 13, 14, 0],
-        ],
-    );
 }
 
 /// A field to skip to.

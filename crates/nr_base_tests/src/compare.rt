@@ -49,12 +49,6 @@ pub fn again<T: Xdr>(alloc: Global, bytes: &[u8]) -> Result<Octets, ValueFault> 
     Ok(value.write(alloc)?)
 }
 
-/// Ends the test if the value is not encoded by the words of these parts.
-pub fn encoded_as<T: Xdr>(rt: &impl Abort, alloc: Global, row: usize, value: &T, parts: &[&[u32]]) {
-    let got = value.write(alloc).expect(rt, "memory").into_vec();
-    same(rt, row, got, joined(rt, alloc, parts));
-}
-
 /// Ends the test if a value does not have the number beside it.
 pub fn numbered_as<T: Numbered>(rt: &impl Abort, rows: &[(T, u32)]) {
     for (row, (value, number)) in rows.iter().enumerate() {
@@ -62,54 +56,51 @@ pub fn numbered_as<T: Numbered>(rt: &impl Abort, rows: &[(T, u32)]) {
     }
 }
 
-/// What the words of a row are written as, once they are read: the same words, or others; or the offset at which they
-/// are no value.
-#[derive(Clone, Copy)]
-pub enum Want {
-    Same,
-    Words(&'static [u32]),
-    Bad(usize),
-}
-
-/// What is to come of the words of a row.
-fn wanted(
-    rt: &impl Abort,
-    alloc: Global,
-    words: &[u32],
-    want: Want,
-) -> Result<Vec<u8>, ValueFault> {
-    match want {
-        Want::Same => Ok(bytes_of(rt, alloc, words)),
-        Want::Words(others) => Ok(bytes_of(rt, alloc, others)),
-        Want::Bad(at) => Err(ValueFault::Bad { at }),
+/// A word in hexadecimal, and how often it stands there: `0*6` is six words.
+fn put_token(rt: &impl Abort, bytes: &mut Vec<u8>, token: &str) {
+    let (word, times) = match token.split_once('*') {
+        Some((word, times)) => (word, times.parse::<usize>().expect(rt, "a count")),
+        None => (token, 1),
+    };
+    let word = u32::from_str_radix(word, 16).expect(rt, "a word");
+    for _ in 0..times {
+        put_words(rt, bytes, &[word]);
     }
 }
 
-/// Ends the test if what a row's words were written as, once they were read, is not what the row says.
-pub fn row_gives(
-    rt: &impl Abort,
-    alloc: Global,
-    row: usize,
-    got: Result<Octets, ValueFault>,
-    words: &[u32],
-    want: Want,
-) {
-    let wanted = wanted(rt, alloc, words, want);
-    same(rt, row, got.map(Octets::into_vec), wanted);
+/// The bytes of words in hexadecimal, parted by spaces.
+pub fn bytes_of_text(rt: &impl Abort, alloc: Global, text: &str) -> Vec<u8> {
+    let mut bytes = Vec::new(alloc);
+    for token in text.split_whitespace() {
+        put_token(rt, &mut bytes, token);
+    }
+    bytes
 }
 
-/// Ends the test if the value of these parts is not written as it was read.
-pub fn parts_again(
-    rt: &impl Abort,
-    alloc: Global,
-    row: usize,
-    got: Result<Octets, ValueFault>,
-    parts: &[&[u32]],
-) {
-    same(
-        rt,
-        row,
-        got.map(Octets::into_vec),
-        Ok(joined(rt, alloc, parts)),
-    );
+/// What is to come of a row: these words, or after `!` the offset at which it is no value.
+fn wanted(rt: &impl Abort, alloc: Global, want: &str) -> Result<Vec<u8>, ValueFault> {
+    match want.strip_prefix('!') {
+        Some(at) => Err(ValueFault::Bad {
+            at: at.trim().parse::<usize>().expect(rt, "an offset"),
+        }),
+        None => Ok(bytes_of_text(rt, alloc, want)),
+    }
+}
+
+/// Ends the test if a row is written otherwise once it is read as a value of the type.
+fn same_row<T: Xdr>(rt: &impl Abort, alloc: Global, row: usize, read: &str, want: &str) {
+    let bytes = bytes_of_text(rt, alloc, read);
+    let got = again::<T>(alloc, bytes.as_slice());
+    same(rt, row, got.map(Octets::into_vec), wanted(rt, alloc, want));
+}
+
+/// Reads each line of a text as a value of the type, and writes that. Ends the test if it isn't written as it was read, or, after `|`, as
+/// other words; `|! 8` says that it is no value, from byte 8 on.
+pub fn same_rows<T: Xdr>(rt: &impl Abort, alloc: Global, text: &str) {
+    for (row, line) in text.lines().enumerate() {
+        match line.split_once('|') {
+            Some((read, want)) => same_row::<T>(rt, alloc, row, read, want),
+            None => same_row::<T>(rt, alloc, row, line, line),
+        }
+    }
 }

@@ -24,8 +24,6 @@ mod replies;
 #[cfg(test)]
 mod res;
 #[cfg(test)]
-mod res_fields;
-#[cfg(test)]
 mod rpc;
 #[cfg(test)]
 mod wire;

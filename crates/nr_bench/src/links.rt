@@ -1,7 +1,7 @@
 //! A benchmark, run by hand against `nfsrdma serve`: GETATTRs of the root, or READs or WRITEs of file 2, over TCP, with at most n
 //! outstanding. It prints how many calls, or how many bytes, the replies confirm, and the microseconds that they took. The
 //! arguments are the address; `getattr`, `read` or `write`; the number of calls; how many may be outstanding; how many bytes a READ or a
-//! WRITE moves, at most 32,768; and the client's units of 1,024 bytes for a Send.
+//! WRITE moves, at most 1,048,576; and the client's units of 1,024 bytes for a Send.
 
 ghost use Rattle.std.specs.Prelude.{◌≡◌};
 
@@ -123,7 +123,7 @@ fn plan_of(words: &mut Args) -> Option<Plan> {
     let what = words.next()?;
     let rounds = number(words)?;
     let outstanding = number(words)?;
-    let size = u16::try_from(number(words)?).ok()?;
+    let size = number(words)?;
     let units = u8::try_from(number(words)?).ok()?;
     let work = Work::of(what.as_str(), size)?;
     Some(Plan {

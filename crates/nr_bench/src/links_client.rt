@@ -2,6 +2,7 @@
 
 ghost use Rattle.std.specs.Prelude.{◌≡◌};
 
+use nr_nfs_base::{NFS_PROGRAM, NFS_VERSION};
 use nr_outside::{Sink, Source};
 use nr_reduce::{Call, Form, Outcome};
 use nr_requester::{Done, Requester, Take, Ticket};
@@ -33,17 +34,6 @@ impl Model for Client {
     ghost invariant = { λ c. fed_bytes c.end ≤ c.fed };
 }
 
-/// The numbers of a procedure.
-#[derive(Clone, Copy)]
-pub struct Procedure {
-    /// The program.
-    pub prog: u32,
-    /// The version of the program.
-    pub vers: u32,
-    /// The procedure.
-    pub proc: u32,
-}
-
 impl Client {
     /// A client that has submitted nothing, with these units of 1,024 bytes for a Send.
     pub fn open(alloc: Global, credits: u32, units: u8) -> Result<Client, Memory> {
@@ -60,8 +50,8 @@ impl Client {
         out < u64::from(self.end.grant()) && out < u64::from(most)
     }
 
-    /// Submits a call of user 0 in form Auto.
-    pub fn submit(&mut self, alloc: Global, procedure: Procedure, args: Octets) -> Option<()> {
+    /// Submits a call of a procedure of NFS version 3, by user 0, in form Auto.
+    pub fn submit(&mut self, alloc: Global, proc: u32, args: Octets) -> Option<()> {
         let cred = Cred::Sys {
             stamp: 0,
             machine: Octets::from_vec(Vec::new(alloc)),
@@ -70,9 +60,9 @@ impl Client {
             gids: Gids::new(),
         };
         let call = Call {
-            prog: procedure.prog,
-            vers: procedure.vers,
-            proc: procedure.proc,
+            prog: NFS_PROGRAM,
+            vers: NFS_VERSION,
+            proc,
             cred,
             args,
         };

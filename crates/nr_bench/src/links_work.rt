@@ -1,9 +1,8 @@
 //! What is called.
 
-use crate::links_client::Procedure;
-use nr_nfs_base::{NFS_PROGRAM, NFS_VERSION, NfsProcedure, Numbered};
+use nr_nfs_base::{NfsProcedure, Numbered};
 use nr_xdr::{Memory, Octets};
-use std::alloc::Global;
+use std::alloc::{AllocError, Global};
 
 /// The arguments of a GETATTR of the root: its handle.
 static GETATTR_ARGS: [u8; 12] = [0, 0, 0, 8, 0, 0, 0, 0, 0, 0, 0, 1];
@@ -18,22 +17,29 @@ static FILE_SYNC: [u8; 4] = [0, 0, 0, 2];
 /// What is called; a READ or a WRITE with how many bytes it moves.
 #[derive(Clone, Copy)]
 pub enum Work {
+    Null,
     Getattr,
-    Read { size: u16 },
-    Write { size: u16 },
+    Read { size: u32 },
+    Write { size: u32 },
+}
+
+/// The data of a WRITE of this size.
+pub fn data(alloc: Global, size: u32) -> Result<Vec<u8>, AllocError> {
+    vec![in alloc; 7u8; size as usize]
 }
 
 /// How the arguments of a READ or a WRITE of this size begin, up to the count.
-fn range_args(alloc: Global, size: u16) -> Result<Octets, Memory> {
+fn range_args(alloc: Global, size: u32) -> Result<Octets, Memory> {
     let mut args = Octets::from_slice(alloc, &FILE_AND_OFFSET)?;
-    args.extend_from_slice(&u32::from(size).to_be_bytes())?;
+    args.extend_from_slice(&size.to_be_bytes())?;
     Ok(args)
 }
 
 impl Work {
     /// The work of a word, with the size of a READ or a WRITE.
-    pub fn of(word: &str, size: u16) -> Option<Work> {
+    pub fn of(word: &str, size: u32) -> Option<Work> {
         match word {
+            "null" => Some(Work::Null),
             "getattr" => Some(Work::Getattr),
             "read" => Some(Work::Read { size }),
             "write" => Some(Work::Write { size }),
@@ -41,29 +47,28 @@ impl Work {
         }
     }
 
-    pub fn procedure(self) -> Procedure {
+    /// The procedure of NFS version 3.
+    pub fn procedure(self) -> u32 {
         let procedure = match self {
+            Work::Null => NfsProcedure::Null,
             Work::Getattr => NfsProcedure::Getattr,
             Work::Read { .. } => NfsProcedure::Read,
             Work::Write { .. } => NfsProcedure::Write,
         };
-        Procedure {
-            prog: NFS_PROGRAM,
-            vers: NFS_VERSION,
-            proc: procedure.number(),
-        }
+        procedure.number()
     }
 
     /// The arguments of a call.
     pub fn args(self, alloc: Global) -> Result<Octets, Memory> {
         match self {
+            Work::Null => Ok(Octets::from_vec(Vec::new(alloc))),
             Work::Getattr => Octets::from_slice(alloc, &GETATTR_ARGS),
             Work::Read { size } => range_args(alloc, size),
             Work::Write { size } => {
-                let data = vec![in alloc; 7u8; usize::from(size)]?;
+                let data = data(alloc, size)?;
                 let mut args = range_args(alloc, size)?;
                 args.extend_from_slice(&FILE_SYNC)?;
-                args.extend_from_slice(&u32::from(size).to_be_bytes())?;
+                args.extend_from_slice(&size.to_be_bytes())?;
                 args.extend_from_slice(data.as_slice())?;
                 Ok(args)
             }
@@ -73,13 +78,16 @@ impl Work {
     /// How many calls or bytes a reply confirms, if it has status 0: READ's count stands after the attributes of the file, WRITE's after
     /// those of before and after.
     pub fn confirmed(self, reply: &[u8]) -> Option<u64> {
+        if let Work::Null = self {
+            return Some(1);
+        }
         if word(reply, 24)? != 0 {
             return None;
         }
         match self {
-            Work::Getattr => Some(1),
             Work::Read { .. } => Some(u64::from(word(reply, 116)?)),
             Work::Write { .. } => Some(u64::from(word(reply, 144)?)),
+            _ => Some(1),
         }
     }
 }

@@ -3,42 +3,25 @@
 #![tactic(auto)]
 
 mod calls;
-mod endpoint;
 mod ends;
 mod ends_client;
 mod ends_link;
 mod ends_server;
-mod frames;
-mod jobs;
 mod links;
 mod links_client;
 mod links_work;
-mod plan;
 mod sends;
-mod ticks;
 mod tree;
-mod turnstile;
 mod words;
 
 use std::alloc::Global;
 use std::env;
 use std::env::Args;
 use std::process::ExitCode;
-use std::sync::Wait;
-use std::thread::Threads;
 
-/// What a benchmark counts; `host` has the threads of the process.
-fn measured<R: Threads + Wait + Copy + Send + 'static>(
-    host: R,
-    alloc: Global,
-    name: &str,
-    words: &mut Args,
-) -> Option<u64> {
+/// What a benchmark counts.
+fn measured(alloc: Global, name: &str, words: &mut Args) -> Option<u64> {
     match name {
-        "frames" => frames::measure(alloc, words),
-        "endpoint" => endpoint::measure(alloc, words),
-        "plan" => plan::measure(alloc, words),
-        "turnstile" => turnstile::measure(host, alloc, words),
         "tree" => tree::measure(alloc, words),
         "ends" => ends::measure(alloc, words),
         _ => None,
@@ -46,17 +29,12 @@ fn measured<R: Threads + Wait + Copy + Send + 'static>(
 }
 
 /// Runs a benchmark, and prints its line.
-fn run<R: Threads + Wait + Copy + Send + 'static>(
-    rt: HostRuntime,
-    host: R,
-    name: &str,
-    words: &mut Args,
-) -> Option<()> {
+fn run(rt: HostRuntime, name: &str, words: &mut Args) -> Option<()> {
     if name == "links" {
         let (total, micros) = links::measure(rt, words)?;
         return println!(rt; "{total} {micros}").ok();
     }
-    let total = measured(host, rt.alloc(), name, words)?;
+    let total = measured(rt.alloc(), name, words)?;
     println!(rt; "{total}").ok()
 }
 
@@ -69,7 +47,7 @@ fn main(rt: HostRuntime) -> ExitCode {
         let Some(name) = words.next() else {
             return ExitCode::SUCCESS;
         };
-        if run(rt, rt, name.as_str(), &mut words).is_none() {
+        if run(rt, name.as_str(), &mut words).is_none() {
             return ExitCode::FAILURE;
         }
     }

@@ -6,8 +6,3 @@ use std::env::Args;
 pub fn number(words: &mut Args) -> Option<u32> {
     words.next()?.as_str().parse::<u32>().ok()
 }
-
-/// The next word, if it is a number of up to 64 bits.
-pub fn long(words: &mut Args) -> Option<u64> {
-    words.next()?.as_str().parse::<u64>().ok()
-}

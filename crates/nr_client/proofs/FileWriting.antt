@@ -17,12 +17,12 @@ use Rattle.nr_client.specs.Requests.{Asks}
 use Rattle.nr_client.specs.Results.{Gives, IsOfCall}
 use Rattle.nr_client.specs.Transfers.{LinkBytes}
 use Rattle.nr_outside.specs.Whole.{input_max}
-use Rattle.nr_client.specs.Writing.{EndsWriting, FileWrite, IsRead, IsReadAhead, StopsAtFault, WritesFile, after_write_reply, create_call, created_file, file_write, next_write, piece_at, with_count, with_handle, write_call, write_end, write_result, writing}
+use Rattle.nr_client.specs.Writing.{EndsWriting, FileWrite, IsRead, IsReadAhead, IsStopped, StopsAtFault, WritesFile, after_write_reply, create_call, created_file, file_write, next_write, piece_at, with_count, with_handle, write_call, write_end, write_result, writing}
 use Rattle.nr_client.specs.Writing.EndsWriting.{FollowsInput, InputFails}
 use Rattle.nr_client.specs.Writing.FileWrite.{Created, NotCreated}
 use Rattle.nr_client.specs.private.FileSteps.{FailsToWrite, StreamsOn, StreamsSoFar, StreamsTo, WriteSoFar, WritesOn}
-use Rattle.nr_client.specs.private.InputWindows.{EndsAt, IsFull, IsReadyAt, MayFollow, TakesMore, WindowState, wanted_at}
-use Rattle.nr_client.proofs.CallsMade.{calls_more, ends_answered, ends_done, ends_unanswered, follows_asked}
+use Rattle.nr_client.specs.private.InputWindows.{EndsAt, IsFull, IsOfInput, IsReadyAt, MayFollow, TakesMore, WindowState, wanted_at}
+use Rattle.nr_client.proofs.CallsMade.{calls_more, ends_answered, ends_done, ends_unanswered, follows_asked, memory_ends}
 
 write_is : (uid gid : ℕ) (dir name input file : List ℕ) (at : ℕ) → at < length (take input_max input)
     → next_write uid gid dir name input (Created file at) ≡ Calls (write_call uid gid file at (piece_at input at))
@@ -299,19 +299,34 @@ streams_failed uid gid file at w c d i j left given end ready below some of fail
     (more_is_left s.written w.kept rest at s.offset below some) (sym (piece_is s.written w.kept rest at w.ended s.offset below ready.full ready.within may)) (s.calls rest may)
     (read_ahead ((s.written ++ w.kept) ++ rest) (s.calls rest may).outcomes file at s.written w.kept (s.calls rest may).state s.offset (omega (arith, ready.within, wanted_within at))) fails)
 
--- a read failed after a WRITE
-streams_stopped : (uid gid : ℕ) (file : List ℕ) (at count : ℕ) (w v : WindowState) (c d : LinkBytes) (i j : RequesterSide) (left given left' given' : Option (List ℕ))
+-- why no more was read says nothing of what was
+read_of_input : (end : ClientEnd) (handed rest : List ℕ) → IsOfInput end → IsRead (Err end) handed rest
+read_of_input end handed rest (inl is) = subst (λ (e : ClientEnd). IsRead (Err e) handed rest) (sym is) tt
+read_of_input end handed rest (inr is) = subst (λ (e : ClientEnd). IsRead (Err e) handed rest) (sym is) tt
+
+-- the calls so far, and no more was read
+write_stopped : (uid gid : ℕ) (dir name handed rest : List ℕ) (b c : LinkBytes) (h i : RequesterSide) (file : List ℕ) (at : ℕ) (end : ClientEnd)
+    → (s : WriteSoFar uid gid dir name (handed ++ rest) b c h i file at) → IsReadAhead (file_write (handed ++ rest) s.outcomes) handed → IsOfInput end
+    → EndsWriting uid gid dir name handed rest b c h i (Err end)
+write_stopped uid gid dir name handed rest b c h i file at end s ahead (inl is) = InputFails s.outcomes (ap (λ (e : ClientEnd). Err e) is) s.made ahead
+write_stopped uid gid dir name handed rest b c h i file at end s ahead (inr is) =
+    subst (λ (e : ClientEnd). EndsWriting uid gid dir name handed rest b c h i (Err e)) (sym is)
+    (ends_after uid gid dir name handed rest b c c h i i s.outcomes [] s.outcomes (Err client.Memory) (append-nil s.outcomes) s.made
+    (memory_ends (writing uid gid dir name (handed ++ rest) s.outcomes) c i) ahead)
+
+-- no more was read after a WRITE
+streams_stopped : (uid gid : ℕ) (file : List ℕ) (at count : ℕ) (w v : WindowState) (c d : LinkBytes) (i j : RequesterSide) (left given left' given' : Option (List ℕ)) (end : ClientEnd)
     → IsReadyAt at left w → at < input_max → 0 < length w.kept → count ≤ length w.kept → WritesOn uid gid file w.kept at (at + count) c d i j
-    → TakesMore (wanted_at (at + count)) left given left' given' (record { kept = drop count w.kept; ended = w.ended }) v
-    → StreamsTo uid gid file at w c d i j left given left' given' (Err client.InputFault)
-streams_stopped uid gid file at count w v c d i j left given left' given' ready below some within on takes dir name b h first first_given before =
+    → TakesMore (wanted_at (at + count)) left given left' given' (record { kept = drop count w.kept; ended = w.ended }) v → IsOfInput end
+    → StreamsTo uid gid file at w c d i j left given left' given' (Err end)
+streams_stopped uid gid file at count w v c d i j left given left' given' end ready below some within on takes of dir name b h first first_given before =
     let s = streams_on uid gid file at count w v c d i j left given left' given' ready below some within on takes dir name b h first first_given before in
     let ends : EndsAt v.ended left' = takes.ends ready.ends in
     let rest : List ℕ = known_rest left' in
     let may : MayFollow v.ended rest = rest_may_follow v.ended left' ends in
-    streams_end uid gid dir name b d d h j j first first_given left' given' file (at + count) v (Err client.InputFault) ends s tt
-    (InputFails (s.calls rest may).outcomes refl (s.calls rest may).made
-    (read_ahead ((s.written ++ v.kept) ++ rest) (s.calls rest may).outcomes file (at + count) s.written v.kept (s.calls rest may).state s.offset (omega (arith, takes.within, wanted_within (at + count)))))
+    streams_end uid gid dir name b d d h j j first first_given left' given' file (at + count) v (Err end) ends s (read_of_input end (s.written ++ v.kept) rest of)
+    (write_stopped uid gid dir name (s.written ++ v.kept) rest b d h j file (at + count) end (s.calls rest may)
+    (read_ahead ((s.written ++ v.kept) ++ rest) (s.calls rest may).outcomes file (at + count) s.written v.kept (s.calls rest may).state s.offset (omega (arith, takes.within, wanted_within (at + count)))) of)
 
 -- nothing is left in the window
 pub streams_done : (uid gid : ℕ) (file : List ℕ) (at : ℕ) (w : WindowState) (c : LinkBytes) (i : RequesterSide) (left given : Option (List ℕ))
@@ -373,13 +388,13 @@ on_by uid gid file piece at count wanted w m v c d i j left given left' given' r
     streams_on uid gid file at count w v c d i j left given left' given' ready below some (count_within piece w.kept count same within)
     (subst (λ (l : List ℕ). WritesOn uid gid file l at (at + count) c d i j) same on) (takes_by at count wanted w m v left given left' given' moved is takes)
 
-pub stopped_by : (uid gid : ℕ) (file piece : List ℕ) (at count wanted : ℕ) (w m v : WindowState) (c d : LinkBytes) (i j : RequesterSide) (left given left' given' : Option (List ℕ))
+pub stopped_by : (uid gid : ℕ) (file piece : List ℕ) (at count wanted : ℕ) (w m v : WindowState) (c d : LinkBytes) (i j : RequesterSide) (left given left' given' : Option (List ℕ)) (end : ClientEnd)
     → IsReadyAt at left w → at < input_max → 0 < length w.kept → piece ≡ w.kept → count ≤ length piece → WritesOn uid gid file piece at (at + count) c d i j
-    → m ≡ record { kept = drop count w.kept; ended = w.ended } → wanted ≡ wanted_at (at + count) → TakesMore wanted left given left' given' m v
-    → StreamsTo uid gid file at w c d i j left given left' given' (Err client.InputFault)
-stopped_by uid gid file piece at count wanted w m v c d i j left given left' given' ready below some same within on moved is takes =
-    streams_stopped uid gid file at count w v c d i j left given left' given' ready below some (count_within piece w.kept count same within)
-    (subst (λ (l : List ℕ). WritesOn uid gid file l at (at + count) c d i j) same on) (takes_by at count wanted w m v left given left' given' moved is takes)
+    → m ≡ record { kept = drop count w.kept; ended = w.ended } → wanted ≡ wanted_at (at + count) → TakesMore wanted left given left' given' m v → IsOfInput end
+    → StreamsTo uid gid file at w c d i j left given left' given' (Err end)
+stopped_by uid gid file piece at count wanted w m v c d i j left given left' given' end ready below some same within on moved is takes of =
+    streams_stopped uid gid file at count w v c d i j left given left' given' end ready below some (count_within piece w.kept count same within)
+    (subst (λ (l : List ℕ). WritesOn uid gid file l at (at + count) c d i j) same on) (takes_by at count wanted w m v left given left' given' moved is takes) of
 
 pub failed_by : (uid gid : ℕ) (file piece : List ℕ) (at : ℕ) (w : WindowState) (c d : LinkBytes) (i j : RequesterSide) (left given : Option (List ℕ)) (end : ClientEnd)
     → IsReadyAt at left w → at < input_max → 0 < length w.kept → piece ≡ w.kept → IsOfCall end → FailsToWrite uid gid file piece at c d i j end → StreamsTo uid gid file at w c d i j left given left given (Err end)
@@ -418,10 +433,17 @@ first_handed wanted left given left' given' w v is empty takes =
     let first = first_takes wanted left given left' given' w v is empty takes in
     subst (λ (l : List ℕ). HandsOut left given left' given' l) (sym first.kept) first.hands_out
 
--- a read of the first bytes failed
-pub read_failed : (uid gid : ℕ) (dir name : List ℕ) (b : LinkBytes) (h : RequesterSide) (wanted : ℕ) (left given left' given' : Option (List ℕ)) (w v : WindowState)
-    → wanted ≡ wanted_at 0 → w ≡ record { kept = []; ended = false } → TakesMore wanted left given left' given' w v → WritesFile uid gid dir name b b h h left given left' given' (Err client.InputFault)
-read_failed uid gid dir name b h wanted left given left' given' w v is empty takes =
+-- the first bytes were not all read, and no call was made
+nothing_made : (uid gid : ℕ) (dir name handed rest : List ℕ) (b : LinkBytes) (h : RequesterSide) (end : ClientEnd) → length handed ≤ transfer_max → IsOfInput end
+    → EndsWriting uid gid dir name handed rest b b h h (Err end)
+nothing_made uid gid dir name handed rest b h end within (inl is) = InputFails [] (ap (λ (e : ClientEnd). Err e) is) (refl, refl) within
+nothing_made uid gid dir name handed rest b h end within (inr is) =
+    subst (λ (e : ClientEnd). EndsWriting uid gid dir name handed rest b b h h (Err e)) (sym is)
+    (FollowsInput (record { outcomes = []; between = b; side = h; made = (refl, refl); ends = (client.Memory, (refl, inr (refl, (refl, refl)))) }) 0 within)
+
+pub read_failed : (uid gid : ℕ) (dir name : List ℕ) (b : LinkBytes) (h : RequesterSide) (wanted : ℕ) (left given left' given' : Option (List ℕ)) (w v : WindowState) (end : ClientEnd)
+    → wanted ≡ wanted_at 0 → w ≡ record { kept = []; ended = false } → TakesMore wanted left given left' given' w v → IsOfInput end → WritesFile uid gid dir name b b h h left given left' given' (Err end)
+read_failed uid gid dir name b h wanted left given left' given' w v end is empty takes of =
     let first = first_takes wanted left given left' given' w v is empty takes in
     let len : length v.kept ≡ length first.more = ap (λ (l : List ℕ). length l) first.kept in
     record {
@@ -429,22 +451,9 @@ read_failed uid gid dir name b h wanted left given left' given' w v is empty tak
       rest = known_rest left';
       hands_out = first.hands_out;
       is_rest = rest_is_known left';
-      is_read = tt;
+      is_read = read_of_input end first.more (known_rest left') of;
       begins = inl (refl, refl);
-      calls = InputFails [] refl (refl, refl) (omega (arith, len, first.within, wanted_within 0));
-    }
-
--- there is no memory for a window
-pub no_window : (uid gid : ℕ) (dir name : List ℕ) (b : LinkBytes) (h : RequesterSide) (left given : Option (List ℕ)) → WritesFile uid gid dir name b b h h left given left given (Err client.Memory)
-no_window uid gid dir name b h left given =
-    record {
-      handed = [];
-      rest = known_rest left;
-      hands_out = HandsOut_nil left given;
-      is_rest = rest_is_known left;
-      is_read = tt;
-      begins = inl (refl, refl);
-      calls = FollowsInput (record { outcomes = []; between = b; side = h; made = (refl, refl); ends = (client.Memory, (refl, inr (refl, (refl, refl)))) }) 0 (omega arith);
+      calls = nothing_made uid gid dir name first.more (known_rest left') b h end (omega (arith, len, first.within, wanted_within 0)) of;
     }
 
 -- ---- A read of the input that failed
@@ -463,6 +472,12 @@ call_stops faults left given before after client.InputFault of = absurd of
 call_stops faults left given before after client.OutputFault of = tt
 call_stops faults left given before after (client.Budget count) of = tt
 call_stops faults left given before after client.Memory of = tt
+
+-- nothing was read after this end of an input
+pub stops_of_input : {N : Type 0} (faults : N → ℕ) (left given : N → Option (List ℕ)) (before after : N) (end : ClientEnd) → IsOfInput end → IsStopped faults left given before after
+    → StopsAtFault faults left given (Err end) before after
+stops_of_input faults left given before after end (inl is) s = subst (λ (e : ClientEnd). StopsAtFault faults left given (Err e) before after) (sym is) s
+stops_of_input faults left given before after end (inr is) s = subst (λ (e : ClientEnd). StopsAtFault faults left given (Err e) before after) (sym is) tt
 
 -- after reads at which its fault count stood still
 pub stops_after : {N : Type 0} (faults : N → ℕ) (left given : N → Option (List ℕ)) (result : Result (Unit {0}) ClientEnd) (before middle after : N) → faults middle ≡ faults before → StopsAtFault faults left given result middle after → StopsAtFault faults left given result before after

@@ -1,11 +1,15 @@
 -- A window over an input.
 use Rattle.std.proofs.Common.{◌≡◌, ℕ, ◌+◌, ◌-◌, ◌<◌, ◌≤◌, ◌⊎◌, Bool, true, false, not, ◌&&◌, cond, nat_lt, List, [], ◌++◌, length, take, drop, Option, inl, inr, arith, refl, sym, ap, subst, ◌∙◌, append-nil, append_assoc}
+use Rattle.std.specs.Io.KnownBytes.{IsAtEnd}
 use Rattle.std.specs.List.{copy_within}
-use Rattle.std.proofs.lemmas.Bool.{cases_lt, lt-ltb}
-use Rattle.std.proofs.lemmas.List.{drop-take}
+use Rattle.std.specs.Prelude.{nat_eq}
+use Rattle.std.proofs.Math.Seq.{take-add}
+use Rattle.std.proofs.lemmas.Bool.{cases_lt, eqb-true, lt-ltb}
+use Rattle.std.proofs.lemmas.List.{drop-take, length-take}
+use Rattle.nr_outside.specs.Content.{HandsOut}
 use Rattle.nr_outside.proofs.Moves.{HandsOut_append, HandsOut_nil}
 use Rattle.nr_regions.proofs.Parts.{window_moved}
-use Rattle.nr_client.specs.private.InputWindows.{IsFull, MayFollow, TakesMore, WindowState}
+use Rattle.nr_client.specs.private.InputWindows.{EndsAt, IsFull, MayFollow, TakesMore, WindowState}
 
 -- the bytes after the first ones, moved to the front
 pub front_moved : (count left : ℕ) (room : List ℕ) → count + left ≤ length room → take left (copy_within room count (count + left) 0) ≡ drop count (take (count + left) room)
@@ -22,6 +26,24 @@ takes_none wanted left given w within =
       follows = λ rest may. may;
       ends = λ ended. ended;
     }
+
+-- this number of bytes was read after those at the front of a buffer, or the input has ended
+pub takes_read : (wanted len n : ℕ) (left given left' given' : Option (List ℕ)) (room room' : List ℕ) (w : WindowState) → take len room ≡ w.kept → w.ended ≡ false
+    → take len room' ≡ take len room → len + n ≤ wanted → HandsOut left given left' given' (take n (drop len room')) → (n ≡ 0 → IsAtEnd left')
+    → TakesMore wanted left given left' given' w (record { kept = take (len + n) room'; ended = nat_eq n 0 })
+takes_read wanted len n left given left' given' room room' w kept going front within hands at_end =
+    record {
+      more = take n (drop len room');
+      hands_out = hands;
+      kept = take-add len n room' ∙ ap (λ (l : List ℕ). l ++ take n (drop len room')) (front ∙ kept);
+      within = omega (arith, within, length-take (len + n) room');
+      follows = λ rest may. subst (λ (b : Bool). MayFollow b (take n (drop len room') ++ rest)) (sym going) tt;
+      ends = λ ended. by (nat_eq n 0) refl;
+    }
+  where
+    by : (b : Bool) → nat_eq n 0 ≡ b → EndsAt b left'
+    by true is = at_end (eqb-true n 0 is)
+    by false is = tt
 
 -- more bytes, and then more
 pub takes_then : (wanted : ℕ) (left given left' given' left'' given'' : Option (List ℕ)) (w v u : WindowState) → TakesMore wanted left given left' given' w v → TakesMore wanted left' given' left'' given'' v u

@@ -111,7 +111,7 @@ fn write_next<I: Source, O: Sink, N: Source>(
     *at += count;
     match window.fill(input, wanted_at(*at)) {
         Ok(()) => Ok(()),
-        Err(_) => Err(ClientEnd::InputFault),
+        Err(end) => Err(end),
     }
 }
 
@@ -224,14 +224,12 @@ pub(crate) fn write_file_over<I: Source, O: Sink, N: Source>(
     ensures source_faults { SourceFaults result (I.faults link.old.source) (I.faults link.new.source) }
     ensures sink_faults { SinkFaults result (O.faults link.old.sink) (O.faults link.new.sink) }
 {
-    let Ok(mut window) = InputWindow::new(alloc) else {
-        return Err(ClientEnd::Memory);
-    };
+    let mut window = InputWindow::new(alloc);
     match window.fill(input, wanted_at(0)) {
         Ok(()) => {}
-        Err(_) => {
+        Err(end) => {
             drop(window);
-            return Err(ClientEnd::InputFault);
+            return Err(end);
         }
     }
     let result = write_window(alloc, link, uid, gid, dir, name, &mut window, input);

@@ -45,7 +45,8 @@ pub fn peer_hello(side: Side) -> &'static [u32] {
     }
 }
 
-fn put_words(rt: &impl Abort, bytes: &mut Vec<u8>, words: &[u32]) {
+/// Puts the bytes of some words at the end.
+pub fn put_words(rt: &impl Abort, bytes: &mut Vec<u8>, words: &[u32]) {
     for word in words {
         bytes
             .extend_from_slice(&word.to_be_bytes())
@@ -154,6 +155,23 @@ pub fn writes(
     same(rt, row, sink.bytes(), want.as_slice());
 }
 
+/// Ends the test if the endpoint has other bytes to write than these, or takes more after an end.
+pub fn rests(rt: &impl Abort, alloc: Global, row: usize, endpoint: &mut TestEndpoint, want: &[u8]) {
+    if let Some(end) = endpoint.endpoint().end() {
+        same(rt, row, endpoint.feed(rt, &[0; 8]), Err(end));
+        same(rt, row, endpoint.feed_one(rt, &[0; 8]), Err(end));
+        same(
+            rt,
+            row,
+            (endpoint.endpoint().staged(), endpoint.endpoint().begun()),
+            (0, false),
+        );
+    }
+    let mut sink = MemSink::new(alloc, Vec::new(alloc));
+    same(rt, row, endpoint.drain_into(&mut sink), Ok(()));
+    same(rt, row, sink.bytes(), want);
+}
+
 /// Ends the test if the endpoint has another end, or writes other bytes; and if it takes more after an end.
 pub fn outcome(
     rt: &impl Abort,
@@ -165,15 +183,6 @@ pub fn outcome(
     more: &[u32],
 ) {
     same(rt, row, endpoint.endpoint().end(), end);
-    if let Some(end) = end {
-        same(rt, row, endpoint.feed(rt, &[0; 8]), Err(end));
-        same(rt, row, endpoint.feed_one(rt, &[0; 8]), Err(end));
-        same(
-            rt,
-            row,
-            (endpoint.endpoint().staged(), endpoint.endpoint().begun()),
-            (0, false),
-        );
-    }
-    writes(rt, alloc, row, endpoint, words, more);
+    let want = joined(rt, alloc, words, more);
+    rests(rt, alloc, row, endpoint, want.as_slice());
 }

@@ -24,7 +24,7 @@ mod owner;
 #[cfg(test)]
 mod reasons;
 #[cfg(test)]
-mod rights;
+mod rows;
 #[cfg(test)]
 mod segments;
 #[cfg(test)]

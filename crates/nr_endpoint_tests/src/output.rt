@@ -6,6 +6,7 @@ use crate::given::{
     SIDES, bytes_of, feed_runs, feed_words, greeted, joined, outcome, own_hello, peer_hello,
     read_done, writes,
 };
+use crate::rows::same_row;
 use crate::short_sink::ShortSink;
 use nr_endpoint::{DrainFault, ReadRefused};
 use nr_link::End;
@@ -141,110 +142,25 @@ fn eight(rt: HostRuntime) {
     }
 }
 
-/// The words that a side is fed after the hello, and its end.
-type Row = (&'static [u32], Option<End>);
-
 /// What comes of responses to a Read Request of five bytes, to byte 2 of region 1 of eight.
-static RESPONSES: [Row; 11] = [
-    // In one segment; in two; in two, the first of them without bytes.
-    (&[0x0013_c142, 1, 0, 2, 0x4845_4c4c, 0x4f00_0000, 0], None),
-    (
-        &[
-            0x0011_8142,
-            1,
-            0,
-            2,
-            0x4845_4c00,
-            0,
-            0x0010_c142,
-            1,
-            0,
-            5,
-            0x4c4f_0000,
-            0,
-        ],
-        None,
-    ),
-    (
-        &[
-            0x000e_8142,
-            1,
-            0,
-            2,
-            0,
-            0x0013_c142,
-            1,
-            0,
-            2,
-            0x4845_4c4c,
-            0x4f00_0000,
-            0,
-        ],
-        None,
-    ),
-    // Not at the next byte: one later, one earlier, and again.
-    (
-        &[0x0013_c142, 1, 0, 3, 0x4845_4c4c, 0x4f00_0000, 0],
-        Some(End::Bad { at: 20, reason: 14 }),
-    ),
-    (
-        &[0x0013_c142, 1, 0, 1, 0x4845_4c4c, 0x4f00_0000, 0],
-        Some(End::Bad { at: 20, reason: 14 }),
-    ),
-    (
-        &[
-            0x0011_8142,
-            1,
-            0,
-            2,
-            0x4845_4c00,
-            0,
-            0x0010_c142,
-            1,
-            0,
-            2,
-            0x4c4f_0000,
-            0,
-        ],
-        Some(End::Bad { at: 44, reason: 14 }),
-    ),
-    // Past its size, within the region.
-    (
-        &[0x0014_c142, 1, 0, 2, 0x4845_4c4c, 0x4f21_0000, 0],
-        Some(End::Bad { at: 20, reason: 14 }),
-    ),
-    // Not the last segment at its end, and the last one before.
-    (
-        &[0x0013_8142, 1, 0, 2, 0x4845_4c4c, 0x4f00_0000, 0],
-        Some(End::Bad { at: 20, reason: 14 }),
-    ),
-    (
-        &[0x0012_c142, 1, 0, 2, 0x4845_4c4c, 0],
-        Some(End::Bad { at: 20, reason: 14 }),
-    ),
-    (
-        &[0x000e_c142, 1, 0, 2, 0],
-        Some(End::Bad { at: 20, reason: 14 }),
-    ),
-    // Once more.
-    (
-        &[
-            0x0013_c142,
-            1,
-            0,
-            2,
-            0x4845_4c4c,
-            0x4f00_0000,
-            0,
-            0x000e_c142,
-            1,
-            0,
-            7,
-            0,
-        ],
-        Some(End::Bad { at: 48, reason: 14 }),
-    ),
-];
+static RESPONSES: &str = "\
+# In one segment; in two; in two, the first of them without bytes.\n\
+13c142 1 0 2 48454c4c 4f000000 0 | None\n\
+118142 1 0 2 48454c00 0 10c142 1 0 5 4c4f0000 0 | None\n\
+e8142 1 0 2 0 13c142 1 0 2 48454c4c 4f000000 0 | None\n\
+# Not at the next byte: one later, one earlier, and again.\n\
+13c142 1 0 3 48454c4c 4f000000 0 | Some(Bad { at: 20, reason: 14 }) | 164147 0 2 1 0 e 0\n\
+13c142 1 0 1 48454c4c 4f000000 0 | Some(Bad { at: 20, reason: 14 }) | 164147 0 2 1 0 e 0\n\
+118142 1 0 2 48454c00 0 10c142 1 0 2 4c4f0000 0 | Some(Bad { at: 44, reason: 14 }) | 164147 0 2 1 0 e 0\n\
+# Past its size, within the region.\n\
+14c142 1 0 2 48454c4c 4f210000 0 | Some(Bad { at: 20, reason: 14 }) | 164147 0 2 1 0 e 0\n\
+# Not the last segment at its end, and the last one before.\n\
+138142 1 0 2 48454c4c 4f000000 0 | Some(Bad { at: 20, reason: 14 }) | 164147 0 2 1 0 e 0\n\
+12c142 1 0 2 48454c4c 0 | Some(Bad { at: 20, reason: 14 }) | 164147 0 2 1 0 e 0\n\
+ec142 1 0 2 0 | Some(Bad { at: 20, reason: 14 }) | 164147 0 2 1 0 e 0\n\
+# Once more.\n\
+13c142 1 0 2 48454c4c 4f000000 0 ec142 1 0 7 0 | Some(Bad { at: 48, reason: 14 }) | 164147 0 2 1 0 e 0\n\
+";
 
 /// Ends the test if the Read Request isn't answered, or the region holds other bytes.
 fn holds_response(rt: &impl Abort, row: usize, endpoint: &mut TestEndpoint) {
@@ -254,26 +170,14 @@ fn holds_response(rt: &impl Abort, row: usize, endpoint: &mut TestEndpoint) {
 }
 
 /// Ends the test if a row comes to something else.
-fn response_row(
-    rt: &impl Abort,
-    alloc: Global,
-    row: usize,
-    side: Side,
-    words: &[u32],
-    end: Option<End>,
-) {
+fn response_row(rt: &impl Abort, alloc: Global, row: usize, side: Side, line: &str) {
     let mut endpoint = greeted(rt, alloc, side);
     endpoint.register(rt, alloc, b"12345678", Right::Sink);
     same(rt, row, endpoint.read_remote(rt, 2, 7, 16, 5), Ok(()));
     let request = [0x002e_4141, 0, 1, 1, 0, 1, 0, 2, 5, 7, 0, 16, 0];
     writes(rt, alloc, row, &mut endpoint, &request, &[]);
-    feed_words(rt, alloc, row, &mut endpoint, words, end);
-    let terminate: &[u32] = match end {
-        None => &[],
-        Some(_) => &[0x0016_4147, 0, 2, 1, 0, 14, 0],
-    };
-    outcome(rt, alloc, row, &mut endpoint, end, terminate, &[]);
-    if end.is_none() {
+    same_row(rt, alloc, row, &mut endpoint, (&[], &[]), line, 1000);
+    if endpoint.endpoint().end().is_none() {
         holds_response(rt, row, &mut endpoint);
     }
     drop(endpoint);
@@ -282,8 +186,10 @@ fn response_row(
 #[test]
 fn responses(rt: HostRuntime) {
     for side in &SIDES {
-        for (row, (words, end)) in RESPONSES.iter().enumerate() {
-            response_row(&rt, rt.alloc(), row, *side, words, *end);
+        for (row, line) in RESPONSES.lines().enumerate() {
+            if !line.starts_with('#') {
+                response_row(&rt, rt.alloc(), row, *side, line);
+            }
         }
     }
 }

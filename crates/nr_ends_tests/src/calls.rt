@@ -242,24 +242,39 @@ fn calls_are_answered(rt: HostRuntime) {
 /// A WRITE of 5 bytes into the file with handle 2 (RFC 1813 section 3.3.7).
 static WRITE: [u32; 10] = [8, 0, 2, 0, 0, 5, 2, 5, 0x68656c6c, 0x6f000000];
 
-/// The data of a WRITE goes by a read chunk: while it is read the server keeps no room for the payload but the buffer of the sink.
-fn read_in_place(rt: &impl Abort, alloc: Global, link: &mut TestLink) {
-    let reply = reply(rt, alloc, 1, &[70]);
-    let ticket = link.submit(rt, call(rt, alloc, 7, &WRITE), Form::Chunk);
+/// A WRITE of which something is read: while it is, the server keeps this much for its payload.
+fn read_first(
+    rt: &impl Abort,
+    alloc: Global,
+    link: &mut TestLink,
+    xid: u32,
+    form: Form,
+    kept: u128,
+) {
+    let reply = reply(rt, alloc, xid, &[70]);
+    let ticket = link.submit(rt, call(rt, alloc, 7, &WRITE), form);
     link.up(rt, alloc, 65536);
-    // The staging buffer, the receives, a buffer for the stream of 72 bytes, the data and a pad, and a Read Request.
+    // Beside the staging buffer, the receives and a Read Request; and an item in the lists of calls, of Read Requests and of sinks.
     let [_, server] = link.held();
-    same(rt, 0, server, 65544 + 16 * 1024 + 80 + 52);
+    same(
+        rt,
+        xid as usize,
+        server,
+        65544 + 16 * 1024 + 52 + (184 + 40 + 32) + kept,
+    );
     link.down(rt, alloc, 65536);
     let answer = (reply.as_slice(), Sent::Inline);
-    call_served(rt, alloc, link, 65536, (1, 7, &WRITE), answer);
+    call_served(rt, alloc, link, 65536, (xid, 7, &WRITE), answer);
     is_answered(rt, 1, link.take(ticket), reply.as_slice(), Sent::Inline);
 }
 
+/// The data of a WRITE goes by a read chunk, of which the server keeps a buffer for the stream of 72 bytes, the data and a pad. If all of the call goes
+/// by one, the server keeps its 80 bytes, and a room for these and a pad.
 #[test]
-fn a_write_is_read_in_place(rt: HostRuntime) {
+fn memory_follows_the_call(rt: HostRuntime) {
     let mut link = greeted(&rt, rt.alloc(), 16, 65536);
-    read_in_place(&rt, rt.alloc(), &mut link);
+    read_first(&rt, rt.alloc(), &mut link, 1, Form::Chunk, 80);
+    read_first(&rt, rt.alloc(), &mut link, 2, Form::Long, 80 + 83);
     link.close();
 }
 

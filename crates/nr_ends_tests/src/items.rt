@@ -4,9 +4,8 @@ use crate::compare::same;
 use crate::given::{MOUNT, NFS, Payload, call_of, payload_of, put_text, put_words};
 use nr_reduce::{
     Item, Mismatch, Of, PayloadBuffer, PayloadFault, call_item, cut, largest_reply, rebuild,
-    rebuild_in_place, rebuild_into, rebuild_undoes_cut, reducible_item, reply_item_of, reply_parts,
+    rebuild_into, rebuild_undoes_cut, reducible_item,
 };
-use nr_xdr::Octets;
 use std::alloc::Global;
 use std::process::Abort;
 
@@ -96,27 +95,12 @@ fn item_of_reply(call: [u32; 3], bytes: &[u8]) -> Option<Item> {
     reducible_item(&Of::Reply { prog, vers, proc }, bytes)
 }
 
-/// The item of a reply, by parts of which the head was read.
-fn item_of_read_reply(call: [u32; 3], bytes: &[u8]) -> Option<Item> {
-    let [prog, vers, proc] = call;
-    reply_item_of(prog, vers, proc, reply_parts(bytes)?)
-}
-
 #[test]
 fn items_of_replies(rt: HostRuntime) {
     for (row, (call, accepted, status, results, want)) in REPLIES.iter().enumerate() {
         let bytes = reply_of(&rt, rt.alloc(), *accepted, *status, results);
         same(&rt, row, item_of_reply(*call, &bytes), *want);
     }
-}
-
-// The first row of the table, and no reply.
-#[test]
-fn items_of_replies_with_their_heads(rt: HostRuntime) {
-    let bytes = reply_of(&rt, rt.alloc(), 0, 0, &[5, 1]);
-    let got = item_of_read_reply([NFS, 3, READ], &bytes);
-    same(&rt, 0, got, Some(Item { pos: 128, len: 5 }));
-    same(&rt, 1, item_of_read_reply([NFS, 3, READ], &[]), None);
 }
 
 /// WRITE of HELLO to file 2 at offset 0, before its data.
@@ -202,28 +186,6 @@ fn streams_are_rebuilt_in_room(rt: HostRuntime) {
         let got = is_hello_in_room(&rt, rt.alloc(), &stream, *pos, moved);
         same(&rt, row, got, *want);
     }
-}
-
-/// The same of the payload that is completed in a room in which the chunk's bytes stand at 72.
-fn is_hello_in_place(rt: &impl Abort, alloc: Global, stream: &[u8]) -> Result<bool, Mismatch> {
-    let whole = hello(rt, alloc, b"HELLO\0\0\0");
-    let mut room = Octets::from_vec(vec![in alloc; 0xff; 100].expect(rt, "memory"));
-    if stream.len() > 80 {
-        return Ok(false);
-    }
-    room.overwrite(72, b"HELLO");
-    let item = call_item(stream);
-    match rebuild_in_place(&mut room, &Of::Call, item, stream, 72, 5) {
-        Ok(len) => Ok(room.as_slice().get(..len) == Some(whole.as_slice())),
-        Err(why) => Err(why),
-    }
-}
-
-#[test]
-fn streams_are_rebuilt_in_place(rt: HostRuntime) {
-    let stream = hello(&rt, rt.alloc(), b"");
-    let got = is_hello_in_place(&rt, rt.alloc(), &stream);
-    same(&rt, 0, got, Ok(true));
 }
 
 #[test]

@@ -25,8 +25,6 @@ mod items;
 #[cfg(test)]
 mod link;
 #[cfg(test)]
-mod lists;
-#[cfg(test)]
 mod plans;
 #[cfg(test)]
 mod random;

@@ -9,7 +9,6 @@ use Rattle.nr_outside.specs.declared.moment.Moment.{Moment}
 use Rattle.nr_endpoint.specs.LinkState.{initial_link}
 use Rattle.nr_wire.specs.declared.hello.Side.TheVariants.{Responder}
 use Rattle.nr_link.specs.Agreement.{sized_terms}
-use Rattle.nr_reduce.specs.Opening.{ServerOpened}
 use Rattle.nr_reduce.specs.declared.mark.Mark.{Mark}
 use Rattle.nr_reduce.specs.declared.mark.LinkParameters.{LinkParameters}
 use Rattle.nr_reduce.specs.History.{bytes_received, bytes_sent}
@@ -17,9 +16,10 @@ use Rattle.nr_responder.specs.ResponderState.{ResponderSide, end_of, opened_side
 use Rattle.nr_responder.specs.Standing.{ResponderRepresents}
 use Rattle.nr_plain.specs.History.{Answered, PassView, Over}
 use Rattle.nr_plain.proofs.PassCalls.{over_none}
+use Rattle.nr_host.specs.declared.connection_limits.ConnectionLimits.{ConnectionLimits}
 use Rattle.nr_host.specs.declared.conn_end.ConnEnd.{ConnEnd}
 use Rattle.nr_host.specs.declared.conn_end.ConnEnd.TheVariants as ends
-use Rattle.nr_host.specs.Connections.{Terms, Outside, Runs, SinkState, GivesAll, answers_of, moments}
+use Rattle.nr_host.specs.Connections.{Outside, Runs, SinkState, GivesAll, answers_of, moments, IsOpenedWith}
 use Rattle.nr_links.specs.Limits.{read_max}
 use Rattle.nr_host.specs.Ending.{AheadAt, FailedAt, HasRead, IsCause, MoreAt, ReadAt}
 use Rattle.nr_host.specs.Steps.{AllQuiet, CarriesTo, EndsIdle, FeedEnds, FeedsTo, IsLive, IsServed, outside, sink_state}
@@ -27,44 +27,41 @@ use Rattle.nr_host.proofs.Idle.{facts}
 use Rattle.nr_host.proofs.Marks.{read_more}
 use Rattle.nr_host.proofs.Quiet.{quiet}
 
-module _ (credits low units : ℕ) (before : Outside) (left given left' given' : Option (List ℕ)) (sink : SinkState) (gave : Option (List Moment)) (view : PassView) (v : ResponderSide) (read : ℕ)
-    (piece : List ℕ) (carries : CarriesTo credits low units before (outside left given sink gave view) v read) (hands : HandsOut left given left' given' piece) where
-  abbrev terms : Terms
-  terms = record { credits = credits; low = low; units = units; read = read + length piece }
-
-  waits : (link : ℕ) (run : List Mark) → IsLive (record { credits = credits; low = low; units = units; read = read }) link before (outside left given sink gave view) [] run v
-      → IsLive terms link before (outside left' given' sink gave view) (piece ++ []) run v
+module _ (limits : ConnectionLimits) (before : Outside) (left given left' given' : Option (List ℕ)) (sink : SinkState) (gave : Option (List Moment)) (view : PassView) (v : ResponderSide) (read : ℕ)
+    (piece : List ℕ) (carries : CarriesTo limits before (outside left given sink gave view) v read) (hands : HandsOut left given left' given' piece) where
+  waits : (link : ℕ) (run : List Mark) → IsLive limits read link before (outside left given sink gave view) [] run v
+      → IsLive limits (read + length piece) link before (outside left' given' sink gave view) (piece ++ []) run v
   waits link run live = record {
-    runs = subst (λ (bytes : List ℕ). Runs terms link before (outside left' given' sink gave view) bytes [] run) (sym (append-nil piece))
-        (read_more (record { credits = credits; low = low; units = units; read = read }) link before left given left' given' sink gave view piece run live.runs hands);
+    runs = subst (λ (bytes : List ℕ). Runs limits (read + length piece) link before (outside left' given' sink gave view) bytes [] run) (sym (append-nil piece))
+        (read_more limits read link before left given left' given' sink gave view piece run live.runs hands);
     stands = live.stands;
   }
 
   -- a piece is read and fed
   pub carry_on : (sink' : SinkState) (gave' : Option (List Moment)) (view' : PassView) (v' : ResponderSide)
-      → FeedsTo piece [] sink sink' gave gave' view view' v v' → CarriesTo credits low units before (outside left' given' sink' gave' view') v' (read + length piece)
+      → FeedsTo piece [] sink sink' gave gave' view view' v v' → CarriesTo limits before (outside left' given' sink' gave' view') v' (read + length piece)
   carry_on sink' gave' view' v' feeds link =
       let (run, (live, quiet)) = carries link in
-      feeds terms link before left' given' [] run (waits link run live) quiet
+      feeds limits (read + length piece) link before left' given' [] run (waits link run live) quiet
 
   -- the connection ends within the piece
   pub carry_ends : (end : ConnEnd) (taken' : Option (List ℕ)) (faults' : ℕ) (failed : Bool) (gave' : Option (List Moment)) (view' : PassView)
       → HasRead (read + length piece) → FeedEnds end piece sink (sink_state taken' faults' failed) gave gave' view view' v
-      → IsServed credits low units before (outside left' given' (sink_state taken' faults' false) gave' view') end
+      → IsServed limits before (outside left' given' (sink_state taken' faults' false) gave' view') end
   carry_ends end taken' faults' failed gave' view' most feeds link =
       let (run, (live, quiet)) = carries link in
-      (read + length piece, (failed, feeds terms link before left' given' run most (waits link run live) quiet))
+      (read + length piece, (failed, feeds limits (read + length piece) link before left' given' run most (waits link run live) quiet))
 
 pub has_read : (read : ℕ) → 0 < read → read ≤ read_max → HasRead read
 has_read read some most = (some, most)
 
 -- nothing more is read, and the connection ends
-pub carried : (credits low units : ℕ) (before now : Outside) (v : ResponderSide) (read : ℕ) (end : ConnEnd) → CarriesTo credits low units before now v read → AheadAt end [] → MoreAt end []
+pub carried : (limits : ConnectionLimits) (before now : Outside) (v : ResponderSide) (read : ℕ) (end : ConnEnd) → CarriesTo limits before now v read → AheadAt end [] → MoreAt end []
     → ReadAt end read → FailedAt end now.sink.failed
-    → ((opened : LinkParameters) (link : ℕ) (run : List Mark) → ResponderRepresents opened link run v → AllQuiet (record { credits = credits; low = low; units = units; read = read }) link run → ServerOpened opened credits low (sized_terms units)
+    → ((opened : LinkParameters) (link : ℕ) (run : List Mark) → ResponderRepresents opened link run v → AllQuiet limits link run → IsOpenedWith limits opened
     → length (bytes_received link Responder run) ≡ read → IsCause opened link run now.left end)
-    → IsServed credits low units before now end
-carried credits low units before now v read end carries ahead more most failed cause link =
+    → IsServed limits before now end
+carried limits before now v read end carries ahead more most failed cause link =
     let (run, (live, quiet)) = carries link in
     let count = live.runs.count in (
       read,
@@ -84,43 +81,43 @@ carried credits low units before now v read end carries ahead more most failed c
       ),
     )
 
-pub served_same : (credits low units : ℕ) (before before' after after' : Outside) (end : ConnEnd) → before ≡ before' → after ≡ after' → IsServed credits low units before after end → IsServed credits low units before' after' end
-served_same credits low units before before' after after' end same same' served =
-    subst (λ (o : Outside). IsServed credits low units o after' end) same (subst (λ (o : Outside). IsServed credits low units before o end) same' served)
+pub served_same : (limits : ConnectionLimits) (before before' after after' : Outside) (end : ConnEnd) → before ≡ before' → after ≡ after' → IsServed limits before after end → IsServed limits before' after' end
+served_same limits before before' after after' end same same' served =
+    subst (λ (o : Outside). IsServed limits o after' end) same (subst (λ (o : Outside). IsServed limits before o end) same' served)
 
 -- a read that handed out nothing
-pub nothing_read : (credits low units : ℕ) (before : Outside) (left given left' given' : Option (List ℕ)) (sink : SinkState) (gave : Option (List Moment)) (view : PassView) (v : ResponderSide) (read : ℕ)
-    → CarriesTo credits low units before (outside left given sink gave view) v read → HandsOut left given left' given' [] → CarriesTo credits low units before (outside left' given' sink gave view) v (read + 0)
-nothing_read credits low units before left given left' given' sink gave view v read carries hands link =
+pub nothing_read : (limits : ConnectionLimits) (before : Outside) (left given left' given' : Option (List ℕ)) (sink : SinkState) (gave : Option (List Moment)) (view : PassView) (v : ResponderSide) (read : ℕ)
+    → CarriesTo limits before (outside left given sink gave view) v read → HandsOut left given left' given' [] → CarriesTo limits before (outside left' given' sink gave view) v (read + 0)
+nothing_read limits before left given left' given' sink gave view v read carries hands link =
     let (run, (live, quiet)) = carries link in
-    (run, (waits credits low units before left given left' given' sink gave view v read [] carries hands link run live, quiet))
+    (run, (waits limits before left given left' given' sink gave view v read [] carries hands link run live, quiet))
 
 -- the read failed
-pub read_fails : (credits low units : ℕ) (before now : Outside) (v : ResponderSide) (read : ℕ) → CarriesTo credits low units before now v read → end_of v ≡ None → read < read_max → now.sink.failed ≡ false
-    → IsServed credits low units before now ends.LinkRead
-read_fails credits low units before now v read carries live less failed =
-    carried credits low units before now v read ends.LinkRead carries refl refl less failed
+pub read_fails : (limits : ConnectionLimits) (before now : Outside) (v : ResponderSide) (read : ℕ) → CarriesTo limits before now v read → end_of v ≡ None → read < read_max → now.sink.failed ≡ false
+    → IsServed limits before now ends.LinkRead
+read_fails limits before now v read carries live less failed =
+    carried limits before now v read ends.LinkRead carries refl refl less failed
     (λ opened link run stands quiet granted count. (facts opened link run v stands live (quiet opened granted)).idle)
 
 -- the client ended its stream
-pub read_ends : (credits low units : ℕ) (before now : Outside) (v : ResponderSide) (read : ℕ) (end : ConnEnd) → CarriesTo credits low units before now v (read + 0) → IsAtEnd now.left → EndsIdle end read v
-    → AheadAt end [] → MoreAt end [] → ReadAt end (read + 0) → FailedAt end now.sink.failed → IsServed credits low units before now end
-read_ends credits low units before now v read end carries ended idle ahead more most failed =
-    carried credits low units before now v (read + 0) end carries ahead more most failed
+pub read_ends : (limits : ConnectionLimits) (before now : Outside) (v : ResponderSide) (read : ℕ) (end : ConnEnd) → CarriesTo limits before now v (read + 0) → IsAtEnd now.left → EndsIdle end read v
+    → AheadAt end [] → MoreAt end [] → ReadAt end (read + 0) → FailedAt end now.sink.failed → IsServed limits before now end
+read_ends limits before now v read end carries ended idle ahead more most failed =
+    carried limits before now v (read + 0) end carries ahead more most failed
     (λ opened link run stands quiet granted count. idle opened link run now.left stands (quiet opened granted) ended (omega (arith, count)))
 
 -- the maximum number of bytes was read
-pub read_enough : (credits low units : ℕ) (before now : Outside) (v : ResponderSide) (read : ℕ) → CarriesTo credits low units before now v read → end_of v ≡ None → read ≡ read_max → now.sink.failed ≡ false
-    → IsServed credits low units before now (ends.Budget read)
-read_enough credits low units before now v read carries live most failed =
-    carried credits low units before now v read (ends.Budget read) carries refl refl most failed
+pub read_enough : (limits : ConnectionLimits) (before now : Outside) (v : ResponderSide) (read : ℕ) → CarriesTo limits before now v read → end_of v ≡ None → read ≡ read_max → now.sink.failed ≡ false
+    → IsServed limits before now (ends.Budget read)
+read_enough limits before now v read carries live most failed =
+    carried limits before now v read (ends.Budget read) carries refl refl most failed
     (λ opened link run stands quiet granted count. ((facts opened link run v stands live (quiet opened granted)).idle, (most, count ∙ most)))
 
 -- a write failed while the piece was fed
-pub write_failed : (credits low units : ℕ) (before now : Outside) (v : ResponderSide) (read : ℕ) → CarriesTo credits low units before now v read → HasRead read → now.sink.failed ≡ true
-    → IsServed credits low units before now ends.LinkWrite
-write_failed credits low units before now v read carries most failed =
-    carried credits low units before now v read ends.LinkWrite carries refl refl most failed (λ opened link run stands quiet granted count. quiet opened granted)
+pub write_failed : (limits : ConnectionLimits) (before now : Outside) (v : ResponderSide) (read : ℕ) → CarriesTo limits before now v read → HasRead read → now.sink.failed ≡ true
+    → IsServed limits before now ends.LinkWrite
+write_failed limits before now v read carries most failed =
+    carried limits before now v read ends.LinkWrite carries refl refl most failed (λ opened link run stands quiet granted count. quiet opened granted)
 
 -- ---- Before the first read
 
@@ -149,33 +146,34 @@ module _ (left given taken : Option (List ℕ)) (faults : ℕ) (gave : Option (L
   abbrev first : Outside
   first = first_outside left given taken faults gave view
 
-  begins : (credits low units link : ℕ) → Runs (record { credits = credits; low = low; units = units; read = 0 }) link first first [] [] []
-  begins credits low units link = record {
+  begins : (limits : ConnectionLimits) (link : ℕ) → Runs limits 0 link first first [] [] []
+  begins limits link = record {
     own = tt;
     handed = subst (λ (bytes : List ℕ). HandsOut left given left given (bytes ++ [])) (sym (received_none link)) (HandsOut_nil left given);
     taken = (refl, subst (Appends taken taken) (sym (sent_none link)) (Appends-nil taken));
     served = λ opened granted. tt;
     quiet = λ opened granted. tt;
+    writes = λ opened granted. tt;
     frames = λ opened granted. tt;
     over = subst (λ (calls : List Answered). Over view calls view) (sym answers_none) (over_none view);
     gave = gives_none gave;
     count = ap (λ (bytes : List ℕ). length bytes + 0) (received_none link);
   }
 
-  pub opened : (credits low units : ℕ) (v : ResponderSide) → v ≡ opened_side credits low (sized_terms units) → end_of v ≡ None
-      → ((opened : LinkParameters) (link : ℕ) → ServerOpened opened credits low (sized_terms units) → ResponderRepresents opened link [] v) → CarriesTo credits low units first first v 0
+  pub opened : (limits : ConnectionLimits) (v : ResponderSide) → v ≡ opened_side limits.credits limits.low (sized_terms limits.units) → end_of v ≡ None
+      → ((opened : LinkParameters) (link : ℕ) → IsOpenedWith limits opened → ResponderRepresents opened link [] v) → CarriesTo limits first first v 0
   unfolding initial_link
-  opened credits low units v is live stands link = (
+  opened limits v is live stands link = (
     [],
     (
-      record { runs = begins credits low units link; stands = λ o granted. stands o link granted },
+      record { runs = begins limits link; stands = λ o granted. stands o link granted },
       λ o granted. quiet o link [] v (stands o link granted) live (ap queue is) (ap (λ (w : ResponderSide). w.ready) is),
     ),
   )
 
   -- there was no memory for it
-  pub unopened : (credits low units : ℕ) → IsServed credits low units first first ends.Memory
-  unopened credits low units link = (
+  pub unopened : (limits : ConnectionLimits) → IsServed limits first first ends.Memory
+  unopened limits link = (
     0,
     (
       false,
@@ -183,7 +181,7 @@ module _ (left given taken : Option (List ℕ)) (faults : ℕ) (gave : Option (L
         run = [];
         ahead = [];
         more = [];
-        runs = begins credits low units link;
+        runs = begins limits link;
         ahead_is = tt;
         more_is = (let none : 0 ≤ 1 = omega arith in none);
         read_is = (let none : 0 ≤ read_max = omega arith in none);

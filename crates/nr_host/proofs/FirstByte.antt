@@ -18,6 +18,7 @@ use Rattle.nr_host.specs.Connections.{Outside, SinkState, answers_of}
 use Rattle.nr_host.specs.Ending.{Ended}
 use Rattle.nr_host.specs.LinkServing.{IsHeld, IsKindFor, IsKindOf, IsLinkServed, ServesByByte, ServesLinkBy}
 use Rattle.nr_host.specs.Steps.{CarriesTo, IsServed, outside, sink_state, with_failed}
+use Rattle.nr_host.specs.declared.connection_limits.ConnectionLimits.{ConnectionLimits}
 use Rattle.nr_host.specs.declared.conn_end.ConnEnd.{ConnEnd}
 use Rattle.nr_host.specs.declared.conn_end.ConnEnd.TheVariants as ends
 use Rattle.nr_host.specs.declared.link_end.LinkEnd.{LinkEnd}
@@ -88,17 +89,17 @@ still_held (Some b) byte left given left' given' left'' given'' h same =
 
 -- It was served as a source of which a byte was looked at: the byte, and the source that was given back, stand in place
 -- of what held them.
-pub served_looked : {S : Type 0} (left given : S → Option (List ℕ)) (credits low units byte : ℕ) (inner source inner' source' : S) (held held' : Option ℕ) (sink sink' : SinkState) (gave gave' : Option (List Moment)) (view view' : PassView)
+pub served_looked : {S : Type 0} (left given : S → Option (List ℕ)) (limits : ConnectionLimits) (byte : ℕ) (inner source inner' source' : S) (held held' : Option ℕ) (sink sink' : SinkState) (gave gave' : Option (List Moment)) (view view' : PassView)
     (end : LinkEnd) → inner ≡ source → held ≡ Some byte → source' ≡ inner'
-    → ServesByByte credits low units byte (outside (left_with held (left inner)) (given_without held (given inner)) sink gave view) (outside (left_with held' (left inner')) (given_without held' (given inner')) sink' gave' view') end
-    → ServesByByte credits low units byte (outside (left_with (Some byte) (left source)) (given_without (Some byte) (given source)) sink gave view)
+    → ServesByByte limits byte (outside (left_with held (left inner)) (given_without held (given inner)) sink gave view) (outside (left_with held' (left inner')) (given_without held' (given inner')) sink' gave' view') end
+    → ServesByByte limits byte (outside (left_with (Some byte) (left source)) (given_without (Some byte) (given source)) sink gave view)
     (outside (left_with held' (left source')) (given_without held' (given source')) sink' gave' view') end
-served_looked {S} left given credits low units byte inner source inner' source' held held' sink sink' gave gave' view view' end same is back served =
-    subst (λ (s : S). ServesByByte credits low units byte (outside (left_with (Some byte) (left s)) (given_without (Some byte) (given s)) sink gave view)
+served_looked {S} left given limits byte inner source inner' source' held held' sink sink' gave gave' view view' end same is back served =
+    subst (λ (s : S). ServesByByte limits byte (outside (left_with (Some byte) (left s)) (given_without (Some byte) (given s)) sink gave view)
     (outside (left_with held' (left source')) (given_without held' (given source')) sink' gave' view') end) same
-    (subst (λ (h : Option ℕ). ServesByByte credits low units byte (outside (left_with h (left inner)) (given_without h (given inner)) sink gave view)
+    (subst (λ (h : Option ℕ). ServesByByte limits byte (outside (left_with h (left inner)) (given_without h (given inner)) sink gave view)
     (outside (left_with held' (left source')) (given_without held' (given source')) sink' gave' view') end) is
-    (subst (λ (s : S). ServesByByte credits low units byte (outside (left_with held (left inner)) (given_without held (given inner)) sink gave view)
+    (subst (λ (s : S). ServesByByte limits byte (outside (left_with held (left inner)) (given_without held (given inner)) sink gave view)
     (outside (left_with held' (left s)) (given_without held' (given s)) sink' gave' view') end) (sym back) served))
 
 -- no byte was held before the look
@@ -120,32 +121,32 @@ looked {S} left given source source' p p' new same kept told = (
 
 -- ---- nothing was read
 
-module _ (credits low units : ℕ) (left given left' given' taken : Option (List ℕ)) (faults : ℕ) (gave : Option (List Moment)) (view : PassView) (kept : Keeps left left') (told : Keeps given given') where
-  lives : end_of (opened_side credits low (sized_terms units)) ≡ None
-  lives = opened_lives (initial_link Responder credits 1 (sized_terms units)) credits (sized_terms units) refl
+module _ (limits : ConnectionLimits) (left given left' given' taken : Option (List ℕ)) (faults : ℕ) (gave : Option (List Moment)) (view : PassView) (kept : Keeps left left') (told : Keeps given given') where
+  lives : end_of (opened_side limits.credits limits.low (sized_terms limits.units)) ≡ None
+  lives = opened_lives (initial_link Responder limits.credits 1 (sized_terms limits.units)) limits.credits (sized_terms limits.units) refl
 
   now : Outside
   now = first_outside left' given' taken faults gave view
 
-  begun : CarriesTo credits low units (first_outside left given taken faults gave view) (first_outside left' given' taken faults gave view) (opened_side credits low (sized_terms units)) (0 + 0)
+  begun : CarriesTo limits (first_outside left given taken faults gave view) (first_outside left' given' taken faults gave view) (opened_side limits.credits limits.low (sized_terms limits.units)) (0 + 0)
   begun =
-      nothing_read credits low units (first_outside left given taken faults gave view) left given left' given' (sink_state taken faults false) gave view (opened_side credits low (sized_terms units)) 0
-      (opened left given taken faults gave view credits low units (opened_side credits low (sized_terms units)) refl lives (λ o link same. opened_stands_lem o link credits low (sized_terms units) (initial_link Responder credits 1 (sized_terms units)) same refl))
+      nothing_read limits (first_outside left given taken faults gave view) left given left' given' (sink_state taken faults false) gave view (opened_side limits.credits limits.low (sized_terms limits.units)) 0
+      (opened left given taken faults gave view limits (opened_side limits.credits limits.low (sized_terms limits.units)) refl lives (λ o link same. opened_stands_lem o link limits.credits limits.low (sized_terms limits.units) (initial_link Responder limits.credits 1 (sized_terms limits.units)) same refl))
       (hands_none left given left' given' kept told)
 
   less : 0 + 0 < read_max
   less = omega arith
 
   -- the read failed
-  pub fails_at_once : IsServed credits low units (first_outside left given taken faults gave view) (first_outside left' given' taken faults gave view) ends.LinkRead
-  fails_at_once = read_fails credits low units (first_outside left given taken faults gave view) (first_outside left' given' taken faults gave view) (opened_side credits low (sized_terms units)) (0 + 0) begun lives less refl
+  pub fails_at_once : IsServed limits (first_outside left given taken faults gave view) (first_outside left' given' taken faults gave view) ends.LinkRead
+  fails_at_once = read_fails limits (first_outside left given taken faults gave view) (first_outside left' given' taken faults gave view) (opened_side limits.credits limits.low (sized_terms limits.units)) (0 + 0) begun lives less refl
 
   -- the client ended its stream
-  pub closes_at_once : IsAtEnd left' → IsServed credits low units (first_outside left given taken faults gave view) (first_outside left' given' taken faults gave view) ends.Closed
+  pub closes_at_once : IsAtEnd left' → IsServed limits (first_outside left given taken faults gave view) (first_outside left' given' taken faults gave view) ends.Closed
   unfolding initial_link
   closes_at_once over =
-      read_ends credits low units (first_outside left given taken faults gave view) (first_outside left' given' taken faults gave view) (opened_side credits low (sized_terms units)) 0 ends.Closed begun over
-      (ends_closed 0 (opened_side credits low (sized_terms units)) lives refl refl) refl refl less refl
+      read_ends limits (first_outside left given taken faults gave view) (first_outside left' given' taken faults gave view) (opened_side limits.credits limits.low (sized_terms limits.units)) 0 ends.Closed begun over
+      (ends_closed 0 (opened_side limits.credits limits.low (sized_terms limits.units)) lives refl refl) refl refl less refl
 
 -- the first read failed, or handed out nothing
 pub kind_failed : (left left' : Option (List ℕ)) → Keeps left left' → IsKindFor left left' (link_ends.Rdma ends.LinkRead)
@@ -161,9 +162,9 @@ kind_closed (Some (x ∷ xs)) left' kept over = inr (kept, over)
 -- ---- it was served after the look
 
 module _ (left given left' given' : Option (List ℕ)) (sink : SinkState) (gave : Option (List Moment)) (view : PassView) (kept : Keeps left left') (told : Keeps given given') where
-  ended_on : (credits low units read link : ℕ) (after : Outside) (end : ConnEnd) → Ended (record { credits = credits; low = low; units = units; read = read }) link (outside left' given' sink gave view) after end
-      → Ended (record { credits = credits; low = low; units = units; read = read }) link (outside left given sink gave view) after end
-  ended_on credits low units read link after end e = record {
+  ended_on : (limits : ConnectionLimits) (read link : ℕ) (after : Outside) (end : ConnEnd) → Ended limits read link (outside left' given' sink gave view) after end
+      → Ended limits read link (outside left given sink gave view) after end
+  ended_on limits read link after end e = record {
     run = e.run;
     ahead = e.ahead;
     more = e.more;
@@ -173,6 +174,7 @@ module _ (left given left' given' : Option (List ℕ)) (sink : SinkState) (gave 
       taken = e.runs.taken;
       served = e.runs.served;
       quiet = e.runs.quiet;
+      writes = e.runs.writes;
       frames = e.runs.frames;
       over = e.runs.over;
       gave = e.runs.gave;
@@ -185,8 +187,8 @@ module _ (left given left' given' : Option (List ℕ)) (sink : SinkState) (gave 
     cause = e.cause;
   }
 
-  served_on : (credits low units : ℕ) (after : Outside) (end : ConnEnd) → IsServed credits low units (outside left' given' sink gave view) after end → IsServed credits low units (outside left given sink gave view) after end
-  served_on credits low units after end s link = let (read, (failed, e)) = s link in (read, (failed, ended_on credits low units read link (with_failed failed after) end e))
+  served_on : (limits : ConnectionLimits) (after : Outside) (end : ConnEnd) → IsServed limits (outside left' given' sink gave view) after end → IsServed limits (outside left given sink gave view) after end
+  served_on limits after end s link = let (read, (failed, e)) = s link in (read, (failed, ended_on limits read link (with_failed failed after) end e))
 
   records_on : (after : Around) (end : RecordEnd) → IsRecordsServed (around left' given' sink.taken gave view) after end → IsRecordsServed (around left given sink.taken gave view) after end
   records_on after end s = record {
@@ -214,9 +216,9 @@ module _ (left given left' given' : Option (List ℕ)) (sink : SinkState) (gave 
     cause = s.cause;
   }
 
-  pub link_on : (credits low units : ℕ) (after : Outside) (end : LinkEnd) → ServesLinkBy credits low units (outside left' given' sink gave view) after end → ServesLinkBy credits low units (outside left given sink gave view) after end
-  link_on credits low units after (link_ends.Rdma end) s = served_on credits low units after end s
-  link_on credits low units after (link_ends.Record end) s = records_on (around after.left after.given after.sink.taken after.gave after.view) end s
+  pub link_on : (limits : ConnectionLimits) (after : Outside) (end : LinkEnd) → ServesLinkBy limits (outside left' given' sink gave view) after end → ServesLinkBy limits (outside left given sink gave view) after end
+  link_on limits after (link_ends.Rdma end) s = served_on limits after end s
+  link_on limits after (link_ends.Record end) s = records_on (around after.left after.given after.sink.taken after.gave after.view) end s
 
 -- the byte that was looked at is the first that was still to come
 pub kind_is : (byte : ℕ) (held : Option ℕ) (left inner after : Option (List ℕ)) (end : LinkEnd) → held ≡ Some byte → Keeps left (left_with held inner) → IsKindOf byte end → IsKindFor left after end
@@ -236,16 +238,16 @@ kind_is byte held left inner after end is kept kind = by_left left inner (subst 
 
 -- ---- what its pass did
 
-pub over_link : (credits low units : ℕ) (records : Bool) (before after : Outside) (end : LinkEnd) → IsLinkServed credits low units records before after end
+pub over_link : (limits : ConnectionLimits) (records : Bool) (before after : Outside) (end : LinkEnd) → IsLinkServed limits records before after end
     → (calls : List Answered) × Over before.view calls after.view
-over_link credits low units false before after (link_ends.Rdma end) s = let (read, (failed, e)) = s 0 in (answers_of e.run, e.runs.over)
-over_link credits low units false before after (link_ends.Record end) s = absurd s
-over_link credits low units true before after (link_ends.Rdma end) s = let (read, (failed, e)) = s.serves 0 in (answers_of e.run, e.runs.over)
-over_link credits low units true before after (link_ends.Record end) s = (s.serves.exchanges, s.serves.serves.over)
+over_link limits false before after (link_ends.Rdma end) s = let (read, (failed, e)) = s 0 in (answers_of e.run, e.runs.over)
+over_link limits false before after (link_ends.Record end) s = absurd s
+over_link limits true before after (link_ends.Rdma end) s = let (read, (failed, e)) = s.serves 0 in (answers_of e.run, e.runs.over)
+over_link limits true before after (link_ends.Record end) s = (s.serves.exchanges, s.serves.serves.over)
 
 -- ---- the same, seen from outside
 
-pub link_same : (credits low units : ℕ) (records : Bool) (before before' after after' : Outside) (end : LinkEnd) → before ≡ before' → after ≡ after' → IsLinkServed credits low units records before after end
-    → IsLinkServed credits low units records before' after' end
-link_same credits low units records before before' after after' end same same' served =
-    subst (λ (o : Outside). IsLinkServed credits low units records o after' end) same (subst (λ (o : Outside). IsLinkServed credits low units records before o end) same' served)
+pub link_same : (limits : ConnectionLimits) (records : Bool) (before before' after after' : Outside) (end : LinkEnd) → before ≡ before' → after ≡ after' → IsLinkServed limits records before after end
+    → IsLinkServed limits records before' after' end
+link_same limits records before before' after after' end same same' served =
+    subst (λ (o : Outside). IsLinkServed limits records o after' end) same (subst (λ (o : Outside). IsLinkServed limits records before o end) same' served)

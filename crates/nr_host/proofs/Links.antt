@@ -4,13 +4,14 @@ use Rattle.nr_outside.specs.Faults.{Rises}
 use Rattle.nr_turnstile.specs.declared.plays.View.{View}
 use Rattle.nr_plain.specs.History.{PassView}
 use Rattle.nr_plain.specs.declared.history_entry.HistoryEntry.{HistoryEntry}
+use Rattle.nr_host.specs.declared.connection_limits.ConnectionLimits.{ConnectionLimits}
 use Rattle.nr_host.specs.declared.link_end.LinkEnd.{LinkEnd}
 use Rattle.nr_host.specs.Serving.{BackCount, Between, HandsBack, Serves, ServesAll, ServesLink, StartsLink, TakesLink, TakesOne, end_of_link, ends_of}
 
-takes_more : (credits low units : ℕ) (records : Bool) (before mid after : Between) (links : List (Option LinkEnd)) (link : Option LinkEnd) → ServesAll credits low units records before links mid → TakesLink credits low units records mid link after
-    → ServesAll credits low units records before (links ++ link ∷ []) after
-takes_more credits low units records before mid after [] link none one = (after, (subst (λ (b : Between). TakesLink credits low units records b link after) none one, refl))
-takes_more credits low units records before mid after (first ∷ links) link (next, (took, rest)) one = (next, (took, takes_more credits low units records next mid after links link rest one))
+takes_more : (limits : ConnectionLimits) (records : Bool) (before mid after : Between) (links : List (Option LinkEnd)) (link : Option LinkEnd) → ServesAll limits records before links mid → TakesLink limits records mid link after
+    → ServesAll limits records before (links ++ link ∷ []) after
+takes_more limits records before mid after [] link none one = (after, (subst (λ (b : Between). TakesLink limits records b link after) none one, refl))
+takes_more limits records before mid after (first ∷ links) link (next, (took, rest)) one = (next, (took, takes_more limits records next mid after links link rest one))
 
 ends_more : (links : List (Option LinkEnd)) (link : Option LinkEnd) → ends_of (links ++ link ∷ []) ≡ ends_of links ++ end_of_link link
 ends_more [] link = append-nil (end_of_link link)
@@ -18,17 +19,17 @@ ends_more (first ∷ links) link =
     ap (λ (l : List LinkEnd). end_of_link first ++ l) (ends_more links link) ∙ sym (append_assoc (end_of_link first) (ends_of links) (end_of_link link))
 
 -- one link more
-pub serves_more : (credits low units : ℕ) (records : Bool) (before mid after : Between) (ends ends' : List LinkEnd) → Serves credits low units records before ends mid → TakesOne credits low units records mid ends ends' after
-    → Serves credits low units records before ends' after
-serves_more credits low units records before mid after ends ends' s t = record {
+pub serves_more : (limits : ConnectionLimits) (records : Bool) (before mid after : Between) (ends ends' : List LinkEnd) → Serves limits records before ends mid → TakesOne limits records mid ends ends' after
+    → Serves limits records before ends' after
+serves_more limits records before mid after ends ends' s t = record {
   links = s.links ++ t.link ∷ [];
   ends_are = ends_more s.links t.link ∙ ap (λ (l : List LinkEnd). l ++ end_of_link t.link) s.ends_are ∙ sym t.ends_are;
-  all = takes_more credits low units records before mid after s.links t.link s.all t.takes;
+  all = takes_more limits records before mid after s.links t.link s.all t.takes;
 }
 
 -- no link yet
-pub serves_none : (credits low units : ℕ) (records : Bool) (before : Between) (ends : List LinkEnd) → ends ≡ [] → Serves credits low units records before ends before
-serves_none credits low units records before ends none = record { links = []; ends_are = sym none; all = refl }
+pub serves_none : (limits : ConnectionLimits) (records : Bool) (before : Between) (ends : List LinkEnd) → ends ≡ [] → Serves limits records before ends before
+serves_none limits records before ends none = record { links = []; ends_are = sym none; all = refl }
 
 pub rises_on : (first old new : ℕ) → first ≤ old → Rises old new → Rises first new
 rises_on first old new low (inl more) = inl (omega (arith, low, more))
@@ -47,26 +48,26 @@ view_of_pass v = record { seen = v.seen; mine = v.mine }
 
 -- ===== one link
 
-pub started_by : (credits low units : ℕ) (records : Bool) (before after : Between) (link : Option LinkEnd) → link ≡ None → TakesLink credits low units records before link after → StartsLink before after
-started_by credits low units records before after link none takes = subst (λ (l : Option LinkEnd). TakesLink credits low units records before l after) none takes
+pub started_by : (limits : ConnectionLimits) (records : Bool) (before after : Between) (link : Option LinkEnd) → link ≡ None → TakesLink limits records before link after → StartsLink before after
+started_by limits records before after link none takes = subst (λ (l : Option LinkEnd). TakesLink limits records before l after) none takes
 
-pub served_by : (credits low units : ℕ) (records : Bool) (before after : Between) (link : Option LinkEnd) (end : LinkEnd) → link ≡ Some end → TakesLink credits low units records before link after → ServesLink credits low units records before after end
-served_by credits low units records before after link end is takes = subst (λ (l : Option LinkEnd). TakesLink credits low units records before l after) is takes
+pub served_by : (limits : ConnectionLimits) (records : Bool) (before after : Between) (link : Option LinkEnd) (end : LinkEnd) → link ≡ Some end → TakesLink limits records before link after → ServesLink limits records before after end
+served_by limits records before after link end is takes = subst (λ (l : Option LinkEnd). TakesLink limits records before l after) is takes
 
-pub takes_started : (credits low units : ℕ) (records : Bool) (before after : Between) (link : Option LinkEnd) (ends ends' : List LinkEnd) → link ≡ None → ends' ≡ ends → TakesLink credits low units records before link after
-    → TakesOne credits low units records before ends ends' after
-takes_started credits low units records before after link ends ends' none same takes = record {
+pub takes_started : (limits : ConnectionLimits) (records : Bool) (before after : Between) (link : Option LinkEnd) (ends ends' : List LinkEnd) → link ≡ None → ends' ≡ ends → TakesLink limits records before link after
+    → TakesOne limits records before ends ends' after
+takes_started limits records before after link ends ends' none same takes = record {
   link = None;
   ends_are = same ∙ sym (append-nil ends);
-  takes = started_by credits low units records before after link none takes;
+  takes = started_by limits records before after link none takes;
 }
 
-pub takes_served : (credits low units : ℕ) (records : Bool) (before after : Between) (link : Option LinkEnd) (end : LinkEnd) (ends ends' : List LinkEnd) → link ≡ Some end → ends' ≡ ends ++ end ∷ []
-    → TakesLink credits low units records before link after → TakesOne credits low units records before ends ends' after
-takes_served credits low units records before after link end ends ends' is items takes = record {
+pub takes_served : (limits : ConnectionLimits) (records : Bool) (before after : Between) (link : Option LinkEnd) (end : LinkEnd) (ends ends' : List LinkEnd) → link ≡ Some end → ends' ≡ ends ++ end ∷ []
+    → TakesLink limits records before link after → TakesOne limits records before ends ends' after
+takes_served limits records before after link end ends ends' is items takes = record {
   link = Some end;
   ends_are = items;
-  takes = served_by credits low units records before after link end is takes;
+  takes = served_by limits records before after link end is takes;
 }
 
 pub back_started : (link : Option LinkEnd) (ends ends' : List LinkEnd) (first old new : ℕ) → link ≡ None → ends' ≡ ends → HandsBack link old new → BackCount ends first old → BackCount ends' first new

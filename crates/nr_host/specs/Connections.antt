@@ -19,6 +19,11 @@ use Rattle.nr_reduce.specs.Matched.{IsPrefixOf}
 use Rattle.nr_reduce.specs.Run.{HasWritten, server}
 use Rattle.nr_reduce.specs.Served.{ServedSoFar, next_call}
 use Rattle.nr_plain.specs.History.{Answered, PassView, Over}
+use Rattle.nr_host.specs.declared.connection_limits.ConnectionLimits.{ConnectionLimits}
+
+-- a link's server was opened with these limits
+abbrev pub IsOpenedWith : ConnectionLimits → LinkParameters → Type 0
+IsOpenedWith limits opened = ServerOpened opened limits.credits limits.low (sized_terms limits.units)
 
 -- the moments at which calls were executed, in order
 abbrev pub moment_of : Mark → List Moment
@@ -52,6 +57,12 @@ pub record IsQuiet (opened : LinkParameters) (link : ℕ) (run : List Mark) : Ty
 abbrev pub QuietMark : LinkParameters → ℕ → List Mark → Mark → Type 0
 QuietMark opened link before (marks.Fed l side bytes) = IsQuiet opened link before
 QuietMark opened link before mark = ⊤
+
+-- Before each Wrote every call that became complete is executed: nothing is written between a piece and the calls that
+-- it completes.
+abbrev pub WriteMark : LinkParameters → ℕ → List Mark → Mark → Type 0
+WriteMark opened link before (marks.Wrote l side bytes) = next_call opened link before ≡ None
+WriteMark opened link before mark = ⊤
 
 -- These bytes after those complete no frame, or one frame, with which they end.
 abbrev pub EndsWithItsFrame : (before bytes : List ℕ) → Type 0
@@ -94,23 +105,16 @@ pub record Outside : Type 0 where
   pub gave : Option (List Moment)
   pub view : PassView
 
--- the credits that a connection grants, the most that it grants while more than half of its receives are in use, the
--- units of its Sends, and how many bytes were read of it
-pub record Terms : Type 0 where
-  pub credits : ℕ
-  pub low : ℕ
-  pub units : ℕ
-  pub read : ℕ
-
--- The connection made these marks, after it had read the bytes that they fed and `ahead`, and the clock had given the
--- moments of its calls and `more`.
-pub record Runs (terms : Terms) (link : ℕ) (before after : Outside) (ahead : List ℕ) (more : List Moment) (run : List Mark) : Type 0 where
+-- The connection made these marks, after it had read the bytes that they fed and `ahead`, in all `read`, and the clock
+-- had given the moments of its calls and `more`.
+pub record Runs (limits : ConnectionLimits) (read link : ℕ) (before after : Outside) (ahead : List ℕ) (more : List Moment) (run : List Mark) : Type 0 where
   pub own : AtEachMark (λ earlier mark. IsOwn link mark) [] run
   pub handed : HandsOut before.left before.given after.left after.given (bytes_received link Responder run ++ ahead)
   pub taken : Takes before.sink after.sink (bytes_sent link Responder run)
-  pub served : (opened : LinkParameters) → ServerOpened opened terms.credits terms.low (sized_terms terms.units) → ServedSoFar opened link run
-  pub quiet : (opened : LinkParameters) → ServerOpened opened terms.credits terms.low (sized_terms terms.units) → AtEachMark (QuietMark opened link) [] run
-  pub frames : (opened : LinkParameters) → ServerOpened opened terms.credits terms.low (sized_terms terms.units) → AtEachMark (FrameMark opened link) [] run
+  pub served : (opened : LinkParameters) → IsOpenedWith limits opened → ServedSoFar opened link run
+  pub quiet : (opened : LinkParameters) → IsOpenedWith limits opened → AtEachMark (QuietMark opened link) [] run
+  pub writes : (opened : LinkParameters) → IsOpenedWith limits opened → AtEachMark (WriteMark opened link) [] run
+  pub frames : (opened : LinkParameters) → IsOpenedWith limits opened → AtEachMark (FrameMark opened link) [] run
   pub over : Over before.view (answers_of run) after.view
   pub gave : GivesAll before.gave after.gave (moments run ++ more)
-  pub count : length (bytes_received link Responder run) + length ahead ≡ terms.read
+  pub count : length (bytes_received link Responder run) + length ahead ≡ read

@@ -8,6 +8,7 @@ use Rattle.nr_record_host.specs.RecordRuns as record_ends
 use Rattle.nr_host.specs.Connections.{Outside}
 use Rattle.nr_host.specs.Ending.{SinkCount, SourceCount}
 use Rattle.nr_host.specs.Steps.{IsServed}
+use Rattle.nr_host.specs.declared.connection_limits.ConnectionLimits.{ConnectionLimits}
 use Rattle.nr_host.specs.declared.conn_end.ConnEnd.TheVariants as ends
 use Rattle.nr_host.specs.declared.link_end.LinkEnd.{LinkEnd}
 use Rattle.nr_host.specs.declared.link_end.LinkEnd.TheVariants as link_ends
@@ -17,9 +18,9 @@ abbrev pub HELLO_BYTE : ℕ
 HELLO_BYTE = 77
 
 -- it was served by what it carried
-abbrev pub ServesLinkBy : (credits low units : ℕ) → (before after : Outside) → LinkEnd → Type 0
-ServesLinkBy credits low units before after (link_ends.Rdma end) = IsServed credits low units before after end
-ServesLinkBy credits low units before after (link_ends.Record end) =
+abbrev pub ServesLinkBy : (limits : ConnectionLimits) → (before after : Outside) → LinkEnd → Type 0
+ServesLinkBy limits before after (link_ends.Rdma end) = IsServed limits before after end
+ServesLinkBy limits before after (link_ends.Record end) =
     IsRecordsServed (around before.left before.given before.sink.taken before.gave before.view) (around after.left after.given after.sink.taken after.gave after.view) end
 
 -- what it carried, by its first byte
@@ -27,8 +28,8 @@ abbrev pub IsKindOf : ℕ → LinkEnd → Type 0
 IsKindOf byte (link_ends.Rdma end) = byte ≡ HELLO_BYTE
 IsKindOf byte (link_ends.Record end) = ¬ (byte ≡ HELLO_BYTE)
 
-abbrev pub ServesByByte : (credits low units byte : ℕ) → (before after : Outside) → LinkEnd → Type 0
-ServesByByte credits low units byte before after end = ServesLinkBy credits low units before after end × IsKindOf byte end
+abbrev pub ServesByByte : (limits : ConnectionLimits) (byte : ℕ) → (before after : Outside) → LinkEnd → Type 0
+ServesByByte limits byte before after end = ServesLinkBy limits before after end × IsKindOf byte end
 
 -- The first read failed, or handed out nothing: the link counts as RPC over RDMA. `left` and `left'` are the bytes
 -- still to come before and after.
@@ -54,20 +55,20 @@ IsHeld None left given left' given' = ⊤
 IsHeld (Some byte) left given left' given' = HandsOut left given left' given' (byte ∷ [])
 
 -- Its first byte was looked at, and it was served by that. `held` is that byte if the connection didn't read it.
-pub record LooksAndServes (credits low units : ℕ) (before after : Outside) (end : LinkEnd) : Type 0 where
+pub record LooksAndServes (limits : ConnectionLimits) (before after : Outside) (end : LinkEnd) : Type 0 where
   pub held : Option ℕ
   pub held_is : IsHeld held before.left before.given after.left after.given
-  pub serves : ServesLinkBy credits low units before (holding held after) end
+  pub serves : ServesLinkBy limits before (holding held after) end
   pub kind : IsKindFor before.left (left_with held after.left) end
 
 -- without record marks it carries RPC over RDMA
-abbrev pub IsRdmaServed : (credits low units : ℕ) → (before after : Outside) → LinkEnd → Type 0
-IsRdmaServed credits low units before after (link_ends.Rdma end) = IsServed credits low units before after end
-IsRdmaServed credits low units before after (link_ends.Record end) = ⊥
+abbrev pub IsRdmaServed : (limits : ConnectionLimits) → (before after : Outside) → LinkEnd → Type 0
+IsRdmaServed limits before after (link_ends.Rdma end) = IsServed limits before after end
+IsRdmaServed limits before after (link_ends.Record end) = ⊥
 
-abbrev pub IsLinkServed : (credits low units : ℕ) → (records : Bool) → (before after : Outside) → LinkEnd → Type 0
-IsLinkServed credits low units false before after end = IsRdmaServed credits low units before after end
-IsLinkServed credits low units true before after end = LooksAndServes credits low units before after end
+abbrev pub IsLinkServed : (limits : ConnectionLimits) → (records : Bool) → (before after : Outside) → LinkEnd → Type 0
+IsLinkServed limits false before after end = IsRdmaServed limits before after end
+IsLinkServed limits true before after end = LooksAndServes limits before after end
 
 -- the fault counts of the source and of the sink
 abbrev pub LinkSourceCount : LinkEnd → ℕ → ℕ → Type 0

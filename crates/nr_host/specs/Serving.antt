@@ -7,6 +7,7 @@ use Rattle.nr_turnstile.specs.Rule.{Begins, in_order, longer}
 use Rattle.nr_plain.specs.History.{PassView}
 use Rattle.nr_host.specs.LinkServing.{IsLinkServed, LinkSinkCount, LinkSourceCount}
 use Rattle.nr_host.specs.Steps.{outside, sink_state}
+use Rattle.nr_host.specs.declared.connection_limits.ConnectionLimits.{ConnectionLimits}
 use Rattle.nr_host.specs.declared.link_end.LinkEnd.{LinkEnd}
 use Rattle.nr_host.specs.declared.serving.ServeFault.{ServeFault}
 use Rattle.nr_host.specs.declared.serving.ServeFault.TheVariants as faults
@@ -43,7 +44,7 @@ pub record JoinsPass (view own view' : PassView) : Type 0 where
 
 -- A link was accepted, served to its end by a pass of its own, and hung up: its source, and the sink that has the same
 -- number. `opened` is the link as it was accepted, `closed` as it was hung up. Its clock had given nothing.
-pub record ServesLink (credits low units : ℕ) (records : Bool) (before after : Between) (end : LinkEnd) : Type 0 where
+pub record ServesLink (limits : ConnectionLimits) (records : Bool) (before after : Between) (end : LinkEnd) : Type 0 where
   pub opened : EndedLink
   pub closed : EndedLink
   pub log : Option LinkLog
@@ -57,7 +58,7 @@ pub record ServesLink (credits low units : ℕ) (records : Bool) (before after :
   pub numbered : IfSome before.ended (λ log. log.made ≡ opened.number)
   pub same_number : closed.number ≡ opened.number
   pub new_clock : IfSome gave (λ given. given ≡ [])
-  pub served : IsLinkServed credits low units records (outside opened.left opened.given (sink_state opened.taken 0 false) gave (split_off before.view))
+  pub served : IsLinkServed limits records (outside opened.left opened.given (sink_state opened.taken 0 false) gave (split_off before.view))
       (outside closed.left closed.given (sink_state closed.taken sink_faults false) gave' own) end
   pub made : MakesLink before.ended log
   pub hung_up : EndsLink log after.ended closed
@@ -68,14 +69,14 @@ pub record ServesLink (credits low units : ℕ) (records : Bool) (before after :
   pub joins : JoinsPass before.view own after.view
 
 -- one link
-abbrev pub TakesLink : (credits low units : ℕ) → (records : Bool) → Between → Option LinkEnd → Between → Type 0
-TakesLink credits low units records before None after = StartsLink before after
-TakesLink credits low units records before (Some end) after = ServesLink credits low units records before after end
+abbrev pub TakesLink : (limits : ConnectionLimits) → (records : Bool) → Between → Option LinkEnd → Between → Type 0
+TakesLink limits records before None after = StartsLink before after
+TakesLink limits records before (Some end) after = ServesLink limits records before after end
 
 -- links that were taken so, one after another
-abbrev pub ServesAll : (credits low units : ℕ) → (records : Bool) → Between → List (Option LinkEnd) → Between → Type 0
-ServesAll credits low units records before [] after = after ≡ before
-ServesAll credits low units records before (link ∷ links) after = (mid : Between) × (TakesLink credits low units records before link mid × ServesAll credits low units records mid links after)
+abbrev pub ServesAll : (limits : ConnectionLimits) → (records : Bool) → Between → List (Option LinkEnd) → Between → Type 0
+ServesAll limits records before [] after = after ≡ before
+ServesAll limits records before (link ∷ links) after = (mid : Between) × (TakesLink limits records before link mid × ServesAll limits records mid links after)
 
 -- the ends of those that were served here, in order
 abbrev pub end_of_link : Option LinkEnd → List LinkEnd
@@ -97,16 +98,16 @@ HandsBack None before after = after ≡ before
 HandsBack (Some end) before after = Rises before after
 
 -- links were taken so, and these are the ends of those that were served here
-pub record Serves (credits low units : ℕ) (records : Bool) (before : Between) (ends : List LinkEnd) (after : Between) : Type 0 where
+pub record Serves (limits : ConnectionLimits) (records : Bool) (before : Between) (ends : List LinkEnd) (after : Between) : Type 0 where
   pub links : List (Option LinkEnd)
   pub ends_are : ends_of links ≡ ends
-  pub all : ServesAll credits low units records before links after
+  pub all : ServesAll limits records before links after
 
 -- one link more was taken
-pub record TakesOne (credits low units : ℕ) (records : Bool) (before : Between) (ends ends' : List LinkEnd) (after : Between) : Type 0 where
+pub record TakesOne (limits : ConnectionLimits) (records : Bool) (before : Between) (ends ends' : List LinkEnd) (after : Between) : Type 0 where
   pub link : Option LinkEnd
   pub ends_are : ends' ≡ ends ++ end_of_link link
-  pub takes : TakesLink credits low units records before link after
+  pub takes : TakesLink limits records before link after
 
 -- no job was handed back, or the count of the spawner rose
 abbrev pub BackCount : List LinkEnd → ℕ → ℕ → Type 0

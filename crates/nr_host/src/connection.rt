@@ -11,8 +11,10 @@ ghost use Rattle.nr_turnstile.specs.Passes.{Rests};
 ghost use Rattle.nr_plain.specs.History.{pass_view};
 ghost use Rattle.nr_host.specs.Ending.{AheadAt, FailedAt, MoreAt, ReadAt, SinkCount, SourceCount};
 ghost use Rattle.nr_host.specs.Steps.{CarriesTo, EndsIdle, IsServed, outside, sink_state};
+ghost use Rattle.nr_host.specs.declared.connection_limits.ConnectionLimits.{ConnectionLimits};
 
 use crate::conn_end::ConnEnd;
+use crate::connection_limits::ConnectionLimits;
 use crate::feeding::feed_all;
 use nr_links::{Clock, PIECE_MAX, READ_MAX};
 use nr_outside::{Failed, Sink, Source};
@@ -76,10 +78,10 @@ fn carry<I: Source, O: Sink, C: Clock, R: Wait>(
     requires len { length buf.old ≡ piece_max }
     requires rests { Rests shared.now pass.old }
     ensures rests { Rests shared.now pass.new }
-    ensures served { (credits low units : ℕ) → CarriesTo credits low units
+    ensures served { (limits : ConnectionLimits) → CarriesTo limits
         (outside (I.left source.old) (I.given source.old) (sink_state (O.taken sink.old) (O.faults sink.old) false) (C.gave clock.old) (pass_view pass.old))
         (outside (I.left source.old) (I.given source.old) (sink_state (O.taken sink.old) (O.faults sink.old) false) (C.gave clock.old) (pass_view pass.old)) responder.old.side 0 →
-        IsServed credits low units (outside (I.left source.old) (I.given source.old) (sink_state (O.taken sink.old) (O.faults sink.old) false) (C.gave clock.old) (pass_view pass.old))
+        IsServed limits (outside (I.left source.old) (I.given source.old) (sink_state (O.taken sink.old) (O.faults sink.old) false) (C.gave clock.old) (pass_view pass.old))
         (outside (I.left source.new) (I.given source.new) (sink_state (O.taken sink.new) (O.faults sink.new) false) (C.gave clock.new) (pass_view pass.new)) result }
     ensures source_count { SourceCount result (I.faults source.old) (I.faults source.new) }
     ensures sink_count { SinkCount result (O.faults sink.old) (O.faults sink.new) }
@@ -118,12 +120,9 @@ fn carry<I: Source, O: Sink, C: Clock, R: Wait>(
     ConnEnd::Budget { read }
 }
 
-/// Serves one connection to its end: reads the client's stream, feeds it frame by frame, and before the next frame
-/// executes each call that is complete and writes what is due. If a write fails, it still executes each call that was
-/// read, and reads no more. Grants `credits`, but at most `low` (from 1 to `credits`) in a message that is due while
-/// more than half of the receives are in use (RFC 8166 section 3.3): nothing is required of `low`, so that with 0 the
-/// credit word is 0 then, and with more than `credits` it plays no part. Has this many units for its Sends in each
-/// direction, of 1,024 bytes each, 1 to 16 (0 counts as 1, and more than 16 as 16).
+/// Serves one connection to its end, within these limits: reads the client's stream, feeds it frame by frame, and
+/// before the next frame executes each call that is complete, and then writes what is due. If a write fails, it still
+/// executes each call that was read, and reads no more.
 pub fn serve_connection<I: Source, O: Sink, C: Clock, R: Wait>(
     rt: &R,
     alloc: Global,
@@ -132,13 +131,11 @@ pub fn serve_connection<I: Source, O: Sink, C: Clock, R: Wait>(
     shared: &Turnstile<Server>,
     pass: &mut Pass<Server>,
     clock: &mut C,
-    credits: u32,
-    low: u32,
-    units: u8,
+    limits: ConnectionLimits,
 ) -> ConnEnd
     requires { Rests shared.now pass.old }
     ensures rests { Rests shared.now pass.new }
-    ensures served { IsServed credits low units (outside (I.left source.old) (I.given source.old) (sink_state (O.taken sink.old) (O.faults sink.old) false) (C.gave clock.old) (pass_view pass.old))
+    ensures served { IsServed limits (outside (I.left source.old) (I.given source.old) (sink_state (O.taken sink.old) (O.faults sink.old) false) (C.gave clock.old) (pass_view pass.old))
         (outside (I.left source.new) (I.given source.new) (sink_state (O.taken sink.new) (O.faults sink.new) false) (C.gave clock.new) (pass_view pass.new)) result }
     ensures source_count { SourceCount result (I.faults source.old) (I.faults source.new) }
     ensures sink_count { SinkCount result (O.faults sink.old) (O.faults sink.new) }
@@ -146,7 +143,8 @@ pub fn serve_connection<I: Source, O: Sink, C: Clock, R: Wait>(
     let Ok(mut buf) = vec![in alloc; 0u8; PIECE_MAX] else {
         return ConnEnd::Memory;
     };
-    let Ok(mut responder) = Responder::open_low(alloc, credits, low, units) else {
+    let Ok(mut responder) = Responder::open_low(alloc, limits.credits, limits.low, limits.units)
+    else {
         return ConnEnd::Memory;
     };
     let end = carry(

@@ -82,7 +82,7 @@ fn answer_all<O: Sink, C: Clock, R: Wait>(
 }
 
 /// The end of a connection whose responder ended so. What is still due, a Terminate, is written, or dropped once a
-/// write has failed.
+/// write has failed. If memory ran out, nothing more is written.
 fn stopped<O: Sink>(responder: &mut Responder, sink: &mut O, failed: &mut bool, end: End) -> ConnEnd
     requires { end_of responder.old.side ≡ Some end }
     ensures ends { EndsAt result (sink_state (O.taken sink.old) (O.faults sink.old) failed.old) (sink_state (O.taken sink.new) (O.faults sink.new) failed.new) responder.old.side }
@@ -91,10 +91,10 @@ fn stopped<O: Sink>(responder: &mut Responder, sink: &mut O, failed: &mut bool, 
     ensures never_falls { O.faults sink.old ≤ O.faults sink.new }
     ensures source { (count : ℕ) → SourceCount result count count }
 {
-    drain(responder, sink, failed);
     match end {
         End::Memory => ConnEnd::Memory,
         _ => {
+            drain(responder, sink, failed);
             if *failed {
                 return ConnEnd::LinkWrite;
             }

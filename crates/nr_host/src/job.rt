@@ -7,6 +7,7 @@ ghost use Rattle.nr_plain.specs.History.{pass_view};
 ghost use Rattle.nr_host.specs.LinkServing.{IsLinkServed, LinkSinkCount, LinkSourceCount};
 ghost use Rattle.nr_host.specs.Steps.{outside, sink_state};
 
+use crate::connection_limits::ConnectionLimits;
 use crate::link::serve_link;
 use crate::link_end::LinkEnd;
 use nr_jobs::Job;
@@ -28,10 +29,8 @@ pub struct ServeJob<I: LinkSource, O: LinkSink, C, R> {
     pub shared: Arc<Turnstile<Server>, Global>,
     pub pass: Pass<Server>,
     pub clock: C,
-    pub credits: u32,
-    pub low: u32,
+    pub limits: ConnectionLimits,
     pub records: bool,
-    pub units: u8,
     ghost fits: { Rests (arc_value shared) pass },
     ghost same: { I.link source ≡ O.link sink },
 }
@@ -55,16 +54,14 @@ fn serve_numbered<N: LinkNumber, I: LinkSource, O: LinkSink, C: Clock, R: Wait>(
     shared: &Turnstile<Server>,
     pass: &mut Pass<Server>,
     clock: &mut C,
-    credits: u32,
-    low: u32,
+    limits: ConnectionLimits,
     records: bool,
-    units: u8,
 ) -> (I, O, LinkEnd)
     requires rests { Rests shared.now pass.old }
     requires source { I.link source ≡ N.number }
     requires sink { O.link sink ≡ N.number }
     ensures rests { Rests shared.now pass.new }
-    ensures served { IsLinkServed credits low units records (outside (I.left source) (I.given source) (sink_state (O.taken sink) (O.faults sink) false) (C.gave clock.old) (pass_view pass.old))
+    ensures served { IsLinkServed limits records (outside (I.left source) (I.given source) (sink_state (O.taken sink) (O.faults sink) false) (C.gave clock.old) (pass_view pass.old))
         (outside (I.left result.0) (I.given result.0) (sink_state (O.taken result.1) (O.faults result.1) false) (C.gave clock.new) (pass_view pass.new)) result.2 }
     ensures source_count { LinkSourceCount result.2 (I.faults source) (I.faults result.0) }
     ensures sink_count { LinkSinkCount result.2 (O.faults sink) (O.faults result.1) }
@@ -74,7 +71,7 @@ fn serve_numbered<N: LinkNumber, I: LinkSource, O: LinkSink, C: Clock, R: Wait>(
     let source: NumberedSource<I, N> = NumberedSource::new(source);
     let mut sink: NumberedSink<O, N> = NumberedSink::new(sink);
     let (source, end) = serve_link(
-        rt, alloc, source, &mut sink, shared, pass, clock, credits, low, records, units,
+        rt, alloc, source, &mut sink, shared, pass, clock, limits, records,
     );
     (source.into_inner(), sink.into_inner(), end)
 }
@@ -89,7 +86,7 @@ impl<
 
     fn run(self) -> Carried<I, O, C>
         ensures rests { Rests (arc_value self.shared) result.pass }
-        ensures served { IsLinkServed self.credits self.low self.units self.records (outside (I.left self.source) (I.given self.source) (sink_state (O.taken self.sink) (O.faults self.sink) false) (C.gave self.clock) (pass_view self.pass))
+        ensures served { IsLinkServed self.limits self.records (outside (I.left self.source) (I.given self.source) (sink_state (O.taken self.sink) (O.faults self.sink) false) (C.gave self.clock) (pass_view self.pass))
             (outside (I.left result.source) (I.given result.source) (sink_state (O.taken result.sink) (O.faults result.sink) false) (C.gave result.clock) (pass_view result.pass)) result.end }
         ensures source_count { LinkSourceCount result.end (I.faults self.source) (I.faults result.source) }
         ensures sink_count { LinkSinkCount result.end (O.faults self.sink) (O.faults result.sink) }
@@ -104,15 +101,13 @@ impl<
             shared,
             pass,
             clock,
-            credits,
-            low,
+            limits,
             records,
-            units,
         } = self;
         let mut pass = pass;
         let mut clock = clock;
         let (source, sink, end) = serve_numbered::<Brand, I, O, C, R>(
-            &rt, alloc, source, sink, &shared, &mut pass, &mut clock, credits, low, records, units,
+            &rt, alloc, source, sink, &shared, &mut pass, &mut clock, limits, records,
         );
         drop(shared);
         Carried {

@@ -10,6 +10,7 @@ ghost use Rattle.nr_host.specs.LinkServing.{IsLinkServed, LinkSinkCount, LinkSou
 
 use crate::conn_end::ConnEnd;
 use crate::connection::serve_connection;
+use crate::connection_limits::ConnectionLimits;
 use crate::link_end::LinkEnd;
 use crate::looked::{Look, Looked};
 use nr_links::{Clock, Peeked};
@@ -34,23 +35,19 @@ fn serve_by_byte<I: Source, L: Look, O: Sink, C: Clock, R: Wait>(
     shared: &Turnstile<Server>,
     pass: &mut Pass<Server>,
     clock: &mut C,
-    credits: u32,
-    low: u32,
-    units: u8,
+    limits: ConnectionLimits,
     byte: u8,
 ) -> LinkEnd
     requires { Rests shared.now pass.old }
     ensures rests { Rests shared.now pass.new }
-    ensures served { ServesByByte credits low units byte
+    ensures served { ServesByByte limits byte
         (outside (left_with source.old.held (I.left source.old.inner)) (given_without source.old.held (I.given source.old.inner)) (sink_state (O.taken sink.old) (O.faults sink.old) false) (C.gave clock.old) (pass_view pass.old))
         (outside (left_with source.new.held (I.left source.new.inner)) (given_without source.new.held (I.given source.new.inner)) (sink_state (O.taken sink.new) (O.faults sink.new) false) (C.gave clock.new) (pass_view pass.new)) result }
     ensures source_count { LinkSourceCount result (I.faults source.old.inner) (I.faults source.new.inner) }
     ensures sink_count { LinkSinkCount result (O.faults sink.old) (O.faults sink.new) }
 {
     if byte == HELLO_BYTE {
-        let end = serve_connection(
-            rt, alloc, source, sink, shared, pass, clock, credits, low, units,
-        );
+        let end = serve_connection(rt, alloc, source, sink, shared, pass, clock, limits);
         return LinkEnd::Rdma(end);
     }
     let end = serve_records(rt, alloc, source, sink, shared, pass, clock);
@@ -66,9 +63,7 @@ fn serve_looked<L: Look, I: Source, O: Sink, C: Clock, R: Wait>(
     shared: &Turnstile<Server>,
     pass: &mut Pass<Server>,
     clock: &mut C,
-    credits: u32,
-    low: u32,
-    units: u8,
+    limits: ConnectionLimits,
     byte: u8,
 ) -> (I, LinkEnd)
     requires rests { Rests shared.now pass.old }
@@ -76,7 +71,7 @@ fn serve_looked<L: Look, I: Source, O: Sink, C: Clock, R: Wait>(
     requires left { I.left source ≡ L.left }
     requires given { I.given source ≡ L.given }
     ensures rests { Rests shared.now pass.new }
-    ensures served { (held : Option ℕ) × (ForSome held (λ b. (b ≡ byte) × ((I.left result.0 ≡ I.left source) × (I.given result.0 ≡ I.given source))) × ServesByByte credits low units byte
+    ensures served { (held : Option ℕ) × (ForSome held (λ b. (b ≡ byte) × ((I.left result.0 ≡ I.left source) × (I.given result.0 ≡ I.given source))) × ServesByByte limits byte
         (outside (left_with (Some byte) (I.left source)) (given_without (Some byte) (I.given source)) (sink_state (O.taken sink.old) (O.faults sink.old) false) (C.gave clock.old) (pass_view pass.old))
         (outside (left_with held (I.left result.0)) (given_without held (I.given result.0)) (sink_state (O.taken sink.new) (O.faults sink.new) false) (C.gave clock.new) (pass_view pass.new)) result.1) }
     ensures source_count { LinkSourceCount result.1 (I.faults source) (I.faults result.0) }
@@ -91,9 +86,7 @@ fn serve_looked<L: Look, I: Source, O: Sink, C: Clock, R: Wait>(
         shared,
         pass,
         clock,
-        credits,
-        low,
-        units,
+        limits,
         byte,
     );
     (source.into_inner(), end)
@@ -108,13 +101,11 @@ fn look_and_serve<I: Source, O: Sink, C: Clock, R: Wait>(
     shared: &Turnstile<Server>,
     pass: &mut Pass<Server>,
     clock: &mut C,
-    credits: u32,
-    low: u32,
-    units: u8,
+    limits: ConnectionLimits,
 ) -> (I, LinkEnd)
     requires { Rests shared.now pass.old }
     ensures rests { Rests shared.now pass.new }
-    ensures served { LooksAndServes credits low units
+    ensures served { LooksAndServes limits
         (outside (I.left source) (I.given source) (sink_state (O.taken sink.old) (O.faults sink.old) false) (C.gave clock.old) (pass_view pass.old))
         (outside (I.left result.0) (I.given result.0) (sink_state (O.taken sink.new) (O.faults sink.new) false) (C.gave clock.new) (pass_view pass.new)) result.1 }
     ensures source_count { LinkSourceCount result.1 (I.faults source) (I.faults result.0) }
@@ -127,14 +118,12 @@ fn look_and_serve<I: Source, O: Sink, C: Clock, R: Wait>(
         Err(_) => return (peeked.into_inner(), LinkEnd::Rdma(ConnEnd::LinkRead)),
     };
     let source = peeked.into_inner();
-    serve_looked::<Brand, I, O, C, R>(
-        rt, alloc, source, sink, shared, pass, clock, credits, low, units, byte,
-    )
+    serve_looked::<Brand, I, O, C, R>(rt, alloc, source, sink, shared, pass, clock, limits, byte)
 }
 
 /// Serves one link to its end. With `records` it may carry RPC over RDMA or RPC over TCP with record marks, as its
-/// first byte says; without, it carries RPC over RDMA, with these credits, at most `low` while more than half of the
-/// receives are in use, and these units (see [`serve_connection`]). Gives the source back.
+/// first byte says; without, it carries RPC over RDMA, within these limits (see [`serve_connection`]). Gives the source
+/// back.
 pub fn serve_link<I: Source, O: Sink, C: Clock, R: Wait>(
     rt: &R,
     alloc: Global,
@@ -143,36 +132,21 @@ pub fn serve_link<I: Source, O: Sink, C: Clock, R: Wait>(
     shared: &Turnstile<Server>,
     pass: &mut Pass<Server>,
     clock: &mut C,
-    credits: u32,
-    low: u32,
+    limits: ConnectionLimits,
     records: bool,
-    units: u8,
 ) -> (I, LinkEnd)
     requires { Rests shared.now pass.old }
     ensures rests { Rests shared.now pass.new }
-    ensures served { IsLinkServed credits low units records
+    ensures served { IsLinkServed limits records
         (outside (I.left source) (I.given source) (sink_state (O.taken sink.old) (O.faults sink.old) false) (C.gave clock.old) (pass_view pass.old))
         (outside (I.left result.0) (I.given result.0) (sink_state (O.taken sink.new) (O.faults sink.new) false) (C.gave clock.new) (pass_view pass.new)) result.1 }
     ensures source_count { LinkSourceCount result.1 (I.faults source) (I.faults result.0) }
     ensures sink_count { LinkSinkCount result.1 (O.faults sink.old) (O.faults sink.new) }
 {
     if records {
-        return look_and_serve(
-            rt, alloc, source, sink, shared, pass, clock, credits, low, units,
-        );
+        return look_and_serve(rt, alloc, source, sink, shared, pass, clock, limits);
     }
     let mut source = source;
-    let end = serve_connection(
-        rt,
-        alloc,
-        &mut source,
-        sink,
-        shared,
-        pass,
-        clock,
-        credits,
-        low,
-        units,
-    );
+    let end = serve_connection(rt, alloc, &mut source, sink, shared, pass, clock, limits);
     (source, LinkEnd::Rdma(end))
 }

@@ -8,6 +8,7 @@ ghost use Rattle.nr_plain.specs.History.{pass_view};
 ghost use Rattle.nr_host.specs.declared.link_end.LinkEnd.{LinkEnd};
 ghost use Rattle.nr_host.specs.Serving.{AcceptorCount, BackCount, HandsBack, Serves, TakesLink, TakesOne, between};
 
+use crate::connection_limits::ConnectionLimits;
 use crate::job::{Carried, ServeJob};
 use crate::link_end::LinkEnd;
 use nr_jobs::{Job, Spawner};
@@ -65,10 +66,8 @@ fn serve_next<
     shared: &Arc<Turnstile<Server>, Global>,
     pass: &mut Pass<Server>,
     clock: &C,
-    credits: u32,
-    low: u32,
+    limits: ConnectionLimits,
     records: bool,
-    units: u8,
 ) -> Result<Option<LinkEnd>, ServeFault>
 where
     A::Source: Drop + Send + 'static,
@@ -77,7 +76,7 @@ where
     requires rests { Rests (arc_value shared.now) pass.old }
     requires room { P.started spawner.old < 2 ^ 64 - 1 }
     ensures rests { Rests (arc_value shared.now) pass.new }
-    ensures served { IfOk result (λ link. TakesLink credits low units records
+    ensures served { IfOk result (λ link. TakesLink limits records
         (between (A.ended acceptor.old) (A.lost acceptor.old) (P.started spawner.old) (pass_view pass.old)) link
         (between (A.ended acceptor.new) (A.lost acceptor.new) (P.started spawner.new) (pass_view pass.new))) }
     ensures err { OnErr result (between (A.ended acceptor.new) (A.lost acceptor.new) (P.started spawner.new) (pass_view pass.new)
@@ -105,10 +104,8 @@ where
         shared: own,
         pass: shared.split(pass),
         clock: clock.another(),
-        credits,
-        low,
+        limits,
         records,
-        units,
     };
     let Err(back) = spawner.start(rt, alloc, job) else {
         return Ok(None);
@@ -141,10 +138,8 @@ fn serve_one<
     shared: &Arc<Turnstile<Server>, Global>,
     pass: &mut Pass<Server>,
     clock: &C,
-    credits: u32,
-    low: u32,
+    limits: ConnectionLimits,
     records: bool,
-    units: u8,
     started: &mut u64,
     ends: &mut Vec<LinkEnd>,
 ) -> Result<(), ServeFault>
@@ -156,7 +151,7 @@ where
     requires room { P.started spawner.old < 2 ^ 64 - 1 }
     requires count { started.old < 2 ^ 64 - 1 }
     ensures rests { Rests (arc_value shared.now) pass.new }
-    ensures served { OnOk result (TakesOne credits low units records
+    ensures served { OnOk result (TakesOne limits records
         (between (A.ended acceptor.old) (A.lost acceptor.old) (P.started spawner.old) (pass_view pass.old)) ends.old.items ends.new.items
         (between (A.ended acceptor.new) (A.lost acceptor.new) (P.started spawner.new) (pass_view pass.new))) }
     ensures one { OnOk result (started.new + length ends.new.items ≡ started.old + length ends.old.items + 1) }
@@ -177,7 +172,7 @@ where
         return Err(ServeFault::Memory);
     }
     let link = match serve_next(
-        rt, alloc, acceptor, spawner, shared, pass, clock, credits, low, records, units,
+        rt, alloc, acceptor, spawner, shared, pass, clock, limits, records,
     ) {
         Ok(link) => link,
         Err(fault) => return Err(fault),
@@ -208,11 +203,9 @@ fn take_links<
     shared: &Arc<Turnstile<Server>, Global>,
     pass: &mut Pass<Server>,
     clock: &C,
-    credits: u32,
-    low: u32,
+    limits: ConnectionLimits,
     records: bool,
     connections: u32,
-    units: u8,
     ends: &mut Vec<LinkEnd>,
 ) -> Result<u64, ServeFault>
 where
@@ -223,7 +216,7 @@ where
     requires room { P.started spawner.old < 2 ^ 63 }
     requires none { ends.old.items ≡ [] }
     ensures rests { Rests (arc_value shared.now) pass.new }
-    ensures served { Serves credits low units records
+    ensures served { Serves limits records
         (between (A.ended acceptor.old) (A.lost acceptor.old) (P.started spawner.old) (pass_view pass.old)) ends.new.items
         (between (A.ended acceptor.new) (A.lost acceptor.new) (P.started spawner.new) (pass_view pass.new)) }
     ensures all { IfOk result (λ started. (started + length ends.new.items ≡ connections) × (P.started spawner.new ≡ P.started spawner.old + started)) }
@@ -244,10 +237,8 @@ where
             shared,
             pass,
             clock,
-            credits,
-            low,
+            limits,
             records,
-            units,
             &mut started,
             ends,
         ) {
@@ -259,9 +250,8 @@ where
 }
 
 /// Accepts `connections` links. Each is served to its end, whatever its end is: in a job that the spawner starts, or,
-/// if the spawner hands it back, here. Each is granted `credits`, but at most `low` (from 1 to `credits`) in a message
-/// that is due while more than half of its receives are in use (RFC 8166 section 3.3), and the server has `units` of
-/// 1,024 bytes for its Sends in each direction (1 to 16). Waits until all jobs have ended.
+/// if the spawner hands it back, here. Each has these limits, and with `records` it may carry RPC over TCP with record
+/// marks, as its first byte says. Waits until all jobs have ended.
 ///
 /// # Errors
 ///
@@ -280,11 +270,9 @@ pub fn serve<
     shared: &Arc<Turnstile<Server>, Global>,
     pass: &mut Pass<Server>,
     clock: &C,
-    credits: u32,
-    low: u32,
+    limits: ConnectionLimits,
     records: bool,
     connections: u32,
-    units: u8,
 ) -> Result<Ran, ServeFault>
 where
     A::Source: Drop + Send + 'static,
@@ -293,13 +281,13 @@ where
     requires rests { Rests (arc_value shared.now) pass.old }
     requires room { P.started spawner.old < 2 ^ 63 }
     ensures rests { Rests (arc_value shared.now) pass.new }
-    ensures served { IfOk result (λ ran. Serves credits low units records
+    ensures served { IfOk result (λ ran. Serves limits records
         (between (A.ended acceptor.old) (A.lost acceptor.old) (P.started spawner.old) (pass_view pass.old)) ran.ends
         (between (A.ended acceptor.new) (A.lost acceptor.new) (P.started spawner.new) (pass_view pass.new))) }
     ensures all { IfOk result (λ ran. (ran.started + length ran.ends ≡ connections) × (P.started spawner.new ≡ P.started spawner.old + ran.started)) }
     ensures back { IfOk result (λ ran. BackCount ran.ends (P.faults spawner.old) (P.faults spawner.new)) }
     ensures ended { P.ended spawner.new ≡ P.started spawner.new }
-    ensures err { OnErr result ((ends : List LinkEnd) × ((P.started spawner.new + length ends < P.started spawner.old + connections) × (Serves credits low units records
+    ensures err { OnErr result ((ends : List LinkEnd) × ((P.started spawner.new + length ends < P.started spawner.old + connections) × (Serves limits records
         (between (A.ended acceptor.old) (A.lost acceptor.old) (P.started spawner.old) (pass_view pass.old)) ends
         (between (A.ended acceptor.new) (A.lost acceptor.new) (P.started spawner.new) (pass_view pass.new))
         × BackCount ends (P.faults spawner.old) (P.faults spawner.new)))) }
@@ -318,11 +306,9 @@ where
         shared,
         pass,
         clock,
-        credits,
-        low,
+        limits,
         records,
         connections,
-        units,
         &mut ends,
     );
     spawner.finish(&rt);

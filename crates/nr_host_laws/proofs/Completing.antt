@@ -1,5 +1,5 @@
 -- How a connection ends whose client sends a complete stream.
-use Rattle.std.proofs.Common.{◌≡◌, ℕ, ◌<◌, ◌≤◌, ◌⊎◌, inl, inr, Bool, false, List, [], ◌∷◌, ◌++◌, length, Option, Some, None, refl, arith, subst, sym, ap, ◌∙◌, append_assoc, append-nil}
+use Rattle.std.proofs.Common.{◌≡◌, ℕ, ◌<◌, ◌⊎◌, inl, inr, Bool, false, List, [], ◌∷◌, ◌++◌, length, Option, Some, None, refl, arith, subst, sym, ap, ◌∙◌, append_assoc, append-nil}
 use Rattle.std.proofs.lemmas.List.{length-append}
 use Rattle.std.proofs.lemmas.Option.{none-some}
 use Rattle.std.specs.Io.KnownBytes.{Appends, Consumes, IsAtEnd}
@@ -7,8 +7,6 @@ use Rattle.nr_outside.specs.Faults.{Rises}
 use Rattle.nr_outside.specs.declared.moment.Moment.{Moment}
 use Rattle.nr_wire.specs.declared.hello.Side.TheVariants.{Initiator, Responder}
 use Rattle.nr_link.specs.Input.{input_of}
-use Rattle.nr_link.specs.Agreement.{sized_terms}
-use Rattle.nr_reduce.specs.Opening.{ServerOpened}
 use Rattle.nr_reduce.specs.declared.mark.Mark.{Mark}
 use Rattle.nr_reduce.specs.declared.mark.Entry.{Entry}
 use Rattle.nr_reduce.specs.declared.mark.LinkParameters.{LinkParameters}
@@ -16,13 +14,14 @@ use Rattle.nr_reduce.specs.History.{bytes_received, bytes_sent}
 use Rattle.nr_reduce.specs.Matched.{IsPrefixOf}
 use Rattle.nr_reduce.specs.Run.{server}
 use Rattle.nr_reduce.specs.ServerState.{PendingCall}
-use Rattle.nr_host_laws.proofs.Lawful.{keep_the_law, with_credits}
+use Rattle.nr_host_laws.proofs.Lawful.{keep_the_law, with_limits}
 use Rattle.nr_reduce.specs.Served.{Served}
 use Rattle.nr_plain.specs.History.{IsHistory, Opening, setup_in}
 use Rattle.nr_links.specs.Limits.{read_max}
-use Rattle.nr_host.specs.Connections.{Terms, Outside, Runs, TakesUntil, GivesAll, moments}
+use Rattle.nr_host.specs.Connections.{Outside, Runs, TakesUntil, GivesAll, moments, IsOpenedWith}
 use Rattle.nr_host.specs.Ending.{Ended, IsCause, IsIdle, SinkCount, SourceCount, begun_bytes, open_calls}
 use Rattle.nr_host.specs.Steps.{IsServed, sink_state, with_failed}
+use Rattle.nr_host.specs.declared.connection_limits.ConnectionLimits.{ConnectionLimits}
 use Rattle.nr_host.specs.declared.conn_end.ConnEnd.{ConnEnd}
 use Rattle.nr_host.specs.declared.conn_end.ConnEnd.TheVariants as ends
 use Rattle.nr_host_laws.specs.Laws.{Completes, ConnectionsComplete}
@@ -60,36 +59,34 @@ not_memory e = absurd cc
 
 -- ---- One connection
 
-abbrev terms_of : (credits low units read : ℕ) → Terms
-terms_of credits low units read = record { credits = credits; low = low; units = units; read = read }
-
-module _ (credits low units : ℕ) (before after : Outside) (first : Opening) (J : List Entry) (stream : List ℕ) (stands : IsHistory first J before.view.seen) (known : before.left ≡ Some stream)
-    (complete : IsCompleteStream credits low units (setup_in first) J stream) (even : credits ≤ low) where
-  consumed : (read link : ℕ) (failed : Bool) (ahead : List ℕ) (more : List Moment) (run : List Mark) → Runs (terms_of credits low units read) link before (with_failed failed after) ahead more run
+module _ (limits : ConnectionLimits) (before after : Outside) (first : Opening) (J : List Entry) (stream : List ℕ) (stands : IsHistory first J before.view.seen) (known : before.left ≡ Some stream)
+    (complete : IsCompleteStream limits (setup_in first) J stream) where
+  consumed : (read link : ℕ) (failed : Bool) (ahead : List ℕ) (more : List Moment) (run : List Mark) → Runs limits read link before (with_failed failed after) ahead more run
       → Consumes (Some stream) after.left (bytes_received link Responder run ++ ahead)
   consumed read link failed ahead more run r =
       subst (λ (l : Option (List ℕ)). Consumes l after.left (bytes_received link Responder run ++ ahead)) known r.handed.from_left
 
-  made_by : (read link : ℕ) (failed : Bool) (ahead : List ℕ) (more : List Moment) (run : List Mark) → Runs (terms_of credits low units read) link before (with_failed failed after) ahead more run
-      → (opened : LinkParameters) → ServerOpened opened credits low (sized_terms units) → MayHaveMade (setup_in first) J opened link stream run
+  made_by : (read link : ℕ) (failed : Bool) (ahead : List ℕ) (more : List Moment) (run : List Mark) → Runs limits read link before (with_failed failed after) ahead more run
+      → (opened : LinkParameters) → IsOpenedWith limits opened → MayHaveMade (setup_in first) J opened link stream run
   made_by read link failed ahead more run r opened same = record {
     own = r.own;
     begins = read_first after.left stream (bytes_received link Responder run) ahead (consumed read link failed ahead more run r);
     served = r.served opened same;
     quiet = r.quiet opened same;
+    writes = r.writes opened same;
     frames = r.frames opened same;
     more = (r.over first J stands).more;
     plain = (r.over first J stands).placed;
   }
 
   -- a connection that read all of it, and is idle, has closed
-  closed : (read link : ℕ) (failed : Bool) (ahead : List ℕ) (more : List Moment) (run : List Mark) → Runs (terms_of credits low units read) link before (with_failed failed after) ahead more run
+  closed : (read link : ℕ) (failed : Bool) (ahead : List ℕ) (more : List Moment) (run : List Mark) → Runs limits read link before (with_failed failed after) ahead more run
       → ahead ≡ [] → more ≡ [] → failed ≡ false
-      → ((opened : LinkParameters) → ServerOpened opened credits low (sized_terms units) → IsIdle opened link run × IsAtEnd after.left)
-      → ((opened : LinkParameters) → ServerOpened opened credits low (sized_terms units) → Served opened link run)
-      → ServesStream credits low units first J link before after stream
+      → ((opened : LinkParameters) → IsOpenedWith limits opened → IsIdle opened link run × IsAtEnd after.left)
+      → ((opened : LinkParameters) → IsOpenedWith limits opened → Served opened link run)
+      → ServesStream limits first J link before after stream
   closed read link failed ahead more run r none no_more fine idle served =
-      let at : IsAtEnd after.left = (idle (with_credits credits low units) (refl, refl, refl, refl)).1 in
+      let at : IsAtEnd after.left = (idle (with_limits limits) (refl, refl, refl, refl)).1 in
       let all : (bytes_received link Responder run ≡ stream) × (after.left ≡ Some []) = read_all after.left stream (bytes_received link Responder run) ahead (consumed read link failed ahead more run r) none at in
       record {
         run = run;
@@ -110,41 +107,41 @@ module _ (credits low units : ℕ) (before after : Outside) (first : Opening) (J
   -- the ends that are left
   by_end : (end : ConnEnd) (source source' : ℕ) → SourceCount end source source' → SinkCount end before.sink.faults after.sink.faults
       → (Rises source source' → ⊥) → (Rises before.sink.faults after.sink.faults → ⊥)
-      → (read : ℕ) (failed : Bool) → Ended (terms_of credits low units read) 0 before (with_failed failed after) end → (end ≡ ends.Memory) ⊎ (end ≡ ends.Closed)
+      → (read : ℕ) (failed : Bool) → Ended limits read 0 before (with_failed failed after) end → (end ≡ ends.Memory) ⊎ (end ≡ ends.Closed)
   by_end ends.Memory source source' sc kc quiet fine read failed e = inl refl
   by_end ends.Closed source source' sc kc quiet fine read failed e = inr refl
   by_end ends.LinkRead source source' sc kc quiet fine read failed e = absurd (quiet sc)
   by_end ends.LinkWrite source source' sc kc quiet fine read failed e = absurd (fine kc)
   by_end (ends.Protocol why) source source' sc kc quiet fine read failed e =
-      let opened : LinkParameters = with_credits credits low units in
+      let opened : LinkParameters = with_limits limits in
       absurd (none-some why (sym (complete.stays opened 0 e.run (refl, refl, refl, refl) (made_by read 0 failed e.ahead e.more e.run e.runs opened (refl, refl, refl, refl))) ∙ (e.cause opened (refl, refl, refl, refl)).0))
   by_end (ends.Budget most) source source' sc kc quiet fine read failed e =
-      let opened : LinkParameters = with_credits credits low units in
+      let opened : LinkParameters = with_limits limits in
       absurd (no_longer (bytes_received 0 Responder e.run) stream (made_by read 0 failed e.ahead e.more e.run e.runs opened (refl, refl, refl, refl)).begins complete.within (e.cause opened (refl, refl, refl, refl)).1.1)
   by_end (ends.Cut at calls) source source' sc kc quiet fine read failed e =
-      let opened : LinkParameters = with_credits credits low units in
+      let opened : LinkParameters = with_limits limits in
       let why : IsCause opened 0 e.run after.left (ends.Cut at calls) = e.cause opened (refl, refl, refl, refl) in
       let all : (bytes_received 0 Responder e.run ≡ stream) × (after.left ≡ Some []) =
       read_all after.left stream (bytes_received 0 Responder e.run) e.ahead (consumed read 0 failed e.ahead e.more e.run e.runs) e.ahead_is why.1.0 in
       absurd (by (ap (λ (l : List ℕ). (input_of Initiator l).rest) all.0 ∙ complete.frames)
       (complete.answered opened 0 e.run (refl, refl, refl, refl) (made_by read 0 failed e.ahead e.more e.run e.runs opened (refl, refl, refl, refl)) all.0 why.0.quiet) why.1.1.1.1)
     where
-      by : (input_of Initiator (bytes_received 0 Responder e.run)).rest ≡ [] → (server (with_credits credits low units) 0 e.run).state.calls ≡ []
-          → (0 < begun_bytes 0 e.run) ⊎ (0 < open_calls (with_credits credits low units) 0 e.run) → ⊥
+      by : (input_of Initiator (bytes_received 0 Responder e.run)).rest ≡ [] → (server (with_limits limits) 0 e.run).state.calls ≡ []
+          → (0 < begun_bytes 0 e.run) ⊎ (0 < open_calls (with_limits limits) 0 e.run) → ⊥
       by rest calls (inl more) = none_below (input_of Initiator (bytes_received 0 Responder e.run)).rest rest more
-      by rest calls (inr more) = no_calls_below (server (with_credits credits low units) 0 e.run).state.calls calls more
+      by rest calls (inr more) = no_calls_below (server (with_limits limits) 0 e.run).state.calls calls more
 
-  closed_at : (end : ConnEnd) → end ≡ ends.Closed → IsServed credits low units before after end → (link : ℕ) → ServesStream credits low units first J link before after stream
+  closed_at : (end : ConnEnd) → end ≡ ends.Closed → IsServed limits before after end → (link : ℕ) → ServesStream limits first J link before after stream
   closed_at end is served link =
-      let (read, (failed, (e, lawful))) = keep_the_law credits low units before after ends.Closed even not_memory (subst (λ (c : ConnEnd). IsServed credits low units before after c) is served) link in
+      let (read, (failed, (e, lawful))) = keep_the_law limits before after ends.Closed not_memory (subst (λ (c : ConnEnd). IsServed limits before after c) is served) link in
       closed read link failed e.ahead e.more e.run e.runs e.ahead_is e.more_is e.failed_is (λ opened same. ((e.cause opened same).0, (e.cause opened same).1.0)) lawful
 
-  completes_by : (end : ConnEnd) → IsServed credits low units before after end → (end ≡ ends.Memory) ⊎ (end ≡ ends.Closed) → Completes credits low units first J before after stream end
+  completes_by : (end : ConnEnd) → IsServed limits before after end → (end ≡ ends.Memory) ⊎ (end ≡ ends.Closed) → Completes limits first J before after stream end
   completes_by end served (inl memory) = inl memory
   completes_by end served (inr is) = inr (is, closed_at end is served)
 
 pub completes : ConnectionsComplete
-completes credits low units before after end source source' first J stream even served sc kc quiet fine stands known complete =
+completes limits before after end source source' first J stream served sc kc quiet fine stands known complete =
     let (read, (failed, e)) = served 0 in
-    completes_by credits low units before after first J stream stands known complete even end served
-    (by_end credits low units before after first J stream stands known complete even end source source' sc kc quiet fine read failed e)
+    completes_by limits before after first J stream stands known complete end served
+    (by_end limits before after first J stream stands known complete end source source' sc kc quiet fine read failed e)

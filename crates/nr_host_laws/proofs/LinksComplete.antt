@@ -23,6 +23,7 @@ use Rattle.nr_host.specs.Connections.{Outside}
 use Rattle.nr_host.specs.Ending.{SourceCount}
 use Rattle.nr_host.specs.LinkServing.{HELLO_BYTE, IsKindFor, LinkSinkCount, LinkSourceCount, LooksAndServes, holding}
 use Rattle.nr_host.specs.Steps.{outside}
+use Rattle.nr_host.specs.declared.connection_limits.ConnectionLimits.{ConnectionLimits}
 use Rattle.nr_host.specs.declared.conn_end.ConnEnd.{ConnEnd}
 use Rattle.nr_host.specs.declared.conn_end.ConnEnd.TheVariants as ends
 use Rattle.nr_host.specs.declared.link_end.LinkEnd.{LinkEnd}
@@ -89,32 +90,32 @@ not_records [] left end hello kind = absurd kind
 not_records (byte ∷ rest) left end hello (inl other) = other hello
 not_records (byte ∷ rest) left end hello (inr never) = absurd never
 
-module _ (credits low units : ℕ) (first : Opening) (J : List Entry) (before after : Outside) (stream : List ℕ) (held : Option ℕ) where
-  all_read : (end : ConnEnd) → Completes credits low units first J before (holding held after) stream end → Completes credits low units first J before after stream end
+module _ (limits : ConnectionLimits) (first : Opening) (J : List Entry) (before after : Outside) (stream : List ℕ) (held : Option ℕ) where
+  all_read : (end : ConnEnd) → Completes limits first J before (holding held after) stream end → Completes limits first J before after stream end
   all_read end (inl memory) = inl memory
   all_read end (inr (closed, serves)) =
-      inr (closed, λ link. subst (λ (o : Outside). ServesStream credits low units first J link before o stream) (unheld held after (none_held held after.left (serves link).left)) (serves link))
+      inr (closed, λ link. subst (λ (o : Outside). ServesStream limits first J link before o stream) (unheld held after (none_held held after.left (serves link).left)) (serves link))
 
-looked_completes : (credits low units : ℕ) (before after : Outside) (end : LinkEnd) (source source' : ℕ) (first : Opening) (J : List Entry) (stream : List ℕ) → credits ≤ low
-    → LooksAndServes credits low units before after end → LinkSourceCount end source source' → LinkSinkCount end before.sink.faults after.sink.faults
+looked_completes : (limits : ConnectionLimits) (before after : Outside) (end : LinkEnd) (source source' : ℕ) (first : Opening) (J : List Entry) (stream : List ℕ)
+    → LooksAndServes limits before after end → LinkSourceCount end source source' → LinkSinkCount end before.sink.faults after.sink.faults
     → (Rises source source' → ⊥) → (Rises before.sink.faults after.sink.faults → ⊥)
-    → IsHistory first J before.view.seen → before.left ≡ Some stream → IsCompleteStream credits low units (setup_in first) J stream → BeginsAsRdma stream → LinkCompletes credits low units first J before after stream end
-looked_completes credits low units before after (link_ends.Rdma end) source source' first J stream even s sc kc quiet fine stands known complete hello =
-    all_read credits low units first J before after stream s.held end
-    (completes credits low units before (holding s.held after) end source source' first J stream even s.serves sc kc quiet fine stands known complete)
-looked_completes credits low units before after (link_ends.Record end) source source' first J stream even s sc kc quiet fine stands known complete hello =
+    → IsHistory first J before.view.seen → before.left ≡ Some stream → IsCompleteStream limits (setup_in first) J stream → BeginsAsRdma stream → LinkCompletes limits first J before after stream end
+looked_completes limits before after (link_ends.Rdma end) source source' first J stream s sc kc quiet fine stands known complete hello =
+    all_read limits first J before after stream s.held end
+    (completes limits before (holding s.held after) end source source' first J stream s.serves sc kc quiet fine stands known complete)
+looked_completes limits before after (link_ends.Record end) source source' first J stream s sc kc quiet fine stands known complete hello =
     absurd (not_records stream (left_with s.held after.left) end hello
     (subst (λ (l : Option (List ℕ)). IsKindFor l (left_with s.held after.left) (link_ends.Record end)) known s.kind))
 
 pub links_complete : LinksComplete
-links_complete credits low units false before after (link_ends.Record end) first J stream served even fine hello stands known complete = absurd served.served
-links_complete credits low units false before after (link_ends.Rdma end) first J stream served even fine hello stands known complete =
+links_complete limits false before after (link_ends.Record end) first J stream served fine hello stands known complete = absurd served.served
+links_complete limits false before after (link_ends.Rdma end) first J stream served fine hello stands known complete =
     let none = no_fault served.source_faults served.sink_faults (not_lost served.source_faults served.sink_faults before.lost after.lost served.lost fine) in
-    completes credits low units (opened_outside served) (closed_outside served) end 0 served.source_faults first J stream even served.served served.source_count served.sink_count
+    completes limits (opened_outside served) (closed_outside served) end 0 served.source_faults first J stream served.served served.source_count served.sink_count
     (no_rise served.source_faults none.0) (no_rise served.sink_faults none.1) stands known complete
-links_complete credits low units true before after end first J stream served even fine hello stands known complete =
+links_complete limits true before after end first J stream served fine hello stands known complete =
     let none = no_fault served.source_faults served.sink_faults (not_lost served.source_faults served.sink_faults before.lost after.lost served.lost fine) in
-    looked_completes credits low units (opened_outside served) (closed_outside served) end 0 served.source_faults first J stream even served.served served.source_count served.sink_count
+    looked_completes limits (opened_outside served) (closed_outside served) end 0 served.source_faults first J stream served.served served.source_count served.sink_count
     (no_rise served.source_faults none.0) (no_rise served.sink_faults none.1) stands known complete (hello refl)
 
 -- ---- RPC over TCP with record marks
@@ -148,21 +149,21 @@ all_answered before after held all records (record_ends.Bad at reason) known nev
 all_answered before after held all records (record_ends.Budget most) known never = absurd never
 all_answered before after held all records record_ends.Memory known a = tt
 
-records_complete : (credits low units : ℕ) (before after : Outside) (end : LinkEnd) (source source' : ℕ) (cut : Cut) (cuts : List Cut)
-    → LooksAndServes credits low units before after end → LinkSourceCount end source source' → LinkSinkCount end before.sink.faults after.sink.faults
+records_complete : (limits : ConnectionLimits) (before after : Outside) (end : LinkEnd) (source source' : ℕ) (cut : Cut) (cuts : List Cut)
+    → LooksAndServes limits before after end → LinkSourceCount end source source' → LinkSinkCount end before.sink.faults after.sink.faults
     → (Rises source source' → ⊥) → (Rises before.sink.faults after.sink.faults → ⊥)
     → before.left ≡ Some (encodings (cut ∷ cuts)) → AllByRecursion IsContentInLimit (cut ∷ cuts) → AllByRecursion HasCallHead (contents (cut ∷ cuts)) → length (encodings (cut ∷ cuts)) < read_max
     → RecordLinkCompletes before after (contents (cut ∷ cuts)) end
-records_complete credits low units before after (link_ends.Record end) source source' cut cuts s sc kc quiet fine known within heads few =
+records_complete limits before after (link_ends.Record end) source source' cut cuts s sc kc quiet fine known within heads few =
     all_answered before after s.held (encodings (cut ∷ cuts)) (contents (cut ∷ cuts)) end known
     (record_completing.completes (around_of before) (around_of (holding s.held after)) end (cut ∷ cuts) source source' before.sink.faults after.sink.faults known within heads few s.serves sc kc quiet fine)
-records_complete credits low units before after (link_ends.Rdma end) source source' cut cuts s sc kc quiet fine known within heads few =
+records_complete limits before after (link_ends.Rdma end) source source' cut cuts s sc kc quiet fine known within heads few =
     let some : 0 < length (encodings (cut ∷ cuts)) = (let one = encoding_some cut in omega (arith, one, length-append (encoding cut) (encodings cuts))) in
     absurd (not_rdma (encodings (cut ∷ cuts)) (left_with s.held after.left) end source source' some (λ rest. no_hello cut (encodings cuts) rest within.0)
     (subst (λ (l : Option (List ℕ)). IsKindFor l (left_with s.held after.left) (link_ends.Rdma end)) known s.kind) sc quiet)
 
 pub record_links_complete : RecordLinksComplete
-record_links_complete credits low units before after end cut cuts served fine known within heads few =
+record_links_complete limits before after end cut cuts served fine known within heads few =
     let none = no_fault served.source_faults served.sink_faults (not_lost served.source_faults served.sink_faults before.lost after.lost served.lost fine) in
-    records_complete credits low units (opened_outside served) (closed_outside served) end 0 served.source_faults cut cuts served.served served.source_count served.sink_count
+    records_complete limits (opened_outside served) (closed_outside served) end 0 served.source_faults cut cuts served.served served.source_count served.sink_count
     (no_rise served.source_faults none.0) (no_rise served.sink_faults none.1) known within heads few

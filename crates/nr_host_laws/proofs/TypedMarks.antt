@@ -9,7 +9,6 @@ use Rattle.nr_wire.specs.declared.hello.Side.TheVariants.{Initiator, Responder}
 use Rattle.nr_link.specs.declared.end.End.{End}
 use Rattle.nr_outside.specs.declared.moment.Moment.{Moment}
 use Rattle.nr_link.specs.Agreement.{default_terms, sized_terms}
-use Rattle.nr_reduce.specs.Opening.{ServerOpened}
 use Rattle.nr_reduce.specs.AtEachMark.{AtEachMark}
 use Rattle.nr_reduce.specs.declared.call.Submission.TheVariants as submissions
 use Rattle.nr_reduce.specs.History.{bytes_received, fed_at}
@@ -31,7 +30,8 @@ use Rattle.nr_plain.specs.Setup.{Setup}
 use Rattle.nr_byte_laws.specs.InBytes.{EntriesInBytes, EntryInBytes, IsInBytes}
 use Rattle.nr_byte_laws.proofs.ByteServers.{ready_bytes}
 use Rattle.nr_byte_laws.proofs.PlainBytes.{entries_bytes, plain_reply_bytes}
-use Rattle.nr_host.specs.Connections.{IsOwn, Outside, answer_of, answers_of}
+use Rattle.nr_host.specs.Connections.{IsOwn, Outside, answer_of, answers_of, IsOpenedWith}
+use Rattle.nr_host.specs.declared.connection_limits.ConnectionLimits.{ConnectionLimits}
 use Rattle.nr_host_laws.specs.OwnMarks.{is_own, other_marks, own_marks}
 use Rattle.nr_host_laws.specs.Streams.{ServesStream}
 use Rattle.nr_host_laws.specs.TypedMarks.{ConnectionsAreTyped}
@@ -150,9 +150,9 @@ given_bytes left (Some rest) bytes takes h = IsBytes_left bytes rest (subst IsBy
 
 pub connections_are_typed_lem : ConnectionsAreTyped
 unfolding bytes_received answers_of
-connections_are_typed_lem terms link before after end first J left ended is =
+connections_are_typed_lem limits read link before after end first J left ended is =
     let over = ended.runs.over first J is.history in
-    let opened : LinkParameters = record { first_xid = 1; first_stag = 1; wished = 1; granted = terms.credits; low = terms.low; receives = terms.credits; client = default_terms; server = sized_terms terms.units } in
+    let opened : LinkParameters = record { first_xid = 1; first_stag = 1; wished = 1; granted = limits.credits; low = limits.low; receives = limits.credits; client = default_terms; server = sized_terms limits.units } in
     let all : IsBytes (flat_map (fed_at link Responder) ended.run ++ ended.ahead) =
     given_bytes left after.left (flat_map (fed_at link Responder) ended.run ++ ended.ahead)
     (subst (λ (o : Option (List ℕ)). Consumes o after.left (flat_map (fed_at link Responder) ended.run ++ ended.ahead)) is.known ended.runs.handed.from_left) is.bytes in
@@ -166,10 +166,10 @@ connections_are_typed_lem terms link before after end first J left ended is =
     })
 
 -- so is the stream of a connection that served all of it
-pub stream_is_typed : (credits low units : ℕ) (first : Opening) (J : List Entry) (link : ℕ) (before after : Outside) (stream : List ℕ) (served : ServesStream credits low units first J link before after stream) (opened : LinkParameters)
-    → ServerOpened opened credits low (sized_terms units) → IsBytes stream → IsInBytes (setup_in first).tree → EntriesInBytes J → IsTyped served.run
+pub stream_is_typed : (limits : ConnectionLimits) (first : Opening) (J : List Entry) (link : ℕ) (before after : Outside) (stream : List ℕ) (served : ServesStream limits first J link before after stream) (opened : LinkParameters)
+    → IsOpenedWith limits opened → IsBytes stream → IsInBytes (setup_in first).tree → EntriesInBytes J → IsTyped served.run
 unfolding bytes_received answers_of
-stream_is_typed credits low units first J link before after stream served opened same bytes tree entries =
+stream_is_typed limits first J link before after stream served opened same bytes tree entries =
     (typed_from (setup_in first) (J ++ served.over.more) opened link tree [] served.run (length J) (record {
       typed = tt;
       own = (served.made opened same).own;

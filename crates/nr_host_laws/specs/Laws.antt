@@ -1,14 +1,13 @@
 -- Laws of connections: those over a complete stream are served to their end; all but those that run out of memory keep
 -- the law of a link's server.
-use Rattle.std.specs.Prelude.{◌≡◌, ℕ, ◌⊎◌, List, [], length, Bool, Option, Some, ◌≤◌}
+use Rattle.std.specs.Prelude.{◌≡◌, ℕ, ◌⊎◌, List, [], length, Bool, Option, Some}
 use Rattle.nr_xdr.specs.Item.{IsBytes}
 use Rattle.nr_outside.specs.Faults.{Rises}
 use Rattle.nr_outside.specs.declared.moment.Moment.{Moment}
 use Rattle.nr_link.specs.declared.end.End.{End}
-use Rattle.nr_link.specs.Agreement.{sized_terms}
 use Rattle.nr_reduce.specs.declared.mark.Mark.{Mark}
 use Rattle.nr_reduce.specs.KeepsReplyLimits.{KeepsReplyLimits}
-use Rattle.nr_reduce.specs.Opening.{IsOpened, ServerOpened}
+use Rattle.nr_reduce.specs.Opening.{IsOpened}
 use Rattle.nr_laws.specs.EndCauses.{KeepLaws}
 use Rattle.nr_laws.specs.PlainLinks.{HasPlainReplies, server_with}
 use Rattle.nr_laws.specs.Stays.{AreConveyedOrRefused, HasNoRevoke}
@@ -27,9 +26,10 @@ use Rattle.nr_laws.specs.Typed.{IsTyped}
 use Rattle.nr_plain.specs.Setup.{Setup}
 use Rattle.nr_byte_laws.specs.InBytes.{EntriesInBytes, IsInBytes}
 use Rattle.nr_plain.specs.History.{IsHistory, Opening, setup_in}
-use Rattle.nr_host.specs.Connections.{Outside}
+use Rattle.nr_host.specs.Connections.{Outside, IsOpenedWith}
 use Rattle.nr_host.specs.Ending.{Ended, SinkCount, SourceCount}
 use Rattle.nr_host.specs.Steps.{IsServed, with_failed}
+use Rattle.nr_host.specs.declared.connection_limits.ConnectionLimits.{ConnectionLimits}
 use Rattle.nr_host.specs.declared.conn_end.ConnEnd.{ConnEnd}
 use Rattle.nr_host.specs.declared.conn_end.ConnEnd.TheVariants as ends
 use Rattle.nr_host_laws.specs.OwnMarks.{other_marks, own_marks}
@@ -37,40 +37,39 @@ use Rattle.nr_host_laws.specs.Streams.{IsCompleteStream, ServesStream}
 use Rattle.nr_host_laws.specs.TypedMarks.{IsOverBytes}
 
 -- `Closed`, after all of the stream, whatever number the link has in the marks; or memory ran out
-abbrev pub Completes : (credits low units : ℕ) → Opening → List Entry → (before after : Outside) → List ℕ → ConnEnd → Type 0
-Completes credits low units first J before after stream end =
-    (end ≡ ends.Memory) ⊎ ((end ≡ ends.Closed) × ((link : ℕ) → ServesStream credits low units first J link before after stream))
+abbrev pub Completes : (limits : ConnectionLimits) → Opening → List Entry → (before after : Outside) → List ℕ → ConnEnd → Type 0
+Completes limits first J before after stream end =
+    (end ≡ ends.Memory) ⊎ ((end ≡ ends.Closed) × ((link : ℕ) → ServesStream limits first J link before after stream))
 
 -- A connection that doesn't run out of memory has marks, as the clause `served` of `serve_connection` says, of which
--- the law of a link's server holds in full: each Wrote writes all that is due. It is said of a server that grants no less
--- while it is busy: the credit word of any other depends on what was written before a call is executed.
+-- the law of a link's server holds in full: each Wrote writes all that is due.
 abbrev pub ConnectionsKeepTheLaw : Type 0
 ConnectionsKeepTheLaw =
-    (credits low units : ℕ) (before after : Outside) (end : ConnEnd) → credits ≤ low → (end ≡ ends.Memory → ⊥) → IsServed credits low units before after end → (link : ℕ) →
-    (read : ℕ) × ((failed : Bool) × ((ended : Ended (record { credits = credits; low = low; units = units; read = read }) link before (with_failed failed after) end)
-    × ((opened : LinkParameters) → ServerOpened opened credits low (sized_terms units) → Served opened link ended.run)))
+    (limits : ConnectionLimits) (before after : Outside) (end : ConnEnd) → (end ≡ ends.Memory → ⊥) → IsServed limits before after end → (link : ℕ) →
+    (read : ℕ) × ((failed : Bool) × ((ended : Ended limits read link before (with_failed failed after) end)
+    × ((opened : LinkParameters) → IsOpenedWith limits opened → Served opened link ended.run)))
 
 -- A connection over a source with a complete stream, with the clauses of `serve_connection`. No fault count rises: that
 -- of the source, or of the sink.
 abbrev pub ConnectionsComplete : Type 0
 ConnectionsComplete =
-    (credits low units : ℕ) (before after : Outside) (end : ConnEnd) (source source' : ℕ) (first : Opening) (J : List Entry) (stream : List ℕ) → credits ≤ low →
-    IsServed credits low units before after end → SourceCount end source source' → SinkCount end before.sink.faults after.sink.faults →
+    (limits : ConnectionLimits) (before after : Outside) (end : ConnEnd) (source source' : ℕ) (first : Opening) (J : List Entry) (stream : List ℕ) →
+    IsServed limits before after end → SourceCount end source source' → SinkCount end before.sink.faults after.sink.faults →
     (Rises source source' → ⊥) → (Rises before.sink.faults after.sink.faults → ⊥) →
-    IsHistory first J before.view.seen → before.left ≡ Some stream → IsCompleteStream credits low units (setup_in first) J stream →
-    Completes credits low units first J before after stream end
+    IsHistory first J before.view.seen → before.left ≡ Some stream → IsCompleteStream limits (setup_in first) J stream →
+    Completes limits first J before after stream end
 
 -- A client that sends nothing, or its hello alone, sends a complete stream, whatever the client's terms are, and whatever the server stands for.
 abbrev pub StreamsWithoutCalls : Type 0
-StreamsWithoutCalls = (credits low units : ℕ) (s : Setup) (J : List Entry) →
-    IsCompleteStream credits low units s J [] × ((t : SideTerms) → IsCompleteStream credits low units s J (hello_with Initiator (initiator_private t)))
+StreamsWithoutCalls = (limits : ConnectionLimits) (s : Setup) (J : List Entry) →
+    IsCompleteStream limits s J [] × ((t : SideTerms) → IsCompleteStream limits s J (hello_with Initiator (initiator_private t)))
 
 -- A connection that served a complete stream of bytes answered each Send of it: as many messages were completely
 -- written as Sends were received, if the first tree of its server holds bytes, and the journal has entries in bytes.
 abbrev pub SendsAreAnswered : Type 0
 SendsAreAnswered =
-    (credits low units : ℕ) (first : Opening) (J : List Entry) (link : ℕ) (before after : Outside) (stream : List ℕ) (served : ServesStream credits low units first J link before after stream) →
-    (opened : LinkParameters) → ServerOpened opened credits low (sized_terms units) → IsBytes stream → IsInBytes (setup_in first).tree → EntriesInBytes J →
+    (limits : ConnectionLimits) (first : Opening) (J : List Entry) (link : ℕ) (before after : Outside) (stream : List ℕ) (served : ServesStream limits first J link before after stream) →
+    (opened : LinkParameters) → IsOpenedWith limits opened → IsBytes stream → IsInBytes (setup_in first).tree → EntriesInBytes J →
     items_written is_send_item (length (hello_due opened link Responder served.run)) (length (bytes_sent link Responder served.run)) (items_due opened link Responder served.run)
     ≡ (server opened link served.run).state.received.sends
 
@@ -80,9 +79,9 @@ SendsAreAnswered =
 -- a tree in bytes, and entries in bytes; it is asked of the other marks alone.
 abbrev pub MatchedConnectionsStay : Type 0
 MatchedConnectionsStay =
-    (credits low units : ℕ) (before after : Outside) (why : End) (link read : ℕ) (failed : Bool)
-    (ended : Ended (record { credits = credits; low = low; units = units; read = read }) link before (with_failed failed after) (ends.Protocol why))
+    (limits : ConnectionLimits) (before after : Outside) (why : End) (link read : ℕ) (failed : Bool)
+    (ended : Ended limits read link before (with_failed failed after) (ends.Protocol why))
     (first : Opening) (J : List Entry) (left : List ℕ) (reply_to : List Entry → Moment → List ℕ → Option (List ℕ)) (adds : Moment → List ℕ → List ℕ → List Entry) (opened : LinkParameters) (run : List Mark) →
-    ServerOpened opened credits low (sized_terms units) → own_marks link run ≡ ended.run → IsOverBytes first J left before → IsTyped (other_marks link run) →
+    IsOpenedWith limits opened → own_marks link run ≡ ended.run → IsOverBytes first J left before → IsTyped (other_marks link run) →
     IsOpened opened → KeepLaws opened link run → HasNoRevoke link run → AreConveyedOrRefused opened link run →
     KeepsReplyLimits (server_with reply_to adds) → HasPlainReplies (server_with reply_to adds) link run → ⊥

@@ -17,17 +17,18 @@ use Rattle.nr_host.specs.Connections.{Outside}
 use Rattle.nr_host.specs.LinkServing.{HELLO_BYTE}
 use Rattle.nr_host.specs.Serving.{Between, ServesLink, split_off}
 use Rattle.nr_host.specs.Steps.{outside, sink_state}
+use Rattle.nr_host.specs.declared.connection_limits.ConnectionLimits.{ConnectionLimits}
 use Rattle.nr_host.specs.declared.link_end.LinkEnd.{LinkEnd}
 use Rattle.nr_host.specs.declared.link_end.LinkEnd.TheVariants as link_ends
 use Rattle.nr_host_laws.specs.Laws.{Completes}
 use Rattle.nr_host_laws.specs.Streams.{IsCompleteStream}
 
 -- a link as it was accepted, and as it was hung up
-module _ {credits low units : ℕ} {records : Bool} {before after : Between} {end : LinkEnd} where
-  abbrev pub opened_outside : ServesLink credits low units records before after end → Outside
+module _ {limits : ConnectionLimits} {records : Bool} {before after : Between} {end : LinkEnd} where
+  abbrev pub opened_outside : ServesLink limits records before after end → Outside
   opened_outside s = outside s.opened.left s.opened.given (sink_state s.opened.taken 0 false) s.gave (split_off before.view)
 
-  abbrev pub closed_outside : ServesLink credits low units records before after end → Outside
+  abbrev pub closed_outside : ServesLink limits records before after end → Outside
   closed_outside s = outside s.closed.left s.closed.given (sink_state s.closed.taken s.sink_faults false) s.gave' s.own
 
 -- ===== RPC over RDMA
@@ -37,18 +38,18 @@ abbrev pub BeginsAsRdma : List ℕ → Type 0
 BeginsAsRdma [] = ⊤
 BeginsAsRdma (byte ∷ rest) = byte ≡ HELLO_BYTE
 
-abbrev pub LinkCompletes : (credits low units : ℕ) → Opening → List Entry → (before after : Outside) → List ℕ → LinkEnd → Type 0
-LinkCompletes credits low units first J before after stream (link_ends.Rdma end) = Completes credits low units first J before after stream end
-LinkCompletes credits low units first J before after stream (link_ends.Record end) = ⊥
+abbrev pub LinkCompletes : (limits : ConnectionLimits) → Opening → List Entry → (before after : Outside) → List ℕ → LinkEnd → Type 0
+LinkCompletes limits first J before after stream (link_ends.Rdma end) = Completes limits first J before after stream end
+LinkCompletes limits first J before after stream (link_ends.Record end) = ⊥
 
 -- A link of `serve` whose client sends a complete stream, which begins as RPC over RDMA if the server serves record
 -- marks too. The count of lost links doesn't rise.
 abbrev pub LinksComplete : Type 0
 LinksComplete =
-    (credits low units : ℕ) (records : Bool) (before after : Between) (end : LinkEnd) (first : Opening) (J : List Entry) (stream : List ℕ) (served : ServesLink credits low units records before after end) → credits ≤ low →
+    (limits : ConnectionLimits) (records : Bool) (before after : Between) (end : LinkEnd) (first : Opening) (J : List Entry) (stream : List ℕ) (served : ServesLink limits records before after end) →
     (Rises before.lost after.lost → ⊥) → (records ≡ true → BeginsAsRdma stream) →
-    IsHistory first J before.view.seen → served.opened.left ≡ Some stream → IsCompleteStream credits low units (setup_in first) J stream →
-    LinkCompletes credits low units first J (opened_outside served) (closed_outside served) stream end
+    IsHistory first J before.view.seen → served.opened.left ≡ Some stream → IsCompleteStream limits (setup_in first) J stream →
+    LinkCompletes limits first J (opened_outside served) (closed_outside served) stream end
 
 -- ===== RPC over TCP with record marks
 
@@ -63,7 +64,7 @@ RecordLinkCompletes before after records (link_ends.Record end) = IsComplete (ar
 -- call head, in all fewer than 2^40 bytes. The count of lost links doesn't rise.
 abbrev pub RecordLinksComplete : Type 0
 RecordLinksComplete =
-    (credits low units : ℕ) (before after : Between) (end : LinkEnd) (cut : Cut) (cuts : List Cut) (served : ServesLink credits low units true before after end) →
+    (limits : ConnectionLimits) (before after : Between) (end : LinkEnd) (cut : Cut) (cuts : List Cut) (served : ServesLink limits true before after end) →
     (Rises before.lost after.lost → ⊥) → served.opened.left ≡ Some (encodings (cut ∷ cuts)) →
     AllByRecursion IsContentInLimit (cut ∷ cuts) → AllByRecursion HasCallHead (contents (cut ∷ cuts)) → length (encodings (cut ∷ cuts)) < read_max →
     RecordLinkCompletes (opened_outside served) (closed_outside served) (contents (cut ∷ cuts)) end

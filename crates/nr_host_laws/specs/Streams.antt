@@ -3,8 +3,6 @@ use Rattle.std.specs.Prelude.{◌≡◌, ℕ, ◌<◌, List, [], ◌++◌, lengt
 use Rattle.std.specs.Io.KnownBytes.{Appends}
 use Rattle.nr_wire.specs.declared.hello.Side.TheVariants.{Initiator, Responder}
 use Rattle.nr_link.specs.Input.{input_of}
-use Rattle.nr_link.specs.Agreement.{sized_terms}
-use Rattle.nr_reduce.specs.Opening.{ServerOpened}
 use Rattle.nr_reduce.specs.declared.mark.Mark.{Mark}
 use Rattle.nr_reduce.specs.declared.mark.Entry.{Entry}
 use Rattle.nr_reduce.specs.declared.mark.LinkParameters.{LinkParameters}
@@ -16,11 +14,12 @@ use Rattle.nr_reduce.specs.Served.{Served, ServedSoFar}
 use Rattle.nr_plain.specs.Setup.{Setup}
 use Rattle.nr_plain.specs.History.{AllPlaced, Opening, OverHistory, setup_in}
 use Rattle.nr_links.specs.Limits.{read_max}
-use Rattle.nr_host.specs.Connections.{Outside, IsOwn, IsQuiet, QuietMark, FrameMark, GivesAll, answers_of, moments}
+use Rattle.nr_host.specs.Connections.{Outside, IsOwn, IsQuiet, QuietMark, WriteMark, FrameMark, GivesAll, answers_of, moments, IsOpenedWith}
 use Rattle.nr_host.specs.Ending.{IsIdle}
+use Rattle.nr_host.specs.declared.connection_limits.ConnectionLimits.{ConnectionLimits}
 
 -- Marks that a connection may have made when it has read the first bytes of this stream, or all: it fed them frame by
--- frame, and executed each call that was complete, and wrote what was due, before the next frame. Each call was
+-- frame, executed each call that was complete, and then wrote what was due, before the next frame. Each call was
 -- answered as the plain server answers at its place in a journal that begins with the entries J, and goes on with its
 -- own and those of others.
 pub record MayHaveMade (s : Setup) (J : List Entry) (opened : LinkParameters) (link : ℕ) (stream : List ℕ) (run : List Mark) : Type 0 where
@@ -28,26 +27,27 @@ pub record MayHaveMade (s : Setup) (J : List Entry) (opened : LinkParameters) (l
   pub begins : IsPrefixOf (bytes_received link Responder run) stream
   pub served : ServedSoFar opened link run
   pub quiet : AtEachMark (QuietMark opened link) [] run
+  pub writes : AtEachMark (WriteMark opened link) [] run
   pub frames : AtEachMark (FrameMark opened link) [] run
   pub more : List Entry
   pub plain : AllPlaced s (J ++ more) (length J) (answers_of run)
 
--- A client's stream that a server which grants these credits and has these units reads to its end, after the entries J: it has fewer bytes
--- than the maximum, ends the server's side at none of them, and ends at no byte or after complete frames, when each
--- call that it asks for can be answered.
-pub record IsCompleteStream (credits low units : ℕ) (s : Setup) (J : List Entry) (stream : List ℕ) : Type 0 where
+-- A client's stream that a server with these limits reads to its end, after the entries J: it has fewer bytes than the
+-- maximum, ends the server's side at none of them, and ends at no byte or after complete frames, when each call that it
+-- asks for can be answered.
+pub record IsCompleteStream (limits : ConnectionLimits) (s : Setup) (J : List Entry) (stream : List ℕ) : Type 0 where
   pub within : length stream < read_max
   pub frames : (input_of Initiator stream).rest ≡ []
-  pub stays : (opened : LinkParameters) (link : ℕ) (run : List Mark) → ServerOpened opened credits low (sized_terms units) →
+  pub stays : (opened : LinkParameters) (link : ℕ) (run : List Mark) → IsOpenedWith limits opened →
       MayHaveMade s J opened link stream run → (server opened link run).ended ≡ None
-  pub answered : (opened : LinkParameters) (link : ℕ) (run : List Mark) → ServerOpened opened credits low (sized_terms units) →
+  pub answered : (opened : LinkParameters) (link : ℕ) (run : List Mark) → IsOpenedWith limits opened →
       MayHaveMade s J opened link stream run → bytes_received link Responder run ≡ stream → IsQuiet opened link run →
       (server opened link run).state.calls ≡ []
 
 -- A connection served such a stream: it read and fed all of it and nothing else, the sink took all that was written,
 -- which is all that was due, each call was executed at the moment that the clock gave and answered, at its place in the
 -- one journal that the pass has then seen. The law of a link's server holds in full: each Wrote writes all that is due.
-pub record ServesStream (credits low units : ℕ) (first : Opening) (J : List Entry) (link : ℕ) (before after : Outside) (stream : List ℕ) : Type 0 where
+pub record ServesStream (limits : ConnectionLimits) (first : Opening) (J : List Entry) (link : ℕ) (before after : Outside) (stream : List ℕ) : Type 0 where
   pub run : List Mark
   pub fed : bytes_received link Responder run ≡ stream
   pub left : after.left ≡ Some []
@@ -55,7 +55,7 @@ pub record ServesStream (credits low units : ℕ) (first : Opening) (J : List En
   pub taken : Appends before.sink.taken after.sink.taken (bytes_sent link Responder run)
   pub gave : GivesAll before.gave after.gave (moments run)
   pub over : OverHistory first J before.view (answers_of run) after.view
-  pub made : (opened : LinkParameters) → ServerOpened opened credits low (sized_terms units) → MayHaveMade (setup_in first) J opened link stream run
-  pub served : (opened : LinkParameters) → ServerOpened opened credits low (sized_terms units) → Served opened link run
-  pub idle : (opened : LinkParameters) → ServerOpened opened credits low (sized_terms units) → IsIdle opened link run
-  pub answered : (opened : LinkParameters) → ServerOpened opened credits low (sized_terms units) → (server opened link run).state.calls ≡ []
+  pub made : (opened : LinkParameters) → IsOpenedWith limits opened → MayHaveMade (setup_in first) J opened link stream run
+  pub served : (opened : LinkParameters) → IsOpenedWith limits opened → Served opened link run
+  pub idle : (opened : LinkParameters) → IsOpenedWith limits opened → IsIdle opened link run
+  pub answered : (opened : LinkParameters) → IsOpenedWith limits opened → (server opened link run).state.calls ≡ []

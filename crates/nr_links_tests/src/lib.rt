@@ -1,4 +1,4 @@
-//! Tests of links and clocks (`nr_links`), of jobs (`nr_jobs`), and of words and configurations (`nr_words`).
+//! Tests of links and clocks (`nr_links`) and of jobs (`nr_jobs`).
 //!
 //! They stand in a crate of their own, above the crates that they test, since a crate with tests is proved twice.
 #![tactic(auto)]
@@ -8,8 +8,6 @@ mod clocks;
 #[cfg(test)]
 mod compare;
 #[cfg(test)]
-mod configurations;
-#[cfg(test)]
 mod looking;
 #[cfg(test)]
 mod memory;
@@ -17,5 +15,3 @@ mod memory;
 mod sockets;
 #[cfg(test)]
 mod spawning;
-#[cfg(test)]
-mod words;

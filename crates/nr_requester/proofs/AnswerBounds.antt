@@ -46,6 +46,7 @@ same_fit len (x ∷ xs) (y ∷ ys) h a = (
     call = (let own = ap (λ (c : OutstandingCall). stored_bytes c.call) h.0.0 in let le = a.0.call in omega (arith, own, le));
     offer = (let own = ap (λ (c : OutstandingCall). claims_len c.claims) h.0.0 in let le = a.0.offer in omega (arith, own, le));
     segments = (let own = ap (λ (c : OutstandingCall). segments_offered c.offered) h.0.0 in let le = a.0.segments in omega (arith, own, le));
+    writes = (let own = ap (λ (c : OutstandingCall). length c.offered.write) h.0.0 in let le = a.0.writes in omega (arith, own, le));
     written = h.0.1.1 a.0.written;
     room = h.0.1.0 ∙ (a.0.room ∙ ap (λ (c : OutstandingCall). reply_room len c.offered) (sym h.0.0));
     short = (let own = h.0.1.0 in let le = a.0.short in omega (arith, own, le));

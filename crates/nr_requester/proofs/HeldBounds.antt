@@ -11,7 +11,7 @@ use Rattle.nr_requester.specs.declared.outstanding.OutstandingCall.{OutstandingC
 use Rattle.nr_requester.specs.declared.answer.AnsweredCall.{AnsweredCall}
 use Rattle.nr_requester.specs.RequesterState.{StoredCall, RequesterState, RequesterSide}
 use Rattle.nr_requester.specs.Views.{stored_view, requester_view}
-use Rattle.nr_requester.specs.HeldBytes.{NothingOutside, stored_bytes, calls_bytes, rooms_bytes, rooms_total, bytes_held_by, held_unit, last_max, LinkFits, RegionsHave, in_bytes, claims_total, CallFits, answer_bytes, answers_bytes, AnswerFits, RequesterBounds}
+use Rattle.nr_requester.specs.HeldBytes.{NothingOutside, call_size, end_size, offer_held, OffersFew, stored_bytes, calls_bytes, rooms_bytes, rooms_total, bytes_held_by, held_unit, last_max, LinkFits, RegionsHave, in_bytes, claims_total, CallFits, answer_bytes, answers_bytes, AnswerFits, RequesterBounds}
 use Rattle.nr_endpoint.specs.OutputSizes.{frame_max, send_frames_max}
 use Rattle.nr_endpoint.proofs.SendQueues.{ends_left_fewer}
 use Rattle.nr_requester.proofs.RegionBounds.{bytes_count}
@@ -55,16 +55,28 @@ link_bytes s len total l have kept =
 -- ---- The calls
 
 pub each_small : (len : ℕ) (calls : List OutstandingCall) → AllByRecursion (CallFits len) calls →
-    claims_total in_bytes calls + calls_bytes (map stored_view calls) + rooms_bytes len (map stored_view calls) + send_frames_max * length calls ≤ held_unit * length calls
+    claims_total in_bytes calls + calls_bytes (map stored_view calls) + rooms_bytes len (map stored_view calls) + (send_frames_max + end_size) * length calls ≤ held_unit * length calls
 each_small len [] h = omega arith
-each_small len (c ∷ calls) h = (let one = h.0 in omega (arith, one.call, one.offer, one.room, one.short, each_small len calls h.1))
+each_small len (c ∷ calls) h = (let one = h.0 in omega (arith, one.call, one.offer, one.segments, one.writes, one.room, one.short, each_small len calls h.1))
+
+pub all_few : (len : ℕ) (calls : List OutstandingCall) → AllByRecursion (CallFits len) calls → AllByRecursion OffersFew calls
+all_few len [] h = tt
+all_few len (c ∷ calls) h = (h.0.segments, all_few len calls h.1)
+
+few_at : (i : ℕ) (calls : List OutstandingCall) (c : OutstandingCall) → i < length calls → AllByRecursion OffersFew calls → OffersFew (get_or calls i c)
+few_at i [] c lt h = absurd (omega (arith, lt))
+few_at zero (d ∷ calls) c lt h = h.0
+few_at (suc i) (d ∷ calls) c lt h = few_at i calls c (omega (arith, lt)) h.1
+
+pub few_of : (i : ℕ) (calls : List OutstandingCall) (c : OutstandingCall) → i < length calls → c ≡ get_or calls i c → AllByRecursion OffersFew calls → OffersFew c
+few_of i calls c lt is h = subst OffersFew (sym is) (few_at i calls c lt h)
 
 -- one more of them is counted
-pub one_counted : (calls : List OutstandingCall) (i sum n all : ℕ) (c : OutstandingCall) → i < length calls → c ≡ get_or calls i c → n ≡ stored_bytes c.call → sum + calls_bytes (map stored_view (drop i calls)) ≡ all →
+pub one_counted : (calls : List OutstandingCall) (i sum n all : ℕ) (c : OutstandingCall) → i < length calls → c ≡ get_or calls i c → n ≡ call_size + offer_held c.offered + stored_bytes c.call → sum + calls_bytes (map stored_view (drop i calls)) ≡ all →
     sum + n + calls_bytes (map stored_view (drop (i + 1) calls)) ≡ all
 one_counted calls i sum n all c lt is of so_far =
     let first : drop i calls ≡ c ∷ drop (i + 1) calls = drop_more calls i c lt ∙ ap (λ (x : OutstandingCall). x ∷ drop (i + 1) calls) (sym is) in
-    let step : calls_bytes (map stored_view (drop i calls)) ≡ stored_bytes c.call + calls_bytes (map stored_view (drop (i + 1) calls)) = ap (λ (cs : List OutstandingCall). calls_bytes (map stored_view cs)) first in
+    let step : calls_bytes (map stored_view (drop i calls)) ≡ call_size + offer_held c.offered + stored_bytes c.call + calls_bytes (map stored_view (drop (i + 1) calls)) = ap (λ (cs : List OutstandingCall). calls_bytes (map stored_view cs)) first in
     omega (arith, of, so_far, step)
 
 pub one_room : (calls : List OutstandingCall) (i sum n all : ℕ) (c : OutstandingCall) → i < length calls → c ≡ get_or calls i c → n ≡ c.room.len → sum + rooms_total (drop i calls) ≡ all → sum + n + rooms_total (drop (i + 1) calls) ≡ all
@@ -99,21 +111,22 @@ one_answer answers i sum n all a lt is of so_far =
 
 -- ---- Both
 
-pub held_is : (e : EndpointState) (len sends next sent wished grant kept more rooms : ℕ) (calls : List OutstandingCall) (answers : List AnsweredCall) (rest : ℕ) (r : RequesterState) → (requester_view e.link sent wished sends next grant calls answers).state ≡ r → RequesterBounds len e sends next calls answers →
-    kept ≡ bytes_kept e → more ≡ calls_bytes (map stored_view calls) → rooms ≡ rooms_bytes len (map stored_view calls) → rest ≡ answers_bytes answers → kept + more + rooms + rest ≡ bytes_held_by r
+pub held_is : (e : EndpointState) (len sends next sent wished grant kept more rooms waits : ℕ) (calls : List OutstandingCall) (answers : List AnsweredCall) (rest : ℕ) (r : RequesterState) → (requester_view e.link sent wished sends next grant calls answers).state ≡ r → RequesterBounds len e sends next calls answers →
+    kept ≡ bytes_kept e → more ≡ calls_bytes (map stored_view calls) → rooms ≡ rooms_bytes len (map stored_view calls) → waits ≡ end_size * length e.link.state.send_queue.send_ends → rest ≡ answers_bytes answers → kept + more + rooms + waits + rest ≡ bytes_held_by r
 unfolding bytes_held_by
-held_is e len sends next sent wished grant kept more rooms calls answers rest r is w kept_is more_is rooms_is rest_is =
-    let here : FPDU_MAX + bytes_of e.link.state + calls_bytes (map stored_view calls) + rooms_bytes e.link.state.receive_queue.receive_length (map stored_view calls) + answers_bytes answers ≡ bytes_held_by r = ap bytes_held_by is in
+held_is e len sends next sent wished grant kept more rooms waits calls answers rest r is w kept_is more_is rooms_is waits_is rest_is =
+    let here : FPDU_MAX + bytes_of e.link.state + calls_bytes (map stored_view calls) + rooms_bytes e.link.state.receive_queue.receive_length (map stored_view calls) + end_size * length e.link.state.send_queue.send_ends + answers_bytes answers ≡ bytes_held_by r =
+    ap bytes_held_by is in
     let same : rooms_bytes e.link.state.receive_queue.receive_length (map stored_view calls) ≡ rooms_bytes len (map stored_view calls) = ap (λ (n : ℕ). rooms_bytes n (map stored_view calls)) w.link.receive_length in
-    omega (arith, here, same, w.staging, no_outside e w.outside, kept_is, more_is, rooms_is, rest_is)
+    omega (arith, here, same, w.staging, no_outside e w.outside, kept_is, more_is, rooms_is, waits_is, rest_is)
 
-pub held_bound : (e : EndpointState) (len sends next kept more rooms : ℕ) (calls : List OutstandingCall) (answers : List AnsweredCall) → RequesterBounds len e sends next calls answers → receives_kept e.link.state.receive_queue + e.link.state.receive_queue.lent ≡ e.link.state.receive_queue.receives →
-    kept ≡ bytes_kept e → more ≡ calls_bytes (map stored_view calls) → rooms ≡ rooms_bytes len (map stored_view calls) → kept + more + rooms ≤ held_unit * (length calls + 4)
-held_bound e len sends next kept more rooms calls answers w receives kept_is more_is rooms_is =
+pub held_bound : (e : EndpointState) (len sends next kept more rooms waits : ℕ) (calls : List OutstandingCall) (answers : List AnsweredCall) → RequesterBounds len e sends next calls answers → receives_kept e.link.state.receive_queue + e.link.state.receive_queue.lent ≡ e.link.state.receive_queue.receives →
+    kept ≡ bytes_kept e → more ≡ calls_bytes (map stored_view calls) → rooms ≡ rooms_bytes len (map stored_view calls) → waits ≡ end_size * length e.link.state.send_queue.send_ends → kept + more + rooms + waits ≤ held_unit * (length calls + 4)
+held_bound e len sends next kept more rooms waits calls answers w receives kept_is more_is rooms_is waits_is =
     let s1 : LinkState = e.link.state in
     let link = link_bytes s1 len (claims_total in_bytes calls) w.link (w.regions in_bytes bytes_count) (omega (arith, receives, w.link.receives)) in
     let waiting : length s1.send_queue.send_ends ≤ length calls = omega (arith, w.counts.waiting, few_wait s1.send_queue.sends_left calls) in
-    omega (arith, link, waiting, w.staging, no_outside e w.outside, kept_is, more_is, rooms_is, each_small len calls w.each)
+    omega (arith, link, waiting, w.staging, no_outside e w.outside, kept_is, more_is, rooms_is, waits_is, each_small len calls w.each)
 
 pub held_most : (wished kept rest : ℕ) (calls : List OutstandingCall) (answers : List AnsweredCall) (h : RequesterSide) → h.state.wished ≡ wished → h.state.outstanding ≡ map stored_view calls → h.state.answered ≡ answers → kept ≤ held_unit * (length calls + 4) → rest ≤ held_unit * length answers →
     kept + rest ≤ held_unit * (max h.state.wished (length h.state.outstanding) + length h.state.answered + 4)

@@ -145,6 +145,14 @@ plan_segments payload form up down stag p short is =
     let fits = (is_formed payload form up down p is).fits in
     omega (arith, short, fits, few_entries stag p p.read_at, few_written (write_stag stag p) p.write, few_replied (reply_stag stag p) p.reply)
 
+one_written : (stag : ℕ) (w : Option (List ℕ)) → length (write_list stag w) ≤ 1
+one_written stag None = omega arith
+one_written stag (Some lengths) = omega arith
+
+pub plan_writes : (stag : ℕ) (p : Plan) → length (lists_of stag p).write ≤ 1
+unfolding lists_of
+plan_writes stag p = one_written (write_stag stag p) p.write
+
 -- a payload that has a plan
 pub payload_small : (payload : List ℕ) (form : Form) (up down : ℕ) (p : Plan) → plan_of payload form up down ≡ Ok p → length payload ≤ PAYLOAD_MAX
 unfolding plan_of

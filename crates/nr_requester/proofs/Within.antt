@@ -44,7 +44,7 @@ use Rattle.nr_requester.specs.HeldBytes.{NothingOutside, cred_bytes, call_bytes,
 use Rattle.nr_endpoint.proofs.OutputSizes.{hello_len, written_hello}
 use Rattle.nr_endpoint.proofs.SendQueues.{ends_left_fewer}
 use Rattle.nr_requester.proofs.OutputBounds.{send_fits, written_fits}
-use Rattle.nr_requester.proofs.PlanBounds.{plan_bounds, plan_segments, payload_small}
+use Rattle.nr_requester.proofs.PlanBounds.{plan_bounds, plan_segments, plan_writes, payload_small}
 use Rattle.nr_requester.proofs.OutsideBounds.{opened_outside, same_outside}
 use Rattle.nr_requester.proofs.RegionBounds.{Both, bytes_count, offered_both, plan_short, plan_len}
 use Rattle.nr_requester.proofs.Sent.{count_offered, registered_offered}
@@ -181,7 +181,7 @@ sent_within e e2 len sends next xid credit calls calls2 answers answers2 o plan 
       regions = λ size is. subst (λ (x : LinkState). RegionsHave size x.memory (claims_total size (calls ++ o ∷ []))) (sym state) (subst (λ (n : ℕ). RegionsHave size after.memory n) (sum size) (sent size is).1);
       counts = subst (λ (x : LinkState). CountsFit (sends + 1) x.send_queue (calls ++ o ∷ [])) (sym state)
           (counts_sent sends _ s.send_queue after.send_queue calls o refl refl number w.counts);
-      each = all_append (CallFits len) calls o w.each (record { call = small; offer = omega (arith, own, short); segments = subst (λ (l : ChunkLists). segments_offered l ≤ offered_segments_max) (sym lists) (plan_segments i.payload i.form i.up i.down s.memory.next plan i.short i.is); written = (let none : length o.room.bytes ≡ 0 = ap (λ (xs : List ℕ). length xs) empty in omega (arith, none)); room = offered; short = (let back = fits.back in omega (arith, room, back, w.link.receive)) });
+      each = all_append (CallFits len) calls o w.each (record { call = small; offer = omega (arith, own, short); segments = subst (λ (l : ChunkLists). segments_offered l ≤ offered_segments_max) (sym lists) (plan_segments i.payload i.form i.up i.down s.memory.next plan i.short i.is); writes = subst (λ (l : ChunkLists). length l.write ≤ 1) (sym lists) (plan_writes s.memory.next plan); written = (let none : length o.room.bytes ≡ 0 = ap (λ (xs : List ℕ). length xs) empty in omega (arith, none)); room = offered; short = (let back = fits.back in omega (arith, room, back, w.link.receive)) });
       kept = w.kept;
       distinct = w.distinct;
     } in

@@ -42,11 +42,44 @@ abbrev pub stored_bytes : Option Call → ℕ
 stored_bytes None = 0
 stored_bytes (Some call) = call_bytes call
 
+-- How many segments the chunk lists of a call have together.
+abbrev pub reply_segments : Option (List RdmaSegment) → ℕ
+reply_segments None = 0
+reply_segments (Some chunk) = length chunk
+
+abbrev pub segments_offered : ChunkLists → ℕ
+segments_offered lists = length lists.read + (sum_by (λ chunk. length chunk) lists.write + reply_segments lists.reply)
+
+-- The size of an item of each list, in bytes: of a call that is outstanding, of one that was answered, of a segment of a read list, of a write chunk, of a
+-- segment of that or of a reply chunk, and of the end of a Send.
+abbrev pub call_size : ℕ
+call_size = 368
+
+abbrev pub answer_size : ℕ
+answer_size = 288
+
+abbrev pub read_segment_size : ℕ
+read_segment_size = 24
+
+abbrev pub chunk_size : ℕ
+chunk_size = 280
+
+abbrev pub segment_size : ℕ
+segment_size = 16
+
+abbrev pub end_size : ℕ
+end_size = 8
+
+-- the bytes of the chunk lists that a call offered
+abbrev pub offer_held : ChunkLists → ℕ
+offer_held lists = read_segment_size * length lists.read + (chunk_size * length lists.write + segment_size * (sum_by (λ chunk. length chunk) lists.write + reply_segments lists.reply))
+
+-- of each call: itself, its chunk lists, its arguments and its credential
 abbrev pub calls_bytes : List StoredCall → ℕ
 calls_bytes [] = 0
-calls_bytes (c ∷ calls) = stored_bytes c.call + calls_bytes calls
+calls_bytes (c ∷ calls) = call_size + offer_held c.offered + stored_bytes c.call + calls_bytes calls
 
--- The bytes of an answer: the call, its buffers, and the payload of the reply.
+-- The bytes of an answer: itself, the call, its buffers, and the payload of the reply.
 abbrev pub outcome_bytes : Outcome → ℕ
 outcome_bytes (outcomes.Reply payload) = length payload
 outcome_bytes outcomes.Chunk = 0
@@ -60,7 +93,7 @@ abbrev pub buffers_len : Buffers → ℕ
 buffers_len b = buffer_len b.read + (buffer_len b.write + buffer_len b.reply)
 
 abbrev pub answer_bytes : AnsweredCall → ℕ
-answer_bytes a = call_bytes a.call + (buffers_len a.buffers + outcome_bytes a.outcome)
+answer_bytes a = answer_size + (call_bytes a.call + (buffers_len a.buffers + outcome_bytes a.outcome))
 
 abbrev pub answers_bytes : List AnsweredCall → ℕ
 answers_bytes [] = 0
@@ -82,10 +115,12 @@ abbrev pub rooms_bytes : (receive_length : ℕ) → List StoredCall → ℕ
 rooms_bytes receive_length [] = 0
 rooms_bytes receive_length (c ∷ calls) = reply_room receive_length c.offered + rooms_bytes receive_length calls
 
--- The bytes of the staging buffer, the receives, the regions and the output, and those of the calls, of the rooms of their replies, and of
--- the answers.
+-- The bytes of the staging buffer, the receives, the regions and the output, and those of the calls, of the rooms of their replies, of the ends of Sends
+-- that wait, and of the answers.
 unfoldable pub bytes_held_by : RequesterState → ℕ
-bytes_held_by r = FPDU_MAX + bytes_of r.side + calls_bytes r.outstanding + rooms_bytes r.side.receive_queue.receive_length r.outstanding + answers_bytes r.answered
+bytes_held_by r =
+    FPDU_MAX + bytes_of r.side + calls_bytes r.outstanding + rooms_bytes r.side.receive_queue.receive_length r.outstanding + end_size * length r.side.send_queue.send_ends
+    + answers_bytes r.answered
 
 -- ---- Bounds
 
@@ -208,18 +243,13 @@ in_bytes len = len
 abbrev pub claims_len : Claims → ℕ
 claims_len c = claims_size in_bytes c
 
--- How many segments the chunk lists of a call have together, and the maximum: a header of HEADER_LEN_MIN bytes with 16 or more for each segment
--- (RFC 8166 section 4.3) has at most receive_max bytes.
-abbrev pub reply_segments : Option (List RdmaSegment) → ℕ
-reply_segments None = 0
-reply_segments (Some chunk) = length chunk
-
-abbrev pub segments_offered : ChunkLists → ℕ
-segments_offered lists = length lists.read + (sum_by (λ chunk. length chunk) lists.write + reply_segments lists.reply)
-
--- The segments for which the header of a Send of UNITS_MAX units has room, 16 bytes each: (16,384 - 32) / 16.
+-- The maximum number of segments of a call: a header of HEADER_LEN_MIN bytes with 16 or more for each segment (RFC 8166 section 4.3) has at most
+-- receive_max bytes, and (16,384 - 32) / 16 is this.
 abbrev pub offered_segments_max : ℕ
 offered_segments_max = 1022
+
+abbrev pub OffersFew : OutstandingCall → Type 0
+OffersFew c = segments_offered c.offered ≤ offered_segments_max
 
 -- the rooms of the replies of some calls
 abbrev pub rooms_total : List OutstandingCall → ℕ
@@ -231,6 +261,7 @@ pub record CallFits (len : ℕ) (c : OutstandingCall) : Type 0 where
   pub call : stored_bytes c.call ≤ call_max
   pub offer : claims_len c.claims ≤ offer_max
   pub segments : segments_offered c.offered ≤ offered_segments_max
+  pub writes : length c.offered.write ≤ 1
   pub written : length c.room.bytes ≤ c.room.len
   pub room : c.room.len ≡ reply_room len c.offered
   pub short : c.room.len ≤ held_reply_max

@@ -3,8 +3,9 @@
 ghost use Rattle.std.specs.Prelude.{◌≡◌, ℕ, ◌+◌, ◌*◌, ◌^◌, ◌≤◌, length, map, max};
 ghost use Rattle.std.specs.List.{AllByRecursion};
 ghost use Rattle.nr_reduce.specs.Limits.{credits_max};
-ghost use Rattle.nr_requester.specs.HeldBytes.{cred_bytes, call_bytes, stored_bytes, calls_bytes, rooms_total, outcome_bytes, buffer_len, answer_bytes, answers_bytes, AnswerFits, bytes_held_by, held_unit};
+ghost use Rattle.nr_requester.specs.HeldBytes.{call_size, offer_held, cred_bytes, call_bytes, stored_bytes, calls_bytes, rooms_total, outcome_bytes, buffer_len, answer_bytes, answers_bytes, AnswerFits, bytes_held_by, held_unit};
 ghost use Rattle.nr_requester.specs.Views.{stored_view};
+ghost use Rattle.nr_requester.specs.HeldBytes.{OffersFew};
 
 use crate::answer::AnsweredCall;
 use crate::outstanding::OutstandingCall;
@@ -12,6 +13,20 @@ use crate::requester::Requester;
 use nr_reduce::{Call, Outcome};
 use nr_rpc::Cred;
 use nr_xdr::Octets;
+use std::mem::size_of;
+
+/// The sizes of an outstanding call, of an answer, and of the end of a Send.
+const CALL_SIZE: u128 = 368;
+
+const _: () = prove!(size_of::<OutstandingCall>() == 368);
+
+const ANSWER_SIZE: u128 = 288;
+
+const _: () = prove!(size_of::<AnsweredCall>() == 288);
+
+const END_SIZE: u128 = 8;
+
+const _: () = prove!(size_of::<usize>() == 8);
 
 fn cred_bytes(cred: &Cred) -> usize
     ensures { result ≡ cred_bytes cred.now }
@@ -40,13 +55,23 @@ fn stored_bytes(stored: &OutstandingCall) -> u128
     }
 }
 
+/// The bytes of an outstanding call, with what it offered.
+fn kept_bytes(stored: &OutstandingCall) -> u128
+    requires { OffersFew stored.now }
+    ensures is { result ≡ call_size + offer_held stored.now.offered + stored_bytes stored.now.call }
+    ensures small { result ≤ 2 ^ 73 }
+{
+    CALL_SIZE + stored.offered.held() + stored_bytes(stored)
+}
+
 fn calls_bytes(calls: &[OutstandingCall]) -> u128
-    requires { length calls.now ≤ credits_max }
+    requires count { length calls.now ≤ credits_max }
+    requires few { AllByRecursion OffersFew calls.now }
     ensures { result ≡ calls_bytes (map stored_view calls.now) }
 {
     let mut sum: u128 = 0;
     for call in calls {
-        sum += stored_bytes(call);
+        sum += kept_bytes(call);
     }
     sum
 }
@@ -88,7 +113,7 @@ fn answer_bytes(answer: &AnsweredCall) -> u128
 {
     let buffers = buffer_len(&answer.buffers.read)
         + (buffer_len(&answer.buffers.write) + buffer_len(&answer.buffers.reply));
-    call_bytes(&answer.call) + (buffers + outcome_bytes(&answer.outcome) as u128)
+    ANSWER_SIZE + (call_bytes(&answer.call) + (buffers + outcome_bytes(&answer.outcome) as u128))
 }
 
 fn answers_bytes(answers: &[AnsweredCall]) -> u128
@@ -105,9 +130,9 @@ fn answers_bytes(answers: &[AnsweredCall]) -> u128
 }
 
 impl Requester {
-    /// The sum of the lengths of all byte buffers that are kept, in bytes: the staging buffer, the receive, the regions, the output, the calls
-    /// with the names of their machines, the rooms of their replies, and the answers with their buffers, each by its own bytes. At most
-    /// 262,144 for each call that is outstanding or each credit that was wished for, whichever are more, for each answer that wasn't taken,
+    /// How many bytes are kept: the staging buffer, the receive, the regions, the output, the calls with the names of their machines and the lists that
+    /// they offered, the rooms of their replies, the ends of Sends that wait, and the answers with their buffers, each item by the size of its type. At most
+    /// 5,242,880 for each call that is outstanding or each credit that was wished for, whichever are more, for each answer that wasn't taken,
     /// and four times that. Takes no memory.
     pub fn held(&self) -> u128
         ensures is { result ≡ bytes_held_by self.now.state }
@@ -117,6 +142,7 @@ impl Requester {
         self.endpoint.held()
             + calls_bytes(self.outstanding.as_slice())
             + rooms_bytes(self.outstanding.as_slice())
+            + END_SIZE * self.endpoint.sends_waiting() as u128
             + answers_bytes(self.answered.as_slice())
     }
 }

@@ -1,5 +1,5 @@
 -- The reads of a call begin: what the code makes of a responder is what a Send with a read list makes of it.
-use Rattle.std.proofs.Common.{◌≡◌, ◌≢◌, ℕ, zero, suc, ◌+◌, ◌<◌, ◌≤◌, Bool, true, false, not, cond, eqb, ◌||◌, ◌&&◌, List, [], ◌∷◌, ◌++◌, length, take, get_or, map, Option, Some, Result, Ok, Err, All, OnOk, refl, sym, ap, subst, ◌∙◌, arith, inl, length-append}
+use Rattle.std.proofs.Common.{◌≡◌, ◌≢◌, ℕ, zero, suc, ◌+◌, ◌*◌, ◌<◌, ◌≤◌, Bool, true, false, not, cond, eqb, ◌||◌, ◌&&◌, List, [], ◌∷◌, ◌++◌, length, take, get_or, map, Option, Some, Result, Ok, Err, All, OnOk, refl, sym, ap, subst, ◌∙◌, arith, inl, length-append}
 use Rattle.std.specs.Prelude.{find, min}
 use Rattle.std.specs.Option.{option_or}
 use Rattle.std.specs.List.{AllByRecursion, list_all, list_any}
@@ -9,13 +9,15 @@ use Rattle.std.proofs.lemmas.Bool.{eq-eqb, eqb-true, ne_eqb}
 use Rattle.std.proofs.lemmas.List.Folds.{find-append}
 use Rattle.nr_regions.specs.RegisteredMemory.{Outside, RegisteredMemory}
 use Rattle.std.proofs.lemmas.List.{length-take, length-map}
+use Rattle.nr_wire.specs.Constants.{UNITS_MAX}
 use Rattle.nr_header.specs.Constants.{PAYLOAD_MAX}
+use Rattle.nr_header.specs.WithinLimits.{read_total}
 use Rattle.nr_header.specs.declared.header.ReadSegment.{ReadSegment}
-use Rattle.nr_link.specs.Limits.{open_reads_max}
+use Rattle.nr_link.specs.Limits.{open_reads_max, send_unit}
 use Rattle.nr_endpoint.specs.EndpointState.{EndpointState}
 use Rattle.nr_endpoint.specs.LinkState.{LinkState, LinkSide}
 use Rattle.nr_endpoint.specs.ReceiveQueue.{ReceiveQueue}
-use Rattle.nr_reduce.specs.Chunks.{total_at}
+use Rattle.nr_reduce.specs.Chunks.{call_stream, total_at}
 use Rattle.nr_reduce.specs.OfferedRegions.{Region}
 use Rattle.nr_reduce.specs.ServerState.{PendingCall, PendingRead}
 use Rattle.nr_reduce.specs.ServerReads.{chunks_of, reads_from, read_of, is_read}
@@ -30,13 +32,14 @@ use Rattle.nr_responder.specs.private.CallsRead.{chunk_positions, reading_call, 
 use Rattle.nr_responder.specs.private.Handling.{out}
 use Rattle.nr_responder.specs.private.Reading.{opening, with_opened}
 use Rattle.nr_responder.specs.private.Starting.{BeginsReads, OpensReads, reads_more, with_around, with_room}
-use Rattle.nr_responder.specs.Rooms.{payload_room}
+use Rattle.nr_responder.specs.HeldBytes.{sinks_share}
 use Rattle.nr_responder.specs.Sound.{AreFetched, AreHeldFrom, QueuesInvariant, HasOutside, HasRoom, HasWindow, InBuffer, InReceive, SameInput, around_of, claims_of, payloads_of, state_of, xids_of}
 use Rattle.nr_responder.specs.Views.{call_view, read_view, sink_view}
 use Rattle.nr_responder.proofs.ListedReads.{same_sinks}
 use Rattle.nr_responder.proofs.ReadEffects.{requests_ends}
 use Rattle.nr_responder.proofs.Removed.{all_pushed_lem}
 use Rattle.nr_responder.proofs.HeldSinks.{fetched_as}
+use Rattle.nr_responder.proofs.PayloadRooms.{new_room, none_there, room_beside}
 use Rattle.nr_responder.proofs.Windows.{around_pushed, found_held, moved_window}
 use Rattle.nr_responder.proofs.Sounds.{bufs_as, used_as, limit_as}
 
@@ -162,9 +165,10 @@ window_apart old new number next start read chunks is fresh some each =
 
 -- the rooms of the calls before: there are reads and sinks more, and the bytes outside of the regions before are as they were
 rooms_more : (m : RegisteredMemory) (around later : FinMap nat_cmp Outside) (sinks after : List OpenSink) (more : List SinkRegion) (old new : List ReadEntry) (number next : ℕ) (read : List ReadSegment) (chunks : List ℕ) (calls : List Pending) →
-    list_any (λ (c : Pending). eqb c.number number) calls ≡ false → map read_view new ≡ reads_more old number next read chunks → map sink_view after ≡ map sink_view sinks ++ more → AreHeldFrom m 0 (claims_of sinks) → ((stag : ℕ) → stag < m.next → get later stag ≡ get around stag) →
+    list_any (λ (c : Pending). eqb c.number number) calls ≡ false → map read_view new ≡ reads_more old number next read chunks → map sink_view after ≡ map sink_view sinks ++ more → ((n : ℕ) → number ≢ n → sinks_share n more ≡ 0) → AreHeldFrom m 0 (claims_of sinks) →
+    ((stag : ℕ) → stag < m.next → get later stag ≡ get around stag) →
     All (HasRoom around sinks old) calls → All (HasRoom later after new) calls
-rooms_more m around later sinks after more old new number next read chunks calls none is sinks_are held kept h = λ k d lt. one (get_or calls k d) (differ k d lt) (h k d lt)
+rooms_more m around later sinks after more old new number next read chunks calls none is sinks_are others held kept h = λ k d lt. one (get_or calls k d) (differ k d lt) (h k d lt)
   where
     differ : (k : ℕ) (d : Pending) → k < length calls → number ≢ (get_or calls k d).number
     differ k d lt e = (let no_match : eqb (get_or calls k d).number number ≡ false = not_any (λ (c : Pending). eqb c.number number) calls k d lt none in let one : true ≡ false = sym (eq-eqb (get_or calls k d).number number (sym e)) ∙ no_match in absurd cc)
@@ -182,7 +186,10 @@ rooms_more m around later sinks after more old new number next read chunks calls
 
     one : (c : Pending) → number ≢ c.number → HasRoom around sinks old c → HasRoom later after new c
     one c ne room = record {
-      space = λ unread. (let s = room.space (same c.number ne ∙ unread) in record { room = s.room; window = λ some. window c (s.window some) });
+      space = λ unread. (let s = room.space (same c.number ne ∙ unread) in record {
+        room = λ own. room_beside (map sink_view sinks) more (map sink_view after) (call_view c) c.room sinks_are (others c.number ne) (s.room own);
+        window = λ some. window c (s.window some);
+      });
       apart = λ some.
           subst (λ (rs : List PendingRead). AllByRecursion (Apart c.number) rs) (sym is)
           (all_joined (Apart c.number) (map read_view old) (reads_from (sinks_from number next read chunks) number [] read) (room.apart some) (others_apart (sinks_from number next read chunks) number c.number [] read ne));
@@ -193,21 +200,26 @@ rooms_more m around later sinks after more old new number next read chunks calls
 
 pub started_fetched : (e f : EndpointState) (old new : List ReadEntry) (number next : ℕ) (read : List ReadSegment) (chunks : List ℕ) (calls later : List Pending) (one : Pending) (sinks after : List OpenSink) (more : List SinkRegion) →
     AreHeldFrom f.link.state.memory 0 (claims_of after) → All (λ (s : OpenSink). s.registration.len ≤ PAYLOAD_MAX) after → HasOutside f (around_of calls + one.around) → list_any (λ (c : Pending). eqb c.number number) calls ≡ false → map read_view new ≡ reads_more old number next read chunks →
-    map sink_view after ≡ map sink_view sinks ++ more → ((stag : ℕ) → stag < e.link.state.memory.next → get f.outside stag ≡ get e.outside stag) → HasRoom f.outside after new one → later ≡ calls ++ one ∷ [] → AreFetched e calls old sinks → AreFetched f later new after
-started_fetched e f old new number next read chunks calls later one sinks after more held short outside none is sinks_are kept room later_is h = record {
+    map sink_view after ≡ map sink_view sinks ++ more → ((n : ℕ) → number ≢ n → sinks_share n more ≡ 0) → ((stag : ℕ) → stag < e.link.state.memory.next → get f.outside stag ≡ get e.outside stag) → HasRoom f.outside after new one → later ≡ calls ++ one ∷ [] → AreFetched e calls old sinks → AreFetched f later new after
+started_fetched e f old new number next read chunks calls later one sinks after more held short outside none is sinks_are others kept room later_is h = record {
   held = held;
   short = short;
   rooms = subst (λ (cs : List Pending). All (HasRoom f.outside after new) cs) (sym later_is)
-      (all_pushed_lem (HasRoom f.outside after new) calls one (rooms_more e.link.state.memory e.outside f.outside sinks after more old new number next read chunks calls none is sinks_are h.held kept h.rooms) room);
+      (all_pushed_lem (HasRoom f.outside after new) calls one (rooms_more e.link.state.memory e.outside f.outside sinks after more old new number next read chunks calls none is sinks_are others h.held kept h.rooms) room);
   outside = subst (λ (n : ℕ). HasOutside f n) (sym (around_pushed calls later one later_is)) outside;
 }
 
 -- a call with a room of its own
-pub own_room : (around : FinMap nat_cmp Outside) (sinks : List OpenSink) (reads : List ReadEntry) (call : Pending) (room : ℕ) → call.around ≡ 0 → room ≡ payload_room → HasRoom around sinks reads (with_room call room)
-own_room around sinks reads call room none is = record {
-  space = λ unread. record { room = λ _. omega (arith, is); window = λ some. absurd (some none) };
+pub own_room : (around : FinMap nat_cmp Outside) (sinks after : List OpenSink) (reads : List ReadEntry) (call : Pending) (next stream room : ℕ) (read : List ReadSegment) (chunks : List ℕ) → call.around ≡ 0 → list_any (λ (s : OpenSink). eqb s.number call.number) sinks ≡ false →
+    map sink_view after ≡ map sink_view sinks ++ open_sinks (sinks_from call.number next read chunks) → read ≡ (call_view call).lists.read → chunks ≡ chunk_positions (call_view call).lists.read → read_total read ≤ PAYLOAD_MAX →
+    stream ≡ length (call_stream (call_view call).inline (λ position. [])) → stream ≤ send_unit * UNITS_MAX → room ≡ stream + read_total read + 3 → HasRoom around after reads (with_room call room)
+own_room around sinks after reads call next stream room read chunks none no_sink sinks_are lists are most stream_is short is = record {
+  space = λ unread. record {
+    room = λ own. new_room call.number next read chunks (map sink_view sinks) (map sink_view after) (call_view call) room refl (none_there call.number sinks no_sink) (are ∙ ap chunk_positions (sym lists)) sinks_are (omega (arith, is, stream_is));
+    window = λ some. absurd (some none);
+  };
   apart = λ some. absurd (some none);
-  few = omega (arith, is, none);
+  few = omega (arith, is, none, most, short);
 }
 
 pub kept_fetched : (e f : EndpointState) (old new : List ReadEntry) (calls : List Pending) (sinks later : List OpenSink) → f.link ≡ e.link → f.outside ≡ e.outside → new ≡ old → later ≡ sinks → AreFetched e calls old sinks → AreFetched f calls new later

@@ -76,7 +76,7 @@ goes_on v after r kept same nothing is = inr (inl (GoesOn nothing (is ∙ ap (λ
 
 pub stops_on : (v w after : ResponderSide) (r : PendingRead) (kept : ℕ) → kept ≡ still_open r v.fetching.reads → NothingReady v r v.fetching.reads → opening kept v.fetching.reads ≢ [] → w ≡ v → after ≡ out w → HandlesRead v r v.fetching.reads after
 stops_on v w after r kept same nothing some w_is is =
-    inr (inr (record { takes = Requests (inl nothing) (subst (λ (n : ℕ). opening n v.fetching.reads ≢ []) same some); fetching = v.fetching; sinks = refl; is_out = is ∙ ap out w_is }))
+    inr (inr (record { takes = Requests (inl nothing) (subst (λ (n : ℕ). opening n v.fetching.reads ≢ []) same some); fetching = v.fetching; sinks = refl; fewer = omega arith; is_out = is ∙ ap out w_is }))
 
 -- ---- A call is complete by it
 
@@ -89,7 +89,7 @@ readies v w after r kept at c payload own fine read judged w_is made = by (subst
 
     by : ReadyMade v kept c.xid payload after → HandlesRead v r v.fetching.reads after
     by (inl is) = inr (inl (Readies m (is ∙ ap (λ (n : ℕ). reading_on v v.link.state v.calls v.fetching.reads n (c.xid ∷ []) (Some payload ∷ [])) own.open_reads)))
-    by (inr none) = inr (inr (record { takes = Requests (inr m) (subst (λ (n : ℕ). opening n v.fetching.reads ≢ []) own.open_reads none.0); fetching = v.fetching; sinks = refl; is_out = none.1 }))
+    by (inr none) = inr (inr (record { takes = Requests (inr m) (subst (λ (n : ℕ). opening n v.fetching.reads ≢ []) own.open_reads none.0); fetching = v.fetching; sinks = refl; fewer = omega arith; is_out = none.1 }))
 
 pub ends_for : (v w after : ResponderSide) (r : PendingRead) (kept at : ℕ) (c : PendingCall) (reason : ℕ) → IsOfCall v r kept at c → has_bad_chunk v c r v.fetching.reads ≡ false → is_read v.fetching.reads c.number ≡ true → 5 ≤ reason →
     by_payload c (read_payload v c) ≡ Refuses reason → w ≡ v → OrOut w (after_call w.link (Stop reason)) after → HandlesRead v r v.fetching.reads after
@@ -99,8 +99,8 @@ ends_for v w after r kept at c reason own fine read other judged w_is ended = by
     e = record { call = c; complete = record { fine = record { found = own.found; fine = fine }; read = read }; judged = judged }
 
     by : OrOut v (after_call v.link (Stop reason)) after → HandlesRead v r v.fetching.reads after
-    by (inl is) = inr (inl (Stops reason other e v.fetching refl is))
-    by (inr is) = inr (inr (record { takes = Terminates reason other e; fetching = v.fetching; sinks = refl; is_out = is }))
+    by (inl is) = inr (inl (Stops reason other e v.fetching refl (omega arith) is))
+    by (inr is) = inr (inr (record { takes = Terminates reason other e; fetching = v.fetching; sinks = refl; fewer = omega arith; is_out = is }))
 
 -- ---- A call is refused by it
 
@@ -308,14 +308,14 @@ with_read v r rest all after = by
     handled : ReadHandled u r rest after → ReadHandled w r rest after
     handled (GoesOn h is) = GoesOn (nothing h) is
     handled (Readies m is) = Readies (ready m) is
-    handled (Stops reason other h fetching sinks is) = Stops reason other (ends reason h) fetching sinks is
+    handled (Stops reason other h fetching sinks fewer is) = Stops reason other (ends reason h) fetching sinks fewer is
     handled (Refused h is) = Refused (refuses h) is
 
     by : HandlesRead u r rest after → HandlesRead w r rest after
     by (inl (Crowded any le)) = inl (Crowded any le)
     by (inl (Shared at c place own any)) = inl (Shared at c place own any)
     by (inr (inl h)) = inr (inl (handled h))
-    by (inr (inr h)) = inr (inr (record { takes = takes h.takes; fetching = h.fetching; sinks = h.sinks; is_out = h.is_out }))
+    by (inr (inr h)) = inr (inr (record { takes = takes h.takes; fetching = h.fetching; sinks = h.sinks; fewer = h.fewer; is_out = h.is_out }))
 
 -- ---- The call of a read
 
@@ -344,8 +344,9 @@ refuses v r kept at c calls reads after own bad calls_are reads_are is = by (lis
         let reads_left : reads ≡ reads_without c.number (still_open r v.fetching.reads) v.fetching.reads = reads_are ∙ (λ i. reads_without (sym own.own i) (own.open_reads i) v.fetching.reads) in
         inr (inl (Refused (record { call = c; found = own.found; bad = bad }) (is ∙ (λ i. reading_on v (with_sent v.link.state (chunk_error c.xid v.credits.word)) (left i) (reads_left i) (own.open_reads i) [] []))))
 
-pub refusal_out : (v after : ResponderSide) (r : PendingRead) (kept at : ℕ) (c : PendingCall) (fetching : Fetching) → IsOfCall v r kept at c → has_bad_chunk v c r v.fetching.reads ≡ true → fetching.sinks ≡ v.fetching.sinks → after ≡ ended_as v (after_call v.link OutOfMemory) fetching → HandlesRead v r v.fetching.reads after
-refusal_out v after r kept at c fetching own bad sinks is = inr (inr (record { takes = Answers (record { call = c; found = own.found; bad = bad }); fetching = fetching; sinks = sinks; is_out = is }))
+pub refusal_out : (v after : ResponderSide) (r : PendingRead) (kept at : ℕ) (c : PendingCall) (fetching : Fetching) → IsOfCall v r kept at c → has_bad_chunk v c r v.fetching.reads ≡ true → fetching.sinks ≡ v.fetching.sinks → length fetching.reads ≤ length v.fetching.reads →
+    after ≡ ended_as v (after_call v.link OutOfMemory) fetching → HandlesRead v r v.fetching.reads after
+refusal_out v after r kept at c fetching own bad sinks fewer is = inr (inr (record { takes = Answers (record { call = c; found = own.found; bad = bad }); fetching = fetching; sinks = sinks; fewer = fewer; is_out = is }))
 
 -- ---- The room of a payload is taken out of its call
 

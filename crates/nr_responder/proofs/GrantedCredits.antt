@@ -84,6 +84,7 @@ fits_as v c same h =
         hello = o.hello;
         each = λ live_now. (let f : OutputLives v = o.each live_now in record { queue = f.queue; reads = f.reads; hello = f.hello; none = f.none });
       };
+      reads = h.reads;
     }
 
 -- ---- Other credits

@@ -6,8 +6,8 @@ use Rattle.std.proofs.lemmas.List.Sums.{sum_by-cons}
 use Rattle.nr_responder.specs.Rooms.{payload_room}
 
 -- the receives that are lent are counted beside what the side of the link keeps
-pub held_sum : (result kept staging inside outside receives lent rooms : ℕ) → result ≡ kept + receives + rooms → kept ≡ staging + (inside + outside) → receives ≡ lent → result ≡ staging + inside + lent + (rooms + outside)
-held_sum result kept staging inside outside receives lent rooms is all same = omega (arith, is, all, same)
+pub held_sum : (result kept staging inside outside receives lent rooms lists : ℕ) → result ≡ kept + receives + rooms + lists → kept ≡ staging + (inside + outside) → receives ≡ lent → result ≡ staging + inside + lent + (rooms + outside) + lists
+held_sum result kept staging inside outside receives lent rooms lists is all same = omega (arith, is, all, same)
 
 -- one item more of a sum
 pub sum_step : {X : Type 0} (f : X → ℕ) (xs : List X) (i total all : ℕ) (d : X) → i < length xs → total + sum_by f (drop i xs) ≡ all → total + f (get_or xs i d) + sum_by f (drop (i + 1) xs) ≡ all

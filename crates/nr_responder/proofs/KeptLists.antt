@@ -1,21 +1,20 @@
 -- How long the lists of a responder are.
-use Rattle.std.proofs.Common.{◌≡◌, ◌+◌, ◌*◌, ◌≤◌, length, None, arith}
+use Rattle.std.proofs.Common.{◌≡◌, ◌+◌, length, None, arith}
 use Rattle.std.proofs.lemmas.List.{length-drop, length-map}
-use Rattle.nr_header.specs.Constants.{READ_SEGMENTS_MAX}
 use Rattle.nr_link.specs.Limits.{open_reads_max}
 use Rattle.nr_endpoint.specs.ReceiveQueue.{receives_kept}
 use Rattle.nr_responder.specs.declared.call.Ready.{Ready}
 use Rattle.nr_responder.specs.declared.server_end.ServerEnd.{ServerEnd}
-use Rattle.nr_responder.specs.HeldBytes.{KeptFits, ListsFit, OutputLives, SharesFit}
+use Rattle.nr_responder.specs.HeldBytes.{KeptFits, ListsFit, OutputFits, OutputLives, ReadsFit, SharesFit, SinksFit}
 use Rattle.nr_responder.specs.ResponderState.{ResponderSide, end_of}
 use Rattle.nr_responder.specs.Sound.{state_of, ServerEndInvariant}
 use Rattle.nr_responder.specs.Views.{call_view}
 use Rattle.nr_responder.proofs.OutputBounds.{waits_lem}
 
-reads_most : (v : ResponderSide) → KeptFits v → end_of v ≡ None → length v.fetching.reads ≤ READ_SEGMENTS_MAX * length v.calls + open_reads_max
-reads_most v fit live =
-    let lives : OutputLives v = fit.output.each live in
-    let shares : SharesFit v = fit.sinks.each live in
+pub reads_most : (v : ResponderSide) → SinksFit v → OutputFits v → end_of v ≡ None → ReadsFit v
+reads_most v sinks output live =
+    let lives : OutputLives v = output.each live in
+    let shares : SharesFit v = sinks.each live in
     let waiting = waits_lem v shares lives.reads in
     let rest = length-drop open_reads_max v.fetching.reads in
     omega (arith, waiting, rest)
@@ -33,5 +32,5 @@ lists_fit r sound fit receives =
       ready = omega (arith, few, calls, ready);
       payloads = omega (arith, few, calls, payloads);
       sinks = fit.sinks.count;
-      reads = λ live. reads_most (state_of r) fit live;
+      reads = fit.reads;
     }

@@ -73,7 +73,9 @@ pub mod OutputLengths
 pub mod QueueBounds
 pub mod OutputBounds
 pub mod OutputSteps
+mod ReadBounds
 pub mod ReadHeads
+mod PayloadRooms
 mod Windows
 mod BegunWindows
 mod PlacedPayloads

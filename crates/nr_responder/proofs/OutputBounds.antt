@@ -456,7 +456,7 @@ refused_lives v n r rest xid reads own g f = record {
 pub read_out : (v after : ResponderSide) (r : PendingRead) (rest : List PendingRead) → v.fetching.reads ≡ r ∷ rest → end_of v ≡ None → OwnNumbers v.calls → SharesFit v → OutputLives v → ReadHandled v r rest after → OutputFits after
 read_out v after r rest reads live own g f (GoesOn nothing is) = subst OutputFits (sym is) (live_out _ (goes_lives v r rest [] [] reads f))
 read_out v after r rest reads live own g f (Readies m is) = subst OutputFits (sym is) (live_out _ (goes_lives v r rest (m.call.xid ∷ []) (Some m.payload ∷ []) reads f))
-read_out v after r rest reads live own g f (Stops reason other ended fetching sinks is) = stop_out v after reason live (ap (λ (x : ResponderSide). x.calls) is) (ap (λ (x : ResponderSide). x.link) is) (live_out v f)
+read_out v after r rest reads live own g f (Stops reason other ended fetching sinks fewer is) = stop_out v after reason live (ap (λ (x : ResponderSide). x.calls) is) (ap (λ (x : ResponderSide). x.link) is) (live_out v f)
 read_out v after r rest reads live own g f (RefusedRead c is) = subst OutputFits (sym is) (live_out _ (refused_lives v c.call.number r rest c.call.xid reads own g f))
 
 -- ---- As it is opened, and a drain

@@ -45,7 +45,7 @@ read_takes opened k so_far v after frame x rest h some long lives r is reads han
         (done_takes opened k so_far v frame x rest (q ∷ []) (Some m.payload ∷ []) h some long lives r is reads (ready_effect opened k so_far v frame x rest h long r is reads m)
         (ready_holds k s.place x rest m.call q reads (found_same k v x (Some m.call) h.calls m.complete.fine.found) m.complete.read refl refl h.server)
         (payloads_ready k.calls q (Some m.payload) k.ready v.fetching.payloads refl h.payloads))
-    by (Stops reason other m fetching sinks is_after) =
+    by (Stops reason other m fetching sinks fewer is_after) =
         let link : after_call (record { awaited = Fpdu; rest = []; state = t }) (Stop reason) ≡ record { awaited = Fpdu; rest = []; state = with_end_of (ends.Bad s.place reason) t } =
         stopped_is (record { awaited = Fpdu; rest = []; state = t }) t reason refl h.link.live in
         subst (λ (w : ResponderSide). TakesFrame opened k (behind so_far frame) (next_frame s frame) v w) (sym (is_after ∙ ap (λ (l : LinkSide). ended_as v l fetching) link))

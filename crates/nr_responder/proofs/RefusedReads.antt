@@ -1,6 +1,7 @@
 -- What holds of a responder whose call is refused as a read is done.
 use Rattle.std.proofs.Common.{◌≡◌, ◌≢◌, ℕ, zero, suc, ◌+◌, ◌-◌, ◌<◌, ◌≤◌, Bool, true, false, not, cond, eqb, ◌||◌, List, [], ◌∷◌, ◌++◌, length, take, drop, get_or, map, refl, sym, ap, subst, ◌∙◌, arith, length-append, All}
 use Rattle.std.specs.List.{AllByRecursion, filter, list_any, remove}
+use Rattle.std.proofs.lemmas.List.{length-drop, length-take}
 use Rattle.nr_endpoint.specs.Receives.{IsReceive}
 use Rattle.nr_endpoint.specs.LinkState.{LinkState, LinkSide}
 use Rattle.nr_endpoint.specs.SendQueue.{with_send}
@@ -59,6 +60,21 @@ any_filtered n m (x ∷ xs) none = by (any_filtered n m xs) (eqb x.number n) ref
     by rest false e false h = rest h
 
 -- fewer reads are left
+filter_fewer : (keep : PendingRead → Bool) (reads : List PendingRead) → length (filter keep reads) ≤ length reads
+filter_fewer keep [] = omega arith
+filter_fewer keep (r ∷ reads) = by (keep r) (filter_fewer keep reads)
+  where
+    by : (b : Bool) → length (filter keep reads) ≤ length reads → length (cond b (r ∷ filter keep reads) (filter keep reads)) ≤ length (r ∷ reads)
+    by true rest = omega (arith, rest)
+    by false rest = omega (arith, rest)
+
+pub dropped_fewer : (m kept : ℕ) (reads later : List PendingRead) → later ≡ reads_without m kept reads → length later ≤ length reads
+dropped_fewer m kept reads later is =
+    let same = ap (λ (rs : List PendingRead). length rs) is in
+    let sum = length-append (take kept reads) (filter (λ r. not (eqb r.number m)) (drop kept reads)) in
+    let few = filter_fewer (λ r. not (eqb r.number m)) (drop kept reads) in
+    omega (arith, same, sum, few, length-take kept reads, length-drop kept reads)
+
 pub dropped_rooms : (around : FinMap nat_cmp Outside) (sinks : List OpenSink) (m kept : ℕ) (reads later : List ReadEntry) (c : Pending) → map read_view later ≡ reads_without m kept (map read_view reads) → HasRoom around sinks reads c → HasRoom around sinks later c
 dropped_rooms around sinks m kept reads later c is room = record {
   space = λ left. room.space (by (list_any (λ r. eqb r.number c.number) (map read_view reads)) refl left);

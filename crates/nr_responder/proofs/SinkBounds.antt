@@ -379,7 +379,7 @@ read_fits v after r rest reads live held h on handled = by handled
     by : ReadHandled v r rest after → SinksFit after
     by (GoesOn nothing is) = goes [] [] is
     by (Readies m is) = goes (m.call.xid ∷ []) (Some m.payload ∷ []) is
-    by (Stops reason other ended fetching sinks is) =
+    by (Stops reason other ended fetching sinks fewer is) =
         let stays = stopped_as v.link (after_call v.link (Stop reason)) reason refl in
         subst SinksFit (sym is) (ended_fits v (after_call v.link (Stop reason)) fetching (receives_same _ _ stays.input.queue) stays.memory sinks (stop_ends v.link reason live) h)
     by (RefusedRead c is) =

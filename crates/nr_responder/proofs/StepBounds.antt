@@ -25,7 +25,7 @@ use Rattle.nr_reduce.specs.ServerState.{PendingCall, PendingRead, ServerState}
 use Rattle.nr_reduce.specs.ServerReads.{is_read}
 use Rattle.nr_responder.specs.declared.call.Sent.{Sent}
 use Rattle.nr_responder.specs.Answering.{Answers, answer_to, answered_by, message_for}
-use Rattle.nr_responder.specs.HeldBytes.{sinks_total, IsOfPending, IsBounded, KeptFits, RegionsHave, SharesFit, SinksFit, held_unit, ReceivesFit}
+use Rattle.nr_responder.specs.HeldBytes.{sinks_total, IsOfPending, IsBounded, KeptFits, ListsFit, OutputFits, RegionsHave, SharesFit, SinksFit, held_unit, ReceivesFit}
 use Rattle.nr_responder.specs.Keeping.{Keeps}
 use Rattle.nr_responder.specs.ResponderState.{ResponderSide, ResponderState, after_drain, bytes_held_by, end_of, opened_side, present_word, unsent}
 use Rattle.nr_responder.specs.Standing.{RepresentsServer, ResponderRepresents, RepresentsSome}
@@ -41,6 +41,7 @@ use Rattle.nr_responder.proofs.ServerSteps.{new_is_read}
 use Rattle.nr_responder.proofs.Handled.{Goes, RanOutOf, makes_handled, step_counts, told_of, told_server_of}
 use Rattle.nr_responder.proofs.Marks.{represents}
 use Rattle.nr_responder.proofs.OutputSteps.{answered_out}
+use Rattle.nr_responder.proofs.ReadBounds.{answered_reads, few_after}
 use Rattle.nr_endpoint.proofs.SendQueues.{ends_left_fewer}
 use Rattle.nr_responder.proofs.Posted.{memory_as, told_link_lem}
 use Rattle.nr_responder.proofs.SinkBounds.{LivesOn, handled_fits, live_fits, on_link_fits, read_fits, read_out_fits, receives_fit_on, receives_same, told_receives}
@@ -238,7 +239,8 @@ answer_fits (Ok sent) s t xid reply live first a err opened link run stands fit 
     let more : List Mark = run ++ marks.Execute link xid some_moment a.stream 0 reply ∷ [] in
     let on : ResponderRepresents opened link more t.side = answered_stands opened link run s.side t.side xid some_moment a.stream 0 reply sent stands live x a in
     let sinks : SinksFit t.side = answered_fits opened link run s.side t.side xid reply sent stands live first (lives_on_lem opened link more t.side on) fit.sinks a in
-    (record { sinks = sinks; output = answered_out s.side t.side xid reply sent live (down_limit opened link run s.side stands live) fit.output sinks.each a }, (opened, (link, (more, on))))
+    let output : OutputFits t.side = answered_out s.side t.side xid reply sent live (down_limit opened link run s.side stands live) fit.output sinks.each a in
+    (record { sinks = sinks; output = output; reads = few_after s.side t.side (answered_reads s.side t.side xid reply sent live a) sinks output fit.reads }, (opened, (link, (more, on))))
 answer_fits (Err e) s t xid reply live first a err opened link run stands fit =
     (subst (λ (x : ResponderState). KeptFits x.side) (sym err) fit, subst (λ (x : ResponderState). RepresentsSome x.side) (sym err) (opened, (link, (run, stands))))
 
@@ -249,9 +251,9 @@ unfolding bytes_held
 regions_most v h = (let sum = h.memory.bytes_are in let most = h.most in omega (arith, sum, most))
 
 -- All is within the bound: the receives are those of the credits, lent or kept.
-pub held_bound : (v : ResponderState) (result : ℕ) → result ≡ bytes_held_by v → IsBounded v → v.rooms ≤ payload_room * (2 * length v.side.calls) → receives_kept v.side.link.state.receive_queue + v.side.link.state.receive_queue.lent ≡ v.side.link.state.receive_queue.receives →
+pub held_bound : (v : ResponderState) (result : ℕ) → result ≡ bytes_held_by v → IsBounded v → ListsFit v.side → v.rooms ≤ payload_room * (2 * length v.side.calls) → receives_kept v.side.link.state.receive_queue + v.side.link.state.receive_queue.lent ≡ v.side.link.state.receive_queue.receives →
     length v.side.calls + unsent v.side.link.state ≤ v.side.link.state.receive_queue.lent → result ≤ held_unit * (v.side.credits.receives + 4)
-held_bound v result is b rooms receives lent =
+held_bound v result is b lists rooms receives lent =
     let staging = b.1 in
     let output = b.0.output.most 0 in
     let hello = b.0.output.hello in
@@ -262,4 +264,7 @@ held_bound v result is b rooms receives lent =
     let of_lent = mul-le n (length v.side.calls + unsent v.side.link.state) (send_unit * UNITS_MAX) (length v.side.calls + unsent v.side.link.state) most (omega arith) in
     let regions = regions_most v.side b.0.sinks in
     let count = b.0.sinks.receives.count in
-    omega (arith, is, staging, of_kept, of_lent, regions, count, output, hello, waiting, rooms, receives, lent)
+    let ready = lists.ready in
+    let sinks = lists.sinks in
+    let reads = lists.reads in
+    omega (arith, is, staging, of_kept, of_lent, regions, count, output, hello, waiting, rooms, receives, lent, ready, sinks, reads)

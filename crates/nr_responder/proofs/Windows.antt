@@ -22,6 +22,7 @@ use Rattle.nr_responder.specs.private.Reading.{is_sink_over, left_sinks}
 use Rattle.nr_responder.specs.Rooms.{payload_room}
 use Rattle.nr_responder.specs.Sound.{AreHeldFrom, HasOutside, HasRoom, HasSpace, HasWindow, KeepsOutside, around_of, claims_of, room_len}
 use Rattle.nr_responder.specs.Views.{call_view, read_view, sink_view}
+use Rattle.nr_responder.proofs.PayloadRooms.{room_left}
 
 -- ---- The sum of the bytes outside
 
@@ -140,7 +141,10 @@ rooms_closed e g calls reads sinks left keeps is held h = λ k d lt. one (get_or
 
     one : (c : Pending) → list_any (λ x. eqb x.number c.number) (map call_view calls) ≡ true → HasRoom e.outside sinks reads c → HasRoom g.outside left reads c
     one c there room = record {
-      space = λ unread. (let s = room.space unread in record { room = s.room; window = λ some. window c there unread (s.window some) });
+      space = λ unread. (let s = room.space unread in record {
+        room = λ none. room_left (map call_view calls) (map read_view reads) (map sink_view sinks) (map sink_view left) (call_view c) c.room is (s.room none);
+        window = λ some. window c there unread (s.window some);
+      });
       apart = room.apart;
       few = room.few;
     }

@@ -78,7 +78,8 @@ pub record SinksFit (v : ResponderSide) : Type 0 where
 abbrev pub sent_reply_max : ℕ
 sent_reply_max = 1056768
 
--- the maximum of the Read Requests of a call, of the RDMA Writes of an answer, and of both with its Send
+-- The maximum of the Read Requests of a call, of the RDMA Writes of an answer, and of both with its Send. A reply of the maximum length has 258 frames of
+-- segment_max bytes, and each segment of a write chunk and of a reply chunk, at most 32, may add one.
 abbrev pub requests_max : ℕ
 requests_max = 16 * request_max
 
@@ -116,19 +117,24 @@ pub record OutputFits (v : ResponderSide) : Type 0 where
 
 -- ---- Lists
 
--- How long the lists are that a responder keeps, whose bytes aren't counted: its calls with the Sends that haven't left; the calls that are ready, and
--- the payloads of these; the sinks; and, while the side lives, the Read Requests that are open or wait.
+-- the Read Requests of the pending calls, and those that may be open
+abbrev pub ReadsFit : ResponderSide → Type 0
+ReadsFit v = length v.fetching.reads ≤ READ_SEGMENTS_MAX * length v.calls + open_reads_max
+
+-- How long the lists are that a responder keeps: its calls with the Sends that haven't left; the calls that are ready, and the payloads of these; the
+-- sinks; and the Read Requests that are open or wait.
 pub record ListsFit (v : ResponderSide) : Type 0 where
   pub calls : length v.calls + unsent v.link.state ≤ v.credits.receives
   pub ready : length v.ready ≤ length v.calls
   pub payloads : length v.fetching.payloads ≤ length v.calls
   pub sinks : length v.fetching.sinks ≤ READ_SEGMENTS_MAX * (length v.calls + open_reads_max)
-  pub reads : end_of v ≡ None → length v.fetching.reads ≤ READ_SEGMENTS_MAX * length v.calls + open_reads_max
+  pub reads : ReadsFit v
 
 -- What a responder keeps is within bounds.
 pub record KeptFits (v : ResponderSide) : Type 0 where
   pub sinks : SinksFit v
   pub output : OutputFits v
+  pub reads : ReadsFit v
 
 abbrev pub IsBounded : ResponderState → Type 0
 IsBounded v = KeptFits v.side × (length v.staging ≡ FPDU_MAX)

@@ -78,10 +78,32 @@ with_granted credits v = record v { credits = record v.credits { granted = credi
 abbrev pub granting : ℕ → ResponderState → ResponderState
 granting credits v = if is_some (end_of v.side) then v else record v { side = with_granted credits v.side }
 
--- How many bytes all byte buffers have that are kept: the staging buffer, the receives, of which one is lent for each call that isn't answered
--- and for each Send that hasn't left, the regions, the output, and the buffers for payloads of calls that are read, with the bytes outside of regions.
+-- The size of an item of each list, in bytes: of a call that isn't answered, of one that is ready, of the receive of a message whose answer hasn't left
+-- with the end of its Send, of a Read Request that is open or waits, and of a sink.
+abbrev pub call_size : ℕ
+call_size = 184
+
+abbrev pub ready_size : ℕ
+ready_size = 72
+
+abbrev pub unsent_size : ℕ
+unsent_size = 32
+
+abbrev pub read_size : ℕ
+read_size = 40
+
+abbrev pub sink_size : ℕ
+sink_size = 32
+
+-- how many bytes the lists have
+abbrev pub lists_held : ResponderSide → ℕ
+lists_held v = call_size * length v.calls + (ready_size * length v.ready + (unsent_size * unsent v.link.state + (read_size * length v.fetching.reads + sink_size * length v.fetching.sinks)))
+
+-- How many bytes are kept: the staging buffer, the receives, of which one is lent for each call that isn't answered and for each Send that hasn't left,
+-- the regions, the output, the buffers for payloads of calls that are read, with the bytes outside of regions, and the lists.
 abbrev pub bytes_held_by : ResponderState → ℕ
-bytes_held_by v = length v.staging + bytes_of v.side.link.state + v.side.link.state.receive_queue.receive_length * (length v.side.calls + unsent v.side.link.state) + v.rooms
+bytes_held_by v =
+    length v.staging + bytes_of v.side.link.state + v.side.link.state.receive_queue.receive_length * (length v.side.calls + unsent v.side.link.state) + v.rooms + lists_held v.side
 
 -- n receives are posted again
 abbrev pub posted_times : ℕ → LinkSide → LinkSide

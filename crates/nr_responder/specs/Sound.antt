@@ -9,9 +9,10 @@ use Rattle.nr_regions.specs.Table.{IsTotal}
 use Rattle.nr_rpc.specs.Reading.{call_of, target_of}
 use Rattle.nr_reduce.specs.declared.item.Item.{Item}
 use Rattle.nr_reduce.specs.Items.{call_item}
-use Rattle.nr_reduce.specs.Chunks.{item_position}
+use Rattle.nr_reduce.specs.Chunks.{call_stream, item_position}
 use Rattle.nr_header.specs.Constants.{PAYLOAD_MAX}
 use Rattle.nr_reduce.specs.ServerReads.{is_read}
+use Rattle.nr_reduce.specs.ServerState.{PendingCall}
 use Rattle.nr_endpoint.specs.EndpointState.{EndpointState}
 use Rattle.nr_responder.specs.declared.call.Ready.{Ready}
 use Rattle.nr_responder.specs.declared.call.ReadEntry.{ReadEntry}
@@ -25,7 +26,7 @@ use Rattle.nr_responder.specs.declared.call.Pending.{Pending}
 use Rattle.nr_responder.specs.declared.server_end.ServerEnd.{ServerEnd}
 use Rattle.nr_responder.specs.Fetching.{Fetching, SinkRegion, is_sink}
 use Rattle.nr_responder.specs.ResponderState.{ResponderSide, ResponderState, unsent}
-use Rattle.nr_responder.specs.HeldBytes.{share}
+use Rattle.nr_responder.specs.HeldBytes.{share, sinks_share}
 use Rattle.nr_responder.specs.Rooms.{payload_room}
 use Rattle.nr_responder.specs.Views.{call_view, read_view, sink_view, HasLists}
 
@@ -97,9 +98,14 @@ pub record QueuesInvariant (n : ℕ) (s : LinkState) (calls : List Pending) (rea
   pub ready_fit : s.receive_queue.receives ≤ ready_room
   pub used_fit : s.receive_queue.receives ≤ used_room
 
-abbrev pub IsRoom : Option ℕ → Type 0
-IsRoom None = ⊥
-IsRoom (Some room) = payload_room ≤ room
+-- the room for the payload of a call: for its stream, if that stands in its message, for this many bytes that are read, and for a pad
+abbrev pub room_for : PendingCall → (read : ℕ) → ℕ
+room_for c read = length (call_stream c.inline (λ position. [])) + read + 3
+
+-- a call has the room for what its sinks bring
+abbrev pub IsRoom : List SinkRegion → PendingCall → Option ℕ → Type 0
+IsRoom sinks c None = ⊥
+IsRoom sinks c (Some room) = room_for c (sinks_share c.number sinks) ≤ room
 
 -- The payload of a call is completed in the buffer of its sink. Its stream stands in its message; the region begins at the position of the
 -- stream's item; and the bytes outside are as many as the stream's and a pad's.
@@ -119,7 +125,7 @@ pub record HasWindow (around : FinMap nat_cmp Outside) (sinks : List OpenSink) (
 
 -- a call has the room of its payload, of its own or in the buffer of its sink
 pub record HasSpace (around : FinMap nat_cmp Outside) (sinks : List OpenSink) (c : Pending) : Type 0 where
-  pub room : c.around ≡ 0 → IsRoom c.room
+  pub room : c.around ≡ 0 → IsRoom (map sink_view sinks) (call_view c) c.room
   pub window : c.around ≢ 0 → HasWindow around sinks c
 
 -- A call of which something is left to be read has that room; and no read at position 0, if it is in the buffer of its sink.

@@ -1,6 +1,6 @@
 //! How many calls and receives a responder has, and how many bytes it keeps.
 
-ghost use Rattle.std.specs.Prelude.{◌≡◌, ◌≢◌, ℕ, ◌+◌, ◌*◌, ◌≤◌, List, length, sum_by, None, Some, All};
+ghost use Rattle.std.specs.Prelude.{◌≡◌, ◌≢◌, ℕ, ◌+◌, ◌*◌, ◌^◌, ◌≤◌, List, length, sum_by, None, Some, All};
 ghost use Rattle.nr_link.specs.declared.end.End.TheVariants as ends;
 ghost use Rattle.nr_wire.specs.Constants.{UNITS_MAX};
 ghost use Rattle.nr_link.specs.Agreement.{IsSendLimit};
@@ -12,15 +12,17 @@ ghost use Rattle.nr_reduce.specs.Plans.{one_if};
 ghost use Rattle.nr_reduce.specs.Run.{server};
 ghost use Rattle.nr_reduce.specs.ServerState.{receives_in_use};
 ghost use Rattle.nr_responder.specs.HeldBytes.{held_unit, IsBounded, ListsFit};
-ghost use Rattle.nr_responder.specs.ResponderState.{bytes_held_by, end_of, unsent};
+ghost use Rattle.nr_responder.specs.ResponderState.{bytes_held_by, end_of, lists_held, unsent};
 ghost use Rattle.nr_responder.specs.Rooms.{payload_room};
 ghost use Rattle.nr_responder.specs.Sound.{payload_len, room_len, state_of, with_staging, ServerEndInvariant};
 ghost use Rattle.nr_responder.specs.Standing.{RepresentsSome, ResponderRepresents};
 
-use crate::call::{Pending, Ready};
+use crate::call::{OpenSink, Pending, ReadEntry, Ready};
 use crate::room::{Payload, Room};
 use crate::server_end::ServerEnd;
+use nr_xdr::Octets;
 use std::collections::VecDeque;
+use std::mem::size_of;
 
 /// The bytes of a room, if there is one.
 fn room_len(room: &Option<Room>) -> usize
@@ -100,6 +102,28 @@ fn one_if(condition: bool) -> usize
     if condition { 1 } else { 0 }
 }
 
+/// The sizes of items of lists: a call that isn't answered, one that is ready, the receive of a message whose answer hasn't left and the end of its
+/// Send, a Read Request, and a sink.
+const CALL_SIZE: u128 = 184;
+
+const _: () = prove!(size_of::<Pending>() == 184);
+
+const READY_SIZE: u128 = 72;
+
+const _: () = prove!(size_of::<Ready>() == 72);
+
+const UNSENT_SIZE: u128 = 32;
+
+const _: () = prove!(size_of::<(Octets, usize)>() == 32);
+
+const READ_SIZE: u128 = 40;
+
+const _: () = prove!(size_of::<ReadEntry>() == 40);
+
+const SINK_SIZE: u128 = 32;
+
+const _: () = prove!(size_of::<OpenSink>() == 32);
+
 impl ServerEnd {
     /// How many calls are pending.
     pub fn unanswered(&self) -> usize
@@ -138,7 +162,20 @@ impl ServerEnd {
         self.endpoint.agreed()
     }
 
-    /// How many bytes all byte buffers have that are kept.
+    /// How many bytes the lists have.
+    fn lists_len(&self) -> u128
+        requires sound { ServerEndInvariant self.now }
+        ensures is { result ≡ lists_held (state_of self.now) }
+        ensures small { result ≤ 2 ^ 80 }
+    {
+        CALL_SIZE * self.calls.len() as u128
+            + (READY_SIZE * self.ready.len() as u128
+                + (UNSENT_SIZE * self.used.len() as u128
+                    + (READ_SIZE * self.reads.len() as u128
+                        + SINK_SIZE * self.sinks.len() as u128)))
+    }
+
+    /// How many bytes are kept: those of all byte buffers, and of the lists.
     pub fn held(&self) -> u128
         requires sound { ServerEndInvariant self.now }
         requires bounded { IsBounded (with_staging self.now) }
@@ -151,6 +188,6 @@ impl ServerEnd {
         let lent = self.calls.len() + self.used.len();
         let rooms = rooms_len(self.calls.as_slice()) + payloads_len(&self.ready);
         let each = self.endpoint.receive_length();
-        self.endpoint.held() + receives_len(each, lent) + rooms
+        self.endpoint.held() + receives_len(each, lent) + rooms + self.lists_len()
     }
 }

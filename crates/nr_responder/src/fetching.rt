@@ -15,10 +15,10 @@ ghost use Rattle.nr_responder.specs.private.CallsRead.{chunk_positions, HasNoByt
 ghost use Rattle.nr_responder.specs.Views.{call_view, read_view};
 
 use crate::call::{OpenSink, Pending, has_number, inline_item};
-use crate::payloads::judge_at_once;
+use crate::payloads::{inline_stream, judge_at_once};
 use crate::read_lists::chunk_positions;
 use crate::server_end::ServerEnd;
-use crate::sink_regions::sink_place;
+use crate::sink_regions::{has_sink, sink_place};
 use crate::starting::{begin_in_place, begin_reads, push_around, push_reading};
 use nr_header::ReadSegment;
 use nr_link::constants::REASON_STAGS;
@@ -167,8 +167,12 @@ impl ServerEnd {
             self.end_for(REASON_STAGS);
             return;
         }
-        // A read list with bytes has such a chunk, and no other call has the number of its Send.
+        // A read list with bytes has such a chunk, and no other call and no sink has the number of its Send.
         if chunks.is_empty() || has_number(self.calls.as_slice(), call.number) {
+            self.run_out();
+            return;
+        }
+        if has_sink(self.sinks.as_slice(), call.number) {
             self.run_out();
             return;
         }
@@ -188,6 +192,7 @@ impl ServerEnd {
         requires chunks { chunks.now ≡ chunk_positions (call_view call).lists.read }
         requires stags { self.old.endpoint.link.state.memory.next + length chunks.now ≤ 2 ^ 32 }
         requires own { list_any (λ c. c.number == call.number) self.old.calls.items ≡ false }
+        requires no_sink { list_any (λ s. s.number == call.number) self.old.sinks.items ≡ false }
         requires fresh { is_read (map read_view self.old.reads.items) call.number ≡ true }
         ensures started { (state_of self.new ≡ reading_call (state_of self.old) (call_view call)) ⊎ (state_of self.new ≡ out (state_of self.old)) }
         ensures windows { WindowsInvariant self.new }
@@ -215,6 +220,7 @@ impl ServerEnd {
         requires chunks { chunks.now ≡ chunk_positions (call_view call).lists.read }
         requires stags { self.old.endpoint.link.state.memory.next + length chunks.now ≤ 2 ^ 32 }
         requires own { list_any (λ c. c.number == call.number) self.old.calls.items ≡ false }
+        requires no_sink { list_any (λ s. s.number == call.number) self.old.sinks.items ≡ false }
         ensures started { (state_of self.new ≡ reading_call (state_of self.old) (call_view call)) ⊎ (state_of self.new ≡ out (state_of self.old)) }
         ensures windows { WindowsInvariant self.new }
         ensures sound { ServerEndInvariant self.new }
@@ -222,12 +228,14 @@ impl ServerEnd {
         ensures staging { self.new.endpoint.staging ≡ self.old.endpoint.staging }
     {
         self.endpoint.facts();
+        let inline = inline_stream(&call).len();
         match begin_reads(
             &mut self.endpoint,
             self.alloc,
             &mut self.reads,
             &mut self.sinks,
             call.number,
+            inline,
             chunks,
             read,
         ) {

@@ -11,8 +11,8 @@ ghost use Rattle.nr_reduce.specs.Chunks.{call_conveyed, call_stream, is_read_chu
 ghost use Rattle.nr_responder.specs.private.Reading.{opening, sink_bytes, with_opened_after};
 ghost use Rattle.nr_responder.specs.private.ReadsDone.{has_bad_chunk, reads_without, still_open, HandlesRead, NothingReady};
 ghost use Rattle.nr_responder.specs.private.DoneReads.{IsOfCall, ReadsOn, ReadyMade};
-ghost use Rattle.nr_responder.specs.Rooms.{payload_room};
-ghost use Rattle.nr_responder.specs.Sound.{claims_of, state_of, AreHeldFrom, HasSpace, InBuffer, IsRoom, ServerEndInvariant, SameInput, OthersAreRead, WindowsAreRead, WindowsInvariant};
+ghost use Rattle.nr_responder.specs.HeldBytes.{sinks_share};
+ghost use Rattle.nr_responder.specs.Sound.{claims_of, state_of, AreHeldFrom, HasSpace, InBuffer, IsRoom, ServerEndInvariant, SameInput, OthersAreRead, WindowsAreRead, WindowsInvariant, room_for};
 ghost use Rattle.nr_responder.specs.Views.{call_view, read_view, sink_view};
 
 use crate::answering::chunk_error;
@@ -88,7 +88,7 @@ fn payload_read(
     endpoint: &Endpoint,
     sinks: &[OpenSink],
 ) -> Option<Payload>
-    requires room { payload_room ≤ room }
+    requires room { room_for (call_view call.now) (sinks_share call.now.number (map sink_view sinks.now)) ≤ room }
     requires call { InBuffer call.now }
     requires held { AreHeldFrom endpoint.now.link.state.memory 0 (claims_of sinks.now) }
     requires short { All (λ s. s.registration.len ≤ PAYLOAD_MAX) sinks.now }
@@ -232,8 +232,8 @@ impl ServerEnd {
         requires at { at < length self.old.calls.items }
         requires read { (d : Pending) → is_read (map read_view self.old.reads.items) (get_or self.old.calls.items at d).number ≡ true }
         requires empty { (d : Pending) → (get_or self.old.calls.items at d).around ≡ 0 }
-        requires room { (d : Pending) → IsRoom (get_or self.old.calls.items at d).room }
-        ensures room { payload_room ≤ result }
+        requires room { (d : Pending) → IsRoom (map sink_view self.old.sinks.items) (call_view (get_or self.old.calls.items at d)) (get_or self.old.calls.items at d).room }
+        ensures room { (d : Pending) → room_for (call_view (get_or self.old.calls.items at d)) (sinks_share (get_or self.old.calls.items at d).number (map sink_view self.old.sinks.items)) ≤ result }
         ensures call { (d : Pending) → call_view (get_or self.new.calls.items at d) ≡ call_view (get_or self.old.calls.items at d) }
         ensures whole { (d : Pending) → InBuffer (get_or self.new.calls.items at d) }
         ensures count { length self.new.calls.items ≡ length self.old.calls.items }
@@ -286,7 +286,7 @@ impl ServerEnd {
         requires fine { (d : Pending) → has_bad_chunk (state_of self.old) (call_view (get_or self.old.calls.items at d)) (read_view done) (map read_view self.old.reads.items) ≡ false }
         requires read { (d : Pending) → is_read (map read_view self.old.reads.items) (get_or self.old.calls.items at d).number ≡ true }
         requires empty { (d : Pending) → (get_or self.old.calls.items at d).around ≡ 0 }
-        requires room { (d : Pending) → IsRoom (get_or self.old.calls.items at d).room }
+        requires room { (d : Pending) → IsRoom (map sink_view self.old.sinks.items) (call_view (get_or self.old.calls.items at d)) (get_or self.old.calls.items at d).room }
         ensures handled { HandlesRead (state_of self.old) (read_view done) (map read_view self.old.reads.items) (state_of self.new) }
         ensures windows { WindowsInvariant self.new }
         ensures sound { ServerEndInvariant self.new }

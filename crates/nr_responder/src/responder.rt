@@ -221,9 +221,9 @@ impl Responder {
         self.end.drain_into(sink)
     }
 
-    /// How many bytes all byte buffers have that are kept: the staging buffer, the receives, the regions, the output, and the buffers of
-    /// payloads that are read or were, with the bytes of buffers outside their regions. At most 5242880 for each credit, and four times that.
-    /// Lists of calls and their segments aren't counted. Takes no memory.
+    /// How many bytes are kept: the staging buffer, the receives, the regions, the output, the buffers of payloads that are read or were, with the
+    /// bytes of buffers outside their regions, and the lists: of calls, of Sends that haven't left, of Read Requests and of sinks, each item by the size of
+    /// its type. At most 5,242,880 for each credit, and four times that. Takes no memory.
     pub fn held(&self) -> u128
         ensures is { result ≡ bytes_held_by self.now }
         ensures bound { result ≤ held_unit * (self.now.side.credits.receives + 4) }
@@ -231,7 +231,7 @@ impl Responder {
         ensures rooms { self.now.rooms ≤ payload_room * (2 * length self.now.side.calls) }
         // The regions: the payload of each of these calls, and for each Read Request that may be open.
         ensures regions { bytes_held self.now.side.link.state.memory ≤ PAYLOAD_MAX * (length self.now.side.calls + open_reads_max) }
-        // Lists, whose bytes aren't counted, have a maximum number of elements.
+        // The lists have a maximum number of items.
         ensures lists { ListsFit self.now.side }
     {
         self.end.held()

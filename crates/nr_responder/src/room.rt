@@ -4,16 +4,11 @@ ghost use Rattle.std.specs.Prelude.{◌≡◌, ◌≤◌, length, take, IfOk};
 ghost use Rattle.nr_rpc.specs.Reading.{call_of, target_of};
 ghost use Rattle.nr_responder.specs.Rooms.{payload_room};
 
-use nr_header::PAYLOAD_MAX;
-use nr_link::constants::SEND_UNIT;
 use nr_reduce::PayloadBuffer;
 use nr_rpc::CallTarget;
 use nr_xdr::{Memory, Octets};
 use std::alloc::Global;
 use std::marker::Model;
-
-/// The room of a payload: for a stream and a chunk, and for a pad.
-const PAYLOAD_ROOM: usize = SEND_UNIT as usize + 2 * PAYLOAD_MAX + 3;
 
 /// The room in which the payload of a call is put together. Contracts see how many bytes it is for, at most `payload_room`.
 #[derive(Drop)]
@@ -33,12 +28,13 @@ impl Model for Room {
 }
 
 impl Room {
-    /// Takes the room of a payload.
-    pub fn new(alloc: Global) -> Result<Room, Memory>
-        ensures { IfOk result (λ room. room ≡ payload_room) }
+    /// Takes the room of a payload of at most `len` bytes.
+    pub fn new(alloc: Global, len: usize) -> Result<Room, Memory>
+        requires { len ≤ payload_room }
+        ensures { IfOk result (λ room. room ≡ len) }
     {
         Ok(Room {
-            buffer: PayloadBuffer::new(alloc, PAYLOAD_ROOM)?,
+            buffer: PayloadBuffer::new(alloc, len)?,
         })
     }
 

@@ -29,6 +29,13 @@ pub(crate) fn sink_place(sinks: &[OpenSink], number: u64, position: u32) -> Opti
     None
 }
 
+/// Whether the call whose Send has this number has a sink.
+pub(crate) fn has_sink(sinks: &[OpenSink], number: u64) -> bool
+    ensures { result ≡ list_any (λ s. s.number == number) sinks.now }
+{
+    sinks.iter().any(|s| s.number == number)
+}
+
 /// The bytes of the sink of a call at a position; none if it has no sink there.
 pub(crate) fn sink_bytes<'a>(
     endpoint: &'a Endpoint,

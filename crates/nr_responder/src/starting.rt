@@ -7,7 +7,6 @@ ghost use Rattle.nr_link.specs.Limits.{send_unit};
 ghost use Rattle.nr_header.specs.Constants.{PAYLOAD_MAX};
 ghost use Rattle.nr_header.specs.WithinLimits.{read_total};
 ghost use Rattle.nr_responder.specs.Sound.{AreHeldFrom, HasOutside, claims_of};
-ghost use Rattle.nr_responder.specs.Rooms.{payload_room};
 ghost use Rattle.nr_responder.specs.private.CallsRead.{sink_buffer};
 ghost use Rattle.nr_responder.specs.private.Starting.{BeginsOutside, BeginsReads, OpensReads, with_around, with_room};
 
@@ -78,17 +77,31 @@ fn open_new(
     }
 }
 
-/// Takes the memory for the reads of a call but for what is queued: the room of its payload, and the buffers of its sinks. An `Err` changes
-/// nothing.
+/// How many bytes a read list offers.
+fn read_len(read: &[ReadSegment]) -> usize
+    requires { read_total read.now ≤ PAYLOAD_MAX }
+    ensures { result ≡ read_total read.now }
+{
+    let mut total: u128 = 0;
+    for entry in read {
+        total += u128::from(entry.length);
+    }
+    total as usize
+}
+
+/// Takes the memory for the reads of a call but for what is queued: the room of its payload, of whose stream this many bytes stand in its message, and
+/// the buffers of its sinks. An `Err` changes nothing.
 fn take_memory(
     endpoint: &mut Endpoint,
     alloc: Global,
     sinks: &mut Vec<OpenSink>,
+    inline: usize,
     chunks: &[u32],
     read: &[ReadSegment],
 ) -> Result<(Room, Vec<Octets>), Memory>
+    requires inline { inline ≤ send_unit * UNITS_MAX }
     requires total { read_total read.now ≤ PAYLOAD_MAX }
-    ensures payload { IfOk result (λ taken. taken.0 ≡ payload_room) }
+    ensures payload { IfOk result (λ taken. taken.0 ≡ inline + read_total read.now + 3) }
     ensures buffers { IfOk result (λ taken. taken.1.items ≡ map (sink_buffer read.now) chunks.now) }
     ensures capacity { OnOk result (length sinks.old.items + length chunks.now ≤ vec_capacity sinks.new) }
     ensures room { OnOk result (length chunks.now ≤ endpoint.new.room) }
@@ -97,14 +110,14 @@ fn take_memory(
     ensures outside { endpoint.new.outside ≡ endpoint.old.outside }
     ensures staging { endpoint.new.staging ≡ endpoint.old.staging }
 {
-    let room = Room::new(alloc)?;
+    let room = Room::new(alloc, inline + read_len(read) + 3)?;
     let buffers = sink_buffers(alloc, chunks, read)?;
     sinks.reserve(chunks.len())?;
     endpoint.make_room(chunks.len())?;
     Ok((room, buffers))
 }
 
-/// Begins the reads of a call, and gives the room of its payload. An `Err` changes nothing.
+/// Begins the reads of a call of whose stream this many bytes stand in its message, and gives the room of its payload. An `Err` changes nothing.
 #[tactic(none)]
 pub(crate) fn begin_reads(
     endpoint: &mut Endpoint,
@@ -112,6 +125,7 @@ pub(crate) fn begin_reads(
     reads: &mut Vec<ReadEntry>,
     sinks: &mut Vec<OpenSink>,
     number: u64,
+    inline: usize,
     chunks: &[u32],
     read: &[ReadSegment],
 ) -> Result<Room, Memory>
@@ -119,8 +133,9 @@ pub(crate) fn begin_reads(
     requires held { AreHeldFrom endpoint.old.link.state.memory 0 (claims_of sinks.old.items) }
     requires short { All (λ s. s.registration.len ≤ PAYLOAD_MAX) sinks.old.items }
     requires stags { endpoint.old.link.state.memory.next + length chunks.now ≤ 2 ^ 32 }
+    requires inline { inline ≤ send_unit * UNITS_MAX }
     requires total { read_total read.now ≤ PAYLOAD_MAX }
-    ensures room { IfOk result (λ room. room ≡ payload_room) }
+    ensures room { IfOk result (λ room. room ≡ inline + read_total read.now + 3) }
     ensures ok { OnOk result (BeginsReads number read.now chunks.now reads.old.items reads.new.items sinks.old.items sinks.new.items endpoint.old.link endpoint.new.link) }
     ensures err { OnErr result ((endpoint.new.link ≡ endpoint.old.link) × ((reads.new.items ≡ reads.old.items) × (sinks.new.items ≡ sinks.old.items))) }
     ensures held { AreHeldFrom endpoint.new.link.state.memory 0 (claims_of sinks.new.items) }
@@ -130,7 +145,7 @@ pub(crate) fn begin_reads(
     ensures outside_err { OnErr result (endpoint.new.outside ≡ endpoint.old.outside) }
     ensures staging { endpoint.new.staging ≡ endpoint.old.staging }
 {
-    match take_memory(endpoint, alloc, sinks, chunks, read) {
+    match take_memory(endpoint, alloc, sinks, inline, chunks, read) {
         Ok((room, buffers)) => match open_new(endpoint, alloc, reads, number, chunks, read) {
             Ok(()) => {
                 register_sinks(endpoint, sinks, number, chunks, read, buffers);

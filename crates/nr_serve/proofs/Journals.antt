@@ -1,10 +1,11 @@
 -- The journal that a server's own pass has seen after its links.
-use Rattle.std.proofs.Common.{ℕ, Bool, true, false, List, [], ◌∷◌, ◌++◌, None, Some, sym, subst, ltb, length}
+use Rattle.std.proofs.Common.{Bool, true, false, List, [], ◌∷◌, ◌++◌, None, Some, sym, subst, ltb, length}
 use Rattle.std.specs.Prelude.{if◌then◌else◌, Option}
 use Rattle.nr_reduce.specs.declared.mark.Entry.{Entry}
 use Rattle.nr_plain.specs.History.{AreOfCalls, IsHistory, Opening, PassView, setup_in}
 use Rattle.nr_plain.proofs.OfCalls.{both_of_calls}
 use Rattle.nr_plain.specs.declared.history_entry.HistoryEntry.{HistoryEntry}
+use Rattle.nr_host.specs.declared.connection_limits.ConnectionLimits.{ConnectionLimits}
 use Rattle.nr_host.specs.declared.link_end.LinkEnd.{LinkEnd}
 use Rattle.nr_host.specs.Serving.{Between, ServesAll, split_off}
 use Rattle.nr_host.specs.Steps.{outside, sink_state}
@@ -21,15 +22,15 @@ longer_of true first J K seen own stood added = (K, added)
 longer_of false first J K seen own stood added = (J, stood)
 
 -- It is the history of the server that was opened, whoever added entries, and each is that of a call.
-pub journal_after : (credits low units : ℕ) (records : Bool) (first : Opening) (J : List Entry) (before after : Between) (links : List (Option LinkEnd)) → ServesAll credits low units records before links after → IsHistory first J before.view.seen
+pub journal_after : (limits : ConnectionLimits) (records : Bool) (first : Opening) (J : List Entry) (before after : Between) (links : List (Option LinkEnd)) → ServesAll limits records before links after → IsHistory first J before.view.seen
     → AreOfCalls (setup_in first) [] J → (K : List Entry) × IsOfServer first K after.view.seen
-journal_after credits low units records first J before after [] none stood calls = (J, (subst (λ (b : Between). IsHistory first J b.view.seen) (sym none) stood, calls))
-journal_after credits low units records first J before after (None ∷ links) (mid, (one, rest)) stood calls =
-    journal_after credits low units records first J mid after links rest (subst (λ (v : PassView). IsHistory first J v.seen) (sym one.view) stood) calls
-journal_after credits low units records first J before after (Some end ∷ links) (mid, (one, rest)) stood calls =
-    let (answers, all) = over_link credits low units records (outside one.opened.left one.opened.given (sink_state one.opened.taken 0 false) one.gave (split_off before.view))
+journal_after limits records first J before after [] none stood calls = (J, (subst (λ (b : Between). IsHistory first J b.view.seen) (sym none) stood, calls))
+journal_after limits records first J before after (None ∷ links) (mid, (one, rest)) stood calls =
+    journal_after limits records first J mid after links rest (subst (λ (v : PassView). IsHistory first J v.seen) (sym one.view) stood) calls
+journal_after limits records first J before after (Some end ∷ links) (mid, (one, rest)) stood calls =
+    let (answers, all) = over_link limits records (outside one.opened.left one.opened.given (sink_state one.opened.taken 0 false) one.gave (split_off before.view))
     (outside one.closed.left one.closed.given (sink_state one.closed.taken one.sink_faults false) one.gave' one.own) end one.served in
     let over = all first J stood in
     let more = both_of_calls (setup_in first) [] J over.more calls over.of_calls in
     let (L, (is, of)) = longer_of (ltb (length before.view.seen) (length one.own.seen)) first J (J ++ over.more) before.view.seen one.own.seen (stood, calls) (over.seen, more) in
-    journal_after credits low units records first L mid after links rest (subst (λ (h : List HistoryEntry). IsHistory first L h) (sym one.joins.seen) is) of
+    journal_after limits records first L mid after links rest (subst (λ (h : List HistoryEntry). IsHistory first L h) (sym one.joins.seen) is) of

@@ -18,7 +18,7 @@ use Rattle.nr_host.specs.declared.link_end.LinkEnd.{LinkEnd}
 use Rattle.nr_host.specs.Serving as host
 use Rattle.nr_host.specs.declared.serving.ServeFault.{ServeFault}
 use Rattle.nr_host.specs.declared.serving.ServeFault.TheVariants as faults
-use Rattle.nr_serve.specs.Serving.{AcceptorAt, Opens, Serves, ServesConnections, SpawnerAt, served_text, setup_of}
+use Rattle.nr_serve.specs.Serving.{AcceptorAt, Opens, Serves, ServesConnections, SpawnerAt, limits_of, served_text, setup_of}
 use Rattle.nr_serve.specs.Stops.{IsServeFault, LinksStopped, OpensServer, OpensShared, ServesAndPrints, ServesLinks, ServesLinksOf, StoppedPrinting, StoppedServing, StopsServing, stop_of_serve}
 use Rattle.nr_serve.specs.Stops.StopsServing.{AtPrinting}
 use Rattle.nr_serve.specs.declared.stop.ServeStop.{ServeStop}
@@ -47,12 +47,12 @@ shares settings gave gave' kept view opens (first, is, empty) = record {
 -- it listened, and then took links
 pub links_served : (settings : Settings Text) (before mid after : AcceptorAt) (spawner spawner' : SpawnerAt) (view view' : PassView) (ends : List LinkEnd)
     → Asks before.asked mid.asked settings.listen → mid.ended ≡ before.ended → mid.lost ≡ before.lost → after.asked ≡ mid.asked
-    → host.Serves settings.credits settings.low_credits settings.units settings.records (host.between mid.ended mid.lost spawner.started view) ends (host.between after.ended after.lost spawner'.started view') → spawner'.ended ≡ spawner'.started
+    → host.Serves (limits_of settings) settings.records (host.between mid.ended mid.lost spawner.started view) ends (host.between after.ended after.lost spawner'.started view') → spawner'.ended ≡ spawner'.started
     → ServesLinks settings before after spawner spawner' view view' ends
 links_served settings before mid after spawner spawner' view view' ends asks ended lost same all waited = record {
   listens = subst (λ (a : Option (List (List ℕ))). Asks before.asked a settings.listen) (sym same) asks;
-  serves = subst (λ (n : ℕ). host.Serves settings.credits settings.low_credits settings.units settings.records (host.between before.ended n spawner.started view) ends (host.between after.ended after.lost spawner'.started view')) lost
-      (subst (λ (log : Option LinkLog). host.Serves settings.credits settings.low_credits settings.units settings.records (host.between log mid.lost spawner.started view) ends (host.between after.ended after.lost spawner'.started view')) ended all);
+  serves = subst (λ (n : ℕ). host.Serves (limits_of settings) settings.records (host.between before.ended n spawner.started view) ends (host.between after.ended after.lost spawner'.started view')) lost
+      (subst (λ (log : Option LinkLog). host.Serves (limits_of settings) settings.records (host.between log mid.lost spawner.started view) ends (host.between after.ended after.lost spawner'.started view')) ended all);
   waited = waited;
 }
 
@@ -70,7 +70,7 @@ module _ (settings : Settings Text) (before after : AcceptorAt) (spawner spawner
       → (s : ServesConnections settings before after spawner spawner' gave gave') × IsHistory s.first s.journal last.seen
   serves_all last links turn =
       let links_are = links.serves.serves in
-      let (J, (knew, calls)) = journal_after settings.credits settings.low_credits settings.units settings.records opens.first [] (host.between before.ended before.lost spawner.started view) (host.between after.ended after.lost spawner'.started view') links_are.links links_are.all opens.empty tt in
+      let (J, (knew, calls)) = journal_after (limits_of settings) settings.records opens.first [] (host.between before.ended before.lost spawner.started view) (host.between after.ended after.lost spawner'.started view') links_are.links links_are.all opens.empty tt in
       let found = turn opens.first J knew in (
         record {
           first = opens.first;

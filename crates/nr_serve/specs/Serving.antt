@@ -13,6 +13,7 @@ use Rattle.nr_plain.specs.History.{AreOfCalls, IsHistory, OnlyOthersAdded, Openi
 use Rattle.nr_plain.specs.Setup.{Setup, time_of}
 use Rattle.nr_words.specs.declared.settings.Settings.{Settings}
 use Rattle.nr_words.specs.Lines.{Text}
+use Rattle.nr_host.specs.declared.connection_limits.ConnectionLimits.{ConnectionLimits}
 use Rattle.nr_host.specs.declared.link_end.LinkEnd.{LinkEnd}
 use Rattle.nr_host.specs.Serving as host
 
@@ -22,6 +23,10 @@ setup_of settings moment = record {
   tree = root_only (time_of moment);
   parameters = record { capacity = settings.capacity; verifier = record { number = from_be_bytes w64 settings.write_verifier }; export = settings.export };
 }
+
+-- the limits of each connection that a configuration asks for
+abbrev pub limits_of : Settings Text → ConnectionLimits
+limits_of settings = record { credits = settings.credits; low = settings.low_credits; units = settings.units }
 
 -- what is known of an acceptor: the addresses at which it listened, its links, and its counts
 pub record AcceptorAt : Type 0 where
@@ -58,7 +63,7 @@ pub record Serves (settings : Settings Text) (before after : AcceptorAt) (spawne
   pub empty : IsHistory first [] opened.seen
   pub own : opened.mine ≡ 0 ∷ []
   pub listens : Asks before.asked after.asked settings.listen
-  pub serves : host.Serves settings.credits settings.low_credits settings.units settings.records (host.between before.ended before.lost spawner.started opened) ends (host.between after.ended after.lost spawner'.started view)
+  pub serves : host.Serves (limits_of settings) settings.records (host.between before.ended before.lost spawner.started opened) ends (host.between after.ended after.lost spawner'.started view)
   pub waited : spawner'.ended ≡ spawner'.started
 
 -- what is printed at the end: the number of connections, and the length of the journal

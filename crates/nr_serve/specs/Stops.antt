@@ -20,7 +20,7 @@ use Rattle.nr_host.specs.declared.serving.ServeFault.{ServeFault}
 use Rattle.nr_host.specs.declared.serving.ServeFault.TheVariants as serve_faults
 use Rattle.nr_host.specs.declared.link_end.LinkEnd.{LinkEnd}
 use Rattle.nr_outside.specs.Whole.{input_max}
-use Rattle.nr_serve.specs.Serving.{AcceptorAt, Opens, Serves, ServesConnections, SpawnerAt, served_text, setup_of}
+use Rattle.nr_serve.specs.Serving.{AcceptorAt, Opens, Serves, ServesConnections, SpawnerAt, limits_of, served_text, setup_of}
 use Rattle.nr_serve.specs.declared.stop.ServeStop.{ServeStop}
 use Rattle.nr_serve.specs.declared.stop.ServeStop.TheVariants as stops
 
@@ -122,10 +122,10 @@ pub record OpensShared (settings : Settings Text) (before after : Option (List M
   pub empty : IsHistory first [] view.seen
   pub own : view.mine ≡ 0 ∷ []
 
--- links were taken, at the address and with the credits of the configuration, by a pass that knew and knows this
+-- links were taken, at the address and within the limits of the configuration, by a pass that knew and knows this
 pub record ServesLinks (settings : Settings Text) (before after : AcceptorAt) (spawner spawner' : SpawnerAt) (view view' : PassView) (ends : List LinkEnd) : Type 0 where
   pub listens : Asks before.asked after.asked settings.listen
-  pub serves : host.Serves settings.credits settings.low_credits settings.units settings.records (host.between before.ended before.lost spawner.started view) ends (host.between after.ended after.lost spawner'.started view')
+  pub serves : host.Serves (limits_of settings) settings.records (host.between before.ended before.lost spawner.started view) ends (host.between after.ended after.lost spawner'.started view')
   pub waited : spawner'.ended ≡ spawner'.started
 
 -- all of them

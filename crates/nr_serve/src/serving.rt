@@ -10,7 +10,7 @@ ghost use Rattle.nr_serve.specs.Serving.{acceptor_at, spawner_at, served_text};
 ghost use Rattle.nr_serve.specs.Stops.{Done, GivesOne, InRanges, LinksStopped, OpensServer, OpensShared, ReadsConfig, ServesAndPrints, ServesLinksOf, Stopped, StoppedPrinting, StoppedReading, StopsServing};
 
 use crate::stop::{ServeStop, stop_of_config, stop_of_read, stop_of_serve};
-use nr_host::{ServeJob, serve};
+use nr_host::{ConnectionLimits, ServeJob, serve};
 use nr_jobs::Spawner;
 use nr_links::{Acceptor, Clock};
 use nr_nfs_base::{Time, Verifier};
@@ -132,11 +132,13 @@ where
         shared,
         pass,
         clock,
-        config.credits as u32,
-        config.low_credits as u32,
+        ConnectionLimits {
+            credits: config.credits as u32,
+            low: config.low_credits as u32,
+            units: config.units,
+        },
         config.records,
         config.connections as u32,
-        config.units,
     ) {
         Ok(ran) => {
             drop(ran);

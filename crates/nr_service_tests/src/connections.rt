@@ -4,7 +4,7 @@ ghost use Rattle.std.specs.Arc.{arc_value};
 ghost use Rattle.nr_turnstile.specs.Passes.{Rests};
 
 use crate::compare::same;
-use nr_host::{serve, serve_connection};
+use nr_host::{ConnectionLimits, serve, serve_connection};
 use nr_jobs::HandBack;
 use nr_links::{Acceptor, Clock, LinkPlan, MemAcceptor, MemClock};
 use nr_nfs_base::{Time, Verifier};
@@ -115,16 +115,21 @@ fn same_end(
     row: usize,
     source: &mut MemSource,
     writes: Vec<usize>,
-    terms: (u32, u32),
+    granted: (u32, u32),
     want: (&str, &[u8], u32),
 ) {
-    let (credits, low) = terms;
+    let (credits, low) = granted;
+    let limits = ConnectionLimits {
+        credits,
+        low,
+        units: 2,
+    };
     let (end, sent, executed) = want;
     let mut sink = MemSink::new(alloc, writes);
     let (shared, mut pass) = shared(rt, alloc);
     let mut clock = MemClock::new(&MOMENTS);
     let got = serve_connection(
-        rt, alloc, source, &mut sink, &shared, &mut pass, &mut clock, credits, low, 2,
+        rt, alloc, source, &mut sink, &shared, &mut pass, &mut clock, limits,
     );
     let text = format!(in alloc; "{got:?}").expect(rt, "memory");
     same(rt, row, text.as_str(), end);
@@ -318,6 +323,13 @@ pub(crate) fn plan(rt: &impl Abort, alloc: Global) -> LinkPlan {
     }
 }
 
+/// One call at a time, with Sends of one unit.
+pub(crate) const ONE_CALL: ConnectionLimits = ConnectionLimits {
+    credits: 1,
+    low: 1,
+    units: 1,
+};
+
 /// This many links, over each of which the client sends its hello and a NULL call.
 pub(crate) fn plans(rt: &impl Abort, alloc: Global, count: usize) -> Vec<LinkPlan> {
     let mut plans = Vec::new(alloc);
@@ -344,11 +356,9 @@ fn two_connections(rt: HostRuntime) {
         &shared,
         &mut pass,
         &clock,
-        1,
-        1,
+        ONE_CALL,
         false,
         2,
-        1,
     ) else {
         panic!(rt; "not served")
     };
@@ -379,10 +389,8 @@ fn two_connections(rt: HostRuntime) {
         &shared,
         &mut pass,
         &clock,
-        1,
-        1,
+        ONE_CALL,
         false,
-        1,
         1,
     );
     same(&rt, 7, none.is_err(), true);

@@ -9,8 +9,6 @@ mod commands;
 #[cfg(test)]
 mod compare;
 #[cfg(test)]
-mod configurations;
-#[cfg(test)]
 mod connections;
 #[cfg(test)]
 mod ends;

@@ -1,6 +1,6 @@
 //! Two links that are open at a time, and three with room for two threads.
 
-use crate::connections::{MOMENTS, plans, shared};
+use crate::connections::{MOMENTS, ONE_CALL, plans, shared};
 use crate::gates::{Gate, GateAcceptor, Waits};
 use nr_host::serve;
 use nr_jobs::{HandBack, ThreadSpawner};
@@ -48,11 +48,9 @@ fn two_links(rt: HostRuntime) {
         &shared,
         &mut pass,
         &clock,
-        1,
-        1,
+        ONE_CALL,
         false,
         2,
-        1,
     ) else {
         panic!(rt; "not served")
     };
@@ -77,11 +75,9 @@ fn one_link_after_the_other(rt: HostRuntime) {
         &shared,
         &mut pass,
         &clock,
-        1,
-        1,
+        ONE_CALL,
         false,
         2,
-        1,
     ) else {
         panic!(rt; "not served")
     };
@@ -107,11 +103,9 @@ fn three_links_and_two_threads(rt: HostRuntime) {
         &shared,
         &mut pass,
         &clock,
-        1,
-        1,
+        ONE_CALL,
         false,
         4,
-        1,
     ) else {
         panic!(rt; "not served")
     };

@@ -2,8 +2,9 @@
 //!
 //! A row is `LINE|RECEIVED|SENT|STATUS|TEXT`: the words after the name of the program; what the server sends, a piece for each read; what the
 //! client writes; the status; and what it prints if the status is 0, else what it reports, `;` standing for the end of a line. A piece is a
-//! name or hexadecimal digits ([`piece`]). Two more fields, `|FAULT|PRINTED`, are the call that fails, by its number from 0 (`dial`, `read` or
-//! `write` of the link, `input`, `out` or `err`), and what is printed though the status is not 0. A row that begins with `#` is a comment.
+//! name or hexadecimal digits ([`piece`]), in which `+STAG:LENGTH+` stands for the segments of a chunk. Two more fields, `|FAULT|PRINTED`, are
+//! the call that fails, by its number from 0 (`dial`, `read` or `write` of the link, `input`, `out` or `err`), and what is printed though the
+//! status is not 0. A row that begins with `#` is a comment.
 
 ghost use Rattle.std.specs.Prelude.{◌≡◌};
 
@@ -58,21 +59,56 @@ pub(crate) fn read_case<'a>(rt: &impl Abort, text: &'a str) -> Case<'a> {
         line,
         received,
         sent,
-        status: status.parse::<u32>().expect(rt, "a status"),
+        status: number(rt, status),
         text,
         fault,
         printed,
     }
 }
 
-/// Appends a piece.
-pub(crate) fn push_piece(rt: &impl Abort, alloc: Global, bytes: &mut Vec<u8>, word: &str) {
-    let Ok(part) = hex::decode(alloc, piece(word)) else {
-        panic!(rt; "no digits: {word}")
+/// A number in decimal digits.
+pub(crate) fn number(rt: &impl Abort, digits: &str) -> u32 {
+    digits.trim().parse::<u32>().expect(rt, "a number")
+}
+
+/// Appends numbers of four bytes.
+pub(crate) fn push_numbers(rt: &impl Abort, bytes: &mut Vec<u8>, numbers: &[u32]) {
+    for number in numbers {
+        bytes
+            .extend_from_slice(&number.to_be_bytes())
+            .expect(rt, "memory");
+    }
+}
+
+/// Appends the 16 segments of a chunk of up to 1056768 bytes, each of at most 66048 bytes: `len` bytes are offered, or were written.
+fn push_segments(rt: &impl Abort, bytes: &mut Vec<u8>, stag: u32, len: u32) {
+    let mut left = len;
+    for i in 0..16u32 {
+        let here = left.min(66048);
+        push_numbers(rt, bytes, &[stag, here, 0, i.saturating_mul(66048)]);
+        left = left.saturating_sub(here);
+    }
+}
+
+/// Appends hexadecimal digits, or for `STAG:LENGTH` the segments of a chunk.
+fn push_part(rt: &impl Abort, alloc: Global, bytes: &mut Vec<u8>, part: &str) {
+    if let Some((stag, len)) = part.split_once(':') {
+        push_segments(rt, bytes, number(rt, stag), number(rt, len));
+        return;
+    }
+    let Ok(part) = hex::decode(alloc, part) else {
+        panic!(rt; "no digits: {part}")
     };
     bytes
         .extend_from_slice(part.as_slice())
         .expect(rt, "memory");
+}
+
+/// Appends a piece.
+pub(crate) fn push_piece(rt: &impl Abort, alloc: Global, bytes: &mut Vec<u8>, word: &str) {
+    for part in piece(word).split('+') {
+        push_part(rt, alloc, bytes, part);
+    }
 }
 
 /// The bytes of pieces.
@@ -88,7 +124,8 @@ fn bytes_of(rt: &impl Abort, alloc: Global, words: &str) -> Vec<u8> {
 fn sizes(rt: &impl Abort, alloc: Global, words: &str) -> Vec<usize> {
     let mut sizes = Vec::new(alloc);
     for word in words.split_whitespace() {
-        sizes.push(piece(word).len() / 2).expect(rt, "memory");
+        let bytes = bytes_of(rt, alloc, word);
+        sizes.push(bytes.len()).expect(rt, "memory");
     }
     sizes
 }
@@ -96,9 +133,10 @@ fn sizes(rt: &impl Abort, alloc: Global, words: &str) -> Vec<usize> {
 /// The number of the call that fails, if it is one of those with this name.
 fn faults(rt: &impl Abort, alloc: Global, fault: &str, name: &str) -> Vec<usize> {
     let mut faults = Vec::new(alloc);
-    if let Some(number) = fault.strip_prefix(name) {
-        let number = number.trim().parse::<usize>().expect(rt, "a number");
-        faults.push(number).expect(rt, "memory");
+    if let Some(digits) = fault.strip_prefix(name) {
+        faults
+            .push(number(rt, digits) as usize)
+            .expect(rt, "memory");
     }
     faults
 }

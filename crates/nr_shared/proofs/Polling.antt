@@ -62,6 +62,7 @@ module _ {O : Type 0} where
         before = t.before;
         seen = seen ∙ t.seen;
         ended = t.ended;
+        unanswered = t.unanswered;
       }
 
   pub tries_after : (p q r s : Pass (RequesterWithSink O) Entry) (xid : ℕ) (take : Take) → Adds p q [] → KeepsOpen p q → IsTakeTurn q r xid take → seen_by s ≡ seen_by r → mine_of s ≡ mine_of r → IsTakeTurn p s xid take

@@ -245,4 +245,5 @@ module _ {O : Type 0} where
         before = g.before;
         seen = g.seen;
         ended = g.ended;
+        unanswered = g.unanswered;
       }

@@ -30,7 +30,7 @@ use Rattle.nr_shared.specs.declared.entry.Entry.TheVariants as entries
 use Rattle.nr_shared.specs.declared.entry.InitialState.{InitialState}
 use Rattle.nr_shared.specs.declared.entry.Stop.{Stop}
 use Rattle.nr_shared.specs.declared.requester_with_sink.RequesterWithSink.{RequesterWithSink}
-use Rattle.nr_shared.specs.HandedBack.{IsAwaitedStill, IsLostWith, lost_entry}
+use Rattle.nr_shared.specs.HandedBack.{IsAwaitedStill, IsLostWith, IsUnanswered, lost_entry}
 use Rattle.nr_shared.specs.Histories.{IsCallAt, IsUnclosed, submitted_call, closes_of, is_feeding, run_of}
 use Rattle.nr_shared.specs.Marks.{IsLive, IsOut}
 use Rattle.nr_shared.specs.Standing.{RepresentsHistory, RepresentsHistoryIf, IsWithin, Stands, is_out_of_memory}
@@ -76,6 +76,10 @@ none_came opened link r run xid k awaited none c there own = of_answer xid c r.s
     (ap (λ (x : ℕ). is_due link run x) own ∙ due_by link run xid awaited)))
     own none
 
+not_some : {A : Type 0} (o : Option A) → is_some o ≡ false → o ≡ None
+not_some None is = refl
+not_some (Some a) is = absurd cc
+
 -- ---- The entry
 
 none_memory : None ≡ Some ends.Memory → ⊥
@@ -112,6 +116,29 @@ module _ {O : Type 0} (taken : O → Option (List ℕ)) (faults : O → ℕ) whe
       (λ f opened link before fits.
       (let l = f.1 opened link before (fits_initial h st.initial opened link before st.is_initial fits) in
       (sym l.stands.keeps.kept.keeps.ended ∙ going, none_came opened link m.requester (run_of before 0 link h) xid l.stands.answers (open_is_awaited opened link m.requester (run_of before 0 link h) xid l.stands there) none)))
+
+  -- a call whose answer isn't there
+  pub none_has_come : (m : RequesterWithSink O) (h : List Entry) (xid k : ℕ) (call : Call) → is_some (found_answer xid m.requester.state) ≡ false → IsCallAt h xid k call → IsUnclosed h k → Stands taken faults m h → IsUnanswered xid h
+  none_has_come m h xid k call lacks asked unclosed st = by_out (is_out_of_memory m.stopped) st.represents where
+    there : is_some (open_call xid m.requester.state) ≡ true
+    there = ap is_some (st.calls xid k call asked unclosed).1
+
+    not_there : found_answer xid m.requester.state ≡ None
+    not_there = not_some (found_answer xid m.requester.state) lacks
+
+    by_out : (b : Bool) → RepresentsHistoryIf b st.initial m.requester h → IsUnanswered xid h
+    by_out false f = record {
+      n = 0;
+      none = λ opened link before fits.
+          (let l = f.1 opened link before (fits_initial h st.initial opened link before st.is_initial fits) in
+          none_came opened link m.requester (run_of before 0 link h) xid l.stands.answers (open_is_awaited opened link m.requester (run_of before 0 link h) xid l.stands there) not_there);
+    }
+    by_out true f = record {
+      n = f.1.0;
+      none = λ opened link before fits.
+          (let l = f.1.1 opened link before (fits_initial h st.initial opened link before st.is_initial fits) in
+          none_came opened link m.requester (run_of before f.1.0 link h) xid l.stands.answers (open_out opened link m.requester l.stopped (run_of before f.1.0 link h) xid l.stands there) not_there);
+    }
 
   -- what goes back of a call that is lost
   pub lost_with : (m : RequesterWithSink O) (h : List Entry) (xid k : ℕ) (call : Call) (buffers : Buffers) → found_answer xid m.requester.state ≡ None → buffers ≡ buffers_of xid m.requester.state → IsCallAt h xid k call → IsUnclosed h k → Stands taken faults m h → IsLostWith xid buffers h

@@ -31,6 +31,11 @@ pub record IsLostWith (xid : ℕ) (buffers : Buffers) (history : List Entry) : T
   pub placed : (opened : LinkParameters) (link : ℕ) (before : List Mark) → FitsHistory history opened link before → bytes_of_buffers buffers ≡ revoked_bytes opened link (run_of before n link history) xid
   pub none : (opened : LinkParameters) (link : ℕ) (before : List Mark) → FitsHistory history opened link before → (c : CompletedCall) → Contains (client opened link (run_of before n link history)).state.outcomes c → c.xid ≢ xid
 
+-- No message brought an outcome of the call by this history.
+pub record IsUnanswered (xid : ℕ) (history : List Entry) : Type 0 where
+  pub n : ℕ
+  pub none : (opened : LinkParameters) (link : ℕ) (before : List Mark) → FitsHistory history opened link before → (c : CompletedCall) → Contains (client opened link (run_of before n link history)).state.outcomes c → c.xid ≢ xid
+
 -- The client of the run hasn't ended, and no message brought an outcome of the call.
 abbrev pub IsAwaitedStill : (xid : ℕ) → List Entry → Type 0
 IsAwaitedStill xid history = (opened : LinkParameters) (link : ℕ) (before : List Mark) → FitsHistory history opened link before →

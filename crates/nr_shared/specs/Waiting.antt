@@ -25,7 +25,7 @@ use Rattle.nr_shared.specs.Adding.{Adds}
 use Rattle.nr_shared.specs.Callers.{KeepsOpen, KeepsOthers}
 use Rattle.nr_shared.specs.Draining.{AreWrites}
 use Rattle.nr_shared.specs.Ending.{HasEnded, IsCause, LinkEnded}
-use Rattle.nr_shared.specs.HandedBack.{HavePlaced, IsAwaitedStill, IsLostWith, lost_entry}
+use Rattle.nr_shared.specs.HandedBack.{HavePlaced, IsAwaitedStill, IsLostWith, IsUnanswered, lost_entry}
 use Rattle.nr_shared.specs.Output.{HasWrittenOutput}
 
 module _ {O : Type 0} where
@@ -43,13 +43,14 @@ module _ {O : Type 0} where
     pub adds : Adds p q (entries.Forget xid k ∷ [])
     pub keeps : KeepsOthers k p q
 
-  -- the same, since the link had ended so by the history before
+  -- the same, since the link had ended so by the history before, and no answer had come
   pub record GivesUpAt (p q : Pass (RequesterWithSink O) Entry) (xid k : ℕ) (end : CallEnd) : Type 0 where
     pub adds : Adds p q (entries.Forget xid k ∷ [])
     pub keeps : KeepsOthers k p q
     pub before : List Entry
     pub seen : seen_by q ≡ before ++ entries.Forget xid k ∷ []
     pub ended : LinkEnded end before
+    pub unanswered : IsUnanswered xid before
 
   -- such is so of the place at which a call of this xid stands, open and the pass's own
   abbrev pub AtCall : Pass (RequesterWithSink O) Entry → ℕ → (ℕ → Call → Type 0) → Type 0
@@ -159,7 +160,7 @@ module _ {O : Type 0} where
     pub seen : seen_by q ≡ before ++ entries.Done xid done.outcome at ∷ []
     pub buffers : HavePlaced xid done.buffers before
 
-  -- The call was submitted and forgotten, since the link had ended so by the history before.
+  -- The call was submitted and forgotten, since the link had ended so by the history before, and no answer had come.
   pub record NoAnswer (p q : Pass (RequesterWithSink O) Entry) (call : Call) (form : Form) (end : CallEnd) : Type 0 where
     pub writes_before : List Entry
     pub are_writes_before : AreWrites writes_before
@@ -175,6 +176,7 @@ module _ {O : Type 0} where
     pub before : List Entry
     pub seen : seen_by q ≡ before ++ entries.Forget xid at ∷ []
     pub ended : LinkEnded end before
+    pub unanswered : IsUnanswered xid before
 
   abbrev pub Calls : Pass (RequesterWithSink O) Entry → Pass (RequesterWithSink O) Entry → Call → Form → Result Done CallEnd → Type 0
   Calls p q call form (Ok done) = OwnAnswer p q call form done

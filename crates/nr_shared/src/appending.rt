@@ -11,12 +11,12 @@ ghost use Rattle.nr_requester.specs.Buffers.{bytes_of_buffers};
 ghost use Rattle.nr_shared.specs.HandedBack.{lost_by};
 
 use crate::entry::{Entry, Stop};
-use crate::requester_with_sink::RequesterWithSink;
+use crate::requester_with_sink::MainTurn;
 use nr_link::End;
 use nr_outside::Sink;
 use nr_reduce::{Call, Form, Outcome};
 use nr_requester::{Buffers, Requester, Ticket};
-use nr_turnstile::{EntryName, Turn};
+use nr_turnstile::EntryName;
 use std::marker::{Brand, PhantomData};
 use std::snapshot::Snapshot;
 
@@ -44,7 +44,7 @@ impl<K: Appended> EntryName<Entry> for EntryOf<K> {
 
 /// Appends the Submit of a call that was accepted.
 pub(crate) fn append_submit<O: Sink, K: Appended>(
-    turn: &mut Turn<'_, RequesterWithSink<O>>,
+    turn: &mut MainTurn<'_, O>,
     _call: &Snapshot<Call>,
     _form: &Snapshot<Form>,
     _ticket: &Ticket,
@@ -61,7 +61,7 @@ pub(crate) fn append_submit<O: Sink, K: Appended>(
 
 /// Appends the Done of an outcome that is delivered.
 pub(crate) fn append_done<O: Sink, K: Appended>(
-    turn: &mut Turn<'_, RequesterWithSink<O>>,
+    turn: &mut MainTurn<'_, O>,
     _xid: u32,
     _outcome: &Snapshot<Outcome>,
 )
@@ -76,10 +76,7 @@ pub(crate) fn append_done<O: Sink, K: Appended>(
 }
 
 /// Appends the Forget of a call.
-pub(crate) fn append_forget<O: Sink, K: Appended>(
-    turn: &mut Turn<'_, RequesterWithSink<O>>,
-    _xid: u32,
-)
+pub(crate) fn append_forget<O: Sink, K: Appended>(turn: &mut MainTurn<'_, O>, _xid: u32)
     requires entry { forget_by (seen_by (pass_of turn.old)) _xid ≡ K.entry }
     requires value { (y : RequesterWithSink O) × Has turn.old y }
     requires may { MayStep closes_of (pass_of turn.old) (forget_by (seen_by (pass_of turn.old)) _xid) }
@@ -92,7 +89,7 @@ pub(crate) fn append_forget<O: Sink, K: Appended>(
 
 /// Appends the Wrote of the bytes that the sink took between two moments of the requester.
 pub(crate) fn append_wrote<O: Sink, K: Appended>(
-    turn: &mut Turn<'_, RequesterWithSink<O>>,
+    turn: &mut MainTurn<'_, O>,
     _before: &Snapshot<Requester>,
     _after: &Snapshot<Requester>,
 )
@@ -107,7 +104,7 @@ pub(crate) fn append_wrote<O: Sink, K: Appended>(
 }
 
 /// Appends that a write failed.
-pub(crate) fn append_write_failed<O: Sink, K: Appended>(turn: &mut Turn<'_, RequesterWithSink<O>>)
+pub(crate) fn append_write_failed<O: Sink, K: Appended>(turn: &mut MainTurn<'_, O>)
     requires entry { entries.WriteFailed ≡ K.entry }
     requires value { (y : RequesterWithSink O) × Has turn.old y }
     requires may { MayStep closes_of (pass_of turn.old) entries.WriteFailed }
@@ -120,7 +117,7 @@ pub(crate) fn append_write_failed<O: Sink, K: Appended>(turn: &mut Turn<'_, Requ
 
 /// Appends the Revoke of a call.
 pub(crate) fn append_revoke<O: Sink, K: Appended>(
-    turn: &mut Turn<'_, RequesterWithSink<O>>,
+    turn: &mut MainTurn<'_, O>,
     _xid: u32,
     _buffers: &Snapshot<Buffers>,
 )
@@ -136,7 +133,7 @@ pub(crate) fn append_revoke<O: Sink, K: Appended>(
 
 /// Appends the entry of a call that is lost.
 pub(crate) fn append_lost<O: Sink, K: Appended>(
-    turn: &mut Turn<'_, RequesterWithSink<O>>,
+    turn: &mut MainTurn<'_, O>,
     _end: End,
     _xid: u32,
     _buffers: &Snapshot<Buffers>,
@@ -153,7 +150,7 @@ pub(crate) fn append_lost<O: Sink, K: Appended>(
 
 /// Appends the entry of a piece that is fed.
 pub(crate) fn append_fed<O: Sink, K: Appended>(
-    turn: &mut Turn<'_, RequesterWithSink<O>>,
+    turn: &mut MainTurn<'_, O>,
     _out_of_memory: bool,
     _piece: &[u8],
 )
@@ -168,10 +165,7 @@ pub(crate) fn append_fed<O: Sink, K: Appended>(
 }
 
 /// Appends the Stopped of the end of feeding.
-pub(crate) fn append_stopped<O: Sink, K: Appended>(
-    turn: &mut Turn<'_, RequesterWithSink<O>>,
-    _cause: Stop,
-)
+pub(crate) fn append_stopped<O: Sink, K: Appended>(turn: &mut MainTurn<'_, O>, _cause: Stop)
     requires entry { stopped_after (seen_by (pass_of turn.old)) _cause ≡ K.entry }
     requires value { (y : RequesterWithSink O) × Has turn.old y }
     requires may { MayStep closes_of (pass_of turn.old) (stopped_after (seen_by (pass_of turn.old)) _cause) }

@@ -13,12 +13,11 @@ ghost use Rattle.nr_shared.specs.Sharing.{SaysCredit, SaysCreditOutOfMemory};
 ghost use Rattle.nr_shared.specs.Waiting.{IsSubmitTurn, IsPollTurn};
 
 use crate::call_end::CallEnd;
-use crate::requester_with_sink::RequesterWithSink;
-use crate::turns::{drain_under, forget_under, submit_under, take_under};
+use crate::requester_with_sink::MainTurn;
+use crate::turns::{drain_under, forget_under, submit_under, try_take_under};
 use nr_outside::Sink;
 use nr_reduce::{Call, Form};
-use nr_requester::{Done, Ticket};
-use nr_turnstile::Turn;
+use nr_requester::{Done, Take, Ticket};
 
 /// What a turn of a caller that waits finds.
 #[derive(Drop)]
@@ -54,10 +53,7 @@ pub enum CreditState {
 }
 
 /// Takes the answer of a call of the pass's own, if it is there; or forgets the call, if none comes any more.
-pub(crate) fn poll_under<O: Sink>(
-    turn: &mut Turn<'_, RequesterWithSink<O>>,
-    ticket: Ticket,
-) -> PollTurn
+pub(crate) fn poll_under<O: Sink>(turn: &mut MainTurn<'_, O>, ticket: Ticket) -> PollTurn
     requires ready { IsReady O.taken O.faults turn.old }
     requires has_call { HasOpenCall (pass_of turn.old) ticket }
     ensures same { IsSameTurn turn.old turn.new }
@@ -68,7 +64,11 @@ pub(crate) fn poll_under<O: Sink>(
     let there = with_sink.requester.has_outcome(&ticket);
     let end = with_sink.end();
     if there {
-        return PollTurn::Answered(take_under(turn, ticket));
+        match try_take_under(turn, ticket) {
+            Take::Done(done) => return PollTurn::Answered(done),
+            Take::NotYet(_) => unreachable!(),
+            Take::Failed { .. } => unreachable!(),
+        }
     }
     match end {
         None => PollTurn::NotYet(ticket),
@@ -80,7 +80,7 @@ pub(crate) fn poll_under<O: Sink>(
 }
 
 /// Whether a credit is left, or the link has ended.
-fn credit_state_under<O: Sink>(turn: &mut Turn<'_, RequesterWithSink<O>>) -> CreditState
+fn credit_state_under<O: Sink>(turn: &mut MainTurn<'_, O>) -> CreditState
     requires ready { IsReady O.taken O.faults turn.old }
     ensures same { IsSameTurn turn.old turn.new }
     ensures ready { IsReady O.taken O.faults turn.new }
@@ -101,7 +101,7 @@ fn credit_state_under<O: Sink>(turn: &mut Turn<'_, RequesterWithSink<O>>) -> Cre
 
 /// Writes the output that is due. Then, if a credit is left, submits a call and writes it.
 pub(crate) fn submit_if_credit_under<O: Sink>(
-    turn: &mut Turn<'_, RequesterWithSink<O>>,
+    turn: &mut MainTurn<'_, O>,
     call: Call,
     form: Form,
 ) -> SubmitTurn
@@ -131,7 +131,7 @@ pub(crate) fn submit_if_credit_under<O: Sink>(
 
 /// Whether more of the stream is needed: nothing has ended, and the answer of the call isn't there, or no credit is left.
 pub(crate) fn needs_input_under<O: Sink>(
-    turn: &mut Turn<'_, RequesterWithSink<O>>,
+    turn: &mut MainTurn<'_, O>,
     ticket: Option<&Ticket>,
 ) -> bool
     requires ready { IsReady O.taken O.faults turn.old }
@@ -152,7 +152,7 @@ pub(crate) fn needs_input_under<O: Sink>(
 }
 
 /// Whether a credit is left.
-pub(crate) fn credit_under<O: Sink>(turn: &mut Turn<'_, RequesterWithSink<O>>) -> bool
+pub(crate) fn credit_under<O: Sink>(turn: &mut MainTurn<'_, O>) -> bool
     requires ready { IsReady O.taken O.faults turn.old }
     ensures same { IsSameTurn turn.old turn.new }
     ensures ready { IsReady O.taken O.faults turn.new }

@@ -11,7 +11,7 @@ ghost use Rattle.nr_shared.specs.Waiting.{IsSubmitTurn, Calls, ForgetsCall, IsPo
 
 use crate::call_end::CallEnd;
 use crate::caller_turns::{PollTurn, SubmitTurn, credit_under, poll_under, submit_if_credit_under};
-use crate::requester_with_sink::RequesterWithSink;
+use crate::requester_with_sink::MainPass;
 use crate::shared::{Pass, SharedRequester};
 use crate::turns::forget_under;
 use nr_outside::{Sink, Source};
@@ -128,7 +128,7 @@ impl<I: Source, O: Sink> SharedRequester<I, O> {
     fn submit_turn<R: Wait>(
         &self,
         rt: &R,
-        main: &mut nr_turnstile::Pass<RequesterWithSink<O>>,
+        main: &mut MainPass<O>,
         call: Call,
         form: Form,
     ) -> SubmitTurn
@@ -146,12 +146,7 @@ impl<I: Source, O: Sink> SharedRequester<I, O> {
     }
 
     // One turn of a caller that gives a call up.
-    fn forget_turn<R: Wait>(
-        &self,
-        rt: &R,
-        main: &mut nr_turnstile::Pass<RequesterWithSink<O>>,
-        ticket: Ticket,
-    )
+    fn forget_turn<R: Wait>(&self, rt: &R, main: &mut MainPass<O>, ticket: Ticket)
         requires rests { Rests self.now.main main.old }
         requires has_call { HasOpenCall main.old ticket }
         ensures rests { Rests self.now.main main.new }
@@ -164,11 +159,7 @@ impl<I: Source, O: Sink> SharedRequester<I, O> {
     }
 
     // One turn of a caller that asks for a credit.
-    fn credit_turn<R: Wait>(
-        &self,
-        rt: &R,
-        main: &mut nr_turnstile::Pass<RequesterWithSink<O>>,
-    ) -> bool
+    fn credit_turn<R: Wait>(&self, rt: &R, main: &mut MainPass<O>) -> bool
         requires rests { Rests self.now.main main.old }
         requires lies { Lies (seen_by main.old) (mine_of main.old) }
         ensures rests { Rests self.now.main main.new }
@@ -185,12 +176,7 @@ impl<I: Source, O: Sink> SharedRequester<I, O> {
     }
 
     // One turn of a caller that waits.
-    fn poll_turn<R: Wait>(
-        &self,
-        rt: &R,
-        main: &mut nr_turnstile::Pass<RequesterWithSink<O>>,
-        ticket: Ticket,
-    ) -> PollTurn
+    fn poll_turn<R: Wait>(&self, rt: &R, main: &mut MainPass<O>, ticket: Ticket) -> PollTurn
         requires rests { Rests self.now.main main.old }
         requires has_call { HasOpenCall main.old ticket }
         ensures rests { Rests self.now.main main.new }

@@ -12,7 +12,7 @@ ghost use Rattle.nr_shared.specs.Histories.{bytes_fed, stop_of};
 
 use crate::caller_turns::needs_input_under;
 use crate::entry::Stop;
-use crate::requester_with_sink::RequesterWithSink;
+use crate::requester_with_sink::MainPass;
 use crate::shared::SharedRequester;
 use crate::source_reader::SourceReader;
 use crate::turns::{drain_under, feed_under, stop_under};
@@ -65,7 +65,7 @@ impl<I: Source, O: Sink> SharedRequester<I, O> {
     fn needs_input<R: Wait>(
         &self,
         rt: &R,
-        feeding: &mut nr_turnstile::Pass<RequesterWithSink<O>>,
+        feeding: &mut MainPass<O>,
         ticket: Option<&Ticket>,
     ) -> bool
         requires rests { Rests self.now.main feeding.old }
@@ -86,12 +86,7 @@ impl<I: Source, O: Sink> SharedRequester<I, O> {
     }
 
     // A piece is fed by the pass that feeds. Output that is due is written before it and after it. Answers whether memory ran out for a frame of it.
-    fn feed<R: Wait>(
-        &self,
-        rt: &R,
-        feeding: &mut nr_turnstile::Pass<RequesterWithSink<O>>,
-        piece: &[u8],
-    ) -> bool
+    fn feed<R: Wait>(&self, rt: &R, feeding: &mut MainPass<O>, piece: &[u8]) -> bool
         requires rests { Rests self.now.main feeding.old }
         requires feeding { IsFeeding feeding.old }
         requires lies { Lies (seen_by feeding.old) (mine_of feeding.old) }
@@ -113,12 +108,7 @@ impl<I: Source, O: Sink> SharedRequester<I, O> {
     }
 
     // No more is fed: the pass that feeds appends that.
-    fn stop<R: Wait>(
-        &self,
-        rt: &R,
-        feeding: &mut nr_turnstile::Pass<RequesterWithSink<O>>,
-        cause: Stop,
-    )
+    fn stop<R: Wait>(&self, rt: &R, feeding: &mut MainPass<O>, cause: Stop)
         requires rests { Rests self.now.main feeding.old }
         requires feeding { IsFeeding feeding.old }
         requires lies { Lies (seen_by feeding.old) (mine_of feeding.old) }

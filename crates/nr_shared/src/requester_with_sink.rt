@@ -15,7 +15,7 @@ use nr_links::READ_MAX;
 use nr_outside::Sink;
 use nr_reduce::{Call, Form, Refused};
 use nr_requester::{Buffers, Done, Requester, Take, Ticket};
-use nr_turnstile::Machine;
+use nr_turnstile::{Machine, Pass, Turn};
 
 /// What a drain did.
 #[derive(Clone, Copy)]
@@ -43,6 +43,11 @@ pub struct RequesterWithSink<O> {
     pub(crate) stopped: Option<Stop>,
 }
 
+/// A turn of a caller, and what it takes turns with.
+pub(crate) type MainTurn<'a, O> = Turn<'a, RequesterWithSink<O>>;
+
+pub(crate) type MainPass<O> = Pass<RequesterWithSink<O>>;
+
 impl<O: Sink> Machine for RequesterWithSink<O> {
     ghost use Rattle.nr_shared.specs.Standing.{Stands};
     ghost use Rattle.nr_shared.specs.Histories.{closes_of};
@@ -64,9 +69,8 @@ impl<O: Sink> RequesterWithSink<O> {
     ghost use Rattle.nr_shared.specs.Standing.{Stands, Becomes};
     ghost use Rattle.nr_shared.specs.Histories.{IsCallAt, IsUnclosed, bytes_fed, last_feeding};
     ghost use Rattle.nr_shared.specs.Draining.{drained_entries, fed_entry};
-    ghost use Rattle.nr_shared.specs.HandedBack.{HavePlaced};
     ghost use Rattle.nr_shared.specs.private.Flushed.{IsFlushed};
-    ghost use Rattle.nr_shared.specs.private.Taking.{TakenBy};
+    ghost use Rattle.nr_shared.specs.private.Taking.{IsDone, TakenBy};
     ghost use Rattle.nr_shared.specs.declared.entry.Stop.TheVariants as causes;
     ghost use Rattle.nr_links.specs.Limits.{read_max};
     ghost use Rattle.nr_requester.specs.Buffers.{bytes_of_buffers};
@@ -199,28 +203,12 @@ impl<O: Sink> RequesterWithSink<O> {
         self.entries += 1;
     }
 
-    /// Takes the answer of a call, which is there.
-    pub(crate) fn take_answer(&mut self, ticket: Ticket) -> Done
-        requires there { is_some (found_answer ticket self.old.requester.state) ≡ true }
-        requires has_call { (history : List Entry) × (k : ℕ) × (call : Call) × (Stands O.taken O.faults self.old history × (IsCallAt history ticket k call × IsUnclosed history k)) }
-        ensures taken { (history : List Entry) (k : ℕ) (call : Call) → Stands O.taken O.faults self.old history → IsCallAt history ticket k call → IsUnclosed history k →
-            Stands O.taken O.faults self.new (history ++ entries.Done ticket result.outcome k ∷ []) × ((result.call ≡ call) × HavePlaced ticket result.buffers history) }
-    {
-        match self.requester.try_take(ticket) {
-            Take::Done(done) => {
-                self.entries += 1;
-                done
-            }
-            Take::NotYet(_) => unreachable!(),
-            Take::Failed { .. } => unreachable!(),
-        }
-    }
-
     /// Takes the answer of a call; or the call comes back with its buffers, if the requester has ended before.
     pub(crate) fn try_take(&mut self, ticket: Ticket) -> Take
         requires has_call { (history : List Entry) × (k : ℕ) × (call : Call) × (Stands O.taken O.faults self.old history × (IsCallAt history ticket k call × IsUnclosed history k)) }
         ensures taken { (history : List Entry) (k : ℕ) (call : Call) → Stands O.taken O.faults self.old history → IsCallAt history ticket k call → IsUnclosed history k →
             TakenBy O.taken O.faults history ticket k call result self.new }
+        ensures there { is_some (found_answer ticket self.old.requester.state) ≡ true → IsDone result }
     {
         match self.requester.try_take(ticket) {
             Take::NotYet(ticket) => Take::NotYet(ticket),

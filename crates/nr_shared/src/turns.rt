@@ -11,11 +11,12 @@ ghost use Rattle.nr_shared.specs.Histories.{bytes_fed, closes_of, forget_by};
 ghost use Rattle.nr_shared.specs.Ending.{HasCredit, IsRefused};
 ghost use Rattle.nr_shared.specs.private.CreditState.{LeavesCredit};
 ghost use Rattle.nr_shared.specs.private.Flushed.{HasFlushed};
+ghost use Rattle.nr_shared.specs.private.Taking.{IsDone};
 ghost use Rattle.nr_shared.specs.declared.entry.Entry.TheVariants as entries;
 ghost use Rattle.nr_shared.specs.Callers.{HasOpenCall, IsFeeding, IsReady, KeepsOpen, KeepsOthers};
 ghost use Rattle.nr_shared.specs.Adding.{Adds};
 ghost use Rattle.nr_shared.specs.Callers.{Writes};
-ghost use Rattle.nr_shared.specs.Waiting.{AtCall, ForgetsCall, TakesAnswer, IsTakeTurn};
+ghost use Rattle.nr_shared.specs.Waiting.{AtCall, ForgetsCall, IsTakeTurn};
 ghost use Rattle.nr_shared.specs.Draining.{fed_after, stopped_after};
 ghost use Rattle.nr_shared.specs.declared.entry.Stop.TheVariants as causes;
 ghost use Rattle.nr_requester.specs.Buffers.{bytes_of_buffers};
@@ -26,17 +27,16 @@ use crate::appending::{
     append_submit, append_write_failed, append_wrote,
 };
 use crate::entry::Stop;
-use crate::requester_with_sink::{Drained, RequesterWithSink};
+use crate::requester_with_sink::{Drained, MainTurn};
 use nr_outside::Sink;
 use nr_reduce::{Call, Form, Refused};
-use nr_requester::{Buffers, Done, Take, Ticket};
-use nr_turnstile::Turn;
+use nr_requester::{Buffers, Take, Ticket};
 use std::marker::Brand;
 use std::snapshot::Snapshot;
 
 /// Submits a call.
 pub(crate) fn submit_under<O: Sink>(
-    turn: &mut Turn<'_, RequesterWithSink<O>>,
+    turn: &mut MainTurn<'_, O>,
     call: Call,
     form: Form,
 ) -> Result<Ticket, (Call, Refused)>
@@ -66,33 +66,14 @@ pub(crate) fn submit_under<O: Sink>(
     }
 }
 
-/// Takes the answer of a call of the pass's own, which is there.
-pub(crate) fn take_under<O: Sink>(turn: &mut Turn<'_, RequesterWithSink<O>>, ticket: Ticket) -> Done
-    requires ready { IsReady O.taken O.faults turn.old }
-    requires there { (y : RequesterWithSink O) → Has turn.old y → is_some (found_answer ticket y.requester.state) ≡ true }
-    requires has_call { HasOpenCall (pass_of turn.old) ticket }
-    ensures same { IsSameTurn turn.old turn.new }
-    ensures ready { IsReady O.taken O.faults turn.new }
-    ensures taken { TakesAnswer (pass_of turn.old) (pass_of turn.new) ticket result }
-{
-    let xid = ticket.xid();
-    let with_sink = turn.value();
-    let done = with_sink.take_answer(ticket);
-    let outcome = Snapshot::of(&done.outcome);
-    append_done::<O, Brand>(turn, xid, &outcome);
-    done
-}
-
 /// Takes the answer of a call of the pass's own; or the call comes back with its buffers, if the requester has ended before.
-pub(crate) fn try_take_under<O: Sink>(
-    turn: &mut Turn<'_, RequesterWithSink<O>>,
-    ticket: Ticket,
-) -> Take
+pub(crate) fn try_take_under<O: Sink>(turn: &mut MainTurn<'_, O>, ticket: Ticket) -> Take
     requires ready { IsReady O.taken O.faults turn.old }
     requires has_call { HasOpenCall (pass_of turn.old) ticket }
     ensures same { IsSameTurn turn.old turn.new }
     ensures ready { IsReady O.taken O.faults turn.new }
     ensures taken { IsTakeTurn (pass_of turn.old) (pass_of turn.new) ticket result }
+    ensures there { ((y : RequesterWithSink O) → Has turn.old y → is_some (found_answer ticket y.requester.state) ≡ true) → IsDone result }
 {
     let xid = ticket.xid();
     let with_sink = turn.value();
@@ -112,7 +93,7 @@ pub(crate) fn try_take_under<O: Sink>(
 }
 
 /// Forgets a call of the pass's own.
-pub(crate) fn forget_under<O: Sink>(turn: &mut Turn<'_, RequesterWithSink<O>>, ticket: Ticket)
+pub(crate) fn forget_under<O: Sink>(turn: &mut MainTurn<'_, O>, ticket: Ticket)
     requires ready { IsReady O.taken O.faults turn.old }
     requires has_call { HasOpenCall (pass_of turn.old) ticket }
     ensures same { IsSameTurn turn.old turn.new }
@@ -127,7 +108,7 @@ pub(crate) fn forget_under<O: Sink>(turn: &mut Turn<'_, RequesterWithSink<O>>, t
 }
 
 /// Hands the output to the sink, unless a write failed before.
-pub(crate) fn drain_under<O: Sink>(turn: &mut Turn<'_, RequesterWithSink<O>>)
+pub(crate) fn drain_under<O: Sink>(turn: &mut MainTurn<'_, O>)
     requires ready { IsReady O.taken O.faults turn.old }
     ensures same { IsSameTurn turn.old turn.new }
     ensures ready { IsReady O.taken O.faults turn.new }
@@ -149,10 +130,7 @@ pub(crate) fn drain_under<O: Sink>(turn: &mut Turn<'_, RequesterWithSink<O>>)
 }
 
 /// Revokes the memory of a call of the pass's own.
-pub(crate) fn revoke_under<O: Sink>(
-    turn: &mut Turn<'_, RequesterWithSink<O>>,
-    ticket: Ticket,
-) -> (Call, Buffers)
+pub(crate) fn revoke_under<O: Sink>(turn: &mut MainTurn<'_, O>, ticket: Ticket) -> (Call, Buffers)
     requires ready { IsReady O.taken O.faults turn.old }
     requires has_call { HasOpenCall (pass_of turn.old) ticket }
     ensures same { IsSameTurn turn.old turn.new }
@@ -168,7 +146,7 @@ pub(crate) fn revoke_under<O: Sink>(
 }
 
 /// Feeds a piece that was read, after a drain. Answers whether memory ran out for a frame of it.
-pub(crate) fn feed_under<O: Sink>(turn: &mut Turn<'_, RequesterWithSink<O>>, piece: &[u8]) -> bool
+pub(crate) fn feed_under<O: Sink>(turn: &mut MainTurn<'_, O>, piece: &[u8]) -> bool
     requires ready { IsReady O.taken O.faults turn.old }
     requires feeding { IsFeeding (pass_of turn.old) }
     requires goes { (y : RequesterWithSink O) → Has turn.old y → y.stopped ≡ None }
@@ -188,7 +166,7 @@ pub(crate) fn feed_under<O: Sink>(turn: &mut Turn<'_, RequesterWithSink<O>>, pie
 }
 
 /// No more is fed.
-pub(crate) fn stop_under<O: Sink>(turn: &mut Turn<'_, RequesterWithSink<O>>, cause: Stop)
+pub(crate) fn stop_under<O: Sink>(turn: &mut MainTurn<'_, O>, cause: Stop)
     requires ready { IsReady O.taken O.faults turn.old }
     requires feeding { IsFeeding (pass_of turn.old) }
     requires goes { (y : RequesterWithSink O) → Has turn.old y → y.stopped ≡ None }

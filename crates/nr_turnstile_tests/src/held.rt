@@ -9,27 +9,38 @@ use std::thread;
 /// How often a source looks whether it may go on, before it goes on anyway.
 const TURNS: u32 = 20_000_000;
 
-/// How many bytes a peer was sent.
+/// How many bytes a peer was sent, and whether another caller looked while they were written.
 #[derive(Drop)]
 pub struct Peer {
     sent: AtomicU64,
+    looked: AtomicU64,
 }
 
 impl Peer {
     pub fn new() -> Peer {
         Peer {
             sent: AtomicU64::new(0),
+            looked: AtomicU64::new(0),
         }
     }
 
     /// Waits until so many bytes were sent, or the turns are used up.
-    fn wait(&self, until: u64) {
-        for _ in 0..TURNS {
-            if self.sent.load(Ordering::SeqCst) >= until {
-                return;
-            }
-            thread::yield_now();
+    pub fn wait(&self, until: u64) {
+        wait_for(&self.sent, until)
+    }
+
+    /// Says that a caller has looked.
+    pub fn look(&self) {
+        self.looked.store(1, Ordering::SeqCst);
+    }
+}
+
+fn wait_for(count: &AtomicU64, until: u64) {
+    for _ in 0..TURNS {
+        if count.load(Ordering::SeqCst) >= until {
+            return;
         }
+        thread::yield_now();
     }
 }
 
@@ -59,12 +70,13 @@ impl<S: Source> Source for HeldSource<S> {
     }
 }
 
-/// A sink that takes what another takes, and counts it for the peer.
+/// A sink that takes what another takes, and counts it for the peer. If it is held, it then waits until another caller has looked.
 #[derive(Drop)]
 pub struct HeldSink<K> {
     pub inner: K,
     pub peer: Arc<Peer, Global>,
     pub sent: u64,
+    pub is_held: bool,
 }
 
 impl<K: Sink> Sink for HeldSink<K> {
@@ -77,6 +89,9 @@ impl<K: Sink> Sink for HeldSink<K> {
             Ok(n) => {
                 self.sent = self.sent.saturating_add(n as u64);
                 self.peer.sent.store(self.sent, Ordering::SeqCst);
+                if self.is_held {
+                    wait_for(&self.peer.looked, 1);
+                }
                 Ok(n)
             }
             Err(Failed) => Err(Failed),

@@ -3,16 +3,19 @@
 ghost use Rattle.nr_shared.specs.Callers.{HasOpenCall};
 ghost use Rattle.nr_shared.specs.Sharing.{SharedRests};
 
-use crate::callers::called;
+use crate::callers::{called, looked, revoked};
 use crate::compare::same;
-use crate::sharing::{Answer, Caller, Link, Shared, answer_of, append_words, good, null, share};
+use crate::held::Peer;
+use crate::sharing::{
+    Answer, Caller, Link, Shared, answer_of, append_words, good, null, share, share_beside,
+};
 use nr_outside::Source;
 use nr_reduce::Form;
 use nr_requester::{Done, Take, Ticket};
 use nr_shared::{CallEnd, TryRevoke, TrySubmit, TryTake};
 use std::alloc::Global;
 use std::process::Abort;
-use std::sync::Wait;
+use std::sync::{Arc, Wait};
 use std::thread::{self, Threads};
 
 /// The client's hello (RFC 5044 section 7.1), and the FPDU of a NULL call with XID 1 and 16 credits: a Send (RFC 5040 section 4.2) of an
@@ -157,25 +160,6 @@ fn calls_are_answered(rt: HostRuntime) {
 }
 
 #[test]
-fn a_stream_that_has_ended(rt: HostRuntime) {
-    let (shared, mut first) = share(
-        &rt,
-        rt.alloc(),
-        &Link {
-            most: 20,
-            ..good(&[1])
-        },
-    );
-    let mut second = shared.split(&mut first);
-    let one = shared.call(&rt, &mut first, null(rt.alloc(), NFS), Form::Auto);
-    let two = shared.call(&rt, &mut second, null(rt.alloc(), NFS), Form::Auto);
-    same(&rt, 1, answer_of(&one, NFS, 1), Answer::Closed);
-    same(&rt, 2, answer_of(&two, NFS, 1), Answer::Closed);
-    shared.join(&mut first, second);
-    given_back(&rt, rt.alloc(), 3, (shared, first), (112, 0, 1));
-}
-
-#[test]
 fn a_call_is_forgotten(rt: HostRuntime) {
     let (shared, mut pass) = share(&rt, rt.alloc(), &good(&[1]));
     same(&rt, 0, shared.has_credit(&rt, &mut pass), true);
@@ -228,14 +212,6 @@ fn is_revoked(rt: &impl Abort, tried: &TryRevoke) {
         }
         TryRevoke::Busy(_) => panic!(rt; "busy"),
     }
-}
-
-#[test]
-fn a_call_is_revoked(rt: HostRuntime) {
-    let (shared, mut pass) = share(&rt, rt.alloc(), &good(&[1]));
-    let ticket = try_submit(&rt, rt.alloc(), &shared, &mut pass);
-    is_revoked(&rt, &shared.try_revoke(&mut pass, ticket));
-    given_back(&rt, rt.alloc(), 2, (shared, pass), (0, 20, 1));
 }
 
 #[test]
@@ -361,4 +337,71 @@ fn a_call_is_lost(rt: HostRuntime) {
         is_failed(&shared.try_take(&mut first, ticket)),
         true,
     );
+}
+
+/// What a caller is answered beside one who revokes its own call, in a thread each.
+fn beside_a_revoke<R: Threads + Wait + Sync>(
+    rt: &R,
+    alloc: Global,
+    shared: &Shared,
+    pass: &mut Caller,
+) -> (Answer, Answer)
+    requires { SharedRests shared.now pass.old }
+{
+    let first = shared.split(pass);
+    let second = shared.split(pass);
+    thread::join(
+        rt,
+        move ||
+            requires { SharedRests shared.now first }
+        { called(rt, alloc, shared, first, NFS) },
+        move ||
+            requires { SharedRests shared.now second }
+        { revoked(rt, alloc, shared, second, MOUNT) },
+    )
+}
+
+/// Whichever call is sent first, the other one waits for the credit that its reply brings.
+#[test]
+fn a_revoke_beside_another_thread(rt: HostRuntime) {
+    let (shared, mut pass) = share(&rt, rt.alloc(), &good(&[1, 2]));
+    let got = beside_a_revoke(&rt, rt.alloc(), &shared, &mut pass);
+    same(&rt, 0, got, (Answer::Reply, Answer::Revoked));
+}
+
+/// What a caller is answered beside one who looks while the hello is written, in a thread each.
+fn beside_a_look<R: Threads + Wait + Sync>(
+    rt: &R,
+    alloc: Global,
+    shared: &Shared,
+    pass: &mut Caller,
+    peer: &Peer,
+) -> (Answer, Answer)
+    requires { SharedRests shared.now pass.old }
+{
+    let first = shared.split(pass);
+    let second = shared.split(pass);
+    thread::join(
+        rt,
+        move ||
+            requires { SharedRests shared.now first }
+        { called(rt, alloc, shared, first, NFS) },
+        move ||
+            requires { SharedRests shared.now second }
+        { looked(alloc, shared, second, peer, 20, MOUNT) },
+    )
+}
+
+/// A caller finds the turn taken, and gets back what it tried to submit.
+#[test]
+fn a_turn_that_is_taken(rt: HostRuntime) {
+    let link = Link {
+        is_held: true,
+        ..good(&[1])
+    };
+    let peer = Arc::new(rt.alloc(), Peer::new()).expect(&rt, "memory");
+    let lent = Arc::try_clone(&peer).expect(&rt, "memory");
+    let (shared, mut pass) = share_beside(&rt, rt.alloc(), &link, lent);
+    let got = beside_a_look(&rt, rt.alloc(), &shared, &mut pass, &peer);
+    same(&rt, 0, got, (Answer::Reply, Answer::Busy));
 }

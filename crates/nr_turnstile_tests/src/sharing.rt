@@ -37,7 +37,8 @@ static REPLY: [u32; 6] = [1, 0, 0, 0, 0, 0];
 static ACCEPTED: [u8; 20] = [0, 0, 0, 1, 0, 0, 0, 0, 0, 0, 0, 0, 0, 0, 0, 0, 0, 0, 0, 0];
 
 /// What a link gives and takes: the replies to these XIDs, in this order, after a hello that begins with this word, at most this many bytes of
-/// them; the numbers of the reads and the writes that fail; and from which read on the source waits until how many bytes were sent.
+/// them; the numbers of the reads and the writes that fail; from which read on the source waits until how many bytes were sent; and whether each
+/// write waits until another caller has looked.
 #[derive(Clone, Copy)]
 pub struct Link {
     pub first: u32,
@@ -47,6 +48,7 @@ pub struct Link {
     pub writes: &'static [usize],
     pub from: u64,
     pub until: u64,
+    pub is_held: bool,
 }
 
 /// A link over which all goes well, and whose replies are those to these XIDs.
@@ -59,6 +61,7 @@ pub fn good(xids: &'static [u32]) -> Link {
         writes: &[],
         from: 1024,
         until: 0,
+        is_held: false,
     }
 }
 
@@ -71,6 +74,10 @@ pub enum Answer {
     LinkRead,
     LinkWrite,
     Closed,
+    /// The call was revoked.
+    Revoked,
+    /// The turn was taken, and the call and its form came back.
+    Busy,
     Other,
 }
 
@@ -139,6 +146,18 @@ pub fn share(rt: &(impl Abort + Wait), alloc: Global, link: &Link) -> (Shared, C
     ensures { SharedRests result.0 result.1 }
 {
     let peer = Arc::new(alloc, Peer::new()).expect(rt, "memory");
+    share_beside(rt, alloc, link, peer)
+}
+
+/// The same, of a link to this peer.
+pub fn share_beside(
+    rt: &(impl Abort + Wait),
+    alloc: Global,
+    link: &Link,
+    peer: Arc<Peer, Global>,
+) -> (Shared, Caller)
+    ensures { SharedRests result.0 result.1 }
+{
     let reads = link.reads.to_vec(alloc).expect(rt, "memory");
     let writes = link.writes.to_vec(alloc).expect(rt, "memory");
     let sizes = Vec::from_slice(alloc, &[20, 76, 76, 76]).expect(rt, "memory");
@@ -154,6 +173,7 @@ pub fn share(rt: &(impl Abort + Wait), alloc: Global, link: &Link) -> (Shared, C
         inner: MemSink::new(alloc, writes),
         peer,
         sent: 0,
+        is_held: link.is_held,
     };
     shared::<Brand, HeldSource<MemSource>, HeldSink<MemSink>>(rt, alloc, requester, source, sink)
 }

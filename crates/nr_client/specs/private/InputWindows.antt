@@ -4,6 +4,8 @@ use Rattle.std.specs.Io.KnownBytes.{IsAtEnd}
 use Rattle.nr_nfs_base.specs.Limits.{transfer_max}
 use Rattle.nr_outside.specs.Content.{HandsOut}
 use Rattle.nr_outside.specs.Whole.{input_max}
+use Rattle.nr_client.specs.declared.client_end.ClientEnd.{ClientEnd}
+use Rattle.nr_client.specs.declared.client_end.ClientEnd.TheVariants as client
 
 -- the bytes, and whether the input has ended
 pub record WindowState : Type 0 where
@@ -28,6 +30,10 @@ pub record TakesMore (wanted : ℕ) (left given left' given' : Option (List ℕ)
   pub within : length w'.kept ≤ wanted
   pub follows : (rest : List ℕ) → MayFollow w'.ended rest → MayFollow w.ended (more ++ rest)
   pub ends : EndsAt w.ended left → EndsAt w'.ended left'
+
+-- why it ends before: a read failed, or memory ran out
+abbrev pub IsOfInput : ClientEnd → Type 0
+IsOfInput end = (end ≡ client.InputFault) ⊎ (end ≡ client.Memory)
 
 -- this number of bytes is there, or all that the input has
 abbrev pub IsFull : ℕ → WindowState → Type 0

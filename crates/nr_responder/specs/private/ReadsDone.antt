@@ -103,7 +103,7 @@ reads_without number kept reads = take kept reads ++ filter (λ r. not (r.number
 pub data ReadHandled (v : ResponderSide) (r : PendingRead) (rest : List PendingRead) (after : ResponderSide) : Type 0 where
   GoesOn : NothingReady v r rest → after ≡ reading_on v v.link.state v.calls rest (still_open r rest) [] [] → ReadHandled v r rest after
   Readies : (m : MakesReady v r rest) → after ≡ reading_on v v.link.state v.calls rest (still_open r rest) (m.call.xid ∷ []) (Some m.payload ∷ []) → ReadHandled v r rest after
-  Stops : (reason : ℕ) → 5 ≤ reason → EndsLink v r rest reason → (fetching : Fetching) → fetching.sinks ≡ v.fetching.sinks → after ≡ ended_as v (after_call v.link (Stop reason)) fetching → ReadHandled v r rest after
+  Stops : (reason : ℕ) → 5 ≤ reason → EndsLink v r rest reason → (fetching : Fetching) → fetching.sinks ≡ v.fetching.sinks → length fetching.reads ≤ length rest → after ≡ ended_as v (after_call v.link (Stop reason)) fetching → ReadHandled v r rest after
   Refused : (c : RefusesCall v r rest) →
       after ≡ reading_on v (with_sent v.link.state (chunk_error c.call.xid v.credits.word)) (calls_without c.call.number v.calls) (reads_without c.call.number (still_open r rest) rest) (still_open r rest) [] [] →
       ReadHandled v r rest after
@@ -119,6 +119,7 @@ pub record ReadRanOut (v : ResponderSide) (r : PendingRead) (rest : List Pending
   pub takes : ReadTakes v r rest
   pub fetching : Fetching
   pub sinks : fetching.sinks ≡ v.fetching.sinks
+  pub fewer : length fetching.reads ≤ length rest
   pub is_out : after ≡ ended_as v (after_call v.link OutOfMemory) fetching
 
 -- no server of a run has these calls: each call that is ready is pending, and no other call has its number

@@ -1,5 +1,5 @@
 -- What a take makes of the value that a turn has.
-use Rattle.std.specs.Prelude.{◌≡◌, ℕ, List, [], ◌∷◌, ◌++◌, Option}
+use Rattle.std.specs.Prelude.{◌≡◌, ⊤, ℕ, List, [], ◌∷◌, ◌++◌, Option}
 use Rattle.nr_reduce.specs.declared.call.Call.{Call}
 use Rattle.nr_requester.specs.declared.taking.Take.{Take}
 use Rattle.nr_requester.specs.declared.taking.Take.TheVariants as takes
@@ -16,3 +16,8 @@ TakenBy taken faults history xid k call (takes.Done done) m = Stands taken fault
 TakenBy taken faults history xid k call (takes.NotYet ticket) m = Stands taken faults m history × ((ticket ≡ xid) × IsAwaitedStill xid history)
 TakenBy taken faults history xid k call (takes.Failed c buffers end) m =
     Stands taken faults m (history ++ lost_entry end xid buffers k ∷ []) × ((c ≡ call) × (HasEnded end history × IsLostWith xid buffers history))
+
+-- the answer was there
+abbrev pub IsDone : Take → Type 0
+IsDone (takes.Done done) = ⊤
+IsDone take = ⊥

@@ -1,9 +1,18 @@
-use Rattle.std.proofs.Common.{◌≤◌, Err, arith}
+use Rattle.std.proofs.Common.{◌≤◌, ◌∙◌, Err, arith}
 use Rattle.nr_outside.specs.Whole.{input_max}
 use Rattle.nr_client.specs.Transfers.{link_bytes}
 use Rattle.nr_client.proofs.FileWriting.{stops_after, streams_beyond, streams_done}
 use Rattle.nr_client.proofs.write_file.write_pieces.Goals as goal
 use Rattle.nr_client.proofs.write_file.write_pieces.Goals.{then-pieces-test+else-len-gt0, else-pieces-test}
+
+pub pieces-preserved : goal.pieces-preserved
+pieces-preserved g c = (
+  c.in-Ok.ensures.ready,
+  (λ dir name b h first first_given s. c.in-Ok.ensures.ok dir name b h first first_given (c.pieces.invariant.1 dir name b h first first_given s)),
+  c.in-Ok.ensures.input_faults ∙ c.pieces.invariant.2,
+  c.in-Ok.ensures.source_faults ∙ c.pieces.invariant.3,
+  c.in-Ok.ensures.sink_faults ∙ c.pieces.invariant.4,
+)
 
 pub returns-in-Err-clause-writes : goal.returns-in-Err-clause-writes
 returns-in-Err-clause-writes g c dir name b h first first_given s =

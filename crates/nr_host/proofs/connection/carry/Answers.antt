@@ -8,26 +8,26 @@ use Rattle.nr_host.proofs.Carries.{carry_ends, carry_on, has_read, nothing_read,
 use Rattle.nr_host.proofs.connection.carry.Goals as goal
 
 pub returns-in-Err-clause-served : goal.returns-in-Err-clause-served
-returns-in-Err-clause-served g c credits low units begins =
+returns-in-Err-clause-served g c limits begins =
     let (rests, live, most, len, fed, faults, sinks, written, carries) = c.loop-read.invariant in
     let first = (outside (g.I.Source.left c.args.source.now) (g.I.Source.given c.args.source.now) (sink_state (g.O.Sink.taken c.args.sink.now) (g.O.Sink.faults c.args.sink.now) false) (g.C.Clock.gave c.args.clock.now) (pass_view c.args.pass.now)) in
     let less : c.loop-read.read + 0 < read_max = omega (arith, c.loop-read-test.true) in
-    read_fails credits low units first (outside (g.I.Source.left c.read_part.new.source) (g.I.Source.given c.read_part.new.source) (sink_state (g.O.Sink.taken c.loop-read.sink) (g.O.Sink.faults c.loop-read.sink) false) (g.C.Clock.gave c.loop-read.clock) (pass_view c.loop-read.pass)) c.loop-read.responder.side (c.loop-read.read + 0)
-    (nothing_read credits low units first (g.I.Source.left c.loop-read.source) (g.I.Source.given c.loop-read.source) (g.I.Source.left c.read_part.new.source) (g.I.Source.given c.read_part.new.source)
-    (sink_state (g.O.Sink.taken c.loop-read.sink) (g.O.Sink.faults c.loop-read.sink) false) (g.C.Clock.gave c.loop-read.clock) (pass_view c.loop-read.pass) c.loop-read.responder.side c.loop-read.read (carries credits low units begins) c.in-Err.ensures.err) live less refl
+    read_fails limits first (outside (g.I.Source.left c.read_part.new.source) (g.I.Source.given c.read_part.new.source) (sink_state (g.O.Sink.taken c.loop-read.sink) (g.O.Sink.faults c.loop-read.sink) false) (g.C.Clock.gave c.loop-read.clock) (pass_view c.loop-read.pass)) c.loop-read.responder.side (c.loop-read.read + 0)
+    (nothing_read limits first (g.I.Source.left c.loop-read.source) (g.I.Source.given c.loop-read.source) (g.I.Source.left c.read_part.new.source) (g.I.Source.given c.read_part.new.source)
+    (sink_state (g.O.Sink.taken c.loop-read.sink) (g.O.Sink.faults c.loop-read.sink) false) (g.C.Clock.gave c.loop-read.clock) (pass_view c.loop-read.pass) c.loop-read.responder.side c.loop-read.read (carries limits begins) c.in-Err.ensures.err) live less refl
 
 pub returns-then-n-eq0-clause-served : goal.returns-then-n-eq0-clause-served
-returns-then-n-eq0-clause-served g c credits low units begins =
+returns-then-n-eq0-clause-served g c limits begins =
     let (rests, live, most, len, fed, faults, sinks, written, carries) = c.loop-read.invariant in
     let first = (outside (g.I.Source.left c.args.source.now) (g.I.Source.given c.args.source.now) (sink_state (g.O.Sink.taken c.args.sink.now) (g.O.Sink.faults c.args.sink.now) false) (g.C.Clock.gave c.args.clock.now) (pass_view c.args.pass.now)) in
     let none = subst (λ (k : ℕ). HandsOut (g.I.Source.left c.loop-read.source) (g.I.Source.given c.loop-read.source) (g.I.Source.left c.read_part.new.source) (g.I.Source.given c.read_part.new.source) (take k c.read_part.new.buf)) c.if-n-eq0.true c.in-Ok.ensures.handed in
-    read_ends credits low units first (outside (g.I.Source.left c.read_part.new.source) (g.I.Source.given c.read_part.new.source) (sink_state (g.O.Sink.taken c.loop-read.sink) (g.O.Sink.faults c.loop-read.sink) false) (g.C.Clock.gave c.loop-read.clock) (pass_view c.loop-read.pass)) c.loop-read.responder.side c.loop-read.read c.at_end.result
-    (nothing_read credits low units first (g.I.Source.left c.loop-read.source) (g.I.Source.given c.loop-read.source) (g.I.Source.left c.read_part.new.source) (g.I.Source.given c.read_part.new.source)
-    (sink_state (g.O.Sink.taken c.loop-read.sink) (g.O.Sink.faults c.loop-read.sink) false) (g.C.Clock.gave c.loop-read.clock) (pass_view c.loop-read.pass) c.loop-read.responder.side c.loop-read.read (carries credits low units begins) none)
+    read_ends limits first (outside (g.I.Source.left c.read_part.new.source) (g.I.Source.given c.read_part.new.source) (sink_state (g.O.Sink.taken c.loop-read.sink) (g.O.Sink.faults c.loop-read.sink) false) (g.C.Clock.gave c.loop-read.clock) (pass_view c.loop-read.pass)) c.loop-read.responder.side c.loop-read.read c.at_end.result
+    (nothing_read limits first (g.I.Source.left c.loop-read.source) (g.I.Source.given c.loop-read.source) (g.I.Source.left c.read_part.new.source) (g.I.Source.given c.read_part.new.source)
+    (sink_state (g.O.Sink.taken c.loop-read.sink) (g.O.Sink.faults c.loop-read.sink) false) (g.C.Clock.gave c.loop-read.clock) (pass_view c.loop-read.pass) c.loop-read.responder.side c.loop-read.read (carries limits begins) none)
     (c.in-Ok.ensures.end c.if-n-eq0.true (omega arith)) c.at_end.ensures.idle c.at_end.ensures.ahead c.at_end.ensures.more (c.at_end.ensures.read c.loop-read-test.true) c.at_end.ensures.failed
 
 pub returns-in-Err-feed_all-clause-served : goal.returns-in-Err-feed_all-clause-served
-returns-in-Err-feed_all-clause-served g c credits low units begins =
+returns-in-Err-feed_all-clause-served g c limits begins =
     let (rests, live, most, len, fed, faults, sinks, written, carries) = c.loop-read.invariant in
     let first = (outside (g.I.Source.left c.args.source.now) (g.I.Source.given c.args.source.now) (sink_state (g.O.Sink.taken c.args.sink.now) (g.O.Sink.faults c.args.sink.now) false) (g.C.Clock.gave c.args.clock.now) (pass_view c.args.pass.now)) in
     let hands = subst (HandsOut (g.I.Source.left c.loop-read.source) (g.I.Source.given c.loop-read.source) (g.I.Source.left c.read_part.new.source) (g.I.Source.given c.read_part.new.source)) (sym c.split_at.ensures.front) c.in-Ok.ensures.handed in
@@ -37,12 +37,12 @@ returns-in-Err-feed_all-clause-served g c credits low units begins =
     let room = c.min-room.ensures in
     let some = c.if-n-eq0.false in
     let within = has_read (c.loop-read.read + length c.split_at.result.0.now) (omega (arith, some, front)) (omega (arith, bound, more, room, most, front)) in
-    carry_ends credits low units first (g.I.Source.left c.loop-read.source) (g.I.Source.given c.loop-read.source) (g.I.Source.left c.read_part.new.source) (g.I.Source.given c.read_part.new.source)
-    (sink_state (g.O.Sink.taken c.loop-read.sink) (g.O.Sink.faults c.loop-read.sink) false) (g.C.Clock.gave c.loop-read.clock) (pass_view c.loop-read.pass) c.loop-read.responder.side c.loop-read.read c.split_at.result.0.now (carries credits low units begins) hands
+    carry_ends limits first (g.I.Source.left c.loop-read.source) (g.I.Source.given c.loop-read.source) (g.I.Source.left c.read_part.new.source) (g.I.Source.given c.read_part.new.source)
+    (sink_state (g.O.Sink.taken c.loop-read.sink) (g.O.Sink.faults c.loop-read.sink) false) (g.C.Clock.gave c.loop-read.clock) (pass_view c.loop-read.pass) c.loop-read.responder.side c.loop-read.read c.split_at.result.0.now (carries limits begins) hands
     c.in-Err-feed_all.end (g.O.Sink.taken c.feed_all.new.sink) (g.O.Sink.faults c.feed_all.new.sink) c.feed_all.new.failed (g.C.Clock.gave c.feed_all.new.clock) (pass_view c.feed_all.new.pass) within c.in-Err-feed_all.ensures.err
 
 pub returns-then-failed-clause-served : goal.returns-then-failed-clause-served
-returns-then-failed-clause-served g c credits low units begins =
+returns-then-failed-clause-served g c limits begins =
     let (rests, live, most, len, fed, faults, sinks, written, carries) = c.loop-read.invariant in
     let first = (outside (g.I.Source.left c.args.source.now) (g.I.Source.given c.args.source.now) (sink_state (g.O.Sink.taken c.args.sink.now) (g.O.Sink.faults c.args.sink.now) false) (g.C.Clock.gave c.args.clock.now) (pass_view c.args.pass.now)) in
     let hands = subst (HandsOut (g.I.Source.left c.loop-read.source) (g.I.Source.given c.loop-read.source) (g.I.Source.left c.read_part.new.source) (g.I.Source.given c.read_part.new.source)) (sym c.split_at.ensures.front) c.in-Ok.ensures.handed in
@@ -52,19 +52,19 @@ returns-then-failed-clause-served g c credits low units begins =
     let room = c.min-room.ensures in
     let some = c.if-n-eq0.false in
     let within = has_read (c.loop-read.read + length c.split_at.result.0.now) (omega (arith, some, front)) (omega (arith, bound, more, room, most, front)) in
-    write_failed credits low units first (outside (g.I.Source.left c.read_part.new.source) (g.I.Source.given c.read_part.new.source) (sink_state (g.O.Sink.taken c.feed_all.new.sink) (g.O.Sink.faults c.feed_all.new.sink) c.feed_all.new.failed) (g.C.Clock.gave c.feed_all.new.clock) (pass_view c.feed_all.new.pass)) c.feed_all.new.responder.side (c.loop-read.read + length c.split_at.result.0.now)
-    (carry_on credits low units first (g.I.Source.left c.loop-read.source) (g.I.Source.given c.loop-read.source) (g.I.Source.left c.read_part.new.source) (g.I.Source.given c.read_part.new.source)
-    (sink_state (g.O.Sink.taken c.loop-read.sink) (g.O.Sink.faults c.loop-read.sink) false) (g.C.Clock.gave c.loop-read.clock) (pass_view c.loop-read.pass) c.loop-read.responder.side c.loop-read.read c.split_at.result.0.now (carries credits low units begins) hands
+    write_failed limits first (outside (g.I.Source.left c.read_part.new.source) (g.I.Source.given c.read_part.new.source) (sink_state (g.O.Sink.taken c.feed_all.new.sink) (g.O.Sink.faults c.feed_all.new.sink) c.feed_all.new.failed) (g.C.Clock.gave c.feed_all.new.clock) (pass_view c.feed_all.new.pass)) c.feed_all.new.responder.side (c.loop-read.read + length c.split_at.result.0.now)
+    (carry_on limits first (g.I.Source.left c.loop-read.source) (g.I.Source.given c.loop-read.source) (g.I.Source.left c.read_part.new.source) (g.I.Source.given c.read_part.new.source)
+    (sink_state (g.O.Sink.taken c.loop-read.sink) (g.O.Sink.faults c.loop-read.sink) false) (g.C.Clock.gave c.loop-read.clock) (pass_view c.loop-read.pass) c.loop-read.responder.side c.loop-read.read c.split_at.result.0.now (carries limits begins) hands
     (sink_state (g.O.Sink.taken c.feed_all.new.sink) (g.O.Sink.faults c.feed_all.new.sink) c.feed_all.new.failed) (g.C.Clock.gave c.feed_all.new.clock) (pass_view c.feed_all.new.pass) c.feed_all.new.responder.side c.in-Ok-feed_all.ensures.ok)
     within c.if-failed.true
 
 pub returns-clause-served : goal.returns-clause-served
-returns-clause-served g c credits low units begins =
+returns-clause-served g c limits begins =
     let (rests, live, most, len, fed, faults, sinks, written, carries) = c.loop-read.invariant in
     let first = (outside (g.I.Source.left c.args.source.now) (g.I.Source.given c.args.source.now) (sink_state (g.O.Sink.taken c.args.sink.now) (g.O.Sink.faults c.args.sink.now) false) (g.C.Clock.gave c.args.clock.now) (pass_view c.args.pass.now)) in
     let all : c.loop-read.read ≡ read_max = omega (arith, most, c.loop-read-test.false) in
-    read_enough credits low units first (outside (g.I.Source.left c.loop-read.source) (g.I.Source.given c.loop-read.source) (sink_state (g.O.Sink.taken c.loop-read.sink) (g.O.Sink.faults c.loop-read.sink) false) (g.C.Clock.gave c.loop-read.clock) (pass_view c.loop-read.pass))
-    c.loop-read.responder.side c.loop-read.read (carries credits low units begins) live all refl
+    read_enough limits first (outside (g.I.Source.left c.loop-read.source) (g.I.Source.given c.loop-read.source) (sink_state (g.O.Sink.taken c.loop-read.sink) (g.O.Sink.faults c.loop-read.sink) false) (g.C.Clock.gave c.loop-read.clock) (pass_view c.loop-read.pass))
+    c.loop-read.responder.side c.loop-read.read (carries limits begins) live all refl
 
 pub returns-then-n-eq0-clause-source_count : goal.returns-then-n-eq0-clause-source_count
 returns-then-n-eq0-clause-source_count g c =
@@ -114,9 +114,9 @@ loop-read-preserved g c =
       c.in-Ok.ensures.counted ∙ faults,
       same ∙ sinks,
       c.if-failed.false,
-      λ credits low units begins.
-          subst (λ (k : ℕ). CarriesTo credits low units first (outside (g.I.Source.left c.read_part.new.source) (g.I.Source.given c.read_part.new.source) (sink_state (g.O.Sink.taken c.feed_all.new.sink) (g.O.Sink.faults c.feed_all.new.sink) false) (g.C.Clock.gave c.feed_all.new.clock) (pass_view c.feed_all.new.pass)) c.feed_all.new.responder.side k) count
-          (carry_on credits low units first (g.I.Source.left c.loop-read.source) (g.I.Source.given c.loop-read.source) (g.I.Source.left c.read_part.new.source) (g.I.Source.given c.read_part.new.source)
-          (sink_state (g.O.Sink.taken c.loop-read.sink) (g.O.Sink.faults c.loop-read.sink) false) (g.C.Clock.gave c.loop-read.clock) (pass_view c.loop-read.pass) c.loop-read.responder.side c.loop-read.read c.split_at.result.0.now (carries credits low units begins) hands
+      λ limits begins.
+          subst (λ (k : ℕ). CarriesTo limits first (outside (g.I.Source.left c.read_part.new.source) (g.I.Source.given c.read_part.new.source) (sink_state (g.O.Sink.taken c.feed_all.new.sink) (g.O.Sink.faults c.feed_all.new.sink) false) (g.C.Clock.gave c.feed_all.new.clock) (pass_view c.feed_all.new.pass)) c.feed_all.new.responder.side k) count
+          (carry_on limits first (g.I.Source.left c.loop-read.source) (g.I.Source.given c.loop-read.source) (g.I.Source.left c.read_part.new.source) (g.I.Source.given c.read_part.new.source)
+          (sink_state (g.O.Sink.taken c.loop-read.sink) (g.O.Sink.faults c.loop-read.sink) false) (g.C.Clock.gave c.loop-read.clock) (pass_view c.loop-read.pass) c.loop-read.responder.side c.loop-read.read c.split_at.result.0.now (carries limits begins) hands
           (sink_state (g.O.Sink.taken c.feed_all.new.sink) (g.O.Sink.faults c.feed_all.new.sink) false) (g.C.Clock.gave c.feed_all.new.clock) (pass_view c.feed_all.new.pass) c.feed_all.new.responder.side on),
     )

@@ -1,11 +1,12 @@
 use Rattle.nr_turnstile.specs.Passes.{Rests}
 use Rattle.nr_plain.specs.History.{pass_view}
-use Rattle.std.proofs.Common.{◌≡◌, ◌-◌, ◌*◌, ◌≤◌, ℕ, false, None, length}
+use Rattle.std.proofs.Common.{◌≡◌, ◌-◌, ◌*◌, ◌≤◌, false, None, length}
 use Rattle.nr_endpoint.specs.FedBytes.{fed_bytes}
 use Rattle.nr_responder.specs.ResponderState.{end_of}
 use Rattle.nr_links.specs.Limits.{piece_max, read_max}
 use Rattle.nr_host.specs.Steps.{CarriesTo, outside, sink_state}
 use Rattle.nr_host.proofs.connection.carry.Given as goal
+use Rattle.nr_host.specs.declared.connection_limits.ConnectionLimits.{ConnectionLimits}
 
 abbrev pub invariant-loop-read : goal.invariant-loop-read
 invariant-loop-read g l =
@@ -17,9 +18,9 @@ invariant-loop-read g l =
     × (g.I.Source.faults l.source ≡ g.I.Source.faults l.initial.source)
     × (g.O.Sink.faults l.sink ≡ g.O.Sink.faults l.initial.sink)
     × (l.failed ≡ false)
-    × ((credits low units : ℕ) → CarriesTo credits low units (outside (g.I.Source.left l.initial.source) (g.I.Source.given l.initial.source) (sink_state (g.O.Sink.taken l.initial.sink) (g.O.Sink.faults l.initial.sink) false) (g.C.Clock.gave l.initial.clock) (pass_view l.initial.pass))
+    × ((limits : ConnectionLimits) → CarriesTo limits (outside (g.I.Source.left l.initial.source) (g.I.Source.given l.initial.source) (sink_state (g.O.Sink.taken l.initial.sink) (g.O.Sink.faults l.initial.sink) false) (g.C.Clock.gave l.initial.clock) (pass_view l.initial.pass))
     (outside (g.I.Source.left l.initial.source) (g.I.Source.given l.initial.source) (sink_state (g.O.Sink.taken l.initial.sink) (g.O.Sink.faults l.initial.sink) false) (g.C.Clock.gave l.initial.clock) (pass_view l.initial.pass)) l.initial.responder.side 0
-    → CarriesTo credits low units (outside (g.I.Source.left l.initial.source) (g.I.Source.given l.initial.source) (sink_state (g.O.Sink.taken l.initial.sink) (g.O.Sink.faults l.initial.sink) false) (g.C.Clock.gave l.initial.clock) (pass_view l.initial.pass))
+    → CarriesTo limits (outside (g.I.Source.left l.initial.source) (g.I.Source.given l.initial.source) (sink_state (g.O.Sink.taken l.initial.sink) (g.O.Sink.faults l.initial.sink) false) (g.C.Clock.gave l.initial.clock) (pass_view l.initial.pass))
     (outside (g.I.Source.left l.source) (g.I.Source.given l.source) (sink_state (g.O.Sink.taken l.sink) (g.O.Sink.faults l.sink) false) (g.C.Clock.gave l.clock) (pass_view l.pass)) l.responder.side l.read)
 
 abbrev pub decreases-loop-read : goal.decreases-loop-read

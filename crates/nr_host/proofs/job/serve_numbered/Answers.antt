@@ -11,7 +11,7 @@ returns-clause-served g c =
     let s = c.serve_link-source in
     let source = c.new-source.ensures in let sink = c.new-sink.ensures in
     let source' = sym c.into_inner.ensures.source in let sink' = sym c.into_inner-2.ensures.sink in
-    link_same c.args.credits c.args.low c.args.units c.args.records _ _ _ _ s.result.1
+    link_same c.args.limits c.args.records _ _ _ _ s.result.1
     (λ i. outside (left (source i)) (given (source i)) (sink_state (taken (sink i)) (faults (sink i)) false) (gave c.args.clock.now) (pass_view c.args.pass.now))
     (λ i. outside (left (source' i)) (given (source' i)) (sink_state (taken (sink' i)) (faults (sink' i)) false) (gave s.new.clock) (pass_view s.new.pass))
     s.ensures.served

@@ -20,7 +20,7 @@ returns-in-Err-clause-served g c =
     record {
       held = held;
       held_is = is_held held left given (g.I.Source.left source) (g.I.Source.given source) kept told;
-      serves = fails_at_once c.args.credits c.args.low c.args.units left given left' given' (g.O.Sink.taken c.args.sink.now) (g.O.Sink.faults c.args.sink.now) (g.C.Clock.gave c.args.clock.now) (pass_view c.args.pass.now) kept told;
+      serves = fails_at_once c.args.limits left given left' given' (g.O.Sink.taken c.args.sink.now) (g.O.Sink.faults c.args.sink.now) (g.C.Clock.gave c.args.clock.now) (pass_view c.args.pass.now) kept told;
       kind = kind_failed left left' kept;
     }
 
@@ -40,7 +40,7 @@ returns-in-Ok-None-clause-served g c =
     record {
       held = held;
       held_is = is_held held left given (g.I.Source.left source) (g.I.Source.given source) kept told;
-      serves = closes_at_once c.args.credits c.args.low c.args.units left given left' given' (g.O.Sink.taken c.args.sink.now) (g.O.Sink.faults c.args.sink.now) (g.C.Clock.gave c.args.clock.now) (pass_view c.args.pass.now) kept told over;
+      serves = closes_at_once c.args.limits left given left' given' (g.O.Sink.taken c.args.sink.now) (g.O.Sink.faults c.args.sink.now) (g.C.Clock.gave c.args.clock.now) (pass_view c.args.pass.now) kept told over;
       kind = kind_closed left left' kept over;
     }
 
@@ -66,6 +66,6 @@ returns-clause-served g c =
       held_is = still_held last byte left given (g.I.Source.left source) (g.I.Source.given source) (g.I.Source.left r.0) (g.I.Source.given r.0)
           (is_held (Some byte) left given (g.I.Source.left source) (g.I.Source.given source) kept' told') same;
       serves = link_on left given (left_with (Some byte) (g.I.Source.left source)) (given_without (Some byte) (g.I.Source.given source)) (sink_state (g.O.Sink.taken c.args.sink.now) (g.O.Sink.faults c.args.sink.now) false)
-          (g.C.Clock.gave c.args.clock.now) (pass_view c.args.pass.now) kept' told' c.args.credits c.args.low c.args.units after r.1 served.0;
+          (g.C.Clock.gave c.args.clock.now) (pass_view c.args.pass.now) kept' told' c.args.limits after r.1 served.0;
       kind = kind_is byte held left (g.I.Source.left source) (left_with last (g.I.Source.left r.0)) r.1 is kept served.1;
     }

@@ -16,7 +16,7 @@ returns-clause-served g c =
       held,
       (
         same,
-        served_looked left given c.args.credits c.args.low c.args.units c.args.byte c.new-source.result.inner c.args.source c.serve_by_byte-end.new.source.inner c.into_inner.result c.new-source.result.held held
+        served_looked left given c.args.limits c.args.byte c.new-source.result.inner c.args.source c.serve_by_byte-end.new.source.inner c.into_inner.result c.new-source.result.held held
             (sink_state (g.O.Sink.taken c.args.sink.now) (g.O.Sink.faults c.args.sink.now) false) (sink_state (g.O.Sink.taken c.serve_by_byte-end.new.sink) (g.O.Sink.faults c.serve_by_byte-end.new.sink) false)
             (g.C.Clock.gave c.args.clock.now) (g.C.Clock.gave c.serve_by_byte-end.new.clock) (pass_view c.args.pass.now) (pass_view c.serve_by_byte-end.new.pass) c.serve_by_byte-end.result
             c.new-source.ensures.inner c.new-source.ensures.held c.into_inner.ensures.inner c.serve_by_byte-end.ensures.served,

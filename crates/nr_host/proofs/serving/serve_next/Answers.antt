@@ -33,11 +33,11 @@ returns-clause-served g c =
       numbered = IfSome_then (g.A.Acceptor.ended c.args.acceptor.now) c.in-Ok-accept.ensures.numbered.counts (λ log made. made ∙ sym c.in-Ok-accept.ensures.numbered.source);
       same_number = c.run-source.ensures.source_link ∙ ap (λ j. link j.source) back;
       new_clock = c.another.ensures;
-      served = subst (λ (k : PassView). IsLinkServed c.args.credits c.args.low c.args.units c.args.records (outside (left source) (given source) (sink_state (taken sink) 0 false) (g.C.Clock.gave c.another.result) k) after r.end)
+      served = subst (λ (k : PassView). IsLinkServed c.args.limits c.args.records (outside (left source) (given source) (sink_state (taken sink) 0 false) (g.C.Clock.gave c.another.result) k) after r.end)
           (ap (λ (v : View HistoryEntry). view_of_pass v) c.split.ensures.new.1)
-          (subst (λ (n : ℕ). IsLinkServed c.args.credits c.args.low c.args.units c.args.records (outside (left source) (given source) (sink_state (taken sink) n false) (g.C.Clock.gave c.another.result) (pass_view c.split.result)) after r.end)
+          (subst (λ (n : ℕ). IsLinkServed c.args.limits c.args.records (outside (left source) (given source) (sink_state (taken sink) n false) (g.C.Clock.gave c.another.result) (pass_view c.split.result)) after r.end)
           fresh.no_sink_fault
-          (subst (λ j. IsLinkServed j.credits j.low j.units j.records (outside (left j.source) (given j.source) (sink_state (taken j.sink) (g.A.Sink.Sink.faults j.sink) false) (g.C.Clock.gave j.clock) (pass_view j.pass)) after r.end)
+          (subst (λ j. IsLinkServed j.limits j.records (outside (left j.source) (given j.source) (sink_state (taken j.sink) (g.A.Sink.Sink.faults j.sink) false) (g.C.Clock.gave j.clock) (pass_view j.pass)) after r.end)
           back c.run-source.ensures.served));
       made = c.in-Ok-accept.ensures.made;
       hung_up = c.hang_up.ensures.ended;

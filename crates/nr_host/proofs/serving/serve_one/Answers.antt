@@ -7,14 +7,14 @@ use Rattle.nr_host.proofs.serving.serve_one.Goals as goal
 pub returns-in-None-clause-served : goal.returns-in-None-clause-served
 returns-in-None-clause-served g c =
     let same : c.reserve.new.self.items ≡ c.args.ends.now.items = grind (arith, c.reserve.ensures) in
-    takes_started c.args.credits c.args.low c.args.units c.args.records
+    takes_started c.args.limits c.args.records
     (between (g.A.Acceptor.ended c.args.acceptor.now) (g.A.Acceptor.lost c.args.acceptor.now) (g.P.Spawner.started c.args.spawner.now) (pass_view c.args.pass.now))
     (between (g.A.Acceptor.ended c.serve_next.new.acceptor) (g.A.Acceptor.lost c.serve_next.new.acceptor) (g.P.Spawner.started c.serve_next.new.spawner) (pass_view c.serve_next.new.pass))
     c.in-Ok.link c.args.ends.now.items c.reserve.new.self.items c.in-None.is same c.in-Ok.ensures.served
 
 pub returns-in-None-clause-started : goal.returns-in-None-clause-started
 returns-in-None-clause-started g c =
-    let s = started_by c.args.credits c.args.low c.args.units c.args.records
+    let s = started_by c.args.limits c.args.records
     (between (g.A.Acceptor.ended c.args.acceptor.now) (g.A.Acceptor.lost c.args.acceptor.now) (g.P.Spawner.started c.args.spawner.now) (pass_view c.args.pass.now))
     (between (g.A.Acceptor.ended c.serve_next.new.acceptor) (g.A.Acceptor.lost c.serve_next.new.acceptor) (g.P.Spawner.started c.serve_next.new.spawner) (pass_view c.serve_next.new.pass))
     c.in-Ok.link c.in-None.is c.in-Ok.ensures.served in
@@ -28,14 +28,14 @@ returns-in-None-clause-back g c first low count =
 
 pub returns-in-Some-clause-served : goal.returns-in-Some-clause-served
 returns-in-Some-clause-served g c =
-    takes_served c.args.credits c.args.low c.args.units c.args.records
+    takes_served c.args.limits c.args.records
     (between (g.A.Acceptor.ended c.args.acceptor.now) (g.A.Acceptor.lost c.args.acceptor.now) (g.P.Spawner.started c.args.spawner.now) (pass_view c.args.pass.now))
     (between (g.A.Acceptor.ended c.serve_next.new.acceptor) (g.A.Acceptor.lost c.serve_next.new.acceptor) (g.P.Spawner.started c.serve_next.new.spawner) (pass_view c.serve_next.new.pass))
     c.in-Ok.link c.in-Some.end c.args.ends.now.items c.push_reserved.new.self.items c.in-Some.is (grind (arith, c.push_reserved.ensures, c.reserve.ensures)) c.in-Ok.ensures.served
 
 pub returns-in-Some-clause-started : goal.returns-in-Some-clause-started
 returns-in-Some-clause-started g c =
-    let s = served_by c.args.credits c.args.low c.args.units c.args.records
+    let s = served_by c.args.limits c.args.records
     (between (g.A.Acceptor.ended c.args.acceptor.now) (g.A.Acceptor.lost c.args.acceptor.now) (g.P.Spawner.started c.args.spawner.now) (pass_view c.args.pass.now))
     (between (g.A.Acceptor.ended c.serve_next.new.acceptor) (g.A.Acceptor.lost c.serve_next.new.acceptor) (g.P.Spawner.started c.serve_next.new.spawner) (pass_view c.serve_next.new.pass))
     c.in-Ok.link c.in-Some.end c.in-Some.is c.in-Ok.ensures.served in

@@ -15,7 +15,7 @@ links-init g c =
       refl,
       refl,
       refl,
-      serves_none c.args.credits c.args.low c.args.units c.args.records
+      serves_none c.args.limits c.args.records
           (between (g.A.Acceptor.ended c.args.acceptor.now) (g.A.Acceptor.lost c.args.acceptor.now) (g.P.Spawner.started c.args.spawner.now) (pass_view c.args.pass.now))
           c.args.ends.now.items c.requires.none,
     )
@@ -35,7 +35,7 @@ links-preserved g c =
       c.in-Ok.ensures.counted ∙ faults,
       c.serve_one.ensures.asked ∙ asked,
       c.serve_one.ensures.listens ∙ listens,
-      serves_more c.args.credits c.args.low c.args.units c.args.records
+      serves_more c.args.limits c.args.records
           (between (g.A.Acceptor.ended c.args.acceptor.now) (g.A.Acceptor.lost c.args.acceptor.now) (g.P.Spawner.started c.args.spawner.now) (pass_view c.args.pass.now))
           (between (g.A.Acceptor.ended c.links.acceptor) (g.A.Acceptor.lost c.links.acceptor) (g.P.Spawner.started c.links.spawner) (pass_view c.links.pass))
           (between (g.A.Acceptor.ended c.serve_one.new.acceptor) (g.A.Acceptor.lost c.serve_one.new.acceptor) (g.P.Spawner.started c.serve_one.new.spawner) (pass_view c.serve_one.new.pass))
@@ -46,10 +46,10 @@ pub returns-in-Err-clause-served : goal.returns-in-Err-clause-served
 returns-in-Err-clause-served g c =
     let (rests, most, started, rises, back, faults, asked, listens, all) = c.links.invariant in
     let first = between (g.A.Acceptor.ended c.args.acceptor.now) (g.A.Acceptor.lost c.args.acceptor.now) (g.P.Spawner.started c.args.spawner.now) (pass_view c.args.pass.now) in
-    subst (λ ends. Serves c.args.credits c.args.low c.args.units c.args.records first ends
+    subst (λ ends. Serves c.args.limits c.args.records first ends
     (between (g.A.Acceptor.ended c.serve_one.new.acceptor) (g.A.Acceptor.lost c.serve_one.new.acceptor) (g.P.Spawner.started c.serve_one.new.spawner) (pass_view c.serve_one.new.pass)))
     (sym c.in-Err.ensures.kept)
-    (subst (λ (b : Between). Serves c.args.credits c.args.low c.args.units c.args.records first c.links.ends.items b) (sym c.in-Err.ensures.err) all)
+    (subst (λ (b : Between). Serves c.args.limits c.args.records first c.links.ends.items b) (sym c.in-Err.ensures.err) all)
 
 pub returns-in-Err-clause-fewer : goal.returns-in-Err-clause-fewer
 returns-in-Err-clause-fewer g c =

@@ -15,7 +15,7 @@ invariant-links g l =
     × (g.A.Acceptor.faults l.acceptor ≡ g.A.Acceptor.faults l.initial.acceptor)
     × (g.A.Acceptor.asked l.acceptor ≡ g.A.Acceptor.asked l.initial.acceptor)
     × (g.A.Acceptor.listens l.acceptor ≡ g.A.Acceptor.listens l.initial.acceptor)
-    × Serves l.initial.credits l.initial.low l.initial.units l.initial.records (between (g.A.Acceptor.ended l.initial.acceptor) (g.A.Acceptor.lost l.initial.acceptor) (g.P.Spawner.started l.initial.spawner) (pass_view l.initial.pass)) l.ends.items
+    × Serves l.initial.limits l.initial.records (between (g.A.Acceptor.ended l.initial.acceptor) (g.A.Acceptor.lost l.initial.acceptor) (g.P.Spawner.started l.initial.spawner) (pass_view l.initial.pass)) l.ends.items
     (between (g.A.Acceptor.ended l.acceptor) (g.A.Acceptor.lost l.acceptor) (g.P.Spawner.started l.spawner) (pass_view l.pass))
 
 abbrev pub decreases-links : goal.decreases-links

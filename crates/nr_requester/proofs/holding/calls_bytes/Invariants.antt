@@ -5,6 +5,6 @@ use Rattle.nr_requester.proofs.holding.calls_bytes.Given as goal
 
 abbrev pub invariant-loop-call : goal.invariant-loop-call
 invariant-loop-call l = record {
-  bound : l.sum ≤ l.call-index * 2 ^ 65;
+  bound : l.sum ≤ l.call-index * 2 ^ 73;
   all : l.sum + calls_bytes (map stored_view (drop l.call-index l.calls)) ≡ calls_bytes (map stored_view l.calls);
 }

@@ -11,7 +11,7 @@ use Rattle.nr_responder.proofs.Windows.{same_outside}
 use Rattle.nr_responder.proofs.starting.begin_reads.Goals as goal
 
 pub take_memory-requires : goal.take_memory-requires
-take_memory-requires c = record { total = c.requires.total }
+take_memory-requires c = record { inline = c.requires.inline; total = c.requires.total }
 
 pub open_new-requires-clause-live : goal.open_new-requires-clause-live
 open_new-requires-clause-live c = ap (λ (l : LinkSide). l.state.ended) c.take_memory.ensures.link ∙ c.requires.live

@@ -1,10 +1,11 @@
-use Rattle.std.proofs.Common.{◌≡◌, ℕ, ◌+◌, ◌<◌, ◌^◌, arith, length, [], ◌∷◌, ◌++◌, List, Option, Some, sym, ap, subst, refl, ◌∙◌}
+use Rattle.std.proofs.Common.{◌≡◌, ℕ, ◌+◌, ◌<◌, ◌^◌, arith, true, is_some, length, [], ◌∷◌, ◌++◌, List, Option, Some, sym, ap, subst, refl, ◌∙◌}
 use Rattle.nr_reduce.specs.declared.call.Call.{Call}
 use Rattle.nr_turnstile.specs.declared.plays.View.{View}
 use Rattle.nr_turnstile.specs.Passes.{Steps, seen_by, mine_of}
 use Rattle.nr_turnstile.specs.Turns.{pass_of}
 use Rattle.nr_turnstile.proofs.Held.{same_value, written}
 use Rattle.nr_requester.specs.declared.answer.Buffers.{Buffers}
+use Rattle.nr_requester.specs.OpenCalls.{found_answer}
 use Rattle.nr_shared.specs.declared.entry.Entry.{Entry}
 use Rattle.nr_shared.specs.declared.entry.Entry.TheVariants as entries
 use Rattle.nr_shared.specs.declared.requester_with_sink.RequesterWithSink.{RequesterWithSink}
@@ -125,3 +126,14 @@ returns-in-Failed-clause-taken g c = λ k call asked o.
     let step = subst (λ (e : Entry). Steps p q e) same c.append_lost.ensures.step in
     let t = (c.in-Failed.ensures.taken seen k call st asked o.1).1 in
     record { own = t.0; adds = steps p q e step; keeps = keeps_others p q e k step (lost_closes end c.args.ticket buffers k); before = seen; seen = ap (λ (v : View Entry). v.seen) step; ended = t.1.0; lost = t.1.1 })
+
+pub returns-in-NotYet-clause-there : goal.returns-in-NotYet-clause-there
+returns-in-NotYet-clause-there g c = λ there. (let r = c.requires.ready in
+    c.in-NotYet.ensures.there (subst (λ (z : RequesterWithSink g.row.O.Denot). is_some (found_answer c.args.ticket z.requester.state) ≡ true) (same_value _ r.value c.value-with_sink.result.now r.has.1 c.value-with_sink.ensures.value) (there r.value r.has)))
+
+pub returns-in-Failed-clause-there : goal.returns-in-Failed-clause-there
+returns-in-Failed-clause-there g c = λ there. (let r = c.requires.ready in
+    c.in-Failed.ensures.there (subst (λ (z : RequesterWithSink g.row.O.Denot). is_some (found_answer c.args.ticket z.requester.state) ≡ true) (same_value _ r.value c.value-with_sink.result.now r.has.1 c.value-with_sink.ensures.value) (there r.value r.has)))
+
+pub returns-in-Done-clause-there : goal.returns-in-Done-clause-there
+returns-in-Done-clause-there g c = λ there. tt

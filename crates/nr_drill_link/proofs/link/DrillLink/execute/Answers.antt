@@ -1,5 +1,6 @@
 use Rattle.std.specs.Prelude.{is_err}
 use Rattle.std.proofs.Common.{◌≡◌, ◌∙◌, ◌≤◌, ℕ, List, length, false, refl, sym, ap, subst}
+use Rattle.nr_responder.specs.HeldBytes.{sent_reply_max}
 use Rattle.nr_responder.specs.ResponderState.{ResponderSide, end_of}
 use Rattle.nr_responder.specs.Sound.{IsNext}
 use Rattle.nr_drill_link.specs.DrillLinkState.{DrillLinkState}
@@ -26,7 +27,7 @@ pub answer-requires-clause-next : goal.answer-requires-clause-next
 answer-requires-clause-next c = subst (λ (v : ResponderSide). IsNext v c.args.call) (sym (ap (λ (v : DrillLinkState). v.server) c.self.view_is)) c.requires.next
 
 pub answer-requires-clause-short : goal.answer-requires-clause-short
-answer-requires-clause-short c = subst (λ (xs : List ℕ). length xs ≤ 1056768) (sym c.as_slice-3.ensures) c.in-Ok-execute.ensures.limit
+answer-requires-clause-short c = subst (λ (xs : List ℕ). length xs ≤ sent_reply_max) (sym c.as_slice-3.ensures) c.in-Ok-execute.ensures.limit
 
 pub invariant_of-self : goal.invariant_of-self
 invariant_of-self c = server_fed_same _ c.self.inside.server.side.link c.answer.new.self.side.link _ c.answer.ensures.fed c.self.invariant

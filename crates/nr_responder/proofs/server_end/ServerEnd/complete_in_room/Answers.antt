@@ -1,11 +1,13 @@
-use Rattle.std.proofs.Common.{◌≡◌, List, map, get_or, ap, sym, subst, ◌∙◌, refl}
+use Rattle.std.proofs.Common.{◌≡◌, ◌≤◌, List, arith, map, get_or, ap, sym, subst, ◌∙◌, refl}
 use Rattle.nr_reduce.specs.ServerMessages.{by_payload}
 use Rattle.nr_reduce.specs.ServerState.{PendingCall}
 use Rattle.nr_responder.specs.declared.call.Pending.{Pending}
 use Rattle.nr_responder.specs.ResponderState.{ResponderSide}
 use Rattle.nr_responder.specs.private.CallsRead.{verdict_of}
 use Rattle.nr_responder.specs.private.ReadsDone.{has_bad_chunk, read_payload}
-use Rattle.nr_responder.specs.Sound.{state_of}
+use Rattle.nr_responder.specs.Fetching.{SinkRegion}
+use Rattle.nr_responder.specs.HeldBytes.{sinks_share}
+use Rattle.nr_responder.specs.Sound.{room_for, state_of}
 use Rattle.nr_responder.specs.Views.{call_view, read_view, sink_view}
 use Rattle.nr_responder.specs.private.DoneReads.{IsOfCall}
 use Rattle.nr_responder.specs.declared.call.OpenSink.{OpenSink}
@@ -43,3 +45,13 @@ returns-in-Err-clause-handled c =
 
 pub take_room_at-room-requires-clause-windows : goal.take_room_at-room-requires-clause-windows
 take_room_at-room-requires-clause-windows c = done_none c.args.done.number c.args.self.now.calls.items c.args.at no_call c.args.self.now.reads.items c.requires.at (c.requires.call no_call).own (c.requires.empty no_call) c.requires.windows
+
+pub payload_read-payload-requires-clause-room : goal.payload_read-payload-requires-clause-room
+payload_read-payload-requires-clause-room c =
+    let d : Pending = c.index-call.result.now in
+    let old : PendingCall = call_view (get_or c.args.self.now.calls.items c.args.at d) in
+    let same : old ≡ call_view d = sym (c.take_room_at-room.ensures.call d) ∙ ap (λ (x : Pending). call_view x) (sym c.index-call.ensures) in
+    let sinks : map sink_view c.args.self.now.sinks.items ≡ map sink_view c.as_slice.result.now = ap (λ (v : ResponderSide). v.fetching.sinks) (sym c.take_room_at-room.ensures.same) ∙ ap (λ (ss : List OpenSink). map sink_view ss) (sym c.as_slice.ensures.value) in
+    let is : room_for old (sinks_share old.number (map sink_view c.args.self.now.sinks.items)) ≡ room_for (call_view d) (sinks_share d.number (map sink_view c.as_slice.result.now)) = λ i. room_for (same i) (sinks_share ((same i).number) (sinks i)) in
+    let room = c.take_room_at-room.ensures.room d in
+    omega (arith, is, room)

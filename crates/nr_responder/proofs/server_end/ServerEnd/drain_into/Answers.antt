@@ -14,6 +14,7 @@ use Rattle.nr_responder.proofs.Executed.{fewer_wait}
 use Rattle.nr_responder.proofs.HeldSinks.{fetched_as}
 use Rattle.nr_responder.proofs.Sounds.{sound_drained, used_as}
 use Rattle.nr_responder.proofs.OutputBounds.{drained_out}
+use Rattle.nr_responder.proofs.ReadBounds.{drained_reads}
 use Rattle.nr_responder.proofs.StepBounds.{drained_fits}
 use Rattle.nr_responder.proofs.server_end.ServerEnd.drain_into.Goals as goal
 
@@ -78,7 +79,7 @@ returns-clause-fed g c =
     ap (λ (x : LinkSide). fed_bytes x) c.post_until.ensures.posted ∙ ap (λ (x : LinkSide). fed_bytes x) t.3 ∙ drain_fed c.args.self.now.endpoint.link t.0
 
 pub returns-clause-bounded : goal.returns-clause-bounded
-returns-clause-bounded g c = λ fit. (let t = returns-clause-taken g c in record { sinks = drained_fits _ _ t.0 t.1.0.state fit.sinks; output = drained_out _ _ t.0 t.1.0.state fit.output })
+returns-clause-bounded g c = λ fit. (let t = returns-clause-taken g c in record { sinks = drained_fits _ _ t.0 t.1.0.state fit.sinks; output = drained_out _ _ t.0 t.1.0.state fit.output; reads = drained_reads _ _ t.0 t.1.0.state fit.reads })
 
 pub returns-clause-windows : goal.returns-clause-windows
 returns-clause-windows g c = λ live.

@@ -25,8 +25,8 @@ returns-clause-is c =
     (let same = c.requires.sound.0.unsent_is in omega (arith, c.len.ensures, c.len-2.ensures, same, length-map calls call_view)) in
     let receives : c.receives_len.result ≡ n * (length (map call_view calls) + unsent c.args.self.now.endpoint.link.state) = c.receives_len.ensures.is ∙ (λ i. c.receive_length-each.ensures.is i * count i) in
     held_sum _ c.held.result (length c.args.self.now.endpoint.staging) (bytes_of c.args.self.now.endpoint.link.state) outside
-    c.receives_len.result (n * (length (map call_view calls) + unsent c.args.self.now.endpoint.link.state)) (c.rooms_len.result + c.payloads_len.result) refl c.held.ensures.is receives
-    ∙ ap (λ (k : ℕ). length c.args.self.now.endpoint.staging + bytes_of c.args.self.now.endpoint.link.state + n * (length (map call_view calls) + unsent c.args.self.now.endpoint.link.state) + k) rooms
+    c.receives_len.result (n * (length (map call_view calls) + unsent c.args.self.now.endpoint.link.state)) (c.rooms_len.result + c.payloads_len.result) c.lists_len.result refl c.held.ensures.is receives
+    ∙ (λ i. length c.args.self.now.endpoint.staging + bytes_of c.args.self.now.endpoint.link.state + n * (length (map call_view calls) + unsent c.args.self.now.endpoint.link.state) + rooms i + c.lists_len.ensures.is i)
 
 pub returns-clause-rooms : goal.returns-clause-rooms
 returns-clause-rooms c =
@@ -45,7 +45,7 @@ returns-clause-bound c =
     let unsent_is = c.requires.sound.0.unsent_is in
     let lent = c.requires.sound.0.lent in
     let same = length-map c.args.self.now.calls.items call_view in
-    held_bound (with_staging c.args.self.now) _ (returns-clause-is c) c.requires.bounded (returns-clause-rooms c) c.facts.ensures.receives (omega (arith, unsent_is, lent, same))
+    held_bound (with_staging c.args.self.now) _ (returns-clause-is c) c.requires.bounded (lists_fit c.args.self.now c.requires.sound c.requires.bounded.0 c.facts.ensures.receives) (returns-clause-rooms c) c.facts.ensures.receives (omega (arith, unsent_is, lent, same))
 
 pub returns-clause-lists : goal.returns-clause-lists
 returns-clause-lists c = lists_fit c.args.self.now c.requires.sound c.requires.bounded.0 c.facts.ensures.receives

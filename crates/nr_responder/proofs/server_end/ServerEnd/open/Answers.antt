@@ -11,6 +11,7 @@ use Rattle.nr_wire.specs.declared.hello.Side.TheVariants.{Responder}
 use Rattle.nr_responder.proofs.HeldSinks.{empty_fetched, fetched_first}
 use Rattle.nr_responder.proofs.Opened.{opened_stands_lem, opened_lives, opened_length, opened_queues, own_limit}
 use Rattle.nr_responder.proofs.OutputBounds.{opened_out}
+use Rattle.nr_responder.proofs.ReadBounds.{opened_reads}
 use Rattle.nr_responder.proofs.StepBounds.{opened_fits}
 use Rattle.nr_responder.proofs.ReadWindows.{empty_windows}
 use Rattle.nr_responder.proofs.server_end.ServerEnd.open.Goals as goal
@@ -64,7 +65,7 @@ pub returns-clause-fed : goal.returns-clause-fed
 returns-clause-fed c = open_fed c.in_ok-endpoint.endpoint.link Responder c.args.credits 1 c.args.terms c.in_ok-endpoint.ensures.state
 
 pub returns-clause-bounded : goal.returns-clause-bounded
-returns-clause-bounded c = record { sinks = opened_fits _ c.args.credits c.args.low c.args.terms (returns-clause-state c); output = opened_out _ c.args.credits c.args.low c.args.terms (returns-clause-state c) }
+returns-clause-bounded c = record { sinks = opened_fits _ c.args.credits c.args.low c.args.terms (returns-clause-state c); output = opened_out _ c.args.credits c.args.low c.args.terms (returns-clause-state c); reads = opened_reads _ c.args.credits c.args.low c.args.terms (returns-clause-state c) }
 
 pub returns-clause-windows : goal.returns-clause-windows
 returns-clause-windows c = λ live. empty_windows c.in_ok-calls.calls.items c.new.result.items c.in_ok-calls.ensures.items

@@ -1,19 +1,21 @@
-use Rattle.std.proofs.Common.{rules, ◌≡◌, ℕ, List, map, get_or, ap, sym, subst, ◌∙◌, append-nil, true}
+use Rattle.std.proofs.Common.{rules, ◌≡◌, ℕ, List, map, get_or, ap, sym, subst, ◌∙◌, append-nil, refl, true}
 use Rattle.std.specs.Prelude.{vec_capacity}
 use Rattle.std.specs.VecDeque.{deque_capacity}
+use Rattle.nr_endpoint.specs.Calls.{after_call}
+use Rattle.nr_endpoint.specs.Calls.Call.{OutOfMemory}
 use Rattle.nr_endpoint.specs.LinkState.{LinkSide}
 use Rattle.nr_reduce.specs.Holds.{chunk_error}
 use Rattle.nr_reduce.specs.ServerState.{PendingCall, PendingRead}
-use Rattle.nr_responder.specs.Fetching.{SinkRegion}
+use Rattle.nr_responder.specs.Fetching.{Fetching, SinkRegion}
 use Rattle.nr_responder.specs.declared.call.Pending.{Pending}
 use Rattle.nr_responder.specs.ResponderState.{ResponderSide}
 use Rattle.nr_responder.specs.private.DoneReads.{IsOfCall}
 use Rattle.nr_responder.specs.private.Reading.{left_sinks, opening, over_sinks, with_opened_after, with_released}
-use Rattle.nr_responder.specs.private.ReadsDone.{has_bad_chunk}
+use Rattle.nr_responder.specs.private.ReadsDone.{ended_as, has_bad_chunk}
 use Rattle.nr_responder.specs.Sound.{QueuesInvariant, payloads_of, state_of, xids_of}
 use Rattle.nr_responder.specs.Views.{call_view, read_view, sink_view}
-use Rattle.nr_responder.proofs.DoneReads.{refuses}
-use Rattle.nr_responder.proofs.RefusedReads.{dropped_fetched, refused_ends, refused_fetched, refused_link, refused_sound}
+use Rattle.nr_responder.proofs.DoneReads.{refusal_out, refuses}
+use Rattle.nr_responder.proofs.RefusedReads.{dropped_fetched, dropped_fewer, refused_ends, refused_fetched, refused_link, refused_sound}
 use Rattle.nr_responder.proofs.Removed.{map_removed}
 use Rattle.nr_responder.proofs.ReadWindows.{done_refused}
 use Rattle.nr_responder.proofs.server_end.ServerEnd.refuse_read.Goals as goal
@@ -73,3 +75,15 @@ pub returns-in-Ok-clause-windows : goal.returns-in-Ok-clause-windows
 returns-in-Ok-clause-windows c = λ live.
     let d : Pending = c.index.result.now in
     done_refused c.args.done.number c.args.kept c.args.self.now.calls.items c.remove-call.new.self.items c.args.at d c.args.self.now.reads.items c.drop_waiting.new.reads.items c.requires.at (c.requires.call d).own (c.requires.empty d) c.remove-call.ensures.items c.drop_waiting.ensures c.requires.windows
+
+pub returns-in-Err-clause-handled : goal.returns-in-Err-clause-handled
+returns-in-Err-clause-handled c =
+    let d : Pending = c.index.result.now in
+    let v : ResponderSide = state_of c.args.self.now in
+    let same : get_or c.args.self.now.calls.items c.args.at d ≡ d = sym c.index.ensures in
+    let reads : List PendingRead = map read_view c.drop_waiting.new.reads.items in
+    let fetching : Fetching = record { reads = reads; sinks = map sink_view c.args.self.now.sinks.items; payloads = payloads_of c.args.self.now.ready.items } in
+    refusal_out v (state_of c.run_out.new.self) (read_view c.args.done) c.args.kept c.args.at (call_view d) fetching (subst (λ (x : Pending). IsOfCall v (read_view c.args.done) c.args.kept c.args.at (call_view x)) same (c.requires.call d))
+    (subst (λ (x : Pending). has_bad_chunk v (call_view x) (read_view c.args.done) (map read_view c.args.self.now.reads.items) ≡ true) same (c.requires.bad d)) refl
+    (dropped_fewer c.args.done.number c.args.kept (map read_view c.args.self.now.reads.items) reads c.drop_waiting.ensures)
+    (c.run_out.ensures.out ∙ ap (λ (l : LinkSide). ended_as v (after_call l OutOfMemory) fetching) c.in-Err.ensures.err)

@@ -6,6 +6,7 @@ use Rattle.nr_responder.specs.private.Starting.{BeginsReads, with_around}
 use Rattle.nr_responder.specs.Sound.{SameInput, around_of, state_of}
 use Rattle.nr_responder.specs.Fetching.{open_sinks}
 use Rattle.nr_responder.specs.private.CallsRead.{sinks_from, chunk_positions}
+use Rattle.nr_responder.proofs.PayloadRooms.{others_none}
 use Rattle.nr_responder.proofs.BegunWindows.{window_room}
 use Rattle.nr_responder.proofs.BegunReads.{around_in_buffer, call_fits, kept_fetched, window_apart, started_fetched, started_input, started_is, started_sound, stopped_is}
 use Rattle.nr_responder.proofs.Sounds.{sound_as}
@@ -68,7 +69,7 @@ returns-in-Ok-clause-sound c = (
   started_fetched c.args.self.now.endpoint c.begin_in_place.new.endpoint c.args.self.now.reads.items c.begin_in_place.new.reads.items c.args.call.number c.args.self.now.endpoint.link.state.memory.next c.args.read.now c.args.chunks.now c.args.self.now.calls.items c.push_around.new.calls.items
       (with_around c.args.call (c.args.call.len - c.args.call.stream_at + 3)) c.args.self.now.sinks.items c.begin_in_place.new.sinks.items (open_sinks (sinks_from c.args.call.number c.args.self.now.endpoint.link.state.memory.next c.args.read.now c.args.chunks.now)) c.begin_in_place.ensures.held c.begin_in_place.ensures.short
       (c.in-Ok.ensures.outside.more (around_of c.args.self.now.calls.items) c.requires.sound.1.outside)
-      c.requires.own c.in-Ok.ensures.ok.reads c.in-Ok.ensures.ok.sinks_are c.in-Ok.ensures.outside.kept
+      c.requires.own c.in-Ok.ensures.ok.reads c.in-Ok.ensures.ok.sinks_are (λ n ne. others_none c.args.call.number c.args.self.now.endpoint.link.state.memory.next n c.args.read.now c.args.chunks.now ne) c.in-Ok.ensures.outside.kept
       (window_room c.args.self.now.endpoint c.begin_in_place.new.endpoint c.args.self.now.sinks.items c.begin_in_place.new.sinks.items c.args.self.now.reads.items c.begin_in_place.new.reads.items c.args.self.now.endpoint.link c.begin_in_place.new.endpoint.link c.args.read.now c.args.chunks.now c.args.call c.args.start (c.args.call.len - c.args.call.stream_at + 3)
       c.requires.call c.requires.empty.1 c.requires.window c.in-Ok.ensures.outside c.requires.read (let at = c.requires.call.at in omega (arith, at)) refl c.in-Ok.ensures.ok
       (window_apart c.args.self.now.reads.items c.begin_in_place.new.reads.items c.args.call.number c.args.self.now.endpoint.link.state.memory.next c.args.start c.args.read.now c.args.chunks.now c.in-Ok.ensures.ok.reads c.requires.fresh c.requires.window.some c.requires.window.each)) c.push_around.ensures.items c.requires.sound.1,

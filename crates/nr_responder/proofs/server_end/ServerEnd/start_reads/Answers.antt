@@ -1,4 +1,4 @@
-use Rattle.std.proofs.Common.{◌∙◌, ◌+◌, List, refl, ap, subst, arith, inl, inr, []}
+use Rattle.std.proofs.Common.{◌∙◌, ℕ, ◌+◌, List, length, refl, ap, subst, arith, inl, inr, []}
 use Rattle.nr_header.specs.declared.header.ReadSegment.{ReadSegment}
 use Rattle.nr_endpoint.specs.LinkState.{LinkSide}
 use Rattle.nr_responder.specs.declared.server_end.ServerEnd.{ServerEnd}
@@ -6,6 +6,7 @@ use Rattle.nr_responder.specs.private.Starting.{BeginsReads, with_room}
 use Rattle.nr_responder.specs.Sound.{SameInput, around_of, state_of}
 use Rattle.nr_responder.specs.Fetching.{open_sinks}
 use Rattle.nr_responder.specs.private.CallsRead.{sinks_from}
+use Rattle.nr_responder.proofs.PayloadRooms.{others_none}
 use Rattle.nr_responder.proofs.Windows.{more_outside}
 use Rattle.nr_responder.proofs.BegunReads.{call_fits, in_buffer, kept_fetched, own_room, started_fetched, started_input, started_is, started_sound, stopped_is}
 use Rattle.nr_responder.proofs.Sounds.{sound_as}
@@ -24,6 +25,12 @@ begin_reads-requires-clause-short c = c.requires.sound.1.short
 
 pub begin_reads-requires-clause-stags : goal.begin_reads-requires-clause-stags
 begin_reads-requires-clause-stags c = c.requires.stags
+
+pub begin_reads-requires-clause-inline : goal.begin_reads-requires-clause-inline
+begin_reads-requires-clause-inline c = c.inline_stream-inline.ensures.small
+
+pub inline_stream-inline-requires : goal.inline_stream-inline-requires
+inline_stream-inline-requires c = c.requires.call
 
 pub begin_reads-requires-clause-total : goal.begin_reads-requires-clause-total
 begin_reads-requires-clause-total c = c.requires.reads
@@ -58,7 +65,9 @@ returns-in-Ok-clause-sound c = (
   started_fetched c.args.self.now.endpoint c.begin_reads.new.endpoint c.args.self.now.reads.items c.begin_reads.new.reads.items c.args.call.number c.args.self.now.endpoint.link.state.memory.next c.args.read.now c.args.chunks.now c.args.self.now.calls.items c.push_reading.new.calls.items
       (with_room c.args.call c.in-Ok.room) c.args.self.now.sinks.items c.begin_reads.new.sinks.items (open_sinks (sinks_from c.args.call.number c.args.self.now.endpoint.link.state.memory.next c.args.read.now c.args.chunks.now)) c.begin_reads.ensures.held c.begin_reads.ensures.short
       (more_outside c.begin_reads.new.endpoint (around_of c.args.self.now.calls.items) (around_of c.args.self.now.calls.items + c.args.call.around) (omega arith) (c.begin_reads.ensures.outside (around_of c.args.self.now.calls.items) c.requires.sound.1.outside))
-      c.requires.own c.in-Ok.ensures.ok.reads c.in-Ok.ensures.ok.sinks_are c.begin_reads.ensures.kept (own_room c.begin_reads.new.endpoint.outside c.begin_reads.new.sinks.items c.begin_reads.new.reads.items c.args.call c.in-Ok.room c.requires.empty.0 c.in-Ok.ensures.room) c.push_reading.ensures.items c.requires.sound.1,
+      c.requires.own c.in-Ok.ensures.ok.reads c.in-Ok.ensures.ok.sinks_are (λ n ne. others_none c.args.call.number c.args.self.now.endpoint.link.state.memory.next n c.args.read.now c.args.chunks.now ne) c.begin_reads.ensures.kept
+      (own_room c.begin_reads.new.endpoint.outside c.args.self.now.sinks.items c.begin_reads.new.sinks.items c.begin_reads.new.reads.items c.args.call c.args.self.now.endpoint.link.state.memory.next (length c.inline_stream-inline.result.now) c.in-Ok.room c.args.read.now c.args.chunks.now c.requires.empty.0 c.requires.no_sink
+      c.in-Ok.ensures.ok.sinks_are c.requires.read c.requires.chunks c.requires.reads (ap (λ (xs : List ℕ). length xs) c.inline_stream-inline.ensures.stream) c.inline_stream-inline.ensures.small c.in-Ok.ensures.room) c.push_reading.ensures.items c.requires.sound.1,
 )
 
 pub returns-in-Ok-clause-input : goal.returns-in-Ok-clause-input

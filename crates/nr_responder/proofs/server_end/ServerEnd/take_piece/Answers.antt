@@ -19,7 +19,8 @@ use Rattle.nr_responder.proofs.Stepped.{taken_at, at_most, at_least, step_done, 
 use Rattle.nr_responder.specs.ResponderState.{ResponderSide}
 use Rattle.nr_responder.proofs.Marks.{fed_stands_lem}
 use Rattle.nr_responder.proofs.SinkTotals.{held_view}
-use Rattle.nr_responder.specs.HeldBytes.{SinksFit}
+use Rattle.nr_responder.specs.HeldBytes.{OutputFits, SinksFit}
+use Rattle.nr_responder.proofs.ReadBounds.{failed_reads, few_after, step_reads}
 use Rattle.nr_responder.proofs.OutputSteps.{failed_out, step_out}
 use Rattle.nr_responder.proofs.StepBounds.{failed_fits, lives_on_lem, step_fits}
 use Rattle.nr_responder.proofs.server_end.ServerEnd.take_piece.Goals as goal
@@ -115,16 +116,17 @@ returns-in-Ok-clause-bounded c = λ opened link run stands fit.
     (fetched_step c.args.self.now.endpoint c.feed_one.new.self c.args.piece.now c.args.self.now.calls.items c.args.self.now.reads.items c.args.self.now.sinks.items (step_counts c.args.self.now.endpoint.link m c.args.piece.now step).next is c.feed_one.ensures.outside c.requires.sound.1).held in
     let on = fed_stands_lem opened link run v after _ (returns-in-Ok-clause-goes c) c.requires.live stands in
     let sinks : SinksFit after = step_fits k.0 k.1.0 k.1.1.0 v after c.args.piece.now m k.1.1.1 c.requires.live (sym c.in-Ok.ensures.ended) is step held fit.sinks (lives_on_lem opened link _ after on) c.requires.word c.take_event.ensures.taken in
-    record { sinks = sinks; output = step_out k.0 k.1.0 k.1.1.0 v after c.args.piece.now m k.1.1.1 c.requires.live (sym c.in-Ok.ensures.ended) step (fit.sinks.each c.requires.live) fit.output sinks.each c.requires.word c.take_event.ensures.taken }
+    let output : OutputFits after = step_out k.0 k.1.0 k.1.1.0 v after c.args.piece.now m k.1.1.1 c.requires.live (sym c.in-Ok.ensures.ended) step (fit.sinks.each c.requires.live) fit.output sinks.each c.requires.word c.take_event.ensures.taken in
+    let reads = step_reads k.0 k.1.0 k.1.1.0 v after c.args.piece.now m k.1.1.1 (sym c.in-Ok.ensures.ended) step c.requires.word c.take_event.ensures.taken in
+    record { sinks = sinks; output = output; reads = few_after v after reads sinks output fit.reads }
 
 pub returns-in-Err-clause-bounded : goal.returns-in-Err-clause-bounded
 returns-in-Err-clause-bounded c = λ opened link run stands fit.
     let v : ResponderSide = state_of c.args.self.now in
     let m = c.feed_one.new.self.link in
-    record {
-      sinks = failed_fits v c.args.piece.now m c.in-Err.end c.requires.live c.facts.ensures.partial (λ other. c.in-Err.ensures.state (λ e. other (let h : c.in-Err.end ≡ ends.Memory = cc in h))) (λ is. c.in-Err.ensures.memory (ap (λ (e : End). Err e) is)) fit.sinks;
-      output = failed_out v c.args.piece.now m c.in-Err.end c.requires.live c.facts.ensures.partial (sym c.in-Err.ensures.ended) (λ other. c.in-Err.ensures.state (λ e. other (let h : c.in-Err.end ≡ ends.Memory = cc in h))) (λ is. c.in-Err.ensures.memory (ap (λ (e : End). Err e) is)) fit.output;
-    }
+    let sinks : SinksFit (on_link v m) = failed_fits v c.args.piece.now m c.in-Err.end c.requires.live c.facts.ensures.partial (λ other. c.in-Err.ensures.state (λ e. other (let h : c.in-Err.end ≡ ends.Memory = cc in h))) (λ is. c.in-Err.ensures.memory (ap (λ (e : End). Err e) is)) fit.sinks in
+    let output : OutputFits (on_link v m) = failed_out v c.args.piece.now m c.in-Err.end c.requires.live c.facts.ensures.partial (sym c.in-Err.ensures.ended) (λ other. c.in-Err.ensures.state (λ e. other (let h : c.in-Err.end ≡ ends.Memory = cc in h))) (λ is. c.in-Err.ensures.memory (ap (λ (e : End). Err e) is)) fit.output in
+    record { sinks = sinks; output = output; reads = few_after v (on_link v m) (failed_reads v m) sinks output fit.reads }
 
 pub take_event-requires-clause-windows : goal.take_event-requires-clause-windows
 take_event-requires-clause-windows c = c.requires.windows c.requires.live

@@ -1,13 +1,14 @@
-use Rattle.std.proofs.Common.{◌≡◌, ap, sym, subst, refl, ◌∙◌, set, get_or, List, map, arith}
+use Rattle.std.proofs.Common.{◌≡◌, Option, Some, None, ℕ, ap, sym, subst, refl, ◌∙◌, set, get_or, List, map, arith}
 use Rattle.std.proofs.Math.Seq.{map-set_same}
 use Rattle.nr_reduce.specs.ServerReads.{is_read}
 use Rattle.nr_reduce.specs.ServerState.{PendingCall}
 use Rattle.nr_responder.specs.declared.call.Pending.{Pending}
 use Rattle.nr_responder.specs.Sound.{InBuffer, InReceive, fetching_of, room_len, xids_of}
-use Rattle.nr_responder.specs.Views.{call_view, read_view}
+use Rattle.nr_responder.specs.Views.{call_view, read_view, sink_view}
 use Rattle.nr_responder.proofs.Answered.{same_item}
 use Rattle.nr_responder.proofs.DoneReads.{emptied_sound}
 use Rattle.nr_responder.proofs.HeldSinks.{read_has_room}
+use Rattle.nr_responder.proofs.PayloadRooms.{no_room, room_taken}
 use Rattle.nr_responder.proofs.ReadWindows.{set_windows}
 use Rattle.nr_responder.proofs.server_end.ServerEnd.take_room_at.Goals as goal
 use Rattle.nr_responder.proofs.Sounds.{kept_receive}
@@ -37,3 +38,16 @@ returns-clause-windows c =
     let number : c.take_out_room.new.call.number ≡ (get_or c.args.self.now.calls.items c.args.at d).number = ap (λ (x : Pending). x.number) c.take_out_room.ensures.call ∙ ap (λ (x : Pending). x.number) c.index_mut.ensures.value in
     let around : c.take_out_room.new.call.around ≡ (get_or c.args.self.now.calls.items c.args.at d).around = ap (λ (x : Pending). x.around) c.take_out_room.ensures.call ∙ ap (λ (x : Pending). x.around) c.index_mut.ensures.value in
     set_windows c.args.self.now.calls.items (set c.args.self.now.calls.items c.args.at c.take_out_room.new.call) c.args.at c.take_out_room.new.call d c.args.self.now.reads.items refl c.requires.at number (omega (arith, around)) c.requires.windows
+
+pub returns-clause-room : goal.returns-clause-room
+returns-clause-room c = λ d.
+    let e : Pending = c.index_mut.result.now in
+    let calls = c.args.self.now.calls.items in
+    let own : e ≡ get_or calls c.args.at d = c.index_mut.ensures.value ∙ same_item calls c.args.at d e c.requires.at in
+    room_taken (map sink_view c.args.self.now.sinks.items) (call_view (get_or calls c.args.at d)) (get_or calls c.args.at d).room c.in-Some.room (ap (λ (x : Pending). x.room) (sym own) ∙ sym c.take_out_room.ensures.room ∙ c.in-Some.is) (c.requires.room d)
+
+pub unreachable-requires : goal.unreachable-requires
+unreachable-requires c =
+    let e : Pending = c.index_mut.result.now in
+    let calls = c.args.self.now.calls.items in
+    no_room (map sink_view c.args.self.now.sinks.items) (call_view (get_or calls c.args.at e)) (get_or calls c.args.at e).room (ap (λ (x : Pending). x.room) (sym c.index_mut.ensures.value) ∙ sym c.take_out_room.ensures.room ∙ c.in-None.is) (c.requires.room e)

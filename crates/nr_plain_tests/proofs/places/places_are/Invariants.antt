@@ -1,4 +1,0 @@
-use Rattle.nr_plain_tests.proofs.places.places_are.Given as goal
-
-abbrev pub ghosts-place_of : goal.ghosts-place_of
-ghosts-place_of g a = record { name = a.blank.name; parts = a.blank.parts }

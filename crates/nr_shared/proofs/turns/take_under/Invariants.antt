@@ -1,7 +1,0 @@
-use Rattle.nr_turnstile.specs.Passes.{seen_by}
-use Rattle.nr_turnstile.specs.Turns.{pass_of}
-use Rattle.nr_shared.specs.Histories.{done_by}
-use Rattle.nr_shared.proofs.turns.take_under.Given as goal
-
-abbrev pub ghosts-append_done : goal.ghosts-append_done
-ghosts-append_done g a = record { entry = done_by (seen_by (pass_of a.turn.now)) a._xid a._outcome.now.value }
