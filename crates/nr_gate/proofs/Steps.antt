@@ -71,7 +71,7 @@ module _ {O : Type 0} where
 
     -- it is none, or memory ran out
     pub no_reply : (done : Done) (failure : Failure) → OwnAnswer p q asked forms.Auto done → HasNone done.outcome failure → FailsSo failure p q bytes
-    no_reply done failures.Memory answer none = inr (Ok done, makes (Ok done) answer)
+    no_reply done failures.Memory answer (payload, (outcome, unfit)) = inr (inr (payload, (unfit, record { done = done; makes = makes (Ok done) answer; outcome_is = outcome })))
     no_reply done (failures.Ended ends.Chunk) answer none = record { done = done; makes = makes (Ok done) answer; outcome_is = none }
     no_reply done (failures.Ended (ends.Version low high)) answer none = record { done = done; makes = makes (Ok done) answer; outcome_is = none }
     no_reply done (failures.Ended ends.Closed) answer none = absurd none
@@ -85,7 +85,7 @@ module _ {O : Type 0} where
 
     -- it has no outcome
     pub no_outcome : (end : CallEnd) → Calls p q asked forms.Auto (Err end) → FailsSo (failure_at end) p q bytes
-    no_outcome call_ends.Memory made = inr (Err call_ends.Memory, makes (Err call_ends.Memory) made)
+    no_outcome call_ends.Memory made = inr (inl (makes (Err call_ends.Memory) made))
     no_outcome (call_ends.Ended end) made = makes (Err (call_ends.Ended end)) made
     no_outcome call_ends.LinkRead made = makes (Err call_ends.LinkRead) made
     no_outcome call_ends.LinkWrite made = makes (Err call_ends.LinkWrite) made

@@ -1,6 +1,6 @@
 -- A connection of a gateway: the records that were forwarded, each by one call of the shared requester; how the connection
 -- ends, and why.
-use Rattle.std.specs.Prelude.{◌≡◌, ◌⊎◌, ℕ, List, [], ◌∷◌, Option, None, Some, Result, Ok, Err}
+use Rattle.std.specs.Prelude.{◌≡◌, ◌⊎◌, ℕ, ◌^◌, ◌<◌, ◌≤◌, length, List, [], ◌∷◌, Option, None, Some, Result, Ok, Err}
 use Rattle.nr_rpc.specs.Constants.{RPC_VERSION}
 use Rattle.nr_rpc.specs.Reading.{call_of}
 use Rattle.nr_rpc.specs.Reply.{reply_encoding}
@@ -25,6 +25,10 @@ use Rattle.nr_shared.specs.Waiting.{Calls, OwnAnswer}
 use Rattle.nr_gate.specs.Forwarding.{Asks, with_xid}
 use Rattle.nr_gate.specs.declared.gate_end.GateEnd.{GateEnd}
 use Rattle.nr_gate.specs.declared.gate_end.GateEnd.TheVariants as ends
+
+-- a reply whose first four bytes can't be written over, or that is too long for one fragment (RFC 5531 section 11)
+abbrev pub IsUnfit : List ℕ → Type 0
+IsUnfit reply = (length reply < 4) ⊎ (2 ^ 31 ≤ length reply)
 
 -- the end of the loop over the records
 abbrev pub loop_end : GateEnd → LoopEnd
@@ -88,9 +92,9 @@ module _ {O : Type 0} where
   EndsRemotely (ends.Version low high) p q bytes = HasOutcome p q bytes (outcomes.Version low high)
   EndsRemotely end p q bytes = ⊥
 
-  -- memory ran out: before the record's call was made, or it was made
+  -- memory ran out: before the record's call was made, before it was submitted, or for a reply that isn't fit
   abbrev pub RunsOut : Pass (RequesterWithSink O) Entry → Pass (RequesterWithSink O) Entry → (bytes : List ℕ) → Type 0
-  RunsOut p q bytes = (q ≡ p) ⊎ ((result : Result Done CallEnd) × Makes p q bytes result)
+  RunsOut p q bytes = (q ≡ p) ⊎ (Makes p q bytes (Err call_ends.Memory) ⊎ ((payload : List ℕ) × (IsUnfit payload × HasOutcome p q bytes (outcomes.Reply payload))))
 
   abbrev pub Unforwarded : GateEnd → NoReply → Pass (RequesterWithSink O) Entry → Pass (RequesterWithSink O) Entry → (bytes : List ℕ) → Type 0
   Unforwarded end reasons.NotCall p q bytes = q ≡ p

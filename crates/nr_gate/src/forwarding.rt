@@ -1,6 +1,6 @@
 //! Calls of a connection that are forwarded over a shared requester.
 
-ghost use Rattle.std.specs.Prelude.{◌≡◌, ◌<◌, ◌^◌, [], IfErr, IfOk, IfSome, List, ℕ, length};
+ghost use Rattle.std.specs.Prelude.{◌≡◌, ◌<◌, ◌^◌, [], IfErr, IfNone, IfOk, IfSome, List, ℕ, length};
 ghost use Rattle.nr_rpc.specs.Constants.{RPC_VERSION};
 ghost use Rattle.nr_rpc.specs.Credential.{CanWriteCred};
 ghost use Rattle.nr_rpc.specs.Reply.{reply_encoding};
@@ -8,7 +8,7 @@ ghost use Rattle.nr_rpc.specs.declared.head.ReplyHead.TheVariants as replies;
 ghost use Rattle.nr_turnstile.specs.Passes.{seen_by};
 ghost use Rattle.nr_shared.specs.Sharing.{SharedRests};
 ghost use Rattle.nr_gate.specs.Forwarding.{Asks, with_xid};
-ghost use Rattle.nr_gate.specs.Gating.{Gates, IsForwarded};
+ghost use Rattle.nr_gate.specs.Gating.{Gates, IsForwarded, IsUnfit};
 ghost use Rattle.nr_gate.specs.private.Forwarded.{FailsSo, HasNone, RepliesWith, failure_at, kept_end};
 
 use crate::asking::{RecordCall, read_record};
@@ -89,11 +89,12 @@ fn mismatch(alloc: Global, xid: u32) -> Result<Octets, NoReply>
     }
 }
 
-/// A reply with this xid as its first word. Takes memory only if the reply has fewer than four bytes. A reply of 2^31 bytes
-/// or more, which no message can carry, is like out of memory.
+/// A reply with this xid as its first word. `None` only if the reply has fewer than four bytes and memory ran out, or if it
+/// has 2^31 bytes or more: no message carries such a reply.
 fn with_own_xid(alloc: Global, reply: Octets, xid: u32) -> Option<Octets>
     ensures some { IfSome result (λ own. own ≡ with_xid xid reply) }
     ensures limit { IfSome result (λ own. length own < 2 ^ 31) }
+    ensures none { IfNone result (IsUnfit reply) }
 {
     let first = xid.to_be_bytes();
     if reply.len() < XID_LEN {

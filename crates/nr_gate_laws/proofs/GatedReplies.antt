@@ -43,6 +43,7 @@ use Rattle.nr_record_loop.specs.Connections.{Exchange, Loop, Unanswered, calls a
 use Rattle.nr_record_loop.specs.declared.answering.NoReply.{NoReply}
 use Rattle.nr_record_loop.specs.declared.answering.NoReply.TheVariants as reasons
 use Rattle.nr_shared.specs.declared.call_end.CallEnd.{CallEnd}
+use Rattle.nr_shared.specs.declared.call_end.CallEnd.TheVariants as call_ends
 use Rattle.nr_shared.specs.declared.entry.Entry.{Entry}
 use Rattle.nr_shared.specs.declared.entry.Entry.TheVariants as entries
 use Rattle.nr_shared.specs.declared.requester_with_sink.RequesterWithSink.{RequesterWithSink}
@@ -51,7 +52,7 @@ use Rattle.nr_shared.specs.Waiting.{Calls, NoAnswer, OwnAnswer, SendsNone}
 use Rattle.nr_gate.specs.declared.gate_end.GateEnd.{GateEnd}
 use Rattle.nr_gate.specs.declared.gate_end.GateEnd.TheVariants as ends
 use Rattle.nr_gate.specs.Forwarding.{Asks, forwarded, forwarded_by, with_xid}
-use Rattle.nr_gate.specs.Gating.{EndsRemotely, Forwards, ForwardsAll, Gates, HasOutcome, IsForwarded, IsGated, IsMismatch, Makes, Unforwarded}
+use Rattle.nr_gate.specs.Gating.{EndsRemotely, Forwards, ForwardsAll, Gates, HasOutcome, IsForwarded, IsGated, IsMismatch, IsUnfit, Makes, Unforwarded}
 use Rattle.nr_gate.proofs.Steps.{remote_made}
 use Rattle.nr_gate_laws.specs.GatedReplies.{ArePlain, GatedRepliesArePlain, IsRemoteLink}
 use Rattle.nr_gate_laws.proofs.Forwarding.{reply_comes_back}
@@ -99,7 +100,10 @@ module _ {O : Type 0} where
   last_grows end reasons.NotCall p q bytes same = begins_same (seen_by p) (seen_by q) (ap seen_by same)
   last_grows end reasons.Memory p q bytes out = ⊎_elim
       (λ (same : q ≡ p). begins_same (seen_by p) (seen_by q) (ap seen_by same))
-      (λ (made : (result : Result Done CallEnd) × Makes p q bytes result). call_grows p q made.1.asked made.0 made.1.made)
+      (λ (made : Makes p q bytes (Err call_ends.Memory) ⊎ ((payload : List ℕ) × (IsUnfit payload × HasOutcome p q bytes (outcomes.Reply payload)))). ⊎_elim
+      (λ (none : Makes p q bytes (Err call_ends.Memory)). call_grows p q none.asked (Err call_ends.Memory) none.made)
+      (λ (unfit : (payload : List ℕ) × (IsUnfit payload × HasOutcome p q bytes (outcomes.Reply payload))). call_grows p q unfit.1.1.makes.asked (Ok unfit.1.1.done) unfit.1.1.makes.made)
+      made)
       out
   last_grows end reasons.Other p q bytes made = ended_grows end p q bytes made
 

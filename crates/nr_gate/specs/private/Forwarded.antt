@@ -15,7 +15,7 @@ use Rattle.nr_shared.specs.declared.call_end.CallEnd.TheVariants as call_ends
 use Rattle.nr_shared.specs.declared.entry.Entry.{Entry}
 use Rattle.nr_shared.specs.declared.requester_with_sink.RequesterWithSink.{RequesterWithSink}
 use Rattle.nr_gate.specs.Forwarding.{Asks, with_xid}
-use Rattle.nr_gate.specs.Gating.{EndsRemotely, RunsOut}
+use Rattle.nr_gate.specs.Gating.{EndsRemotely, IsUnfit, RunsOut}
 use Rattle.nr_gate.specs.declared.asking.RecordCall.{RecordCall}
 use Rattle.nr_gate.specs.declared.asking.RecordCall.TheVariants as records
 use Rattle.nr_gate.specs.declared.forwarding.Failure.{Failure}
@@ -47,7 +47,7 @@ RepliesWith outcome xid reply = (payload : List ℕ) × ((outcome ≡ outcomes.R
 
 -- why an outcome gives no reply
 abbrev pub HasNone : Outcome → Failure → Type 0
-HasNone outcome failures.Memory = Unit {0}
+HasNone outcome failures.Memory = (payload : List ℕ) × ((outcome ≡ outcomes.Reply payload) × IsUnfit payload)
 HasNone outcome (failures.Ended ends.Chunk) = outcome ≡ outcomes.Chunk
 HasNone outcome (failures.Ended (ends.Version low high)) = outcome ≡ outcomes.Version low high
 HasNone outcome (failures.Ended end) = ⊥
