@@ -1,13 +1,12 @@
 -- Each record that a gateway's connection answered has the plain server's reply.
-use Rattle.std.proofs.Common.{◌≡◌, ◌⊎◌, ⊎_elim, inl, inr, ℕ, ◌<◌, ◌≤◌, true, List, [], ◌∷◌, ◌++◌, length, take, Option, None, Some, Result, Ok, Err, refl, sym, ap, ◌∙◌, subst, append_assoc, append-nil, arith, le_refl}
+use Rattle.std.proofs.Common.{◌≡◌, ◌⊎◌, ⊎_elim, inl, inr, ℕ, ◌^◌, ◌<◌, ◌≤◌, List, [], ◌∷◌, ◌++◌, length, take, Option, None, Some, Result, Ok, Err, refl, sym, ap, ◌∙◌, subst, append_assoc, append-nil, arith, le_refl}
 use Rattle.std.specs.Prelude.{is_some}
 use Rattle.std.specs.Option.{option_map}
 use Rattle.std.specs.List.{AllByRecursion, flat_map}
-use Rattle.std.proofs.lemmas.List.{length-append, take_all}
-use mathlib.Core.Option.{some}
+use Rattle.std.proofs.lemmas.List.{take_all}
 use Rattle.nr_xdr.specs.Item.{IsBytes}
 use Rattle.nr_outside.specs.declared.moment.Moment.{Moment}
-use Rattle.nr_rpc.specs.Reading.{call_of, target_of}
+use Rattle.nr_rpc.specs.Reading.{target_of}
 use Rattle.nr_rpc.specs.declared.head.CallHead.{CallHead}
 use Rattle.nr_rpc.specs.declared.head.CallHead.TheVariants as calls
 use Rattle.nr_reduce.specs.Asked.{AskedMark, IsAccepted}
@@ -25,12 +24,12 @@ use Rattle.nr_reduce.specs.declared.mark.Mark.TheVariants as marks
 use Rattle.nr_requester.specs.declared.taking.Done.{Done}
 use Rattle.nr_laws.specs.MarkAt.{MarkAt}
 use Rattle.nr_laws.specs.Payloads.{HasPlan}
-use Rattle.nr_laws.proofs.Basics.{each_right, some_is_lem}
+use Rattle.nr_laws.proofs.Basics.{some_is_lem}
 use Rattle.nr_laws.proofs.Following.{places_follow}
 use Rattle.nr_laws.proofs.LaterMarks.{mark_later}
 use Rattle.nr_laws.proofs.OnceByXid.{at_mark}
 use Rattle.nr_laws.proofs.PlainReplies.{any_replies_are_plain}
-use Rattle.nr_service_laws.specs.ServedCommands.{client_marks, is_client_mark}
+use Rattle.nr_service_laws.specs.ServedCommands.{is_client_mark}
 use Rattle.nr_plain.specs.Added.{entries_of_call}
 use Rattle.nr_plain.specs.Journal.{state_of}
 use Rattle.nr_plain.specs.Replies.{Answer, answer_by, plain_answer, plain_reply}
@@ -39,7 +38,7 @@ use Rattle.nr_plain.specs.Setup.{Setup}
 use Rattle.nr_turnstile.specs.declared.turnstile.Pass.{Pass}
 use Rattle.nr_turnstile.specs.Passes.{seen_by}
 use Rattle.nr_turnstile.specs.Rule.{Begins}
-use Rattle.nr_record_loop.specs.Connections.{Exchange, Loop, Unanswered, calls as exchanged_calls}
+use Rattle.nr_record_loop.specs.Connections.{Exchange, Unanswered, calls as exchanged_calls}
 use Rattle.nr_record_loop.specs.declared.answering.NoReply.{NoReply}
 use Rattle.nr_record_loop.specs.declared.answering.NoReply.TheVariants as reasons
 use Rattle.nr_shared.specs.declared.call_end.CallEnd.{CallEnd}
@@ -48,11 +47,11 @@ use Rattle.nr_shared.specs.declared.entry.Entry.{Entry}
 use Rattle.nr_shared.specs.declared.entry.Entry.TheVariants as entries
 use Rattle.nr_shared.specs.declared.requester_with_sink.RequesterWithSink.{RequesterWithSink}
 use Rattle.nr_shared.specs.Histories.{mark_at, run_of}
-use Rattle.nr_shared.specs.Waiting.{Calls, NoAnswer, OwnAnswer, SendsNone}
+use Rattle.nr_shared.specs.Waiting.{Calls, NoAnswer, SendsNone}
 use Rattle.nr_gate.specs.declared.gate_end.GateEnd.{GateEnd}
 use Rattle.nr_gate.specs.declared.gate_end.GateEnd.TheVariants as ends
 use Rattle.nr_gate.specs.Forwarding.{Asks, forwarded, forwarded_by, with_xid}
-use Rattle.nr_gate.specs.Gating.{EndsRemotely, Forwards, ForwardsAll, Gates, HasOutcome, IsForwarded, IsGated, IsMismatch, IsUnfit, Makes, Unforwarded}
+use Rattle.nr_gate.specs.Gating.{EndsRemotely, Forwards, ForwardsAll, Gates, HasOutcome, IsForwarded, IsMismatch, IsUnfit, Makes, Unforwarded}
 use Rattle.nr_gate.proofs.Steps.{remote_made}
 use Rattle.nr_gate_laws.specs.GatedReplies.{ArePlain, GatedRepliesArePlain, IsRemoteLink}
 use Rattle.nr_gate_laws.proofs.Forwarding.{reply_comes_back}
@@ -160,25 +159,7 @@ module _ (s : Setup) (J : List JournalEntry) (opened : LinkParameters) (link : �
   abbrev IsLeast : List Entry → ℕ → Type 0
   IsLeast seen least = (least ≡ 0) ⊎ Answered seen least
 
-  least_later : (seen more : List Entry) (least : ℕ) → IsLeast seen least → IsLeast (seen ++ more) least
-  least_later seen more least is = ⊎_elim
-      (λ (none : least ≡ 0). inl none)
-      (λ (a : Answered seen least). inr (record {
-        front = a.front;
-        back = a.back ++ more;
-        xid = a.xid;
-        submit = a.submit;
-        payload = a.payload;
-        is = ap (λ (l : List Entry). l ++ more) a.is ∙ append_assoc a.front (entries.Done a.xid (outcomes.Reply a.payload) a.submit ∷ a.back) more;
-        first = a.first;
-        moment = a.moment;
-        sent = a.sent;
-        reply = a.reply;
-        executed = a.executed;
-      }))
-      is
-
-  -- the call of a record that was forwarded: where it was executed
+  -- the call of a record that was forwarded: the place at which it was executed
   record Executed (seen : List Entry) (bytes reply : List ℕ) (least : ℕ) : Type 0 where
     place : ℕ
     moment : Moment
@@ -221,7 +202,7 @@ module _ (s : Setup) (J : List JournalEntry) (opened : LinkParameters) (link : �
     accepted : IsAccepted opened link submitted.front f.asked forms.Auto xid
     accepted = at_mark (AskedMark IsPrefixOf opened link) both submitted.front submit_mark submitted.back submitted.is r.matched.asked refl
 
-    has_plan : HasPlan opened link both xid accepted.plan
+    abbrev has_plan : HasPlan opened link both xid accepted.plan
     has_plan = record { call = f.asked; form = forms.Auto; before = submitted.front; at = record { after = submitted.back; is = submitted.is }; planned = accepted.planned }
 
     done_at : MarkAt both completed.front done_mark

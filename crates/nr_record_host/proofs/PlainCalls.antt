@@ -1,12 +1,11 @@
 -- One call more that the plain server executes, and a connection that it served.
-use Rattle.std.proofs.Common.{◌≡◌, ◌≢◌, ◌≤◌, ℕ, List, [], ◌∷◌, ◌++◌, length, Option, None, Some, refl, sym, ap, ◌∙◌, subst, append_assoc, append-nil, arith, ⊎_elim}
+use Rattle.std.proofs.Common.{◌≡◌, ◌≢◌, ◌≤◌, ℕ, List, [], ◌∷◌, ◌++◌, length, Option, None, Some, refl, sym, ap, ◌∙◌, subst, append_assoc, append-nil, arith}
 use Rattle.std.specs.Prelude.{◌⊎◌}
 use Rattle.nr_outside.specs.declared.moment.Moment.{Moment}
 use Rattle.nr_links.specs.Moments.{Gives}
-use Rattle.nr_record.specs.Constants.{REASON_RECORD}
 use Rattle.nr_plain.specs.History.{Answered, Executes, OnlyOthersAdded, PassView}
 use Rattle.nr_plain.proofs.PassCalls.{over_executed, over_others, over_none}
-use Rattle.nr_record_loop.specs.Connections.{BreaksOffIn, Exchange, IsNext, IsNoCall, IsServedBy, IsTooLong, Unanswered, SinkCount as LoopSinkCount, SourceCount as LoopSourceCount, calls as exchanged_calls, loop_at, written as exchanged_replies}
+use Rattle.nr_record_loop.specs.Connections.{BreaksOffIn, Exchange, IsNoCall, IsServedBy, IsTooLong, Unanswered, SinkCount as LoopSinkCount, SourceCount as LoopSourceCount, calls as exchanged_calls, loop_at, written as exchanged_replies}
 use Rattle.nr_record_loop.specs.declared.answering.NoReply.{NoReply}
 use Rattle.nr_record_loop.specs.declared.answering.NoReply.TheVariants as reasons
 use Rattle.nr_record_loop.specs.declared.loop_end.LoopEnd.{LoopEnd}

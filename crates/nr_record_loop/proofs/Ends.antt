@@ -1,14 +1,13 @@
 -- How a connection ends: what was read, what was answered and what was not.
-use Rattle.std.proofs.Common.{◌≡◌, ℕ, ◌+◌, ◌≤◌, List, [], ◌∷◌, ◌++◌, length, true, false, Option, None, Some, inl, inr, refl, sym, ap, ◌∙◌, subst, append-nil, arith}
+use Rattle.std.proofs.Common.{◌≡◌, ℕ, ◌+◌, ◌≤◌, List, [], ◌∷◌, ◌++◌, length, true, false, Option, None, Some, inr, refl, sym, ap, ◌∙◌, subst, append-nil, arith}
 use Rattle.std.specs.Prelude.{is_ok}
 use Rattle.nr_links.specs.Limits.{read_max}
-use Rattle.nr_record.specs.Constants.{REASON_RECORD}
 use Rattle.nr_record.specs.Records.{contents, fragment}
 use Rattle.nr_record.specs.RecordsState.{IsAt, RecordsState, RepresentsStream, read_in, rest_in}
 use Rattle.nr_record.proofs.Above.{none_above}
 use Rattle.nr_record.proofs.Begun.{records_encoded}
 use Rattle.nr_rpc.specs.Reading.{call_of}
-use Rattle.nr_record_loop.specs.Connections.{AllAnswered, AnswersOne, Exchange, IsLoopCause, IsNext, IsNoCall, IsServedBy, Loop, MoreAt, REASON_CALL, ServesBy, TookAt, Unanswered, UnreadAt, calls, loop_at, written}
+use Rattle.nr_record_loop.specs.Connections.{AllAnswered, Exchange, IsLoopCause, IsNext, IsNoCall, IsServedBy, Loop, MoreAt, REASON_CALL, ServesBy, TookAt, Unanswered, UnreadAt, calls, loop_at, written}
 use Rattle.nr_record_loop.specs.private.Answering.{AnswersCall, BreaksOff, DoesNone, StopsAt}
 use Rattle.nr_record_loop.specs.private.Steps.{AnswerEnds, AnswersAll, AnswersOn, HasRead, IsAnswered, IsPlace, end_at}
 use Rattle.nr_record_loop.specs.declared.answering.NoReply.{NoReply}
