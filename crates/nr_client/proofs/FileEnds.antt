@@ -17,7 +17,7 @@ use Rattle.nr_client.specs.Calls.{Answers, Completes, Forgets, ForgetsCalls, Ref
 use Rattle.nr_client.specs.Ending.{IsCause, LinkCause}
 use Rattle.nr_client.specs.Following.{Unanswered}
 use Rattle.nr_client.specs.Following.Next.{Returns}
-use Rattle.nr_client.specs.Reading.{EndsReading, FileRead, OpenRead, ReadingAt, ReadsFile, bytes_of, bytes_read, file_read, next_read, piece_left, read_call, read_result, starts_at, with_size}
+use Rattle.nr_client.specs.Reading.{EndsAtReply, EndsReading, FileRead, OpenRead, ReadingAt, ReadsFile, TakesPart, bytes_of, bytes_read, file_read, next_read, piece_left, read_call, read_result, starts_at, with_size}
 use Rattle.nr_client.specs.Reading.FileRead.{SizeKnown, ReadEnds}
 use Rattle.nr_client.specs.Reading.ReadStep.{MakesAlone, TakesOldest}
 use Rattle.nr_client.specs.Reading.EndsReading.{EndsByReplies, OutputFails, NotAnswered, NotSubmitted, OldestForgotten}
@@ -30,7 +30,7 @@ use Rattle.nr_client.proofs.FilePieces.{xids_from}
 use Rattle.nr_client.proofs.FileReading.{came_with, follows, is_ahead, is_alone, moment, none_ahead}
 
 -- the bytes of the replies, by their state
-takes_bytes : (outcomes : List Outcome) (state : FileRead) (t u : Option (List ℕ)) → file_read outcomes ≡ state → Appends t u (bytes_of state) → Appends t u (bytes_read outcomes)
+pub takes_bytes : (outcomes : List Outcome) (state : FileRead) (t u : Option (List ℕ)) → file_read outcomes ≡ state → Appends t u (bytes_of state) → Appends t u (bytes_read outcomes)
 takes_bytes outcomes state t u is appends = subst (λ (s : FileRead). Appends t u (bytes_of s)) (sym is) appends
 
 -- nothing more was written
@@ -118,29 +118,31 @@ not_answered uid gid file size at end count from xids why first t u b c h i belo
 
 -- ---- A reply without data, or of which some were not written
 
-ends_none : (uid gid : ℕ) (file : List ℕ) (size at : ℕ) (bytes : List ℕ) (outcomes : List Outcome) (outcome : Outcome) (waiting : List OpenRead) (why : ClientEnd) (t u v : Option (List ℕ)) (b : LinkBytes) (h : RequesterSide)
+at_none : (uid gid : ℕ) (file : List ℕ) (size at : ℕ) (bytes : List ℕ) (outcomes : List Outcome) (outcome : Outcome) (why : ClientEnd) (t u v : Option (List ℕ))
     → file_read outcomes ≡ SizeKnown size at bytes → Appends t u bytes → Gives {A = ReadOk} (Err why) (read_result (piece_left size at) outcome) → Appends u v []
-    → EndsReading uid gid file (moment (outcomes ++ outcome ∷ []) waiting b h) waiting b h t v (Err why)
-ends_none uid gid file size at bytes outcomes outcome waiting why t u v b h state appends gives none =
+    → EndsAtReply uid gid file (outcomes ++ outcome ∷ []) t v (Err why)
+at_none uid gid file size at bytes outcomes outcome why t u v state appends gives none =
     by (end_of_reply {A = ReadOk} (Unit {0}) why (read_result (piece_left size at) outcome) gives)
   where
     all : Appends t v bytes
     all = took_nothing t u v bytes appends none
 
     by : (why ≡ client.Memory) ⊎ ((read_result (piece_left size at) outcome ≡ Err why) × Gives {A = Unit {0}} (Err why) (Err why))
-        → EndsReading uid gid file (moment (outcomes ++ outcome ∷ []) waiting b h) waiting b h t v (Err why)
+        → EndsAtReply uid gid file (outcomes ++ outcome ∷ []) t v (Err why)
     by (inl memory) =
-        EndsByReplies (refl, refl) (inl (ap (λ (e : ClientEnd). Err e) memory)) refl
-        (inr (ap (λ (e : ClientEnd). Err e) memory, (outcomes, outcome, (refl, takes_bytes outcomes (SizeKnown size at bytes) t v state all))))
+        inl (
+          inl (ap (λ (e : ClientEnd). Err e) memory),
+          inr (ap (λ (e : ClientEnd). Err e) memory, (outcomes, outcome, (refl, takes_bytes outcomes (SizeKnown size at bytes) t v state all))),
+        )
     by (inr (reads, same)) =
         let came = came_with outcomes outcome size at bytes (Err why) state reads in
-        EndsByReplies (refl, refl) (inr (ap (next_read uid gid file) came)) refl (inl (takes_bytes (outcomes ++ outcome ∷ []) (ReadEnds why bytes) t v came all))
+        inl (inr (ap (next_read uid gid file) came), inl (takes_bytes (outcomes ++ outcome ∷ []) (ReadEnds why bytes) t v came all))
 
-ends_part : (uid gid : ℕ) (file : List ℕ) (size at : ℕ) (before : List ℕ) (outcomes : List Outcome) (outcome : Outcome) (waiting : List OpenRead) (t u v : Option (List ℕ)) (b : LinkBytes) (h : RequesterSide)
+at_part : (uid gid : ℕ) (file : List ℕ) (size at : ℕ) (before : List ℕ) (outcomes : List Outcome) (outcome : Outcome) (t u v : Option (List ℕ))
     (results : ReadOk) (n : ℕ) → file_read outcomes ≡ SizeKnown size at before → Appends t u before → read_result (piece_left size at) outcome ≡ Ok results
     → n < length results.bytes → Appends u v (take n results.bytes)
-    → EndsReading uid gid file (moment (outcomes ++ outcome ∷ []) waiting b h) waiting b h t v (Err client.OutputFault)
-ends_part uid gid file size at before outcomes outcome waiting t u v b h results n state appends reads short part =
+    → TakesPart (outcomes ++ outcome ∷ []) t v
+at_part uid gid file size at before outcomes outcome t u v results n state appends reads short part =
     let more = outcomes ++ outcome ∷ [] in
     let all : bytes_read more ≡ before ++ results.bytes = ap (λ (s : FileRead). bytes_of s) (came_with outcomes outcome size at before (Ok results) state reads) in
     let earlier : bytes_read outcomes ≡ before = ap (λ (s : FileRead). bytes_of s) state in
@@ -150,18 +152,28 @@ ends_part uid gid file size at before outcomes outcome waiting t u v b h results
     subst (λ (l : List ℕ). length l ≤ length before + n) (sym earlier) (omega arith) in
     let within : length before + n < length (bytes_read more) =
     subst (λ (l : List ℕ). length before + n < length l) (sym all) (omega (arith, short, length-append before results.bytes)) in
-    OutputFails refl (refl, refl) refl
     (outcomes, outcome, length before + n, (refl, (from, (within, subst (λ (l : List ℕ). Appends t v l) (sym cut) (Appends-trans t u v before (take n results.bytes) appends part)))))
+
+-- whichever calls were made
+pub at_reply : (uid gid : ℕ) (file : List ℕ) (size at count : ℕ) (bytes : List ℕ) (outcomes : List Outcome) (outcome : Outcome) (why : ClientEnd) (t u v : Option (List ℕ))
+    → count ≡ piece_left size at → file_read outcomes ≡ SizeKnown size at bytes → Appends t u bytes → GivesNone count outcome why u v
+    → EndsAtReply uid gid file (outcomes ++ outcome ∷ []) t v (Err why)
+at_reply uid gid file size at count bytes outcomes outcome why t u v same state appends (inl (gives, none)) =
+    at_none uid gid file size at bytes outcomes outcome why t u v state appends
+    (subst (λ (n : ℕ). Gives {A = ReadOk} (Err why) (read_result n outcome)) same gives) none
+at_reply uid gid file size at count bytes outcomes outcome why t u v same state appends (inr (is, (results, n, (reads, (short, part))))) =
+    inr (ap (λ (e : ClientEnd). Err e) is, at_part uid gid file size at bytes outcomes outcome t u v results n state appends (subst (λ (k : ℕ). read_result k outcome ≡ Ok results) same reads) short part)
+
+of_reply : (uid gid : ℕ) (file : List ℕ) (outcomes : List Outcome) (waiting : List OpenRead) (t v : Option (List ℕ)) (b : LinkBytes) (h : RequesterSide) (given : Result (Unit {0}) ClientEnd)
+    → EndsAtReply uid gid file outcomes t v given → EndsReading uid gid file (moment outcomes waiting b h) waiting b h t v given
+of_reply uid gid file outcomes waiting t v b h given (inl (why, took)) = EndsByReplies (refl, refl) why refl took
+of_reply uid gid file outcomes waiting t v b h given (inr (is, part)) = OutputFails is (refl, refl) refl part
 
 ends_data : (uid gid : ℕ) (file : List ℕ) (size at count : ℕ) (bytes : List ℕ) (outcomes : List Outcome) (outcome : Outcome) (waiting : List OpenRead) (why : ClientEnd) (t u v : Option (List ℕ)) (b : LinkBytes) (h : RequesterSide)
     → count ≡ piece_left size at → file_read outcomes ≡ SizeKnown size at bytes → Appends t u bytes → GivesNone count outcome why u v
     → EndsReading uid gid file (moment (outcomes ++ outcome ∷ []) waiting b h) waiting b h t v (Err why)
-ends_data uid gid file size at count bytes outcomes outcome waiting why t u v b h same state appends (inl (gives, none)) =
-    ends_none uid gid file size at bytes outcomes outcome waiting why t u v b h state appends
-    (subst (λ (n : ℕ). Gives {A = ReadOk} (Err why) (read_result n outcome)) same gives) none
-ends_data uid gid file size at count bytes outcomes outcome waiting why t u v b h same state appends (inr (is, (results, n, (reads, (short, part))))) =
-    subst (λ (e : ClientEnd). EndsReading uid gid file (moment (outcomes ++ outcome ∷ []) waiting b h) waiting b h t v (Err e)) (sym is)
-    (ends_part uid gid file size at bytes outcomes outcome waiting t u v b h results n state appends (subst (λ (k : ℕ). read_result k outcome ≡ Ok results) same reads) short part)
+ends_data uid gid file size at count bytes outcomes outcome waiting why t u v b h same state appends gives =
+    of_reply uid gid file (outcomes ++ outcome ∷ []) waiting t v b h (Err why) (at_reply uid gid file size at count bytes outcomes outcome why t u v same state appends gives)
 
 -- of the oldest READ, and of one of the rest of a piece
 pub oldest_fails : (uid gid : ℕ) (file : List ℕ) (size at next count : ℕ) (xid : ℕ) (xids : List ℕ) (outcome : Outcome) (why : ClientEnd) (first : ReadingAt) (t u v : Option (List ℕ)) (b c : LinkBytes) (h i : RequesterSide)

@@ -5,6 +5,8 @@ pub mod FilePieces
 pub mod FileReading
 pub mod FileWriting
 pub mod InputWindows
+pub mod JobCalls
+pub mod JobReading
 pub mod Listings
 pub mod Moves
 pub mod Outcomes

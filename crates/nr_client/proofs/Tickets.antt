@@ -73,9 +73,9 @@ open_with_last xid call r s xids opens are =
 -- ---- The first of them
 
 -- what `remove(0)` took and left
-pub front : (xs ys : List ℕ) (x : ℕ) → 0 < length xs → x ≡ slice_index_or xs 0 x → ys ≡ remove xs 0 → xs ≡ x ∷ ys
+pub front : {X : Type 0} (xs ys : List X) (x : X) → 0 < length xs → x ≡ slice_index_or xs 0 x → ys ≡ remove xs 0 → xs ≡ x ∷ ys
 front [] ys x some value items = absurd (omega (arith, some))
-front (y ∷ xs) ys x some value items = ap (λ (k : ℕ). k ∷ xs) (sym value) ∙ ap (λ (l : List ℕ). x ∷ l) (sym items)
+front (y ∷ xs) ys x some value items = ap (λ k. k ∷ xs) (sym value) ∙ ap (λ l. x ∷ l) (sym items)
 
 pub first_open : (xid : ℕ) (r : RequesterState) (xs xids : List ℕ) → xs ≡ xid ∷ xids → AreOpen r xs → is_some (open_call xid r) ≡ true
 first_open xid r xs xids is are = (subst (λ (l : List ℕ). AreOpen r l) is are).0

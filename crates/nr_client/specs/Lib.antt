@@ -2,6 +2,7 @@ pub mod Calls
 pub mod Dialing
 pub mod Ending
 pub mod Following
+pub mod Jobs
 pub mod LinkParts
 pub mod Listing
 pub mod Paths
@@ -9,6 +10,7 @@ pub mod Reading
 pub mod Requests
 pub mod Results
 pub mod SessionState
+pub mod Shared
 pub mod Steps
 pub mod Transfers
 pub mod Walking

@@ -209,6 +209,12 @@ TakesPart outcomes taken taken' =
 
 -- ---- The end
 
+-- It ends by these replies: with its result, or memory ran out; or the output failed.
+abbrev pub EndsAtReply : (uid gid : ℕ) → (file : List ℕ) → List Outcome → (taken taken' : Option (List ℕ)) → Result (Unit {0}) ClientEnd → Type 0
+EndsAtReply uid gid file outcomes taken taken' given =
+    (((given ≡ Err client.Memory) ⊎ (reading uid gid file outcomes ≡ Returns given)) × TakesRead given outcomes taken taken')
+    ⊎ ((given ≡ Err client.OutputFault) × TakesPart outcomes taken taken')
+
 -- How it ends after these replies, with these READs still outstanding: with its result, or memory ran out; or the output failed; or the next call
 -- has no answer, or could not be submitted; or the oldest READ has no answer, and is forgotten.
 pub data EndsReading (uid gid : ℕ) (file : List ℕ) (s : ReadingAt) (left : List OpenRead) (b : LinkBytes) (h : RequesterSide) (taken taken' : Option (List ℕ)) (given : Result (Unit {0}) ClientEnd) : Type 0 where

@@ -4,3 +4,4 @@ pub mod Pieces
 pub mod FileSteps
 pub mod OpenReads
 pub mod InputWindows
+pub mod JobReads

@@ -9,6 +9,7 @@ mod client_end;
 mod file_calls;
 mod file_results;
 mod input_window;
+mod jobs;
 mod limits;
 mod link;
 mod listing;

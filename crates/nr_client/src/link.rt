@@ -7,6 +7,7 @@ ghost use Rattle.nr_reduce.specs.Opening.{ClientOpened};
 ghost use Rattle.nr_reduce.specs.declared.mark.LinkParameters.{LinkParameters};
 ghost use Rattle.nr_requester.specs.Standing.{RequesterRepresents};
 ghost use Rattle.nr_requester.specs.AfterCalls.{opened_as};
+ghost use Rattle.nr_requester.specs.Fed.{fed_bytes};
 ghost use Rattle.nr_requester.specs.OpenCalls.{ClosesTicket, KeepsTickets, OpensTicket, open_call};
 ghost use Rattle.nr_client.specs.Calls.{Answers, Completes, Forgets, ForgetsCall, GivesUp, RefusesToSubmit, Submits};
 ghost use Rattle.nr_client.specs.Ending.{IsCause, LinkCause, SinkCount, SourceCount};
@@ -162,6 +163,22 @@ impl<I: Source, O: Sink> Link<I, O> {
         ensures { result ≡ nat_lt (length self.now.requester.state.outstanding) self.now.requester.state.grant }
     {
         self.requester.outstanding() < self.requester.grant() as usize
+    }
+
+    /// The requester, the source and the sink.
+    pub(crate) fn into_parts(self) -> (Requester, I, O)
+        ensures parts { (result.0 ≡ self.requester) × ((result.1 ≡ self.source) × (result.2 ≡ self.sink)) }
+        ensures fed { fed_bytes result.0 ≤ read_max }
+    {
+        let Link {
+            requester,
+            source,
+            sink,
+            read: _read,
+            buf,
+        } = self;
+        drop(buf);
+        (requester, source, sink)
     }
 
     /// The source and the sink. The requester is dropped.

@@ -1,6 +1,6 @@
 //! A session of a client: requests of a user over one link.
 
-ghost use Rattle.std.specs.Prelude.{◌≡◌, ℕ, [], OnOk, IfOk, IfErr, IfSome};
+ghost use Rattle.std.specs.Prelude.{◌≡◌, ◌<◌, ◌≤◌, ℕ, [], OnOk, IfOk, IfErr, IfSome};
 ghost use Rattle.nr_nfs_base.specs.declared.attributes.Attributes.{Attributes};
 ghost use Rattle.nr_links.specs.Asked.{Asks as AsksFor};
 ghost use Rattle.nr_links.specs.Links.{CountsLost, EndsLink, HasOpenLink, IsNewLink, IsTold, MakesLink, ended_link};
@@ -10,6 +10,7 @@ ghost use Rattle.nr_reduce.specs.declared.mark.LinkParameters.{LinkParameters};
 ghost use Rattle.nr_requester.specs.AfterCalls.{opened_as};
 ghost use Rattle.nr_requester.specs.Standing.{RequesterRepresents};
 ghost use Rattle.nr_client.specs.Following.{Follows};
+ghost use Rattle.nr_client.specs.Jobs.{ReadsFileByJobs, jobs_max};
 ghost use Rattle.nr_client.specs.Listing.{list_next};
 ghost use Rattle.nr_client.specs.Dialing.{OpenFails, dialer_at, session_credits};
 ghost use Rattle.nr_client.specs.Requests.{Asks, SinkFaults, SourceFaults, create_result, getattr_call, getattr_result, lookup_call, lookup_result, mkdir_call, mnt_call, mnt_result, readlink_call, readlink_result, remove_call, remove_result, symlink_call};
@@ -19,7 +20,9 @@ ghost use Rattle.nr_client.specs.Writing.{StopsAtFault, WritesFile};
 ghost use Rattle.nr_client.specs.Walking.{parent_next, walk_next};
 
 use crate::asking::{ask_nfs, mount_over};
+use crate::call_end::CallEnd;
 use crate::client_end::ClientEnd;
+use crate::jobs::{has_memory, read_shared};
 use crate::limits::CREDITS;
 use crate::link::Link;
 use crate::listing::list_over;
@@ -30,12 +33,15 @@ use crate::requests::{
 };
 use crate::walking::{walk_over, walk_to_parent_over};
 use crate::write_file::write_file_over;
+use nr_link::End;
 use nr_links::{Dialer, LinkNumber, LinkSink, LinkSource, NumberedSink, NumberedSource};
 use nr_nfs_base::{Attributes, Handle, MountPath, Name, Path, WccData};
 use nr_nfs_res::{CreateOk, LookupOk, ReadlinkOk};
 use nr_outside::{Sink, Source};
 use std::alloc::Global;
-use std::marker::Model;
+use std::marker::{Brand, Model};
+use std::sync::Wait;
+use std::thread::Threads;
 
 /// Requests of a user over one link. Each call has an AUTH_SYS credential with the user and the group, the machine `nfsrdma` and no
 /// further groups.
@@ -329,6 +335,40 @@ impl<I: Source, O: Sink> Session<I, O> {
             dir,
             name,
             input,
+        )
+    }
+
+    /// As `read_file`, by several jobs, 1 to 16, each in a thread of its own if there is one. The session ends: its source and its sink come back.
+    /// At most 4 pieces of each job, of 1048576 bytes, are held ahead of what was written.
+    pub fn read_file_by_jobs<R: Threads + Wait + Sync, K: Sink>(
+        self,
+        rt: &R,
+        file: &Handle,
+        jobs: usize,
+        out: &mut K,
+    ) -> (Result<(), ClientEnd>, I, O)
+    where
+        I: Drop + Send,
+        O: Drop + Send,
+        requires { (0 < jobs) × (jobs ≤ jobs_max) }
+        ensures reads { ReadsFileByJobs I.left I.given I.faults O.taken O.faults self.uid self.gid file.now self.link.requester self.link.source self.link.sink
+            result.1 result.2 (K.taken out.old) (K.taken out.new) result.0 }
+        ensures out_faults { OutputFaults result.0 (K.faults out.old) (K.faults out.new) }
+    {
+        let Session {
+            alloc,
+            link,
+            uid,
+            gid,
+        } = self;
+        let (requester, source, sink) = link.into_parts();
+        if !has_memory(&requester) {
+            drop(requester);
+            let end = CallEnd::Ended(End::Memory);
+            return (Err(ClientEnd::Link(end)), source, sink);
+        }
+        read_shared::<Brand, R, I, O, K>(
+            rt, alloc, requester, source, sink, uid, gid, file, jobs, out,
         )
     }
 }

@@ -1,0 +1,36 @@
+use Rattle.std.proofs.Common.{◌≡◌, inl, refl}
+use Rattle.nr_nfs_base.specs.Procedures.{nfs_program, nfs_version}
+use Rattle.nr_client.specs.Jobs.{IsOfFile}
+use Rattle.nr_client.specs.private.JobReads.{Grows}
+use Rattle.nr_client.proofs.JobCalls.{grows_as, grows_then}
+use Rattle.nr_client.proofs.JobReading.{all_reads, not_asked, not_told, started}
+use Rattle.nr_client.proofs.Outcomes.{writable}
+use Rattle.nr_client.proofs.jobs.read_by_jobs.Goals as goal
+
+pub outcome_of-requires-clause-writable : goal.outcome_of-requires-clause-writable
+outcome_of-requires-clause-writable g c = writable c.getattr_call.result nfs_program nfs_version 1 c.args.uid c.args.gid _ c.getattr_call.ensures
+
+pub returns-in-Err-clause-seen : goal.returns-in-Err-clause-seen
+returns-in-Err-clause-seen g c = (grows_as (IsOfFile c.args.uid c.args.gid c.args.file.now) _ c.args.pass.now.main c.outcome_of.new.pass.main (inl refl) (c.outcome_of.ensures.grows _ c.getattr_call.ensures)).seen
+
+pub returns-in-Err-nfs_results-clause-seen : goal.returns-in-Err-nfs_results-clause-seen
+returns-in-Err-nfs_results-clause-seen g c = (grows_as (IsOfFile c.args.uid c.args.gid c.args.file.now) _ c.args.pass.now.main c.outcome_of.new.pass.main (inl refl) (c.outcome_of.ensures.grows _ c.getattr_call.ensures)).seen
+
+pub returns-in-Err-clause-reads : goal.returns-in-Err-clause-reads
+returns-in-Err-clause-reads g c =
+    all_reads c.args.uid c.args.gid c.args.file.now c.args.pass.now.main c.outcome_of.new.pass.main (g.K.Sink.taken c.args.out.now) (g.K.Sink.taken c.args.out.now) _ c.requires.own (grows_as (IsOfFile c.args.uid c.args.gid c.args.file.now) _ c.args.pass.now.main c.outcome_of.new.pass.main (inl refl) (c.outcome_of.ensures.grows _ c.getattr_call.ensures))
+    (not_asked c.args.uid c.args.gid c.args.file.now c.outcome_of.new.pass.main c.in-Err.end (g.K.Sink.taken c.args.out.now) (c.in-Err.ensures.err _ c.getattr_call.ensures))
+
+pub returns-in-Err-nfs_results-clause-reads : goal.returns-in-Err-nfs_results-clause-reads
+returns-in-Err-nfs_results-clause-reads g c =
+    all_reads c.args.uid c.args.gid c.args.file.now c.args.pass.now.main c.outcome_of.new.pass.main (g.K.Sink.taken c.args.out.now) (g.K.Sink.taken c.args.out.now) _ c.requires.own (grows_as (IsOfFile c.args.uid c.args.gid c.args.file.now) _ c.args.pass.now.main c.outcome_of.new.pass.main (inl refl) (c.outcome_of.ensures.grows _ c.getattr_call.ensures))
+    (not_told c.args.uid c.args.gid c.args.file.now c.outcome_of.new.pass.main c.in-Ok.outcome c.in-Err-nfs_results.end (g.K.Sink.taken c.args.out.now) (c.in-Ok.ensures.ok _ c.getattr_call.ensures) c.in-Err-nfs_results.ensures.gives)
+
+pub returns-clause-seen : goal.returns-clause-seen
+returns-clause-seen g c = (grows_then (IsOfFile c.args.uid c.args.gid c.args.file.now) c.args.pass.now.main c.outcome_of.new.pass.main c.read_rounds.new.pass.main c.outcome_of.ensures.rests.caller.lies (grows_as (IsOfFile c.args.uid c.args.gid c.args.file.now) _ c.args.pass.now.main c.outcome_of.new.pass.main (inl refl) (c.outcome_of.ensures.grows _ c.getattr_call.ensures)) c.read_rounds.ensures.grows).seen
+
+pub returns-clause-reads : goal.returns-clause-reads
+returns-clause-reads g c =
+    all_reads c.args.uid c.args.gid c.args.file.now c.args.pass.now.main c.read_rounds.new.pass.main (g.K.Sink.taken c.args.out.now) (g.K.Sink.taken c.read_rounds.new.out) c.read_rounds.result c.requires.own
+    (grows_then (IsOfFile c.args.uid c.args.gid c.args.file.now) c.args.pass.now.main c.outcome_of.new.pass.main c.read_rounds.new.pass.main c.outcome_of.ensures.rests.caller.lies (grows_as (IsOfFile c.args.uid c.args.gid c.args.file.now) _ c.args.pass.now.main c.outcome_of.new.pass.main (inl refl) (c.outcome_of.ensures.grows _ c.getattr_call.ensures)) c.read_rounds.ensures.grows)
+    (c.read_rounds.ensures.ends (g.K.Sink.taken c.args.out.now) (started c.args.uid c.args.gid c.args.file.now c.outcome_of.new.pass.main c.in-Ok.outcome c.in-Ok-nfs_results.attributes (g.K.Sink.taken c.args.out.now) (c.in-Ok.ensures.ok _ c.getattr_call.ensures) c.in-Ok-nfs_results.ensures.gives))

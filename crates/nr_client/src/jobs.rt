@@ -1,0 +1,674 @@
+//! A file is read by several jobs, each in a thread of its own.
+
+ghost use Rattle.std.specs.Prelude.{◌≡◌, ◌≢◌, ◌<◌, ◌≤◌, ℕ, ◌+◌, [], ◌∷◌, true, false, Some, None, Err, List, length, All, slice_index_or, IfOk, IfErr, OnOk};
+ghost use Rattle.nr_rpc.specs.Credential.{CanWriteCred};
+ghost use Rattle.nr_reduce.specs.declared.call.Call.{Call};
+ghost use Rattle.nr_turnstile.specs.Passes.{mine_of, seen_by};
+ghost use Rattle.nr_turnstile.specs.Rule.{Begins};
+ghost use Rattle.nr_shared.specs.declared.entry.Entry.{Entry};
+ghost use Rattle.nr_shared.specs.declared.entry.Entry.TheVariants as entries;
+ghost use Rattle.nr_shared.specs.declared.source_reader.InitialSource.{InitialSource};
+ghost use Rattle.nr_shared.specs.Opening.{GivesBack};
+ghost use Rattle.nr_shared.specs.Sharing.{SharedRests};
+ghost use Rattle.nr_client.specs.Jobs.{IsExchange, IsOfFile, ReadsByJobs, ReadsShared, jobs_max};
+ghost use Rattle.nr_client.specs.Reading.{OutputFaults, piece_left};
+ghost use Rattle.nr_requester.specs.Fed.{fed_bytes};
+ghost use Rattle.nr_shared.specs.Standing.{bytes_before};
+ghost use Rattle.nr_link.specs.declared.end.End.TheVariants as ends;
+ghost use Rattle.nr_client.specs.private.JobReads.{AreFetched, EndsMore, Grows, HasNone, HasRun, IsDone, IsFetched, IsNewJob, IsReady, IsUpTo, ReadsMore};
+ghost use Rattle.nr_client.specs.private.OpenReads.{GivesData, GivesNone};
+ghost use Rattle.nr_client.specs.Results.{IsOfCall};
+
+use crate::call_end::CallEnd;
+use crate::client_end::ClientEnd;
+use crate::file_calls::read_call;
+use crate::read_data::{piece_left, write_data};
+use crate::requests::getattr_call;
+use crate::results::nfs_results;
+use nr_link::End;
+use nr_nfs_base::{Attributes, Handle, TRANSFER_MAX};
+use nr_outside::{Sink, Source};
+use nr_reduce::{Call, Form, Outcome};
+use nr_requester::{Done, Requester};
+use nr_shared::{Appended, InitialHistory, Pass, SharedRequester};
+use nr_xdr::Memory;
+use std::alloc::{AllocError, Global};
+use std::sync::Wait;
+use std::thread;
+use std::thread::Threads;
+
+/// The most pieces that a job reads in one round. What is held ahead of the output is at most so many pieces of each job.
+const PIECES_AHEAD: usize = 4;
+
+/// A piece of a file that a job has read: where it begins, and the outcome of its READ.
+#[derive(Drop)]
+struct PieceRead {
+    at: u64,
+    outcome: Outcome,
+}
+
+/// A job: a pass of the shared requester, where its pieces begin, and those that it has read.
+#[derive(Drop)]
+struct ReadJob<I: Source, O: Sink> {
+    pass: Pass<I, O>,
+    offsets: Vec<u64>,
+    fetched: Vec<PieceRead>,
+}
+
+/// Hands a requester in, to be shared, with its source and its sink.
+pub(crate) fn share<K: Appended, R: Wait, I: Source, O: Sink>(
+    rt: &R,
+    alloc: Global,
+    requester: Requester,
+    source: I,
+    sink: O,
+) -> Result<(SharedRequester<I, O>, Pass<I, O>), (Requester, I, O)>
+where
+    I: Drop,
+    O: Drop,
+    requires entry { entries.Initial (record { requester = requester; faults = O.faults sink; taken = O.taken sink }) ≡ K.entry }
+    requires has_memory { requester.state.side.ended ≢ Some ends.Memory }
+    requires fed { fed_bytes requester ≤ bytes_before }
+    ensures rests { IfOk result (λ t. SharedRests t.0 t.1) }
+    ensures seen { IfOk result (λ t. (seen_by t.1.main ≡ K.entry ∷ []) × (mine_of t.1.main ≡ [])) }
+    ensures source { IfOk result (λ t. (b : InitialSource I O) × ((seen_by t.1.source ≡ b ∷ []) × (b.source.value ≡ source))) }
+    ensures err { IfErr result (λ back. GivesBack I.left I.given I.faults O.taken O.faults (K.entry ∷ []) [] source back.0 back.1 back.2) }
+{
+    SharedRequester::new::<InitialHistory<K>, R>(rt, alloc, requester, source, sink)
+}
+
+/// Makes a call, if there was memory for it. Gives its outcome.
+fn outcome_of<R: Wait, I: Source, O: Sink>(
+    rt: &R,
+    shared: &SharedRequester<I, O>,
+    pass: &mut Pass<I, O>,
+    call: Result<Call, Memory>,
+) -> Result<Outcome, ClientEnd>
+    requires writable { IfOk call (λ c. CanWriteCred c.cred) }
+    requires rests { SharedRests shared.now pass.old }
+    ensures rests { SharedRests shared.now pass.new }
+    ensures source { seen_by pass.new.source ≡ seen_by pass.old.source }
+    ensures grows { (asked : Call) → IfOk call (λ c. c ≡ asked) → Grows (λ c. c ≡ asked) pass.old.main pass.new.main }
+    ensures ok { IfOk result (λ outcome. (asked : Call) → IfOk call (λ c. c ≡ asked) → IsExchange (seen_by pass.new.main) (mine_of pass.new.main) asked outcome) }
+    ensures err { IfErr result (λ end. (asked : Call) → IfOk call (λ c. c ≡ asked) → HasNone asked end pass.new.main) }
+    ensures of_call { IfErr result IsOfCall }
+{
+    let call = match call {
+        Ok(call) => call,
+        Err(_) => return Err(ClientEnd::Memory),
+    };
+    match shared.call(rt, pass, call, Form::Auto) {
+        Ok(done) => {
+            let Done {
+                call,
+                buffers,
+                outcome,
+            } = done;
+            drop(call);
+            drop(buffers);
+            Ok(outcome)
+        }
+        Err(end) => Err(ClientEnd::Link(CallEnd::of_shared(end))),
+    }
+}
+
+/// Reads the pieces of a job, one after another, up to one that gets no answer.
+fn fetch<R: Wait, I: Source, O: Sink>(
+    rt: &R,
+    alloc: Global,
+    shared: &SharedRequester<I, O>,
+    uid: u32,
+    gid: u32,
+    file: &Handle,
+    size: u64,
+    job: &mut ReadJob<I, O>,
+)
+    requires { IsReady shared.now uid gid file.now size job.old }
+    ensures { HasRun shared.now uid gid file.now size job.old job.new }
+{
+    let mut next = 0;
+    'pieces: while next < job.offsets.len() {
+        let at = job.offsets[next];
+        let outcome = match outcome_of(
+            rt,
+            shared,
+            &mut job.pass,
+            read_call(alloc, uid, gid, file, at, piece_left(size, at)),
+        ) {
+            Ok(outcome) => outcome,
+            Err(_) => return,
+        };
+        match job.fetched.push(PieceRead { at, outcome }) {
+            Ok(()) => {}
+            Err(_) => return,
+        }
+        next += 1;
+    }
+}
+
+/// Each job reads its pieces, in a thread of its own if there is one.
+fn fetch_all<R: Threads + Wait + Sync, I: Source + Send, O: Sink + Send>(
+    rt: &R,
+    alloc: Global,
+    shared: &SharedRequester<I, O>,
+    uid: u32,
+    gid: u32,
+    file: &Handle,
+    size: u64,
+    threads: usize,
+    made: &mut [ReadJob<I, O>],
+)
+    requires threads { 0 < threads }
+    requires ready { All (IsReady shared.now uid gid file.now size) made.old }
+    ensures len { length made.new ≡ length made.old }
+    ensures each { (i : ℕ) (d : _) → i < length made.old → HasRun shared.now uid gid file.now size (slice_index_or made.old i d) (slice_index_or made.new i d) }
+{
+    let run = |_: usize, job: &mut ReadJob<I, O>|
+        requires { IsReady shared.now uid gid file.now size job.now }
+        ensures { HasRun shared.entry.now uid gid file.entry.now size job.entry.now job.exit.now }
+    { fetch(rt, alloc, shared, uid, gid, file, size, job) };
+    thread::for_each_mut(rt, made, threads, &run);
+}
+
+/// Where the pieces of one job begin: every `step` bytes from an offset on, at most so many, before the size.
+fn offsets_from(alloc: Global, size: u64, from: u64, step: u64) -> Result<Vec<u64>, AllocError>
+    ensures { IfOk result (λ v. All (λ at. at < size) v.items) }
+{
+    let mut offsets = Vec::with_capacity(alloc, PIECES_AHEAD)?;
+    let mut at = from;
+    let mut left = PIECES_AHEAD;
+    'offsets: while left > 0 && at < size {
+        offsets.push(at)?;
+        at = at.saturating_add(step);
+        left -= 1;
+    }
+    Ok(offsets)
+}
+
+/// A job of one round, with a pass of its own.
+fn make_job<I: Source, O: Sink>(
+    alloc: Global,
+    shared: &SharedRequester<I, O>,
+    pass: &mut Pass<I, O>,
+    size: u64,
+    from: u64,
+    step: u64,
+) -> Result<ReadJob<I, O>, AllocError>
+    requires rests { SharedRests shared.now pass.old }
+    ensures rests { SharedRests shared.now pass.new }
+    ensures source { seen_by pass.new.source ≡ seen_by pass.old.source }
+    ensures unchanged { (seen_by pass.new.main ≡ seen_by pass.old.main) × (mine_of pass.new.main ≡ mine_of pass.old.main) }
+    ensures ok { IfOk result (λ j. (uid gid : ℕ) (file : List ℕ) → IsNewJob shared.now uid gid file size (seen_by pass.old.source) j) }
+{
+    let offsets = offsets_from(alloc, size, from, step)?;
+    let fetched = Vec::with_capacity(alloc, PIECES_AHEAD)?;
+    Ok(ReadJob {
+        pass: shared.split(pass),
+        offsets,
+        fetched,
+    })
+}
+
+/// The jobs of one round. Pieces go to jobs in turn.
+fn make_jobs<I: Source, O: Sink>(
+    alloc: Global,
+    shared: &SharedRequester<I, O>,
+    pass: &mut Pass<I, O>,
+    jobs: usize,
+    size: u64,
+    from: u64,
+) -> Result<Vec<ReadJob<I, O>>, AllocError>
+    requires rests { SharedRests shared.now pass.old }
+    ensures rests { SharedRests shared.now pass.new }
+    ensures source { seen_by pass.new.source ≡ seen_by pass.old.source }
+    ensures unchanged { (seen_by pass.new.main ≡ seen_by pass.old.main) × (mine_of pass.new.main ≡ mine_of pass.old.main) }
+    ensures ok { IfOk result (λ v. (uid gid : ℕ) (file : List ℕ) → All (IsNewJob shared.now uid gid file size (seen_by pass.old.source)) v.items) }
+{
+    let mut made = Vec::with_capacity(alloc, jobs)?;
+    let piece = TRANSFER_MAX as u64;
+    let step = (jobs as u64).saturating_mul(piece);
+    let mut at = from;
+    'jobs: while made.len() < jobs {
+        let job = make_job(alloc, shared, pass, size, at, step)?;
+        made.push(job)?;
+        at = at.saturating_add(piece);
+    }
+    Ok(made)
+}
+
+/// One READ by a call of the caller's own, of what is left of its piece. Its data are written to the output.
+fn read_on<R: Wait, I: Source, O: Sink, K: Sink>(
+    rt: &R,
+    alloc: Global,
+    shared: &SharedRequester<I, O>,
+    pass: &mut Pass<I, O>,
+    uid: u32,
+    gid: u32,
+    file: &Handle,
+    size: u64,
+    end: u64,
+    at: &mut u64,
+    out: &mut K,
+) -> Result<(), ClientEnd>
+    requires below { at.old < size }
+    requires within { at.old < end }
+    requires piece { IsUpTo size at.old end }
+    requires rests { SharedRests shared.now pass.old }
+    ensures rests { SharedRests shared.now pass.new }
+    ensures source { seen_by pass.new.source ≡ seen_by pass.old.source }
+    ensures grows { Grows (IsOfFile uid gid file.now) pass.old.main pass.new.main }
+    ensures piece { OnOk result (IsUpTo size at.new end) }
+    ensures more { OnOk result (at.old < at.new) }
+    ensures ok { OnOk result (ReadsMore uid gid file.now size at.old at.new pass.old.main pass.new.main (K.taken out.old) (K.taken out.new)) }
+    ensures err { IfErr result (λ why. EndsMore uid gid file.now size at.old pass.old.main pass.new.main (K.taken out.old) (K.taken out.new) (Err why)) }
+    ensures out_faults { OutputFaults result (K.faults out.old) (K.faults out.new) }
+{
+    let count = piece_left(size, *at);
+    let outcome = match outcome_of(
+        rt,
+        shared,
+        pass,
+        read_call(alloc, uid, gid, file, *at, count),
+    ) {
+        Ok(outcome) => outcome,
+        Err(end) => return Err(end),
+    };
+    let step = match write_data(alloc, outcome, count, out) {
+        Ok(step) => step,
+        Err(end) => return Err(end),
+    };
+    *at += step as u64;
+    Ok(())
+}
+
+/// READs by calls of the caller's own of the rest of a piece, one after another.
+fn read_rest<R: Wait, I: Source, O: Sink, K: Sink>(
+    rt: &R,
+    alloc: Global,
+    shared: &SharedRequester<I, O>,
+    pass: &mut Pass<I, O>,
+    uid: u32,
+    gid: u32,
+    file: &Handle,
+    size: u64,
+    end: u64,
+    at: &mut u64,
+    out: &mut K,
+) -> Result<(), ClientEnd>
+    requires within { end ≤ size }
+    requires piece { IsUpTo size at.old end }
+    requires rests { SharedRests shared.now pass.old }
+    ensures rests { SharedRests shared.now pass.new }
+    ensures source { seen_by pass.new.source ≡ seen_by pass.old.source }
+    ensures grows { Grows (IsOfFile uid gid file.now) pass.old.main pass.new.main }
+    ensures end { OnOk result (at.new ≡ end) }
+    ensures ok { OnOk result (ReadsMore uid gid file.now size at.old at.new pass.old.main pass.new.main (K.taken out.old) (K.taken out.new)) }
+    ensures err { IfErr result (λ why. EndsMore uid gid file.now size at.old pass.old.main pass.new.main (K.taken out.old) (K.taken out.new) (Err why)) }
+    ensures out_faults { OutputFaults result (K.faults out.old) (K.faults out.new) }
+{
+    'rest: while *at < end {
+        match read_on(rt, alloc, shared, pass, uid, gid, file, size, end, at, out) {
+            Ok(()) => {}
+            Err(why) => return Err(why),
+        }
+    }
+    Ok(())
+}
+
+/// Writes the data of the first READ of a piece, which a job has made.
+fn write_fetched<K: Sink>(
+    alloc: Global,
+    size: u64,
+    outcome: Outcome,
+    at: &mut u64,
+    out: &mut K,
+) -> Result<(), ClientEnd>
+    requires below { at.old < size }
+    ensures piece { OnOk result (IsUpTo size at.new (at.old + piece_left size at.old)) }
+    ensures ok { OnOk result ((count step : ℕ) × ((count ≡ piece_left size at.old) × ((at.new ≡ at.old + step) × GivesData count outcome step (K.taken out.old) (K.taken out.new)))) }
+    ensures err { IfErr result (λ why. GivesNone (piece_left size at.old) outcome why (K.taken out.old) (K.taken out.new)) }
+    ensures out_faults { OutputFaults result (K.faults out.old) (K.faults out.new) }
+{
+    let count = piece_left(size, *at);
+    let step = match write_data(alloc, outcome, count, out) {
+        Ok(step) => step,
+        Err(end) => return Err(end),
+    };
+    *at += step as u64;
+    Ok(())
+}
+
+/// Writes the data of a piece whose first READ a job has made, and reads what is left of it.
+fn finish_piece<R: Wait, I: Source, O: Sink, K: Sink>(
+    rt: &R,
+    alloc: Global,
+    shared: &SharedRequester<I, O>,
+    pass: &mut Pass<I, O>,
+    uid: u32,
+    gid: u32,
+    file: &Handle,
+    size: u64,
+    outcome: Outcome,
+    at: &mut u64,
+    out: &mut K,
+) -> Result<(), ClientEnd>
+    requires below { at.old < size }
+    requires fetched { IsFetched uid gid file.now size at.old (Some outcome) (seen_by pass.old.main) (mine_of pass.old.main) }
+    requires rests { SharedRests shared.now pass.old }
+    ensures rests { SharedRests shared.now pass.new }
+    ensures source { seen_by pass.new.source ≡ seen_by pass.old.source }
+    ensures grows { Grows (IsOfFile uid gid file.now) pass.old.main pass.new.main }
+    ensures end { OnOk result (at.new ≡ at.old + piece_left size at.old) }
+    ensures ok { OnOk result (ReadsMore uid gid file.now size at.old at.new pass.old.main pass.new.main (K.taken out.old) (K.taken out.new)) }
+    ensures err { IfErr result (λ why. EndsMore uid gid file.now size at.old pass.old.main pass.new.main (K.taken out.old) (K.taken out.new) (Err why)) }
+    ensures out_faults { OutputFaults result (K.faults out.old) (K.faults out.new) }
+{
+    let end = *at + piece_left(size, *at) as u64;
+    match write_fetched(alloc, size, outcome, at, out) {
+        Ok(()) => {}
+        Err(why) => return Err(why),
+    }
+    match read_rest(rt, alloc, shared, pass, uid, gid, file, size, end, at, out) {
+        Ok(()) => Ok(()),
+        Err(why) => Err(why),
+    }
+}
+
+/// Writes the data of one piece: those that a job has read, if it has, and what is left of it by calls of the caller's own.
+fn write_piece<R: Wait, I: Source, O: Sink, K: Sink>(
+    rt: &R,
+    alloc: Global,
+    shared: &SharedRequester<I, O>,
+    pass: &mut Pass<I, O>,
+    uid: u32,
+    gid: u32,
+    file: &Handle,
+    size: u64,
+    outcome: Option<Outcome>,
+    at: &mut u64,
+    out: &mut K,
+) -> Result<(), ClientEnd>
+    requires below { at.old < size }
+    requires fetched { IsFetched uid gid file.now size at.old outcome (seen_by pass.old.main) (mine_of pass.old.main) }
+    requires rests { SharedRests shared.now pass.old }
+    ensures rests { SharedRests shared.now pass.new }
+    ensures source { seen_by pass.new.source ≡ seen_by pass.old.source }
+    ensures grows { Grows (IsOfFile uid gid file.now) pass.old.main pass.new.main }
+    ensures end { OnOk result (at.new ≡ at.old + piece_left size at.old) }
+    ensures ok { OnOk result (ReadsMore uid gid file.now size at.old at.new pass.old.main pass.new.main (K.taken out.old) (K.taken out.new)) }
+    ensures err { IfErr result (λ why. EndsMore uid gid file.now size at.old pass.old.main pass.new.main (K.taken out.old) (K.taken out.new) (Err why)) }
+    ensures out_faults { OutputFaults result (K.faults out.old) (K.faults out.new) }
+{
+    let end = *at + piece_left(size, *at) as u64;
+    match outcome {
+        None => read_rest(rt, alloc, shared, pass, uid, gid, file, size, end, at, out),
+        Some(outcome) => finish_piece(
+            rt, alloc, shared, pass, uid, gid, file, size, outcome, at, out,
+        ),
+    }
+}
+
+/// Takes the pass of each job back, in order, and the pieces that it has read.
+fn join_jobs<I: Source, O: Sink>(
+    alloc: Global,
+    shared: &SharedRequester<I, O>,
+    pass: &mut Pass<I, O>,
+    mut made: Vec<ReadJob<I, O>>,
+) -> Result<Vec<Vec<PieceRead>>, AllocError>
+    requires rests { SharedRests shared.now pass.old }
+    requires jobs { All (λ j. SharedRests shared.now j.pass) made.items }
+    ensures rests { SharedRests shared.now pass.new }
+    ensures source { seen_by pass.new.source ≡ seen_by pass.old.source }
+    ensures grows { (uid gid size : ℕ) (file : List ℕ) → All (IsDone shared.now uid gid file size) made.items → Grows (IsOfFile uid gid file) pass.old.main pass.new.main }
+    ensures ok { IfOk result (λ lists. (uid gid size : ℕ) (file : List ℕ) → All (IsDone shared.now uid gid file size) made.items
+        → All (λ list. AreFetched uid gid file size (seen_by pass.new.main) (mine_of pass.new.main) list.items) lists.items) }
+{
+    let mut lists = Vec::with_capacity(alloc, made.len())?;
+    'jobs: while made.len() > 0 {
+        let ReadJob {
+            pass: own,
+            offsets: _offsets,
+            fetched,
+        } = made.remove(0);
+        shared.join(pass, own);
+        lists.push(fetched)?;
+    }
+    Ok(lists)
+}
+
+/// Takes the first piece out of a list. Gives the outcome of its READ, if it begins at this offset.
+fn take_first(list: &mut Vec<PieceRead>, at: u64) -> Option<Outcome>
+    ensures list { (uid gid size : ℕ) (file mine : List ℕ) (seen : List Entry) → AreFetched uid gid file size seen mine list.old.items → AreFetched uid gid file size seen mine list.new.items }
+    ensures taken { (uid gid size : ℕ) (file mine : List ℕ) (seen : List Entry) → AreFetched uid gid file size seen mine list.old.items → IsFetched uid gid file size at result seen mine }
+{
+    if list.len() == 0 {
+        return None;
+    }
+    let PieceRead { at: from, outcome } = list.remove(0);
+    if from == at { Some(outcome) } else { None }
+}
+
+/// Takes the first piece out of the first list, which becomes the last. Gives the outcome of its READ, if it begins at this offset.
+fn take_next(lists: &mut Vec<Vec<PieceRead>>, at: u64) -> Result<Option<Outcome>, AllocError>
+    ensures lists { (uid gid size : ℕ) (file mine : List ℕ) (seen : List Entry) → All (λ list. AreFetched uid gid file size seen mine list.items) lists.old.items
+        → All (λ list. AreFetched uid gid file size seen mine list.items) lists.new.items }
+    ensures ok { IfOk result (λ outcome. (uid gid size : ℕ) (file mine : List ℕ) (seen : List Entry) → All (λ list. AreFetched uid gid file size seen mine list.items) lists.old.items
+        → IsFetched uid gid file size at outcome seen mine) }
+{
+    if lists.len() == 0 {
+        return Ok(None);
+    }
+    let mut list = lists.remove(0);
+    let outcome = take_first(&mut list, at);
+    match lists.push(list) {
+        Ok(()) => Ok(outcome),
+        Err(_) => Err(AllocError),
+    }
+}
+
+/// The pieces of one round, read by jobs.
+fn fetch_round<R: Threads + Wait + Sync, I: Source + Send, O: Sink + Send>(
+    rt: &R,
+    alloc: Global,
+    shared: &SharedRequester<I, O>,
+    pass: &mut Pass<I, O>,
+    uid: u32,
+    gid: u32,
+    file: &Handle,
+    jobs: usize,
+    size: u64,
+    from: u64,
+) -> Result<Vec<Vec<PieceRead>>, AllocError>
+    requires jobs { 0 < jobs }
+    requires rests { SharedRests shared.now pass.old }
+    ensures rests { SharedRests shared.now pass.new }
+    ensures source { seen_by pass.new.source ≡ seen_by pass.old.source }
+    ensures grows { Grows (IsOfFile uid gid file.now) pass.old.main pass.new.main }
+    ensures ok { IfOk result (λ lists. All (λ list. AreFetched uid gid file.now size (seen_by pass.new.main) (mine_of pass.new.main) list.items) lists.items) }
+{
+    let mut made = make_jobs(alloc, shared, pass, jobs, size, from)?;
+    fetch_all(
+        rt,
+        alloc,
+        shared,
+        uid,
+        gid,
+        file,
+        size,
+        jobs,
+        made.as_mut_slice(),
+    );
+    join_jobs(alloc, shared, pass, made)
+}
+
+/// Reads the pieces of one round by jobs, and writes them in order of offset.
+fn read_round<R: Threads + Wait + Sync, I: Source + Send, O: Sink + Send, K: Sink>(
+    rt: &R,
+    alloc: Global,
+    shared: &SharedRequester<I, O>,
+    pass: &mut Pass<I, O>,
+    uid: u32,
+    gid: u32,
+    file: &Handle,
+    jobs: usize,
+    size: u64,
+    at: &mut u64,
+    out: &mut K,
+) -> Result<(), ClientEnd>
+    requires jobs { (0 < jobs) × (jobs ≤ jobs_max) }
+    requires below { at.old < size }
+    requires rests { SharedRests shared.now pass.old }
+    ensures rests { SharedRests shared.now pass.new }
+    ensures source { seen_by pass.new.source ≡ seen_by pass.old.source }
+    ensures grows { Grows (IsOfFile uid gid file.now) pass.old.main pass.new.main }
+    ensures more { OnOk result (at.old < at.new) }
+    ensures ok { OnOk result (ReadsMore uid gid file.now size at.old at.new pass.old.main pass.new.main (K.taken out.old) (K.taken out.new)) }
+    ensures err { IfErr result (λ why. EndsMore uid gid file.now size at.old pass.old.main pass.new.main (K.taken out.old) (K.taken out.new) (Err why)) }
+    ensures out_faults { OutputFaults result (K.faults out.old) (K.faults out.new) }
+{
+    let mut lists = match fetch_round(rt, alloc, shared, pass, uid, gid, file, jobs, size, *at) {
+        Ok(lists) => lists,
+        Err(_) => return Err(ClientEnd::Memory),
+    };
+    let mut left = jobs * PIECES_AHEAD;
+    'pieces: while left > 0 && *at < size {
+        let outcome = match take_next(&mut lists, *at) {
+            Ok(outcome) => outcome,
+            Err(_) => return Err(ClientEnd::Memory),
+        };
+        match write_piece(
+            rt, alloc, shared, pass, uid, gid, file, size, outcome, at, out,
+        ) {
+            Ok(()) => {}
+            Err(why) => return Err(why),
+        }
+        left -= 1;
+    }
+    Ok(())
+}
+
+/// Reads all pieces of a file of this size by jobs.
+fn read_rounds<R: Threads + Wait + Sync, I: Source + Send, O: Sink + Send, K: Sink>(
+    rt: &R,
+    alloc: Global,
+    shared: &SharedRequester<I, O>,
+    pass: &mut Pass<I, O>,
+    uid: u32,
+    gid: u32,
+    file: &Handle,
+    jobs: usize,
+    size: u64,
+    out: &mut K,
+) -> Result<(), ClientEnd>
+    requires jobs { (0 < jobs) × (jobs ≤ jobs_max) }
+    requires rests { SharedRests shared.now pass.old }
+    ensures rests { SharedRests shared.now pass.new }
+    ensures source { seen_by pass.new.source ≡ seen_by pass.old.source }
+    ensures grows { Grows (IsOfFile uid gid file.now) pass.old.main pass.new.main }
+    ensures ends { EndsMore uid gid file.now size 0 pass.old.main pass.new.main (K.taken out.old) (K.taken out.new) result }
+    ensures out_faults { OutputFaults result (K.faults out.old) (K.faults out.new) }
+{
+    let mut at = 0;
+    'rounds: while at < size {
+        match read_round(
+            rt, alloc, shared, pass, uid, gid, file, jobs, size, &mut at, out,
+        ) {
+            Ok(()) => {}
+            Err(why) => return Err(why),
+        }
+    }
+    Ok(())
+}
+
+/// Reads a file into an output by this many jobs, 1 to 16.
+pub(crate) fn read_by_jobs<R: Threads + Wait + Sync, I: Source + Send, O: Sink + Send, K: Sink>(
+    rt: &R,
+    alloc: Global,
+    shared: &SharedRequester<I, O>,
+    pass: &mut Pass<I, O>,
+    uid: u32,
+    gid: u32,
+    file: &Handle,
+    jobs: usize,
+    out: &mut K,
+) -> Result<(), ClientEnd>
+    requires jobs { (0 < jobs) × (jobs ≤ jobs_max) }
+    requires own { mine_of pass.old.main ≡ [] }
+    requires rests { SharedRests shared.now pass.old }
+    ensures rests { SharedRests shared.now pass.new }
+    ensures source { seen_by pass.new.source ≡ seen_by pass.old.source }
+    ensures seen { Begins (seen_by pass.old.main) (seen_by pass.new.main) }
+    ensures reads { ReadsByJobs uid gid file.now (seen_by pass.new.main) (mine_of pass.new.main) (K.taken out.old) (K.taken out.new) result }
+    ensures out_faults { OutputFaults result (K.faults out.old) (K.faults out.new) }
+{
+    let outcome = match outcome_of(rt, shared, pass, getattr_call(alloc, uid, gid, file)) {
+        Ok(outcome) => outcome,
+        Err(end) => return Err(end),
+    };
+    let attributes = match nfs_results::<Attributes, ()>(alloc, &outcome) {
+        Ok(attributes) => attributes,
+        Err(end) => return Err(end),
+    };
+    read_rounds(
+        rt,
+        alloc,
+        shared,
+        pass,
+        uid,
+        gid,
+        file,
+        jobs,
+        attributes.size,
+        out,
+    )
+}
+
+/// Whether a requester hasn't run out of memory for a frame.
+pub(crate) fn has_memory(requester: &Requester) -> bool
+    ensures yes { result ≡ true → requester.now.state.side.ended ≢ Some ends.Memory }
+    ensures no { result ≡ false → requester.now.state.side.ended ≡ Some ends.Memory }
+{
+    match requester.end() {
+        None => true,
+        Some(end) => match end {
+            End::Memory => false,
+            _ => true,
+        },
+    }
+}
+
+/// Shares a requester with its source and its sink, reads a file into an output by jobs, and gives the source and the sink back.
+pub(crate) fn read_shared<N: Appended, R: Threads + Wait + Sync, I: Source, O: Sink, K: Sink>(
+    rt: &R,
+    alloc: Global,
+    requester: Requester,
+    source: I,
+    sink: O,
+    uid: u32,
+    gid: u32,
+    file: &Handle,
+    jobs: usize,
+    out: &mut K,
+) -> (Result<(), ClientEnd>, I, O)
+where
+    I: Drop + Send,
+    O: Drop + Send,
+    requires entry { entries.Initial (record { requester = requester; faults = O.faults sink; taken = O.taken sink }) ≡ N.entry }
+    requires has_memory { requester.state.side.ended ≢ Some ends.Memory }
+    requires fed { fed_bytes requester ≤ bytes_before }
+    requires jobs { (0 < jobs) × (jobs ≤ jobs_max) }
+    ensures reads { ReadsShared I.left I.given I.faults O.taken O.faults uid gid file.now requester source sink result.1 result.2 (K.taken out.old) (K.taken out.new) result.0 }
+    ensures out_faults { OutputFaults result.0 (K.faults out.old) (K.faults out.new) }
+{
+    let (shared, mut pass) = match share::<N, R, I, O>(rt, alloc, requester, source, sink) {
+        Ok(opened) => opened,
+        Err((requester, source, sink)) => {
+            drop(requester);
+            return (Err(ClientEnd::Memory), source, sink);
+        }
+    };
+    let result = read_by_jobs(rt, alloc, &shared, &mut pass, uid, gid, file, jobs, out);
+    let (requester, source, sink) = shared.close(rt, pass);
+    drop(requester);
+    (result, source, sink)
+}
