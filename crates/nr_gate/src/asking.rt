@@ -1,5 +1,8 @@
 //! What a record asks for.
 
+ghost use Rattle.std.specs.Prelude.{◌≡◌, IfSome, Ok};
+ghost use Rattle.nr_rpc.specs.Call.{BeginsCall};
+ghost use Rattle.nr_rpc.specs.Reading.{call_of};
 ghost use Rattle.nr_gate.specs.private.Forwarded.{IsAsked};
 
 use nr_record_loop::NoReply;
@@ -17,25 +20,29 @@ pub(crate) enum RecordCall {
     Other { xid: u32 },
 }
 
-/// Reads a record as a call.
-pub(crate) fn read_record(alloc: Global, bytes: &[u8]) -> Result<RecordCall, NoReply>
-    ensures { IsAsked result bytes.now }
+/// What a record with this head asks for. `None` if memory ran out.
+fn asked_by(alloc: Global, bytes: &[u8], head: CallHead) -> Option<RecordCall>
+    requires begins { BeginsCall head bytes.now }
+    requires is { call_of bytes.now ≡ Ok head }
+    ensures { IfSome result (λ call. IsAsked (Ok call) bytes.now) }
 {
-    match read_call(alloc, bytes) {
-        Ok(
-            CallHead::Version2 {
-                xid,
-                prog,
-                vers,
-                proc,
-                cred,
-                args_at,
-            },
-        ) => {
+    match head {
+        CallHead::Other {
+            xid,
+            rpcvers: _version,
+        } => Some(RecordCall::Other { xid }),
+        CallHead::Version2 {
+            xid,
+            prog,
+            vers,
+            proc,
+            cred,
+            args_at,
+        } => {
             let (_, rest) = bytes.split_at(args_at);
             let Ok(args) = Octets::from_slice(alloc, rest) else {
                 drop(cred);
-                return Err(NoReply::Memory);
+                return None;
             };
             let asked = Call {
                 prog,
@@ -44,9 +51,20 @@ pub(crate) fn read_record(alloc: Global, bytes: &[u8]) -> Result<RecordCall, NoR
                 cred,
                 args,
             };
-            Ok(RecordCall::Version2 { xid, asked })
+            Some(RecordCall::Version2 { xid, asked })
         }
-        Ok(CallHead::Other { xid, .. }) => Ok(RecordCall::Other { xid }),
+    }
+}
+
+/// Reads a record as a call.
+pub(crate) fn read_record(alloc: Global, bytes: &[u8]) -> Result<RecordCall, NoReply>
+    ensures { IsAsked result bytes.now }
+{
+    match read_call(alloc, bytes) {
+        Ok(head) => match asked_by(alloc, bytes, head) {
+            Some(call) => Ok(call),
+            None => Err(NoReply::Memory),
+        },
         Err(HeadFault::NotCall { .. }) => Err(NoReply::NotCall),
         Err(_) => Err(NoReply::Memory),
     }

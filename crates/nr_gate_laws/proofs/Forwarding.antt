@@ -9,7 +9,7 @@ use Rattle.nr_xdr.specs.Item.Item.{Unsigned, Hyper, Boolean, Opaque, Fixed}
 use Rattle.nr_xdr.specs.Items.{AllFit, ReadsAll, encodings}
 use Rattle.nr_xdr.proofs.WordBytes.{length_word}
 use Rattle.nr_rpc.specs.Call.{ReadsCall, call_encoding, call_head, version2_items}
-use Rattle.nr_rpc.specs.Credential.{Auth, CanWriteCred, CredFits, ReadsCred, auth_of, sys_items}
+use Rattle.nr_rpc.specs.Credential.{Auth, CredFits, ReadsCred, auth_of, sys_items}
 use Rattle.nr_rpc.specs.Reading.{call_of, head_xid, target_of}
 use Rattle.nr_rpc.specs.declared.cred.Cred.{Cred}
 use Rattle.nr_rpc.specs.declared.cred.Cred.TheVariants as creds
@@ -21,6 +21,7 @@ use Rattle.nr_reduce.specs.declared.mark.Entry.{Entry as JournalEntry}
 use Rattle.nr_plain.specs.Journal.{state_of}
 use Rattle.nr_plain.specs.Setup.{Parameters, Setup, State}
 use Rattle.nr_plain.specs.Replies.{Answer, answer_by, call_by_cred, cred_refusal, plain_answer, plain_reply, program_call}
+use Rattle.nr_gate.proofs.Asking.{can_write}
 use Rattle.nr_gate.specs.Forwarding.{forwarded, forwarded_by, with_xid}
 use Rattle.nr_gate_laws.specs.Forwarded.{answer_with_xid}
 use Rattle.nr_gate_laws.proofs.Worded.{IsWorded, alike, call_worded}
@@ -49,12 +50,7 @@ all_length [] bytes r = ap length r
 all_length (item ∷ items) bytes (front, rest, one, others, is) =
     omega (arith, ap length is, length-append front rest, length-append (encoding item) (encodings items), reads_length item front one, all_length items rest others)
 
--- ---- a credential that was read can be written, and takes no more bytes
-
-can_write : (cred : Cred) (auth : Auth) → ReadsCred cred auth → CanWriteCred cred
-can_write creds.None auth r = tt
-can_write (creds.Sys stamp machine uid gid gids) auth r = (r.1.machine_within, r.1.gids_within)
-can_write (creds.Other flavor) auth r = r.1
+-- ---- a credential that was read takes no more bytes when it is written
 
 cred_fits : (cred : Cred) (auth : Auth) → ReadsCred cred auth → auth.flavor < 2 ^ 32 → CredFits cred
 cred_fits creds.None auth r fits = tt
