@@ -8,6 +8,11 @@ use Rattle.nr_outside.specs.declared.moment.Moment.{Moment}
 use Rattle.nr_reduce.specs.declared.mark.Entry.{Entry}
 use Rattle.nr_plain.specs.Replies.{Answer, plain_answer, plain_reply}
 use Rattle.nr_plain.specs.Setup.{Parameters, Setup, State}
+use Rattle.nr_link.specs.Limits.{send_unit}
+use Rattle.nr_record.specs.Constants.{RECORD_MAX}
+use Rattle.nr_reduce.specs.declared.call.Form.TheVariants as forms
+use Rattle.nr_reduce.specs.declared.outline.Plan.{Plan}
+use Rattle.nr_reduce.specs.Plans.{plan_of}
 use Rattle.nr_gate.specs.Forwarding.{forwarded, with_xid}
 
 -- an answer with another xid
@@ -36,3 +41,8 @@ RepliesComeBack = (s : Setup) (J : List Entry) (place : ℕ) (m : Moment) (x : �
 -- A forwarded call has at most as many bytes as the call.
 abbrev pub ForwardedCallsAreNoLonger : Type 0
 ForwardedCallsAreNoLonger = (x : ℕ) (q : List ℕ) → IsBytes q → length (forwarded x q) ≤ length q
+
+-- The forwarded call of a record within the limit has a plan in the form Auto (RFC 8166 section 3.5), whatever sizes of a Send its link has agreed
+-- on: so it is never too large.
+abbrev pub ForwardedCallsHavePlans : Type 0
+ForwardedCallsHavePlans = (x : ℕ) (q : List ℕ) (up down : ℕ) → IsBytes q → length q ≤ RECORD_MAX → send_unit ≤ up → (p : Plan) × (plan_of (forwarded x q) forms.Auto up down ≡ Ok p)

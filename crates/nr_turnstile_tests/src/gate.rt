@@ -69,29 +69,71 @@ static ROWS: [Row; 12] = [
     (&[], 0, &[], &[], 172, &[], Ended::Closed, &[], 0, 0),
     (&[], 50, &[], &[], 172, &[], Ended::Cut(50), &[], 28, 112),
     // The remote link carries nothing for a call of version 3.
-    (&[0x8000000c, 9, 0, 3], 16, &[], &[], 172, &[], Ended::Closed, &[0x80000018, 9, 1, 1, 0, 2, 2], 28, 0),
+    (
+        &[0x8000000c, 9, 0, 3],
+        16,
+        &[],
+        &[],
+        172,
+        &[],
+        Ended::Closed,
+        &[0x80000018, 9, 1, 1, 0, 2, 2],
+        28,
+        0,
+    ),
     // An empty record is no call.
-    (&[0x80000000], 4, &[], &[], 172, &[], Ended::Bad(0, 27), &[], 0, 0),
-    (&[0x00102001], 4, &[], &[], 172, &[], Ended::Bad(0, 26), &[], 0, 0),
+    (
+        &[0x80000000],
+        4,
+        &[],
+        &[],
+        172,
+        &[],
+        Ended::Bad(0, 27),
+        &[],
+        0,
+        0,
+    ),
+    (
+        &[0x00102001],
+        4,
+        &[],
+        &[],
+        172,
+        &[],
+        Ended::Bad(0, 26),
+        &[],
+        0,
+        0,
+    ),
     (&[], 88, &[0], &[], 172, &[], Ended::LinkRead, &[], 0, 0),
     // The second call isn't forwarded after the write of the first reply failed.
     (&[], 88, &[], &[0], 172, &[], Ended::LinkWrite, &[], 0, 112),
     // The remote server ends its stream after the first reply, and before it.
-    (&[], 88, &[], &[], 96, &[], Ended::RemoteClosed, &[], 28, 204),
+    (
+        &[],
+        88,
+        &[],
+        &[],
+        96,
+        &[],
+        Ended::RemoteClosed,
+        &[],
+        28,
+        204,
+    ),
     (&[], 88, &[], &[], 20, &[], Ended::RemoteClosed, &[], 0, 112),
     (&[], 88, &[], &[], 172, &[1], Ended::RemoteWrite, &[], 0, 20),
 ];
 
 /// The first bytes of these words, or of the others if there are none.
-fn first_of(
-    rt: &impl Abort,
-    alloc: Global,
-    words: &[u32],
-    others: &[u32],
-    len: usize,
-) -> Vec<u8> {
+fn first_of(rt: &impl Abort, alloc: Global, words: &[u32], others: &[u32], len: usize) -> Vec<u8> {
     let mut bytes = Vec::new(alloc);
-    append_words(rt, &mut bytes, if words.is_empty() { others } else { words });
+    append_words(
+        rt,
+        &mut bytes,
+        if words.is_empty() { others } else { words },
+    );
     bytes.truncate(len);
     bytes
 }
@@ -142,13 +184,7 @@ fn two_connections(rt: HostRuntime) {
 }
 
 /// A connection with one call.
-fn one(
-    rt: &(impl Abort + Wait),
-    alloc: Global,
-    row: usize,
-    shared: &Shared,
-    pass: &mut Caller,
-)
+fn one(rt: &(impl Abort + Wait), alloc: Global, row: usize, shared: &Shared, pass: &mut Caller)
     requires { SharedRests shared.now pass.old }
 {
     let stream = first_of(rt, alloc, &SENT, &SENT, 44);
