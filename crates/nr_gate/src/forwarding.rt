@@ -1,7 +1,6 @@
 //! Calls of a connection that are forwarded over a shared requester.
 
 ghost use Rattle.std.specs.Prelude.{◌≡◌, ◌<◌, ◌^◌, [], IfErr, IfNone, IfOk, IfSome, List, ℕ, length};
-ghost use Rattle.nr_rpc.specs.Constants.{RPC_VERSION};
 ghost use Rattle.nr_rpc.specs.Credential.{CanWriteCred};
 ghost use Rattle.nr_rpc.specs.Reply.{reply_encoding};
 ghost use Rattle.nr_rpc.specs.declared.head.ReplyHead.TheVariants as replies;
