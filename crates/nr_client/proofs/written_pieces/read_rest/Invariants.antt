@@ -3,7 +3,7 @@ use Rattle.nr_turnstile.specs.Passes.{seen_by}
 use Rattle.nr_shared.specs.Sharing.{SharedRests}
 use Rattle.nr_client.specs.Jobs.{IsOfFile}
 use Rattle.nr_client.specs.private.JobReads.{Grows, IsUpTo, ReadsMore}
-use Rattle.nr_client.proofs.jobs.read_rest.Given as goal
+use Rattle.nr_client.proofs.written_pieces.read_rest.Given as goal
 
 abbrev pub invariant-rest : goal.invariant-rest
 invariant-rest g l =

@@ -4,7 +4,7 @@ use Rattle.nr_client.specs.Jobs.{IsOfFile}
 use Rattle.nr_client.proofs.JobCalls.{grows_as}
 use Rattle.nr_client.proofs.JobReading.{data_fails, ends_at, none_came, read_more, up_to_more}
 use Rattle.nr_client.proofs.Outcomes.{writable}
-use Rattle.nr_client.proofs.jobs.read_on.Goals as goal
+use Rattle.nr_client.proofs.written_pieces.read_on.Goals as goal
 
 pub outcome_of-requires-clause-writable : goal.outcome_of-requires-clause-writable
 outcome_of-requires-clause-writable g c = writable c.read_call.result nfs_program nfs_version 6 c.args.uid c.args.gid _ c.read_call.ensures

@@ -5,7 +5,7 @@ use Rattle.nr_client.specs.Reading.{piece_left, read_call}
 use Rattle.nr_client.specs.private.JobReads.{IsUpTo}
 use Rattle.nr_client.proofs.JobCalls.{grows_none}
 use Rattle.nr_client.proofs.JobReading.{data_fails, read_more}
-use Rattle.nr_client.proofs.jobs.finish_piece.Goals as goal
+use Rattle.nr_client.proofs.written_pieces.finish_piece.Goals as goal
 
 pub read_rest-requires-clause-piece : goal.read_rest-requires-clause-piece
 read_rest-requires-clause-piece g c = subst (λ (n : ℕ). IsUpTo c.args.size c.write_fetched.new.at (c.args.at.now + n)) (sym c.piece_left.ensures.is) c.in-Ok.ensures.piece

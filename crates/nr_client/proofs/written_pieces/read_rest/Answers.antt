@@ -1,7 +1,7 @@
 use Rattle.std.proofs.Common.{refl, ◌∙◌}
 use Rattle.nr_client.specs.Jobs.{IsOfFile}
 use Rattle.nr_client.proofs.JobCalls.{grows_none, grows_then}
-use Rattle.nr_client.proofs.jobs.read_rest.Goals as goal
+use Rattle.nr_client.proofs.written_pieces.read_rest.Goals as goal
 
 pub rest-init : goal.rest-init
 rest-init g c = (c.requires.piece, c.requires.rests, refl, grows_none (IsOfFile c.args.uid c.args.gid c.args.file.now) c.args.pass.now.main c.args.pass.now.main refl refl, refl, λ taken so_far. so_far)
