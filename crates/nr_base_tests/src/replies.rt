@@ -2,8 +2,7 @@
 
 ghost use Rattle.nr_rpc.specs.Reply.{CanWriteReply};
 
-use crate::compare::{bytes_of, same};
-use crate::rpc::counted;
+use crate::compare::{bytes_of, put_words, same};
 use nr_rpc::*;
 use nr_xdr::{Memory, Octets, RoomWriter};
 use std::alloc::Global;
@@ -129,6 +128,20 @@ fn replies_written(rt: HostRuntime) {
             reply_written_as(&rt, rt.alloc(), row, head, words);
         }
     }
+}
+
+fn put_zeros(rt: &impl Abort, bytes: &mut Vec<u8>, count: u32) {
+    for _ in 0..count {
+        bytes.push(0).expect(rt, "memory");
+    }
+}
+
+/// These words, the count of a body, and 103 words of zeros: room for a body of up to 404 bytes.
+fn counted(rt: &impl Abort, alloc: Global, before: &[u32], count: u32) -> Vec<u8> {
+    let mut bytes = bytes_of(rt, alloc, before);
+    put_words(rt, &mut bytes, &[count]);
+    put_zeros(rt, &mut bytes, 412);
+    bytes
 }
 
 // Bodies whose bytes are all there: 400 are read, 401 are refused at their count.

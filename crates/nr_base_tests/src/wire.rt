@@ -316,14 +316,6 @@ static HELLOS: [(Side, u8, u8, u8, u16, Result<usize, u32>); 20] = [
     (Initiator, b'q', 0x00, 1, 512, Ok(532)),
 ];
 
-fn hello_answer(next: &NextHello<'_>) -> Result<usize, u32> {
-    match next {
-        NextHello::Whole { len, .. } => Ok(*len),
-        NextHello::More => Err(MORE),
-        NextHello::Bad { reason } => Err(*reason),
-    }
-}
-
 /// The bytes of the hello that these begin with as they are written, if it isn't refused.
 fn hello_again(alloc: Global, side: Side, bytes: &[u8]) -> Result<Octets, Memory> {
     match read_hello(side, bytes) {
@@ -341,38 +333,6 @@ fn hello_bytes(key: u8, flags: u8, revision: u8, private: u16) -> [u8; 532] {
     bytes[17] = revision;
     bytes[18..20].copy_from_slice(&u16::to_be_bytes(private));
     bytes
-}
-
-/// Ends the test if one of these numbers of bytes more is not what the hello needs: of 19 bytes, and of 20.
-fn needs(rt: &impl Abort, row: usize, side: Side, bytes: &[u8; 532], rest: usize) {
-    let awaited = Awaited::Hello(side);
-    same(rt, row, bytes_needed(awaited, &bytes[..19]), 1);
-    same(rt, row, bytes_needed(awaited, &bytes[..20]), rest);
-}
-
-/// Ends the test if the hello of these bytes is not answered so, and its first 19 as a part of one.
-fn answers(rt: &impl Abort, row: usize, side: Side, bytes: &[u8; 532], want: Result<usize, u32>) {
-    same(
-        rt,
-        row,
-        hello_answer(&read_hello(side, &bytes[..19])),
-        Err(MORE),
-    );
-    same(rt, row, hello_answer(&read_hello(side, bytes)), want);
-}
-
-#[test]
-fn hellos(rt: HostRuntime) {
-    for (row, (side, key, flags, revision, private, want)) in HELLOS.iter().enumerate() {
-        let bytes = hello_bytes(*key, *flags, *revision, *private);
-        answers(&rt, row, *side, &bytes, *want);
-        let rest = if want.is_ok() {
-            usize::from(*private)
-        } else {
-            0
-        };
-        needs(&rt, row, *side, &bytes, rest);
-    }
 }
 
 #[test]
