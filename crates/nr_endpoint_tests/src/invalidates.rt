@@ -112,14 +112,49 @@ fn agreed_frames(rt: HostRuntime) {
 
 /// Whether a side says it, and its peer; and the end of the side for a Send with Invalidate.
 static SAID: [(Side, bool, bool, Option<End>); 8] = [
-    (Side::Initiator, false, false, Some(End::Bad { at: 20, reason: 8 })),
-    (Side::Initiator, true, false, Some(End::Bad { at: 20, reason: 8 })),
-    (Side::Initiator, false, true, Some(End::Bad { at: 28, reason: 8 })),
+    (
+        Side::Initiator,
+        false,
+        false,
+        Some(End::Bad { at: 20, reason: 8 }),
+    ),
+    (
+        Side::Initiator,
+        true,
+        false,
+        Some(End::Bad { at: 20, reason: 8 }),
+    ),
+    (
+        Side::Initiator,
+        false,
+        true,
+        Some(End::Bad { at: 28, reason: 8 }),
+    ),
     (Side::Initiator, true, true, None),
-    (Side::Responder, false, false, Some(End::Bad { at: 20, reason: 8 })),
-    (Side::Responder, true, false, Some(End::Bad { at: 20, reason: 8 })),
-    (Side::Responder, false, true, Some(End::Bad { at: 28, reason: 8 })),
-    (Side::Responder, true, true, Some(End::Bad { at: 28, reason: 8 })),
+    (
+        Side::Responder,
+        false,
+        false,
+        Some(End::Bad { at: 20, reason: 8 }),
+    ),
+    (
+        Side::Responder,
+        true,
+        false,
+        Some(End::Bad { at: 20, reason: 8 }),
+    ),
+    (
+        Side::Responder,
+        false,
+        true,
+        Some(End::Bad { at: 28, reason: 8 }),
+    ),
+    (
+        Side::Responder,
+        true,
+        true,
+        Some(End::Bad { at: 28, reason: 8 }),
+    ),
 ];
 
 /// Ends the test if two sides agree on something else.
@@ -222,7 +257,15 @@ fn ends_by_dead(rt: &impl Abort, alloc: Global, endpoint: &mut TestEndpoint) {
     };
     feed_words(rt, alloc, 8, endpoint, &request, Some(end));
     let terminate = [0x0016_4147, 0, 2, 1, 0, 101, 0];
-    outcome(rt, alloc, 9, endpoint, Some(end), &SAYING_REQUEST, &terminate);
+    outcome(
+        rt,
+        alloc,
+        9,
+        endpoint,
+        Some(end),
+        &SAYING_REQUEST,
+        &terminate,
+    );
 }
 
 /// A Send with Invalidate of 16 bytes, and one in two segments, of which the last names the STag.
