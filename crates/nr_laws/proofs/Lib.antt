@@ -210,3 +210,5 @@ pub mod PlainOutputs
 pub mod NamedReplies
 pub mod PlainSegments
 pub mod NamedStags
+pub mod GivenStags
+pub mod NamedStagsDead
