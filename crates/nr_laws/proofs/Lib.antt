@@ -210,3 +210,4 @@ pub mod PlainOutputs
 pub mod NamedReplies
 pub mod PlainSegments
 pub mod NamedStags
+pub mod ReadContents
