@@ -36,34 +36,34 @@ use Rattle.nr_laws.proofs.SendFrames.{at_front}
 
 -- what the frame at the front carries, after the hello
 pub front_piece_down : (opened : LinkParameters) (k : ClientState) (s : ServerState) (u : List FrameContent) (q : FrameContent) (d all_up all_down : List FrameContent) (w : Transit) (p : FrameContent) (rest : List FrameContent) (n r place : ℕ) → EndsAgree opened k s u (q ∷ d) all_up all_down w → w.down ≡ p ∷ rest
-    → n ≡ total_of sends_in (q ∷ d) → r ≡ total_of requests_in (q ∷ d) → 0 < place → Carries k.received.sends k.received.requests (frame_of (frame_bytes opened Responder (numbered_segment n r p)) place) p
+    → n ≡ total_of sends_in (q ∷ d) → r ≡ total_of requests_in (q ∷ d) → 0 < place → Carries k.invalidates k.received.sends k.received.requests (frame_of (frame_bytes opened Responder (written_segment n r p)) place) p
 front_piece_down opened k s u q d all_up all_down w p rest n r place l first sends requests at =
     let stream : IsOutput (q ∷ d ++ p ∷ (rest ++ w.queued_down)) = subst IsOutput (sym l.parts_down ∙ ap (λ (ps : List FrameContent). q ∷ d ++ (ps ++ w.queued_down)) first) l.stream_down in
     let proper = stream_at_lem q d p (rest ++ w.queued_down) stream in
-    let f = frame_of (frame_bytes opened Responder (numbered_segment n r p)) place in
+    let f = frame_of (frame_bytes opened Responder (written_segment n r p)) place in
     subst (λ (x : ℕ). Carries x k.received.requests f p) (sends ∙ sym l.sends_down) (subst (λ (x : ℕ). Carries n x f p) (requests ∙ sym l.requests_down) (is_piece opened Responder n r place p (proper_one n r p proper) at))
 
 pub accessed_down : (opened : LinkParameters) (k : ClientState) (s : ServerState) (u d all_up all_down : List FrameContent) (w : Transit) (p : FrameContent) (rest : List FrameContent) (n r place at : ℕ) → EndsAgree opened k s u d all_up all_down w → w.down ≡ p ∷ rest
     → n ≡ total_of sends_in d → r ≡ total_of requests_in d → IsPlace d place → AccessesAgree opened k s d all_up all_down at
-    → AccessesAgree opened (client_state_after opened k (FrameReceived (frame_of (frame_bytes opened Responder (numbered_segment n r p)) place))) s (d ++ p ∷ []) (all_up ++ client_frames opened k (FrameReceived (frame_of (frame_bytes opened Responder (numbered_segment n r p)) place))) all_down at
+    → AccessesAgree opened (client_state_after opened k (FrameReceived (frame_of (frame_bytes opened Responder (written_segment n r p)) place))) s (d ++ p ∷ []) (all_up ++ client_frames opened k (FrameReceived (frame_of (frame_bytes opened Responder (written_segment n r p)) place))) all_down at
 accessed_down opened k s u [] all_up all_down w p rest n r place at l first sends requests is h =
     let stream : IsOutput (p ∷ (rest ++ w.queued_down)) = subst IsOutput (sym l.parts_down ∙ ap (λ (ps : List FrameContent). ps ++ w.queued_down) first) l.stream_down in
     let hello : p ≡ HelloFrame = stream_first p (rest ++ w.queued_down) stream in
-    let f = frame_of (frame_bytes opened Responder (numbered_segment n r p)) place in
+    let f = frame_of (frame_bytes opened Responder (written_segment n r p)) place in
     subst (λ (q : FrameContent). AccessesAgree opened (client_state_after opened k (FrameReceived f)) s (q ∷ []) (all_up ++ client_frames opened k (FrameReceived f)) all_down at) (sym hello)
     (accessed_hello_down opened k s [] all_up all_down at f h (ap (λ (x : ℕ). eqb x 0) is))
 accessed_down opened k s u (q ∷ d) all_up all_down w p rest n r place at l first sends requests is h =
-    accessed_piece_down opened k s (q ∷ d) all_up all_down at p (rest ++ w.queued_down) (frame_of (frame_bytes opened Responder (numbered_segment n r p)) place) h (at_front k.received.begun w.down w.queued_down p rest first l.counts.whole_down)
+    accessed_piece_down opened k s (q ∷ d) all_up all_down at p (rest ++ w.queued_down) (frame_of (frame_bytes opened Responder (written_segment n r p)) place) h (at_front k.received.begun w.down w.queued_down p rest first l.counts.whole_down)
     (front_piece_down opened k s u q d all_up all_down w p rest n r place l first sends requests is)
 
 -- ---- The server
 
-piece_offered : (opened : LinkParameters) (k : ClientState) (s : ServerState) (u d all_up all_down : List FrameContent) (w : Transit) (p : FrameContent) (rest : List FrameContent) (at : ℕ) (f : Frame) → EndsAgree opened k s u d all_up all_down w → w.up ≡ p ∷ rest → Carries s.received.sends s.received.requests f p
+piece_offered : (opened : LinkParameters) (k : ClientState) (s : ServerState) (u d all_up all_down : List FrameContent) (w : Transit) (p : FrameContent) (rest : List FrameContent) (at : ℕ) (f : Frame) → EndsAgree opened k s u d all_up all_down w → w.up ≡ p ∷ rest → Carries false s.received.sends s.received.requests f p
     → AccessesAgree opened k s d all_up all_down at → EffectOffered k.regions (frame_effect s f)
 piece_offered opened k s u d all_up all_down w HelloFrame rest at f l first piece h = absurd (let wrong = piece.is_segment in cc)
-piece_offered opened k s u d all_up all_down w (PartFrame offset payload) rest at f l first piece h =
+piece_offered opened k s u d all_up all_down w (PartFrame named offset payload) rest at f l first piece h =
     let segment : Segment = part_segment s.received.sends offset payload in
-    let reads : frame_segment f ≡ Ok segment = segment_is s.received.sends s.received.requests f (PartFrame offset payload) segment piece refl in
+    let reads : frame_segment f ≡ Ok segment = segment_is s.received.sends s.received.requests f (PartFrame named offset payload) segment piece refl in
     effect_part k.regions s f offset payload h.calls h.waiting reads
 piece_offered opened k s u d all_up all_down w (SendFrame message) rest at f l first piece h =
     let segment : Segment = last_segment s.received.sends message in
@@ -80,16 +80,16 @@ piece_offered opened k s u d all_up all_down w (TaggedFrame last opcode stag to 
 
 pub accessed_up : (opened : LinkParameters) (k : ClientState) (s : ServerState) (u d all_up all_down : List FrameContent) (w : Transit) (p : FrameContent) (rest : List FrameContent) (n r place at : ℕ) → EndsAgree opened k s u d all_up all_down w → w.up ≡ p ∷ rest
     → n ≡ total_of sends_in u → r ≡ total_of requests_in u → IsPlace u place
-    → ((x : ℕ) → given_to x (all_down ++ server_frames opened s (FrameReceived (frame_of (frame_bytes opened Initiator (numbered_segment n r p)) place))) (server_state_after opened s (FrameReceived (frame_of (frame_bytes opened Initiator (numbered_segment n r p)) place))).calls ≤ 1)
+    → ((x : ℕ) → given_to x (all_down ++ server_frames opened s (FrameReceived (frame_of (frame_bytes opened Initiator (written_segment n r p)) place))) (server_state_after opened s (FrameReceived (frame_of (frame_bytes opened Initiator (written_segment n r p)) place))).calls ≤ 1)
     → AccessesAgree opened k s d all_up all_down at
-    → AccessesAgree opened k (server_state_after opened s (FrameReceived (frame_of (frame_bytes opened Initiator (numbered_segment n r p)) place))) d all_up (all_down ++ server_frames opened s (FrameReceived (frame_of (frame_bytes opened Initiator (numbered_segment n r p)) place))) at
+    → AccessesAgree opened k (server_state_after opened s (FrameReceived (frame_of (frame_bytes opened Initiator (written_segment n r p)) place))) d all_up (all_down ++ server_frames opened s (FrameReceived (frame_of (frame_bytes opened Initiator (written_segment n r p)) place))) at
 accessed_up opened k s [] d all_up all_down w p rest n r place at l first sends requests is once h =
-    accessed_hello_up opened k s d all_up all_down at (frame_of (frame_bytes opened Initiator (numbered_segment n r p)) place) h (ap (λ (x : ℕ). eqb x 0) is)
+    accessed_hello_up opened k s d all_up all_down at (frame_of (frame_bytes opened Initiator (written_segment n r p)) place) h (ap (λ (x : ℕ). eqb x 0) is)
 accessed_up opened k s (q ∷ u) d all_up all_down w p rest n r place at l first sends requests is once h =
     let stream : IsOutput (q ∷ u ++ p ∷ (rest ++ w.queued_up)) = subst IsOutput (sym l.parts_up ∙ ap (λ (ps : List FrameContent). q ∷ u ++ (ps ++ w.queued_up)) first) l.stream_up in
     let proper = stream_at_lem q u p (rest ++ w.queued_up) stream in
-    let f = frame_of (frame_bytes opened Initiator (numbered_segment n r p)) place in
-    let piece : Carries s.received.sends s.received.requests f p =
+    let f = frame_of (frame_bytes opened Initiator (written_segment n r p)) place in
+    let piece : Carries false s.received.sends s.received.requests f p =
     subst (λ (x : ℕ). Carries x s.received.requests f p) (sends ∙ sym l.sends_up) (subst (λ (x : ℕ). Carries n x f p) (requests ∙ sym l.requests_up) (is_piece opened Initiator n r place p (proper_one n r p proper) is)) in
     accessed_frame_up opened k s d all_up all_down at f h piece.behind (piece_offered opened k s (q ∷ u) d all_up all_down w p rest at f l first piece h) once
 

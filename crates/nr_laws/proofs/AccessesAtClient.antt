@@ -162,11 +162,11 @@ closed_live end d message (g ∷ regions) h = (by (eqb g.call (word_at 0 message
     by false e = more_live d (SendFrame message ∷ []) g h.0
 
 message_frame : (opened : LinkParameters) (k : ClientState) (s : ServerState) (d all_up all_down : List FrameContent) (place : ℕ) (message : SentMessage) (f : Frame) → AccessesAgree opened k s d all_up all_down place → CompletesMessage k.received message
-    → Carries k.received.sends k.received.requests f (SendFrame message)
+    → Carries k.invalidates k.received.sends k.received.requests f (SendFrame message)
     → AccessesAgree opened (client_state_after opened k (FrameReceived f)) s (d ++ SendFrame message ∷ []) (all_up ++ client_frames opened k (FrameReceived f)) all_down place
 message_frame opened k s d all_up all_down place message f h completes piece =
     let segment : Segment = last_segment k.received.sends message in
-    let is : client_segment k f ≡ Ok segment = segment_is k.received.sends k.received.requests f (SendFrame message) segment piece refl in
+    let is : plain_segment k f ≡ Ok segment = plain_is k f (SendFrame message) segment piece refl in
     let t = with_segment k f (Ok segment) in
     let whole : List ℕ = begun_bytes k.received.begun ++ message.payload in
     let same : message.bytes ≡ whole = sym completes in
@@ -181,18 +181,18 @@ message_frame opened k s d all_up all_down place message f h completes piece =
     (each_kept (CallAsked opened regions) (λ o. not (eqb o.xid (word_at 0 whole))) k.outstanding (each_all (CallAsked opened k.regions) (CallAsked opened regions) k.outstanding (λ o. send_more k.regions regions more (message_of_call opened o)) h.asked))))
 
 pub accessed_piece_down : (opened : LinkParameters) (k : ClientState) (s : ServerState) (d all_up all_down : List FrameContent) (place : ℕ) (p : FrameContent) (ps : List FrameContent) (f : Frame) → AccessesAgree opened k s d all_up all_down place → AreSends k.received.begun (p ∷ ps)
-    → Carries k.received.sends k.received.requests f p → AccessesAgree opened (client_state_after opened k (FrameReceived f)) s (d ++ p ∷ []) (all_up ++ client_frames opened k (FrameReceived f)) all_down place
+    → Carries k.invalidates k.received.sends k.received.requests f p → AccessesAgree opened (client_state_after opened k (FrameReceived f)) s (d ++ p ∷ []) (all_up ++ client_frames opened k (FrameReceived f)) all_down place
 accessed_piece_down opened k s d all_up all_down place HelloFrame ps f h sends piece = absurd (let wrong = piece.is_segment in cc)
-accessed_piece_down opened k s d all_up all_down place (PartFrame offset payload) ps f h sends piece =
+accessed_piece_down opened k s d all_up all_down place (PartFrame named offset payload) ps f h sends piece =
     let segment : Segment = part_segment k.received.sends offset payload in
-    let is : client_segment k f ≡ Ok segment = segment_is k.received.sends k.received.requests f (PartFrame offset payload) segment piece refl in
-    other_frame opened k s d all_up all_down place (PartFrame offset payload) f segment h piece.behind is refl refl
+    let is : plain_segment k f ≡ Ok segment = plain_is k f (PartFrame named offset payload) segment piece refl in
+    other_frame opened k s d all_up all_down place (PartFrame named offset payload) f segment h piece.behind is refl refl
 accessed_piece_down opened k s d all_up all_down place (SendFrame message) ps f h sends piece = message_frame opened k s d all_up all_down place message f h sends.1 piece
 accessed_piece_down opened k s d all_up all_down place (RequestFrame sink at size stag to) ps f h sends piece =
     let segment : Segment = Untagged true OPCODE_READ_REQUEST 0 QUEUE_READ_REQUEST (msn_word (k.received.requests + 1)) 0 (request_payload sink at size stag to) in
-    let is : client_segment k f ≡ Ok segment = segment_is k.received.sends k.received.requests f (RequestFrame sink at size stag to) segment piece refl in
+    let is : plain_segment k f ≡ Ok segment = plain_is k f (RequestFrame sink at size stag to) segment piece refl in
     other_frame opened k s d all_up all_down place (RequestFrame sink at size stag to) f segment h piece.behind is refl refl
 accessed_piece_down opened k s d all_up all_down place (TaggedFrame last opcode stag to payload) ps f h sends piece =
     let segment : Segment = Tagged last opcode stag to payload in
-    let is : client_segment k f ≡ Ok segment = segment_is k.received.sends k.received.requests f (TaggedFrame last opcode stag to payload) segment piece refl in
+    let is : plain_segment k f ≡ Ok segment = plain_is k f (TaggedFrame last opcode stag to payload) segment piece refl in
     other_frame opened k s d all_up all_down place (TaggedFrame last opcode stag to payload) f segment h piece.behind is refl refl

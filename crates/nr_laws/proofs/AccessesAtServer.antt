@@ -111,7 +111,7 @@ accessed_hello_up opened k s d all_up all_down place f h is =
 -- the frames of RDMA Writes into what a call offers
 abbrev WriteOffered : List Region → ℕ → FrameContent → Type 0
 WriteOffered regions xid HelloFrame = ⊥
-WriteOffered regions xid (PartFrame offset payload) = ⊥
+WriteOffered regions xid (PartFrame named offset payload) = ⊥
 WriteOffered regions xid (SendFrame message) = ⊥
 WriteOffered regions xid (RequestFrame sink at size stag to) = ⊥
 WriteOffered regions xid (TaggedFrame last opcode stag to payload) = IsOffered xid stag Fill (to + length payload) regions
@@ -150,7 +150,7 @@ writes_offered regions xid (p ∷ chunk) bytes h =
 writes_access : (regions : List Region) (xid : ℕ) (before ps : List FrameContent) → times xid (message_xids before) ≡ 0 → AllByRecursion (WriteOffered regions xid) ps → AreAccesses regions before ps × (times xid (message_xids (before ++ ps)) ≡ 0)
 writes_access regions xid before [] none h = (tt, ap (λ (xs : List ℕ). times xid xs) (xids_append before []) ∙ omega (arith, none, times_append xid (message_xids before) []))
 writes_access regions xid before (HelloFrame ∷ ps) none h = absurd h.0
-writes_access regions xid before (PartFrame offset payload ∷ ps) none h = absurd h.0
+writes_access regions xid before (PartFrame named offset payload ∷ ps) none h = absurd h.0
 writes_access regions xid before (SendFrame message ∷ ps) none h = absurd h.0
 writes_access regions xid before (RequestFrame sink at size stag to ∷ ps) none h = absurd h.0
 writes_access regions xid before (TaggedFrame last opcode stag to payload ∷ ps) none h =

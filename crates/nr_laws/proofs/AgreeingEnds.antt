@@ -209,15 +209,15 @@ message_bytes h message completes front rest = subst IsBytes completes (bytes_bo
 
 -- a frame after the hello
 took_piece : (opened : LinkParameters) (k : ClientState) (s : ServerState) (u d all_up all_down : List FrameContent) (w : Transit) (p : FrameContent) (rest : List FrameContent) (f : Frame) → EndsAgree opened k s u d all_up all_down w → w.up ≡ p ∷ rest
-    → IsWritable p → 0 < total_of hellos_in all_down → Carries s.received.sends s.received.requests f p → IsBytes f.bytes → f.bytes ≡ frame_bytes opened Initiator (numbered_segment s.received.sends s.received.requests p)
+    → IsWritable p → 0 < total_of hellos_in all_down → Carries false s.received.sends s.received.requests f p → IsBytes f.bytes → f.bytes ≡ frame_bytes opened Initiator (written_segment s.received.sends s.received.requests p)
     → server_end opened s (FrameReceived f) ≡ None → ServerTook opened k s u d all_up all_down w p rest f
 took_piece opened k s u d all_up all_down w HelloFrame rest f l first proper some piece bytes is stays = absurd proper
-took_piece opened k s u d all_up all_down w (PartFrame offset payload) rest f l first proper some piece bytes is stays =
+took_piece opened k s u d all_up all_down w (PartFrame named offset payload) rest f l first proper some piece bytes is stays =
     let segment : Segment = part_segment s.received.sends offset payload in
-    let reads : frame_segment f ≡ Ok segment = segment_is s.received.sends s.received.requests f (PartFrame offset payload) segment piece refl in
-    took_frame opened k s u d all_up all_down w (PartFrame offset payload) rest f (Ok segment) l first piece.behind reads some refl (fine_part s f offset payload l.fits reads)
-    (totals_part_up opened k s w f offset payload rest l.counts first piece)
-    (pending_agree_part_up opened s f offset payload l.waits piece) (omega arith) (omega arith)
+    let reads : frame_segment f ≡ Ok segment = segment_is s.received.sends s.received.requests f (PartFrame named offset payload) segment piece refl in
+    took_frame opened k s u d all_up all_down w (PartFrame named offset payload) rest f (Ok segment) l first piece.behind reads some refl (fine_part s f offset payload l.fits reads)
+    (totals_part_up opened k s w f named offset payload rest l.counts first piece)
+    (pending_agree_part_up opened s f named offset payload l.waits piece) (omega arith) (omega arith)
     (bytes_both (begun_bytes s.received.begun) payload l.bytes_up (payload_bytes segment (subst IsBytes is bytes)))
 took_piece opened k s u d all_up all_down w (SendFrame message) rest f l first proper some piece bytes is stays =
     let segment : Segment = last_segment s.received.sends message in
@@ -239,29 +239,29 @@ took_piece opened k s u d all_up all_down w (TaggedFrame last opcode stag to pay
     (pending_agree_tagged_up opened s f last opcode stag to payload l.waits piece goes_on) (omega arith) (omega arith) l.bytes_up
 
 pub server_took : (opened : LinkParameters) (k : ClientState) (s : ServerState) (u d all_up all_down : List FrameContent) (w : Transit) (p : FrameContent) (rest : List FrameContent) (n r place : ℕ) → EndsAgree opened k s u d all_up all_down w → w.up ≡ p ∷ rest
-    → n ≡ total_of sends_in u → r ≡ total_of requests_in u → IsPlace u place → IsBytes (frame_bytes opened Initiator (numbered_segment n r p))
-    → server_end opened s (FrameReceived (frame_of (frame_bytes opened Initiator (numbered_segment n r p)) place)) ≡ None
-    → ServerTook opened k s u d all_up all_down w p rest (frame_of (frame_bytes opened Initiator (numbered_segment n r p)) place)
+    → n ≡ total_of sends_in u → r ≡ total_of requests_in u → IsPlace u place → IsBytes (frame_bytes opened Initiator (written_segment n r p))
+    → server_end opened s (FrameReceived (frame_of (frame_bytes opened Initiator (written_segment n r p)) place)) ≡ None
+    → ServerTook opened k s u d all_up all_down w p rest (frame_of (frame_bytes opened Initiator (written_segment n r p)) place)
 server_took opened k s [] d all_up all_down w p rest n r place l first sends requests at bytes stays =
     let stream : IsOutput (p ∷ (rest ++ w.queued_up)) = subst IsOutput (sym l.parts_up ∙ ap (λ (ps : List FrameContent). ps ++ w.queued_up) first) l.stream_up in
     let hello : p ≡ HelloFrame = stream_first p (rest ++ w.queued_up) stream in
-    let f = frame_of (frame_bytes opened Initiator (numbered_segment n r p)) place in
+    let f = frame_of (frame_bytes opened Initiator (written_segment n r p)) place in
     subst (λ (q : FrameContent). ServerTook opened k s [] d all_up all_down w q rest f) (sym hello)
-    (took_hello opened k s [] d all_up all_down w rest f l (first ∙ ap (λ (q : FrameContent). q ∷ rest) hello) refl (ap (λ (x : ℕ). eqb x 0) at) (ap (λ (q : FrameContent). frame_bytes opened Initiator (numbered_segment n r q)) hello))
+    (took_hello opened k s [] d all_up all_down w rest f l (first ∙ ap (λ (q : FrameContent). q ∷ rest) hello) refl (ap (λ (x : ℕ). eqb x 0) at) (ap (λ (q : FrameContent). frame_bytes opened Initiator (written_segment n r q)) hello))
 server_took opened k s (q ∷ u) d all_up all_down w p rest n r place l first sends requests at bytes stays =
     let stream : IsOutput (q ∷ u ++ p ∷ (rest ++ w.queued_up)) = subst IsOutput (sym l.parts_up ∙ ap (λ (ps : List FrameContent). q ∷ u ++ (ps ++ w.queued_up)) first) l.stream_up in
     let proper = stream_at_lem q u p (rest ++ w.queued_up) stream in
-    let f = frame_of (frame_bytes opened Initiator (numbered_segment n r p)) place in
+    let f = frame_of (frame_bytes opened Initiator (written_segment n r p)) place in
     let n_is : n ≡ s.received.sends = sends ∙ sym l.sends_up in
     let r_is : r ≡ s.received.requests = requests ∙ sym l.requests_up in
     let begun : 0 < total_of hellos_in (q ∷ u) = hello_there q u (p ∷ (rest ++ w.queued_up)) stream in
     took_piece opened k s (q ∷ u) d all_up all_down w p rest f l first proper (omega (arith, begun, l.hellos_down))
     (subst (λ (x : ℕ). Carries x s.received.requests f p) n_is (subst (λ (x : ℕ). Carries n x f p) r_is (is_piece opened Initiator n r place p (proper_one n r p proper) at)))
-    bytes (λ i. frame_bytes opened Initiator (numbered_segment (n_is i) (r_is i) p)) stays
+    bytes (λ i. frame_bytes opened Initiator (written_segment (n_is i) (r_is i) p)) stays
   where
     hello_there : (q : FrameContent) (ps qs : List FrameContent) → IsOutput (q ∷ ps ++ qs) → 0 < total_of hellos_in (q ∷ ps)
     hello_there HelloFrame ps qs h = omega arith
-    hello_there (PartFrame offset payload) ps qs h = absurd h
+    hello_there (PartFrame named offset payload) ps qs h = absurd h
     hello_there (SendFrame message) ps qs h = absurd h
     hello_there (RequestFrame sink at size stag to) ps qs h = absurd h
     hello_there (TaggedFrame last opcode stag to payload) ps qs h = absurd h

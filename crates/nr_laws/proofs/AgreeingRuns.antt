@@ -203,7 +203,7 @@ some_right (x ∷ xs) ys h = some_right xs ys h.1
 at_place_lem : (opened : LinkParameters) (side : Side) (ps : List FrameContent) → AreSome (frames_at opened side 0 0 ps) → IsPlace ps (length (concat (frames_at opened side 0 0 ps)))
 at_place_lem opened side [] h = refl
 at_place_lem opened side (p ∷ ps) h =
-    omega (arith, h.0, length-append (frame_bytes opened side (numbered_segment 0 0 p)) (concat (frames_at opened side (0 + sends_in p) (0 + requests_in p) ps)))
+    omega (arith, h.0, length-append (frame_bytes opened side (written_segment 0 0 p)) (concat (frames_at opened side (0 + sends_in p) (0 + requests_in p) ps)))
 
 -- the new frames of some more bytes, with what the loops over their frames ask
 pub record ArrivedFrames (opened : LinkParameters) (side : Side) (got bytes : List ℕ) (came way : List FrameContent) : Type 0 where

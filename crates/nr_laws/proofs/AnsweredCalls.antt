@@ -31,7 +31,7 @@ use Rattle.nr_laws.proofs.EachEffect.{send_effect, tagged_effect_lem}
 abbrev pub message_xids : List FrameContent → List ℕ
 message_xids [] = []
 message_xids (HelloFrame ∷ ps) = message_xids ps
-message_xids (PartFrame offset payload ∷ ps) = message_xids ps
+message_xids (PartFrame named offset payload ∷ ps) = message_xids ps
 message_xids (SendFrame message ∷ ps) = word_at 0 message.bytes ∷ message_xids ps
 message_xids (RequestFrame sink at size stag to ∷ ps) = message_xids ps
 message_xids (TaggedFrame last opcode stag to payload ∷ ps) = message_xids ps
@@ -49,7 +49,7 @@ outstanding_xids calls = map (λ (o : OutstandingCall). o.xid) calls
 pub xids_append : (ps qs : List FrameContent) → message_xids (ps ++ qs) ≡ message_xids ps ++ message_xids qs
 xids_append [] qs = refl
 xids_append (HelloFrame ∷ ps) qs = xids_append ps qs
-xids_append (PartFrame offset payload ∷ ps) qs = xids_append ps qs
+xids_append (PartFrame named offset payload ∷ ps) qs = xids_append ps qs
 xids_append (SendFrame message ∷ ps) qs = ap (λ (xs : List ℕ). word_at 0 message.bytes ∷ xs) (xids_append ps qs)
 xids_append (RequestFrame sink at size stag to ∷ ps) qs = xids_append ps qs
 xids_append (TaggedFrame last opcode stag to payload ∷ ps) qs = xids_append ps qs

@@ -169,7 +169,7 @@ took_hello opened k s u d all_up all_down w rest f l first is =
       linked =
           client_linked opened k (client_state_after opened k (FrameReceived f)) s u d all_up all_down w HelloFrame rest said l first counts (own_xids_came opened k f l.outs)
           (subst (λ (t : ClientState). CallsShort opened t.outstanding) (sym after) l.short) (asks_proper opened k.outstanding l.short)
-          (sends_zero hellos_in (message_of_call opened) k.outstanding (λ offset payload. refl) (λ m. refl)) (sends_zero requests_in (message_of_call opened) k.outstanding (λ offset payload. refl) (λ m. refl))
+          (sends_zero hellos_in (message_of_call opened) k.outstanding (λ named offset payload. refl) (λ m. refl)) (sends_zero requests_in (message_of_call opened) k.outstanding (λ named offset payload. refl) (λ m. refl))
           (omega (arith, ap (λ (t : ClientState). t.received.sends) after)) (omega (arith, ap (λ (t : ClientState). t.received.requests) after));
     }
 
@@ -194,23 +194,23 @@ took_frame opened k s u d all_up all_down w p rest said f r l first behind is sa
     }
 
 took_piece : (opened : LinkParameters) (k : ClientState) (s : ServerState) (u d all_up all_down : List FrameContent) (w : Transit) (p : FrameContent) (rest : List FrameContent) (f : Frame) → EndsAgree opened k s u d all_up all_down w → w.down ≡ p ∷ rest
-    → IsWritable p → Carries k.received.sends k.received.requests f p → IsBytes f.bytes → f.bytes ≡ frame_bytes opened Responder (numbered_segment k.received.sends k.received.requests p)
+    → IsWritable p → Carries k.invalidates k.received.sends k.received.requests f p → IsBytes f.bytes → f.bytes ≡ frame_bytes opened Responder (written_segment k.received.sends k.received.requests p)
     → client_end k (FrameReceived f) ≡ None → ClientTook opened k s u d all_up all_down w p rest f
 took_piece opened k s u d all_up all_down w HelloFrame rest f l first proper piece bytes is stays = absurd proper
-took_piece opened k s u d all_up all_down w (PartFrame offset payload) rest f l first proper piece bytes is stays =
+took_piece opened k s u d all_up all_down w (PartFrame named offset payload) rest f l first proper piece bytes is stays =
     let segment : Segment = part_segment k.received.sends offset payload in
-    let reads : client_segment k f ≡ Ok segment = segment_is k.received.sends k.received.requests f (PartFrame offset payload) segment piece refl in
-    took_frame opened k s u d all_up all_down w (PartFrame offset payload) rest [] f (Ok segment) l first piece.behind reads refl refl tt refl refl
-    (totals_part_down opened k s w f offset payload rest l.counts first piece) (omega arith) (omega arith)
+    let reads : plain_segment k f ≡ Ok segment = plain_is k f (PartFrame named offset payload) segment piece refl in
+    took_frame opened k s u d all_up all_down w (PartFrame named offset payload) rest [] f (Ok segment) l first piece.behind reads refl refl tt refl refl
+    (totals_part_down opened k s w f named offset payload rest l.counts first piece) (omega arith) (omega arith)
 took_piece opened k s u d all_up all_down w (SendFrame message) rest f l first proper piece bytes is stays =
     let segment : Segment = last_segment k.received.sends message in
-    let reads : client_segment k f ≡ Ok segment = segment_is k.received.sends k.received.requests f (SendFrame message) segment piece refl in
+    let reads : plain_segment k f ≡ Ok segment = plain_is k f (SendFrame message) segment piece refl in
     took_frame opened k s u d all_up all_down w (SendFrame message) rest [] f (Ok segment) l first piece.behind reads refl refl tt refl refl
     (totals_send_down opened k s w f message rest l.counts first piece stays l.outs.apart) refl (omega arith)
 took_piece opened k s u d all_up all_down w (RequestFrame sink at size stag to) rest f l first proper piece bytes is stays =
     let payload = request_payload sink at size stag to in
     let segment : Segment = Untagged true OPCODE_READ_REQUEST 0 QUEUE_READ_REQUEST (msn_word (k.received.requests + 1)) 0 payload in
-    let reads : client_segment k f ≡ Ok segment = segment_is k.received.sends k.received.requests f (RequestFrame sink at size stag to) segment piece refl in
+    let reads : plain_segment k f ≡ Ok segment = plain_is k f (RequestFrame sink at size stag to) segment piece refl in
     let payload_is = payload_bytes segment (subst IsBytes is bytes) in
     let r = read_request_in payload in
     let answer = take r.size (drop r.to (client_memory_at k f.end r.stag)) in
@@ -223,26 +223,26 @@ took_piece opened k s u d all_up all_down w (RequestFrame sink at size stag to) 
     (totals_read_down opened k s w f sink at size stag to rest l.counts first piece) (omega arith) refl
 took_piece opened k s u d all_up all_down w (TaggedFrame last opcode stag to payload) rest f l first proper piece bytes is stays =
     let segment : Segment = Tagged last opcode stag to payload in
-    let reads : client_segment k f ≡ Ok segment = segment_is k.received.sends k.received.requests f (TaggedFrame last opcode stag to payload) segment piece refl in
+    let reads : plain_segment k f ≡ Ok segment = plain_is k f (TaggedFrame last opcode stag to payload) segment piece refl in
     took_frame opened k s u d all_up all_down w (TaggedFrame last opcode stag to payload) rest [] f (Ok segment) l first piece.behind reads refl refl tt refl refl
     (totals_tagged_down opened k s w f last opcode stag to payload rest l.counts first piece) (omega arith) (omega arith)
 
 pub client_took : (opened : LinkParameters) (k : ClientState) (s : ServerState) (u d all_up all_down : List FrameContent) (w : Transit) (p : FrameContent) (rest : List FrameContent) (n r place : ℕ) → EndsAgree opened k s u d all_up all_down w → w.down ≡ p ∷ rest
-    → n ≡ total_of sends_in d → r ≡ total_of requests_in d → IsPlace d place → IsBytes (frame_bytes opened Responder (numbered_segment n r p))
-    → client_end k (FrameReceived (frame_of (frame_bytes opened Responder (numbered_segment n r p)) place)) ≡ None
-    → ClientTook opened k s u d all_up all_down w p rest (frame_of (frame_bytes opened Responder (numbered_segment n r p)) place)
+    → n ≡ total_of sends_in d → r ≡ total_of requests_in d → IsPlace d place → IsBytes (frame_bytes opened Responder (written_segment n r p))
+    → client_end k (FrameReceived (frame_of (frame_bytes opened Responder (written_segment n r p)) place)) ≡ None
+    → ClientTook opened k s u d all_up all_down w p rest (frame_of (frame_bytes opened Responder (written_segment n r p)) place)
 client_took opened k s u [] all_up all_down w p rest n r place l first sends requests at bytes stays =
     let stream : IsOutput (p ∷ (rest ++ w.queued_down)) = subst IsOutput (sym l.parts_down ∙ ap (λ (ps : List FrameContent). ps ++ w.queued_down) first) l.stream_down in
     let hello : p ≡ HelloFrame = stream_first p (rest ++ w.queued_down) stream in
-    let f = frame_of (frame_bytes opened Responder (numbered_segment n r p)) place in
+    let f = frame_of (frame_bytes opened Responder (written_segment n r p)) place in
     subst (λ (q : FrameContent). ClientTook opened k s u [] all_up all_down w q rest f) (sym hello)
     (took_hello opened k s u [] all_up all_down w rest f l (first ∙ ap (λ (q : FrameContent). q ∷ rest) hello) (ap (λ (x : ℕ). eqb x 0) at))
 client_took opened k s u (q ∷ d) all_up all_down w p rest n r place l first sends requests at bytes stays =
     let stream : IsOutput (q ∷ d ++ p ∷ (rest ++ w.queued_down)) = subst IsOutput (sym l.parts_down ∙ ap (λ (ps : List FrameContent). q ∷ d ++ (ps ++ w.queued_down)) first) l.stream_down in
     let proper = stream_at_lem q d p (rest ++ w.queued_down) stream in
-    let f = frame_of (frame_bytes opened Responder (numbered_segment n r p)) place in
+    let f = frame_of (frame_bytes opened Responder (written_segment n r p)) place in
     let n_is : n ≡ k.received.sends = sends ∙ sym l.sends_down in
     let r_is : r ≡ k.received.requests = requests ∙ sym l.requests_down in
     took_piece opened k s u (q ∷ d) all_up all_down w p rest f l first proper
     (subst (λ (x : ℕ). Carries x k.received.requests f p) n_is (subst (λ (x : ℕ). Carries n x f p) r_is (is_piece opened Responder n r place p (proper_one n r p proper) at)))
-    bytes (λ i. frame_bytes opened Responder (numbered_segment (n_is i) (r_is i) p)) stays
+    bytes (λ i. frame_bytes opened Responder (written_segment (n_is i) (r_is i) p)) stays

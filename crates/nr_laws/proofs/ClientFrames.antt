@@ -61,7 +61,7 @@ client_runs opened s u all_down left [] k d all_up w n r place l first sends req
     record { after = k; said = []; state = refl; output = refl; linked = same; guarded = guarded; accessed = accessed }
 client_runs opened s u all_down left (p ∷ new) k d all_up w n r place l first sends requests at bytes some e =
     let rules = client_rules opened in
-    let frame = frame_bytes opened Responder (numbered_segment n r p) in
+    let frame = frame_bytes opened Responder (written_segment n r p) in
     let later = frames_at opened Responder (n + sends_in p) (r + requests_in p) new in
     let event = FrameReceived (frame_of frame place) in
     let es = events_of (place + length frame) later in
@@ -106,7 +106,7 @@ pub client_ends : (opened : LinkParameters) (s : ServerState) (u all_down left :
 client_ends opened s u all_down left o end up [] k d all_up w n r place l g first sends requests at bytes some e = absurd (let wrong : None ≡ Some end = e in cc)
 client_ends opened s u all_down left o end up (p ∷ new) k d all_up w n r place l g first sends requests at bytes some e =
     let rules = client_rules opened in
-    let frame = frame_bytes opened Responder (numbered_segment n r p) in
+    let frame = frame_bytes opened Responder (written_segment n r p) in
     let later = frames_at opened Responder (n + sends_in p) (r + requests_in p) new in
     let event = FrameReceived (frame_of frame place) in
     let es = events_of (place + length frame) later in

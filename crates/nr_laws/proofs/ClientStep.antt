@@ -163,18 +163,18 @@ unfolding client_end
 hello_none k f private is says = (λ i. cond (is i) (hello_end (says i)) (or_message_end k f (frame_end_by (client_readiness k) (region_grants f.end k.regions) f (client_segment k f))))
 
 step_piece : (opened : LinkParameters) (k : ClientState) (s : ServerState) (u d all_up all_down : List FrameContent) (w : Transit) (place : ℕ) (p : FrameContent) (rest : List FrameContent) (f : Frame) → IsOpened opened → EndsAgree opened k s u d all_up all_down w → Guards opened k s u d all_up all_down w place → w.down ≡ p ∷ rest
-    → IsWritable p → Carries k.received.sends k.received.requests f p → k.has_hello ≡ true → ClientStep opened k s u d all_up all_down w place p rest f
+    → IsWritable p → Carries k.invalidates k.received.sends k.received.requests f p → k.has_hello ≡ true → ClientStep opened k s u d all_up all_down w place p rest f
 unfolding frame_end
 step_piece opened k s u d all_up all_down w place HelloFrame rest f o l g first proper piece hello = absurd proper
-step_piece opened k s u d all_up all_down w place (PartFrame offset payload) rest f o l g first proper piece hello =
-    let none = client_part k s w f offset payload rest l.counts first piece in
+step_piece opened k s u d all_up all_down w place (PartFrame named offset payload) rest f o l g first proper piece hello =
+    let none = client_part k s w f named offset payload rest l.counts first piece in
     record {
       only = λ end e. absurd (some_not end (sym e ∙ none));
-      kept = λ stays. guards_part_down opened k s u d all_up all_down w place offset payload rest f g first piece hello stays;
+      kept = λ stays. guards_part_down opened k s u d all_up all_down w place named offset payload rest f g first piece hello stays;
     }
 step_piece opened k s u d all_up all_down w place (SendFrame message) rest f o l g first proper piece hello =
     let segment : Segment = last_segment k.received.sends message in
-    let reads : client_segment k f ≡ Ok segment = segment_is k.received.sends k.received.requests f (SendFrame message) segment piece refl in
+    let reads : plain_segment k f ≡ Ok segment = plain_is k f (SendFrame message) segment piece refl in
     let reply : IsReply (matched_down opened) opened.granted message.bytes = front_down opened k s u d all_up all_down w place (SendFrame message) rest l g first in
     let whole : List ℕ = begun_bytes k.received.begun ++ message.payload in
     let same : whole ≡ message.bytes = (at_front k.received.begun w.down w.queued_down (SendFrame message) rest first l.counts.whole_down).1 in
@@ -193,7 +193,7 @@ step_piece opened k s u d all_up all_down w place (RequestFrame sink at size sta
     let payload = request_payload sink at size stag to in
     let segment : Segment = Untagged true OPCODE_READ_REQUEST 0 QUEUE_READ_REQUEST (msn_word (k.received.requests + 1)) 0 payload in
     let grants = region_grants f.end k.regions in
-    let reads : client_segment k f ≡ Ok segment = segment_is k.received.sends k.received.requests f (RequestFrame sink at size stag to) segment piece refl in
+    let reads : plain_segment k f ≡ Ok segment = plain_is k f (RequestFrame sink at size stag to) segment piece refl in
     let a = asked_of s w place sink at size stag to rest g.server.reads first g.server.sinks g.server.regions.stags g.within in
     let again = request_again sink at size stag to a.sink_word a.at_word a.size_word a.stag_word a.to_word in
     let fits : (read_request_in payload).sink_to + (read_request_in payload).size ≤ 2 ^ 64 = omega (arith, ap (λ (r : ReadRequest). r.sink_to + r.size) again, a.room) in
@@ -212,7 +212,7 @@ step_piece opened k s u d all_up all_down w place (TaggedFrame last opcode stag 
     let segment : Segment = Tagged last OPCODE_WRITE stag to payload in
     let grants = region_grants f.end k.regions in
     let reads : client_segment k f ≡ Ok segment =
-    segment_is k.received.sends k.received.requests f (TaggedFrame last opcode stag to payload) (Tagged last opcode stag to payload) piece refl ∙ ap (λ (c : ℕ). Ok (Tagged last c stag to payload)) write in
+    plain_is k f (TaggedFrame last opcode stag to payload) (Tagged last opcode stag to payload) piece refl ∙ ap (λ (c : ℕ). Ok (Tagged last c stag to payload)) write in
     let found : frame_end_by (client_readiness k) grants f (client_segment k f) ≡ end_of_fault f segment (first_fault (missing_fault (missing_access grants f segment) ∷ [])) =
     ap (λ (r : Result Segment ℕ). frame_end_by (client_readiness k) grants f r) reads ∙ ap (λ (x : Option (SegmentReason Denied)). end_of_fault f segment x) (write_flaw (client_readiness k (missing_access grants f segment)) last stag to payload) in
     let ends = client_by_lem k f (end_of_fault f segment (first_fault (missing_fault (missing_access grants f segment) ∷ []))) piece.behind found in
@@ -229,11 +229,11 @@ stream_one (HelloFrame ∷ ps) h = omega (arith, none_more ps h)
     none_more : (ps : List FrameContent) → AreWritable ps → total_of hellos_in ps ≡ 0
     none_more [] h = refl
     none_more (HelloFrame ∷ ps) h = absurd h.0
-    none_more (PartFrame offset payload ∷ ps) h = omega (arith, none_more ps h.1)
+    none_more (PartFrame named offset payload ∷ ps) h = omega (arith, none_more ps h.1)
     none_more (SendFrame message ∷ ps) h = omega (arith, none_more ps h.1)
     none_more (RequestFrame sink at size stag to ∷ ps) h = omega (arith, none_more ps h.1)
     none_more (TaggedFrame last opcode stag to payload ∷ ps) h = omega (arith, none_more ps h.1)
-stream_one (PartFrame offset payload ∷ ps) h = absurd h
+stream_one (PartFrame named offset payload ∷ ps) h = absurd h
 stream_one (SendFrame message ∷ ps) h = absurd h
 stream_one (RequestFrame sink at size stag to ∷ ps) h = absurd h
 stream_one (TaggedFrame last opcode stag to payload ∷ ps) h = absurd h
@@ -263,22 +263,22 @@ has_hello_lem opened k s u q d all_up all_down w l =
     ))
 
 pub step_down : (opened : LinkParameters) (k : ClientState) (s : ServerState) (u d all_up all_down : List FrameContent) (w : Transit) (up : ℕ) (p : FrameContent) (rest : List FrameContent) (n r place : ℕ) → IsOpened opened → EndsAgree opened k s u d all_up all_down w → Guards opened k s u d all_up all_down w up → w.down ≡ p ∷ rest
-    → n ≡ total_of sends_in d → r ≡ total_of requests_in d → IsPlace d place → ClientStep opened k s u d all_up all_down w up p rest (frame_of (frame_bytes opened Responder (numbered_segment n r p)) place)
+    → n ≡ total_of sends_in d → r ≡ total_of requests_in d → IsPlace d place → ClientStep opened k s u d all_up all_down w up p rest (frame_of (frame_bytes opened Responder (written_segment n r p)) place)
 step_down opened k s u [] all_up all_down w up p rest n r place o l g first sends requests at =
     let stream : IsOutput (p ∷ (rest ++ w.queued_down)) = subst IsOutput (sym l.parts_down ∙ ap (λ (ps : List FrameContent). ps ++ w.queued_down) first) l.stream_down in
     let hello : p ≡ HelloFrame = stream_first p (rest ++ w.queued_down) stream in
-    let f = frame_of (frame_bytes opened Responder (numbered_segment n r p)) place in
+    let f = frame_of (frame_bytes opened Responder (written_segment n r p)) place in
     let is : is_hello f ≡ true = ap (λ (x : ℕ). eqb x 0) at in
-    let says = ap (λ (q : FrameContent). hello_of Responder (frame_bytes opened Responder (numbered_segment n r q))) hello ∙ (first_hello_is opened Responder).says in
+    let says = ap (λ (q : FrameContent). hello_of Responder (frame_bytes opened Responder (written_segment n r q))) hello ∙ (first_hello_is opened Responder).says in
     let none = hello_none k f (first_hello_is opened Responder).private is says in
     subst (λ (q : FrameContent). ClientStep opened k s u [] all_up all_down w up q rest f) (sym hello) (record {
       only = λ end e. absurd (some_not end (sym e ∙ none));
-      kept = λ stays. guards_hello_down opened k s u [] all_up all_down w up rest f l g (first ∙ ap (λ (q : FrameContent). q ∷ rest) hello) is (ap (λ (q : FrameContent). frame_bytes opened Responder (numbered_segment n r q)) hello) stays;
+      kept = λ stays. guards_hello_down opened k s u [] all_up all_down w up rest f l g (first ∙ ap (λ (q : FrameContent). q ∷ rest) hello) is (ap (λ (q : FrameContent). frame_bytes opened Responder (written_segment n r q)) hello) stays;
     })
 step_down opened k s u (q ∷ d) all_up all_down w up p rest n r place o l g first sends requests at =
     let stream : IsOutput (q ∷ d ++ p ∷ (rest ++ w.queued_down)) = subst IsOutput (sym l.parts_down ∙ ap (λ (ps : List FrameContent). q ∷ d ++ (ps ++ w.queued_down)) first) l.stream_down in
     let proper = stream_at_lem q d p (rest ++ w.queued_down) stream in
-    let f = frame_of (frame_bytes opened Responder (numbered_segment n r p)) place in
+    let f = frame_of (frame_bytes opened Responder (written_segment n r p)) place in
     let n_is : n ≡ k.received.sends = sends ∙ sym l.sends_down in
     let r_is : r ≡ k.received.requests = requests ∙ sym l.requests_down in
     step_piece opened k s u (q ∷ d) all_up all_down w up p rest f o l g first proper

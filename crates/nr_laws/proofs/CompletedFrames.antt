@@ -67,7 +67,7 @@ fed opened side got bytes rest came way proper before sent =
 
 -- after the hello each of them is a frame as it was sent
 pub is_piece : (opened : LinkParameters) (side : Side) (n r place : ℕ) (p : FrameContent) → IsWritableAs Fpdu (numbered_segment n r p) → 0 < place
-    → Carries n r (record { at = place; end = place + length (frame_bytes opened side (numbered_segment n r p)); bytes = frame_bytes opened side (numbered_segment n r p) }) p
+    → Carries n r (record { at = place; end = place + length (frame_bytes opened side (written_segment n r p)); bytes = frame_bytes opened side (written_segment n r p) }) p
 unfolding frame_segment
 is_piece opened side n r place p proper some = by (numbered_segment n r p) refl proper
   where
@@ -75,7 +75,7 @@ is_piece opened side n r place p proper some = by (numbered_segment n r p) refl 
     behind = ne_eqb place 0 (λ e. omega (arith, e, some))
 
     by : (s : Option Segment) → numbered_segment n r p ≡ s → IsWritableAs Fpdu s
-        → Carries n r (record { at = place; end = place + length (frame_bytes opened side (numbered_segment n r p)); bytes = frame_bytes opened side (numbered_segment n r p) }) p
+        → Carries n r (record { at = place; end = place + length (frame_bytes opened side (written_segment n r p)); bytes = frame_bytes opened side (written_segment n r p) }) p
     by None is h = absurd h
     by (Some segment) is h = record {
       behind = behind;

@@ -38,7 +38,7 @@ server_by_lem opened s f first_fault behind is = λ i. cond (behind i) (hello_en
 
 -- a Send: none of the link's reasons, and never a missing receive
 pub server_send : (opened : LinkParameters) (k : ClientState) (s : ServerState) (w : Transit) (f : Frame) (message : SentMessage) (rest : List FrameContent) → TotalsAgree k s w → WithinWindow opened k → w.up ≡ SendFrame message ∷ rest
-    → Carries s.received.sends s.received.requests f (SendFrame message) → 16 ≤ length message.bytes → length message.bytes ≤ s.up_max → server_end opened s (FrameReceived f) ≡ refusal_end f (frame_effect s f).refusal
+    → Carries false s.received.sends s.received.requests f (SendFrame message) → 16 ≤ length message.bytes → length message.bytes ≤ s.up_max → server_end opened s (FrameReceived f) ≡ refusal_end f (frame_effect s f).refusal
 server_send opened k s w f message rest c g head p long short =
     let some : 0 < total_of sends_in (w.up ++ w.queued_up) = omega (arith, ap (λ (ps : List FrameContent). total_of sends_in (ps ++ w.queued_up)) head) in
     let front = at_front s.received.begun w.up w.queued_up (SendFrame message) rest head c.whole_up in
@@ -46,21 +46,21 @@ server_send opened k s w f message rest c g head p long short =
     (send_frame (server_readiness opened s) (region_grants f.end s.regions) s.received.sends s.received.requests f message p refl front.0 front.1 (receives opened k s w c g some) refl long (omega (arith, short)))
 
 -- a segment of a Send that isn't its last: nothing
-pub server_part : (opened : LinkParameters) (k : ClientState) (s : ServerState) (w : Transit) (f : Frame) (offset : ℕ) (payload : List ℕ) (rest : List FrameContent) → TotalsAgree k s w → WithinWindow opened k → w.up ≡ PartFrame offset payload ∷ rest
-    → Carries s.received.sends s.received.requests f (PartFrame offset payload) → server_end opened s (FrameReceived f) ≡ refusal_end f (frame_effect s f).refusal
-server_part opened k s w f offset payload rest c g head p =
-    let front = at_front s.received.begun w.up w.queued_up (PartFrame offset payload) rest head c.whole_up in
+pub server_part : (opened : LinkParameters) (k : ClientState) (s : ServerState) (w : Transit) (f : Frame) (named : Bool) (offset : ℕ) (payload : List ℕ) (rest : List FrameContent) → TotalsAgree k s w → WithinWindow opened k → w.up ≡ PartFrame named offset payload ∷ rest
+    → Carries false s.received.sends s.received.requests f (PartFrame named offset payload) → server_end opened s (FrameReceived f) ≡ refusal_end f (frame_effect s f).refusal
+server_part opened k s w f named offset payload rest c g head p =
+    let front = at_front s.received.begun w.up w.queued_up (PartFrame named offset payload) rest head c.whole_up in
     let some : 0 < total_of sends_in (w.up ++ w.queued_up) =
     omega (arith, ap (λ (ps : List FrameContent). total_of sends_in (ps ++ w.queued_up)) head, send_goes_on (begun_bytes s.received.begun ++ payload) (rest ++ w.queued_up) front.1) in
     server_by_lem opened s f None p.behind
-    (part_frame_end (server_readiness opened s) (region_grants f.end s.regions) s.received.sends s.received.requests f offset payload p refl front.0 (receives opened k s w c g some) refl)
+    (part_frame_end (server_readiness opened s) (region_grants f.end s.regions) s.received.sends s.received.requests f named offset payload p refl front.0 (receives opened k s w c g some) refl)
 
 -- a segment of a Response: only what its access lacks
 lacks_none : (f : Frame) (segment : Segment) (lack : Option Denied) → lack ≡ None → end_of_fault f segment (first_fault (missing_fault lack ∷ [])) ≡ None
 lacks_none f segment lack e = ap (λ (l : Option Denied). end_of_fault f segment (first_fault (missing_fault l ∷ []))) e
 
 pub server_response : (opened : LinkParameters) (s : ServerState) (w : Transit) (f : Frame) (last : Bool) (stag to : ℕ) (payload : List ℕ) (rest : List FrameContent) → ReadsAgree s w → w.up ≡ TaggedFrame last OPCODE_READ_RESPONSE stag to payload ∷ rest
-    → Carries s.received.sends s.received.requests f (TaggedFrame last OPCODE_READ_RESPONSE stag to payload) → missing_access (region_grants f.end s.regions) f (Tagged last OPCODE_READ_RESPONSE stag to payload) ≡ None
+    → Carries false s.received.sends s.received.requests f (TaggedFrame last OPCODE_READ_RESPONSE stag to payload) → missing_access (region_grants f.end s.regions) f (Tagged last OPCODE_READ_RESPONSE stag to payload) ≡ None
     → server_end opened s (FrameReceived f) ≡ refusal_end f (frame_effect s f).refusal
 unfolding frame_end
 server_response opened s w f last stag to payload rest c head p allowed =
@@ -91,19 +91,19 @@ or_true false = refl
 
 -- a message: its verdict alone
 pub client_send : (opened : LinkParameters) (k : ClientState) (s : ServerState) (w : Transit) (f : Frame) (message : SentMessage) (rest : List FrameContent) → TotalsAgree k s w → w.down ≡ SendFrame message ∷ rest
-    → Carries k.received.sends k.received.requests f (SendFrame message) → 16 ≤ length message.bytes → length message.bytes ≤ k.down_max → client_end k (FrameReceived f) ≡ message_end_in k f (client_segment k f)
+    → Carries k.invalidates k.received.sends k.received.requests f (SendFrame message) → 16 ≤ length message.bytes → length message.bytes ≤ k.down_max → client_end k (FrameReceived f) ≡ message_end_in k f (client_segment k f)
 client_send opened k s w f message rest c head p long short =
     let front = at_front k.received.begun w.down w.queued_down (SendFrame message) rest head c.whole_down in
     client_by_lem k f None p.behind
     (send_frame (client_readiness k) (region_grants f.end k.regions) k.received.sends k.received.requests f message p refl front.0 front.1 (or_true (is_begun k.received.begun)) refl long (omega (arith, short)))
 
 -- a segment of a Send that isn't its last: nothing
-pub client_part : (k : ClientState) (s : ServerState) (w : Transit) (f : Frame) (offset : ℕ) (payload : List ℕ) (rest : List FrameContent) → TotalsAgree k s w → w.down ≡ PartFrame offset payload ∷ rest
-    → Carries k.received.sends k.received.requests f (PartFrame offset payload) → client_end k (FrameReceived f) ≡ None
-client_part k s w f offset payload rest c head p =
+pub client_part : (k : ClientState) (s : ServerState) (w : Transit) (f : Frame) (named : Bool) (offset : ℕ) (payload : List ℕ) (rest : List FrameContent) → TotalsAgree k s w → w.down ≡ PartFrame named offset payload ∷ rest
+    → Carries k.invalidates k.received.sends k.received.requests f (PartFrame named offset payload) → client_end k (FrameReceived f) ≡ None
+client_part k s w f named offset payload rest c head p =
     let segment : Segment = part_segment k.received.sends offset payload in
-    let is : client_segment k f ≡ Ok segment = segment_is k.received.sends k.received.requests f (PartFrame offset payload) segment p refl in
-    let front = at_front k.received.begun w.down w.queued_down (PartFrame offset payload) rest head c.whole_down in
+    let is : plain_segment k f ≡ Ok segment = plain_is k f (PartFrame named offset payload) segment p refl in
+    let front = at_front k.received.begun w.down w.queued_down (PartFrame named offset payload) rest head c.whole_down in
     client_by_lem k f None p.behind
-    (part_frame_end (client_readiness k) (region_grants f.end k.regions) k.received.sends k.received.requests f offset payload p refl front.0 (or_true (is_begun k.received.begun)) refl)
+    (part_frame_end (client_readiness k) (region_grants f.end k.regions) k.received.sends k.received.requests f named offset payload p refl front.0 (or_true (is_begun k.received.begun)) refl)
     ∙ ap (λ (r : Result Segment ℕ). message_end_in k f r) is

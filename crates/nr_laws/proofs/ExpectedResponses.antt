@@ -22,7 +22,7 @@ pub answers_append : (came : ℕ) (rs : List PendingRead) (ps : List FrameConten
 answers_append came rs [] others more h k =
     subst (λ (c : ℕ). AreResponses c (rs ++ others) more) (sym h.0) (subst (λ (qs : List PendingRead). AreResponses 0 (qs ++ others) more) (sym h.1) k)
 answers_append came rs (HelloFrame ∷ ps) others more h k = answers_append came rs ps others more h k
-answers_append came rs (PartFrame offset payload ∷ ps) others more h k = answers_append came rs ps others more h k
+answers_append came rs (PartFrame named offset payload ∷ ps) others more h k = answers_append came rs ps others more h k
 answers_append came rs (SendFrame message ∷ ps) others more h k = answers_append came rs ps others more h k
 answers_append came rs (RequestFrame sink at size stag to ∷ ps) others more h k = answers_append came rs ps others more h k
 answers_append came [] (TaggedFrame last opcode stag to payload ∷ ps) others more h k = absurd h

@@ -94,10 +94,10 @@ send_frame ready grants n req f m p same starts whole h l long short =
     ap (λ (r : Result Segment ℕ). frame_end_by ready grants f r) is
     ∙ ap (λ (x : Option (SegmentReason Denied)). end_of_fault f segment x) (send_flaw (ready None) m starts whole h l long short)
 
-pub part_frame_end : (ready : Option Denied → Readiness Denied) (grants : List Grant) (n req : ℕ) (f : Frame) (offset : ℕ) (payload : List ℕ) → Carries n req f (PartFrame offset payload)
+pub part_frame_end : (ready : Option Denied → Readiness Denied) (grants : List Grant) (n req : ℕ) (f : Frame) (named : Bool) (offset : ℕ) (payload : List ℕ) → Carries n req f (PartFrame named offset payload)
     → (ready None).received.sends ≡ n → offset ≡ length (begun_bytes (ready None).received.begun) → (is_begun (ready None).received.begun || (ready None).has_receive) ≡ true → (ready None).missing ≡ None → frame_end ready grants f ≡ None
 unfolding frame_end
-part_frame_end ready grants n req f offset payload p same starts h l =
+part_frame_end ready grants n req f named offset payload p same starts h l =
     let segment : Segment = part_segment (ready None).received.sends offset payload in
     let is : frame_segment f ≡ Ok segment = p.reads ∙ ap (λ (s : Segment). Ok s) (same_Some _ _ (sym p.is_segment)) ∙ ap (λ (k : ℕ). Ok (part_segment k offset payload)) (sym same) in
     ap (λ (r : Result Segment ℕ). frame_end_by ready grants f r) is

@@ -46,7 +46,7 @@ ClientMessage opened message = (16 ≤ length message) × (length message ≤ ma
 
 abbrev pub ClientContent : LinkParameters → FrameContent → Type 0
 ClientContent opened HelloFrame = Unit {0}
-ClientContent opened (PartFrame offset payload) = Unit {0}
+ClientContent opened (PartFrame named offset payload) = Unit {0}
 ClientContent opened (SendFrame message) = ClientMessage opened message.bytes
 ClientContent opened (RequestFrame sink at size stag to) = Unit {0}
 ClientContent opened (TaggedFrame last opcode stag to payload) = Unit {0}
@@ -54,7 +54,7 @@ ClientContent opened (TaggedFrame last opcode stag to payload) = Unit {0}
 -- a message of a server too, and it grants at most `credit`; its tagged segments are of Writes
 abbrev pub ServerContent : (most credit : ℕ) → FrameContent → Type 0
 ServerContent most credit HelloFrame = Unit {0}
-ServerContent most credit (PartFrame offset payload) = Unit {0}
+ServerContent most credit (PartFrame named offset payload) = Unit {0}
 ServerContent most credit (SendFrame message) = IsReply most credit message.bytes
 ServerContent most credit (RequestFrame sink at size stag to) = Unit {0}
 ServerContent most credit (TaggedFrame last opcode stag to payload) = opcode ≡ OPCODE_WRITE
@@ -98,7 +98,7 @@ told_most opened (Granted credits) h = h.1
 
 one_less : (most n m : ℕ) → n ≤ m → (p : FrameContent) → ServerContent most n p → ServerContent most m p
 one_less most n m le HelloFrame h = tt
-one_less most n m le (PartFrame offset payload) h = tt
+one_less most n m le (PartFrame named offset payload) h = tt
 one_less most n m le (SendFrame message) h = (let credits = h.credits in record { least = h.least; size = h.size; credits = omega (arith, credits, le); read = h.read })
 one_less most n m le (RequestFrame sink at size stag to) h = tt
 one_less most n m le (TaggedFrame last opcode stag to payload) h = h

@@ -207,11 +207,11 @@ guards_hello_down opened k s u d all_up all_down w place rest f l g first is own
     (answered_same opened.first_xid k t s u d all_down w (down_one w said rest) HelloFrame (ap (λ (x : ClientState). x.outstanding) after) (ap (λ (x : ClientState). x.sends) after) refl g.answered) stays refl)
 
 pub guards_send_down : (opened : LinkParameters) (k : ClientState) (s : ServerState) (u d all_up all_down : List FrameContent) (w : Transit) (place : ℕ) (message : SentMessage) (rest : List FrameContent) (f : Frame) → IsOpened opened → EndsAgree opened k s u d all_up all_down w → Guards opened k s u d all_up all_down w place → w.down ≡ SendFrame message ∷ rest
-    → Carries k.received.sends k.received.requests f (SendFrame message) → k.has_hello ≡ true → client_end k (FrameReceived f) ≡ None
+    → Carries k.invalidates k.received.sends k.received.requests f (SendFrame message) → k.has_hello ≡ true → client_end k (FrameReceived f) ≡ None
     → Guards opened (client_state_after opened k (FrameReceived f)) s u (d ++ SendFrame message ∷ []) (all_up ++ client_frames opened k (FrameReceived f)) all_down (down_one w (client_frames opened k (FrameReceived f)) rest) place
 guards_send_down opened k s u d all_up all_down w place message rest f o l g first piece hello stays =
     let segment : Segment = last_segment k.received.sends message in
-    let reads : client_segment k f ≡ Ok segment = segment_is k.received.sends k.received.requests f (SendFrame message) segment piece refl in
+    let reads : plain_segment k f ≡ Ok segment = plain_is k f (SendFrame message) segment piece refl in
     let t = client_state_after opened k (FrameReceived f) in
     let says : client_frames opened k (FrameReceived f) ≡ [] = says_is opened k f (Ok segment) piece.behind reads in
     let after : t ≡ with_segment k f (Ok segment) = after_is_lem opened k f (Ok segment) piece.behind reads in
@@ -275,11 +275,11 @@ tagged_xids x opened k f r behind is = subst (XidsFrom x) (sym (says_is opened k
         cuts OPCODE_READ_RESPONSE q.sink q.sink_to bytes (range_with_len 0 (segment_count bytes))
 
 pub guards_read_down : (opened : LinkParameters) (k : ClientState) (s : ServerState) (u d all_up all_down : List FrameContent) (w : Transit) (place sink at size stag to : ℕ) (rest : List FrameContent) (f : Frame) → EndsAgree opened k s u d all_up all_down w → Guards opened k s u d all_up all_down w place → w.down ≡ RequestFrame sink at size stag to ∷ rest
-    → Carries k.received.sends k.received.requests f (RequestFrame sink at size stag to) → k.has_hello ≡ true → client_end k (FrameReceived f) ≡ None
+    → Carries k.invalidates k.received.sends k.received.requests f (RequestFrame sink at size stag to) → k.has_hello ≡ true → client_end k (FrameReceived f) ≡ None
     → Guards opened (client_state_after opened k (FrameReceived f)) s u (d ++ RequestFrame sink at size stag to ∷ []) (all_up ++ client_frames opened k (FrameReceived f)) all_down (down_one w (client_frames opened k (FrameReceived f)) rest) place
 guards_read_down opened k s u d all_up all_down w place sink at size stag to rest f l g first piece hello stays =
     let segment : Segment = Untagged true OPCODE_READ_REQUEST 0 QUEUE_READ_REQUEST (msn_word (k.received.requests + 1)) 0 (request_payload sink at size stag to) in
-    let reads : client_segment k f ≡ Ok segment = segment_is k.received.sends k.received.requests f (RequestFrame sink at size stag to) segment piece refl in
+    let reads : plain_segment k f ≡ Ok segment = plain_is k f (RequestFrame sink at size stag to) segment piece refl in
     let t = client_state_after opened k (FrameReceived f) in
     let said = client_frames opened k (FrameReceived f) in
     let after : t ≡ with_segment k f (Ok segment) = after_is_lem opened k f (Ok segment) piece.behind reads in
@@ -305,33 +305,33 @@ guards_read_down opened k s u d all_up all_down w place sink at size stag to res
     ap_regions opened k es is h = subst (λ (r : EndState ClientState). AreNumbered opened.first_stag r.state.regions) is h
 
 -- a segment of a Send that isn't its last
-pub guards_part_down : (opened : LinkParameters) (k : ClientState) (s : ServerState) (u d all_up all_down : List FrameContent) (w : Transit) (place : ℕ) (offset : ℕ) (payload : List ℕ) (rest : List FrameContent) (f : Frame) → Guards opened k s u d all_up all_down w place
-    → w.down ≡ PartFrame offset payload ∷ rest → Carries k.received.sends k.received.requests f (PartFrame offset payload) → k.has_hello ≡ true → client_end k (FrameReceived f) ≡ None
-    → Guards opened (client_state_after opened k (FrameReceived f)) s u (d ++ PartFrame offset payload ∷ []) (all_up ++ client_frames opened k (FrameReceived f)) all_down (down_one w (client_frames opened k (FrameReceived f)) rest) place
-guards_part_down opened k s u d all_up all_down w place offset payload rest f g first piece hello stays =
+pub guards_part_down : (opened : LinkParameters) (k : ClientState) (s : ServerState) (u d all_up all_down : List FrameContent) (w : Transit) (place : ℕ) (named : Bool) (offset : ℕ) (payload : List ℕ) (rest : List FrameContent) (f : Frame) → Guards opened k s u d all_up all_down w place
+    → w.down ≡ PartFrame named offset payload ∷ rest → Carries k.invalidates k.received.sends k.received.requests f (PartFrame named offset payload) → k.has_hello ≡ true → client_end k (FrameReceived f) ≡ None
+    → Guards opened (client_state_after opened k (FrameReceived f)) s u (d ++ PartFrame named offset payload ∷ []) (all_up ++ client_frames opened k (FrameReceived f)) all_down (down_one w (client_frames opened k (FrameReceived f)) rest) place
+guards_part_down opened k s u d all_up all_down w place named offset payload rest f g first piece hello stays =
     let segment : Segment = part_segment k.received.sends offset payload in
-    let reads : client_segment k f ≡ Ok segment = segment_is k.received.sends k.received.requests f (PartFrame offset payload) segment piece refl in
+    let reads : plain_segment k f ≡ Ok segment = plain_is k f (PartFrame named offset payload) segment piece refl in
     let t = client_state_after opened k (FrameReceived f) in
     let says : client_frames opened k (FrameReceived f) ≡ [] = says_is opened k f (Ok segment) piece.behind reads in
     let after : t ≡ with_segment k f (Ok segment) = after_is_lem opened k f (Ok segment) piece.behind reads in
     let server : ServerAgrees opened t s (down_one w [] rest) place = record {
-      counts = subst (λ (ps : List FrameContent). TotalsAgree t s (down_one w ps rest)) says (totals_part_down opened k s w f offset payload rest g.server.counts first piece);
+      counts = subst (λ (ps : List FrameContent). TotalsAgree t s (down_one w ps rest)) says (totals_part_down opened k s w f named offset payload rest g.server.counts first piece);
       reads = reads_says_up s w [] rest g.server.reads (refl, refl) (ap requests_of first);
       waits = g.server.waits;
       sinks = g.server.sinks;
       regions = g.server.regions;
       limits = g.server.limits;
     } in
-    subst (λ (ps : List FrameContent). Guards opened t s u (d ++ PartFrame offset payload ∷ []) (all_up ++ ps) all_down (down_one w ps rest) place) (sym says)
-    (guards_down opened k t s u d all_up all_down w place (PartFrame offset payload) rest [] (FrameReceived f) g server (subst (WithinWindow opened) (sym after) (record { window = g.window.window; grant = g.window.grant; receives = g.window.receives })) tt (client_keeps_sizes opened k t s u f (Ok segment) after hello g.sizes) (sized_frame opened k t f (Ok segment) after g.calls) tt (behind_hello_lem opened k t s u d all_up all_down w f (Ok segment) after hello)
-    (answered_same opened.first_xid k t s u d all_down w (down_one w [] rest) (PartFrame offset payload) (ap (λ (x : ClientState). x.outstanding) after) (ap (λ (x : ClientState). x.sends) after) refl g.answered) stays refl)
+    subst (λ (ps : List FrameContent). Guards opened t s u (d ++ PartFrame named offset payload ∷ []) (all_up ++ ps) all_down (down_one w ps rest) place) (sym says)
+    (guards_down opened k t s u d all_up all_down w place (PartFrame named offset payload) rest [] (FrameReceived f) g server (subst (WithinWindow opened) (sym after) (record { window = g.window.window; grant = g.window.grant; receives = g.window.receives })) tt (client_keeps_sizes opened k t s u f (Ok segment) after hello g.sizes) (sized_frame opened k t f (Ok segment) after g.calls) tt (behind_hello_lem opened k t s u d all_up all_down w f (Ok segment) after hello)
+    (answered_same opened.first_xid k t s u d all_down w (down_one w [] rest) (PartFrame named offset payload) (ap (λ (x : ClientState). x.outstanding) after) (ap (λ (x : ClientState). x.sends) after) refl g.answered) stays refl)
 
 pub guards_tagged_down : (opened : LinkParameters) (k : ClientState) (s : ServerState) (u d all_up all_down : List FrameContent) (w : Transit) (place : ℕ) (last : Bool) (opcode stag to : ℕ) (payload : List ℕ) (rest : List FrameContent) (f : Frame) → Guards opened k s u d all_up all_down w place
-    → w.down ≡ TaggedFrame last opcode stag to payload ∷ rest → Carries k.received.sends k.received.requests f (TaggedFrame last opcode stag to payload) → k.has_hello ≡ true → client_end k (FrameReceived f) ≡ None
+    → w.down ≡ TaggedFrame last opcode stag to payload ∷ rest → Carries k.invalidates k.received.sends k.received.requests f (TaggedFrame last opcode stag to payload) → k.has_hello ≡ true → client_end k (FrameReceived f) ≡ None
     → Guards opened (client_state_after opened k (FrameReceived f)) s u (d ++ TaggedFrame last opcode stag to payload ∷ []) (all_up ++ client_frames opened k (FrameReceived f)) all_down (down_one w (client_frames opened k (FrameReceived f)) rest) place
 guards_tagged_down opened k s u d all_up all_down w place last opcode stag to payload rest f g first piece hello stays =
     let segment : Segment = Tagged last opcode stag to payload in
-    let reads : client_segment k f ≡ Ok segment = segment_is k.received.sends k.received.requests f (TaggedFrame last opcode stag to payload) segment piece refl in
+    let reads : plain_segment k f ≡ Ok segment = plain_is k f (TaggedFrame last opcode stag to payload) segment piece refl in
     let t = client_state_after opened k (FrameReceived f) in
     let says : client_frames opened k (FrameReceived f) ≡ [] = says_is opened k f (Ok segment) piece.behind reads in
     let after : t ≡ with_segment k f (Ok segment) = after_is_lem opened k f (Ok segment) piece.behind reads in

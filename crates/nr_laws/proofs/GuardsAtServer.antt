@@ -145,7 +145,7 @@ sinks_after s f r is n h =
     omega (arith, e, closed_length (is_over (effect_in s f r).calls (effect_in s f r).reads) f.end (effect_in s f r).regions)
 
 pub takes_send : (opened : LinkParameters) (k : ClientState) (s : ServerState) (u d all_up all_down : List FrameContent) (w : Transit) (place : ℕ) (message : SentMessage) (rest : List FrameContent) (f : Frame) → IsOpened opened → EndsAgree opened k s u d all_up all_down w → Guards opened k s u d all_up all_down w place → 0 < length u → w.up ≡ SendFrame message ∷ rest
-    → Carries s.received.sends s.received.requests f (SendFrame message) → IsBytes f.bytes → f.bytes ≡ frame_bytes opened Initiator (numbered_segment s.received.sends s.received.requests (SendFrame message)) → place < f.end → ServerTakes opened k s u d all_up all_down w (SendFrame message) rest f
+    → Carries false s.received.sends s.received.requests f (SendFrame message) → IsBytes f.bytes → f.bytes ≡ frame_bytes opened Initiator (written_segment s.received.sends s.received.requests (SendFrame message)) → place < f.end → ServerTakes opened k s u d all_up all_down w (SendFrame message) rest f
 takes_send opened k s u d all_up all_down w place message rest f o l g received first piece bytes is lt =
     let segment : Segment = last_segment s.received.sends message in
     let reads : frame_segment f ≡ Ok segment = segment_is s.received.sends s.received.requests f (SendFrame message) segment piece refl in
@@ -181,18 +181,18 @@ takes_send opened k s u d all_up all_down w place message rest f o l g received 
     }
 
 -- a segment of a Send that isn't its last
-pub takes_part : (opened : LinkParameters) (k : ClientState) (s : ServerState) (u d all_up all_down : List FrameContent) (w : Transit) (place : ℕ) (offset : ℕ) (payload : List ℕ) (rest : List FrameContent) (f : Frame) → IsOpened opened → Guards opened k s u d all_up all_down w place → 0 < length u → w.up ≡ PartFrame offset payload ∷ rest
-    → Carries s.received.sends s.received.requests f (PartFrame offset payload) → place < f.end → ServerTakes opened k s u d all_up all_down w (PartFrame offset payload) rest f
-takes_part opened k s u d all_up all_down w place offset payload rest f o g received first piece lt =
+pub takes_part : (opened : LinkParameters) (k : ClientState) (s : ServerState) (u d all_up all_down : List FrameContent) (w : Transit) (place : ℕ) (named : Bool) (offset : ℕ) (payload : List ℕ) (rest : List FrameContent) (f : Frame) → IsOpened opened → Guards opened k s u d all_up all_down w place → 0 < length u → w.up ≡ PartFrame named offset payload ∷ rest
+    → Carries false s.received.sends s.received.requests f (PartFrame named offset payload) → place < f.end → ServerTakes opened k s u d all_up all_down w (PartFrame named offset payload) rest f
+takes_part opened k s u d all_up all_down w place named offset payload rest f o g received first piece lt =
     let segment : Segment = part_segment s.received.sends offset payload in
-    let reads : frame_segment f ≡ Ok segment = segment_is s.received.sends s.received.requests f (PartFrame offset payload) segment piece refl in
-    let t = server_takes_part opened k s w place f offset payload rest g.server g.window first piece lt in
+    let reads : frame_segment f ≡ Ok segment = segment_is s.received.sends s.received.requests f (PartFrame named offset payload) segment piece refl in
+    let t = server_takes_part opened k s w place f named offset payload rest g.server g.window first piece lt in
     let says = says_frame opened s f piece.behind in
     let after = after_is_lem opened s f (Ok segment) piece.behind reads in
     let effect = step_is s f (Ok segment) reads in
     let calls_are : call_xids (server_state_after opened s (FrameReceived f)).calls ≡ call_xids s.calls = ap (λ (x : ServerState). call_xids x.calls) after in
     let none : message_xids (effect_frames (frame_effect s f)) ≡ [] = effect_xids (frame_effect s f) ∙ ap (λ (e : FrameEffect). map (λ (m : List ℕ). word_at 0 m) e.errors) effect in
-    let answered = answered_other opened.first_xid k s (server_state_after opened s (FrameReceived f)) u d all_down w (PartFrame offset payload) rest (effect_frames (frame_effect s f)) (ap (λ (x : ServerState). x.received.sends) after)
+    let answered = answered_other opened.first_xid k s (server_state_after opened s (FrameReceived f)) u d all_down w (PartFrame named offset payload) rest (effect_frames (frame_effect s f)) (ap (λ (x : ServerState). x.received.sends) after)
     (λ x. omega (arith, ap (λ (xs : List ℕ). times x xs) none, ap (λ (xs : List ℕ). times x xs) calls_are)) g.answered in
     let numbers = subst (AllByRecursion (IsNumbered opened.first_xid)) (ap (λ (x : ServerState). x.calls) (sym after)) g.numbers in
     let sinks = sinks_after s f (Ok segment) reads s.received.sends (omega (arith, ap (λ (e : FrameEffect). length e.regions) effect, g.sinks)) in
@@ -200,14 +200,14 @@ takes_part opened k s u d all_up all_down w place offset payload rest f o g rece
     record {
       ends = t.0;
       kept = λ stays.
-          subst (λ (said : List FrameContent). Guards opened k (server_state_after opened s (FrameReceived f)) (u ++ PartFrame offset payload ∷ []) d all_up (all_down ++ said) (taken_up w rest said) f.end) (sym says)
-          (guards_up opened k s (server_state_after opened s (FrameReceived f)) u d all_up all_down w place f.end (PartFrame offset payload) rest (effect_frames (frame_effect s f)) g
+          subst (λ (said : List FrameContent). Guards opened k (server_state_after opened s (FrameReceived f)) (u ++ PartFrame named offset payload ∷ []) d all_up (all_down ++ said) (taken_up w rest said) f.end) (sym says)
+          (guards_up opened k s (server_state_after opened s (FrameReceived f)) u d all_up all_down w place f.end (PartFrame named offset payload) rest (effect_frames (frame_effect s f)) g
           t.1 (credit_down (matched_down opened) (credit_word s) opened.granted (omega (arith, word_most s, g.credit)) (effect_frames (frame_effect s f)) (step_down (matched_down opened) (credit_word s) (frame_effect s f) (part_effect s (λ e. AreReplies (matched_down opened) (credit_word s) e.errors) tt f offset payload reads)))
-          (server_keeps_sizes opened k s (server_state_after opened s (FrameReceived f)) u (PartFrame offset payload) received (ap (λ (x : ServerState). x.up_max) after) (ap (λ (x : ServerState). x.down_max) after) (ap (λ (x : ServerState). x.invalidates) after) g.sizes) (ap (λ (x : ServerState). x.credit) after) (subst (λ (x : ServerState). AreWithin x.reads x.regions) (sym after) within) (subst (λ (x : ServerState). length x.regions ≤ x.received.sends) (sym after) sinks) numbers answered);
+          (server_keeps_sizes opened k s (server_state_after opened s (FrameReceived f)) u (PartFrame named offset payload) received (ap (λ (x : ServerState). x.up_max) after) (ap (λ (x : ServerState). x.down_max) after) (ap (λ (x : ServerState). x.invalidates) after) g.sizes) (ap (λ (x : ServerState). x.credit) after) (subst (λ (x : ServerState). AreWithin x.reads x.regions) (sym after) within) (subst (λ (x : ServerState). length x.regions ≤ x.received.sends) (sym after) sinks) numbers answered);
     }
 
 pub takes_tagged : (opened : LinkParameters) (k : ClientState) (s : ServerState) (u d all_up all_down : List FrameContent) (w : Transit) (place : ℕ) (last : Bool) (opcode stag to : ℕ) (payload : List ℕ) (rest : List FrameContent) (f : Frame) → IsOpened opened → EndsAgree opened k s u d all_up all_down w → Guards opened k s u d all_up all_down w place → 0 < length u
-    → w.up ≡ TaggedFrame last opcode stag to payload ∷ rest → Carries s.received.sends s.received.requests f (TaggedFrame last opcode stag to payload) → place < f.end → ServerTakes opened k s u d all_up all_down w (TaggedFrame last opcode stag to payload) rest f
+    → w.up ≡ TaggedFrame last opcode stag to payload ∷ rest → Carries false s.received.sends s.received.requests f (TaggedFrame last opcode stag to payload) → place < f.end → ServerTakes opened k s u d all_up all_down w (TaggedFrame last opcode stag to payload) rest f
 takes_tagged opened k s u d all_up all_down w place last opcode stag to payload rest f o l g received first piece lt =
     let segment : Segment = Tagged last opcode stag to payload in
     let reads : frame_segment f ≡ Ok segment = segment_is s.received.sends s.received.requests f (TaggedFrame last opcode stag to payload) segment piece refl in

@@ -212,3 +212,4 @@ pub mod PlainSegments
 pub mod NamedStags
 pub mod GivenStags
 pub mod NamedStagsDead
+pub mod ReadContents

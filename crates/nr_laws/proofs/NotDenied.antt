@@ -75,35 +75,35 @@ same_segment : (k : ClientState) (f : Frame) (segment : Segment) → client_segm
 same_segment k f segment is none other own = (let same : Ok segment ≡ Ok other = sym is ∙ own in subst (λ (x : Segment). missing_access (region_grants f.end k.regions) f x ≡ None) (let e : segment ≡ other = cc in e) none)
 
 piece_allowed : (opened : LinkParameters) (k : ClientState) (s : ServerState) (u d all_up all_down : List FrameContent) (w : Transit) (up : ℕ) (p : FrameContent) (rest : List FrameContent) (at : ℕ) (f : Frame) → EndsAgree opened k s u d all_up all_down w → Guards opened k s u d all_up all_down w up → w.down ≡ p ∷ rest
-    → Carries k.received.sends k.received.requests f p → at < f.end → AccessesAgree opened k s d all_up all_down at → IsAccess k.regions (message_xids d) p → LacksNothing k f
+    → Carries k.invalidates k.received.sends k.received.requests f p → at < f.end → AccessesAgree opened k s d all_up all_down at → IsAccess k.regions (message_xids d) p → LacksNothing k f
 piece_allowed opened k s u d all_up all_down w up HelloFrame rest at f l g first piece lt h own = absurd (let wrong = piece.is_segment in cc)
-piece_allowed opened k s u d all_up all_down w up (PartFrame offset payload) rest at f l g first piece lt h own =
+piece_allowed opened k s u d all_up all_down w up (PartFrame named offset payload) rest at f l g first piece lt h own =
     let segment : Segment = part_segment k.received.sends offset payload in
-    same_segment k f segment (segment_is k.received.sends k.received.requests f (PartFrame offset payload) segment piece refl) refl
+    same_segment k f segment (plain_is k f (PartFrame named offset payload) segment piece refl) refl
 piece_allowed opened k s u d all_up all_down w up (SendFrame message) rest at f l g first piece lt h own =
     let segment : Segment = last_segment k.received.sends message in
-    same_segment k f segment (segment_is k.received.sends k.received.requests f (SendFrame message) segment piece refl) refl
+    same_segment k f segment (plain_is k f (SendFrame message) segment piece refl) refl
 piece_allowed opened k s u d all_up all_down w up (RequestFrame sink sink_to size stag to) rest at f l g first piece lt h own =
     let segment : Segment = Untagged true OPCODE_READ_REQUEST 0 QUEUE_READ_REQUEST (msn_word (k.received.requests + 1)) 0 (request_payload sink sink_to size stag to) in
     let a = asked_of s w up sink sink_to size stag to rest g.server.reads first g.server.sinks g.server.regions.stags g.within in
     let again = request_again sink sink_to size stag to a.sink_word a.at_word a.size_word a.stag_word a.to_word in
     let granted = offered_granted at f.end opened.first_stag own.0 stag Fetch to size (message_xids d) k.regions (numbered_regions opened k g.reached.0 g.reached.1) own.1 h.lives h.early lt own.2 in
-    same_segment k f segment (segment_is k.received.sends k.received.requests f (RequestFrame sink sink_to size stag to) segment piece refl)
+    same_segment k f segment (plain_is k f (RequestFrame sink sink_to size stag to) segment piece refl)
     (ap (λ (q : ReadRequest). grant_denial (region_grants f.end k.regions) (record { right = Fetch; stag = q.stag; to = q.to; len = q.size }) f.end) again ∙ granted)
 piece_allowed opened k s u d all_up all_down w up (TaggedFrame last opcode stag to payload) rest at f l g first piece lt h own =
     let write : opcode ≡ OPCODE_WRITE = front_down opened k s u d all_up all_down w up (TaggedFrame last opcode stag to payload) rest l g first in
-    let reads = segment_is k.received.sends k.received.requests f (TaggedFrame last opcode stag to payload) (Tagged last opcode stag to payload) piece refl in
+    let reads = plain_is k f (TaggedFrame last opcode stag to payload) (Tagged last opcode stag to payload) piece refl in
     let granted = offered_granted at f.end opened.first_stag own.0 stag Fill to (length payload) (message_xids d) k.regions (numbered_regions opened k g.reached.0 g.reached.1) own.1 h.lives h.early lt own.2 in
     same_segment k f (Tagged last OPCODE_WRITE stag to payload) (reads ∙ ap (λ (c : ℕ). Ok (Tagged last c stag to payload)) write) granted
 
 frame_allowed : (opened : LinkParameters) (k : ClientState) (s : ServerState) (u d all_up all_down : List FrameContent) (w : Transit) (up : ℕ) (p : FrameContent) (rest : List FrameContent) (n r place at : ℕ) → EndsAgree opened k s u d all_up all_down w → Guards opened k s u d all_up all_down w up → w.down ≡ p ∷ rest
-    → n ≡ total_of sends_in d → r ≡ total_of requests_in d → IsPlace d place → at < place + length (frame_bytes opened Responder (numbered_segment n r p)) → AccessesAgree opened k s d all_up all_down at
-    → is_hello (frame_of (frame_bytes opened Responder (numbered_segment n r p)) place) ≡ false → LacksNothing k (frame_of (frame_bytes opened Responder (numbered_segment n r p)) place)
+    → n ≡ total_of sends_in d → r ≡ total_of requests_in d → IsPlace d place → at < place + length (frame_bytes opened Responder (written_segment n r p)) → AccessesAgree opened k s d all_up all_down at
+    → is_hello (frame_of (frame_bytes opened Responder (written_segment n r p)) place) ≡ false → LacksNothing k (frame_of (frame_bytes opened Responder (written_segment n r p)) place)
 frame_allowed opened k s u [] all_up all_down w up p rest n r place at l g first sends requests is lt h behind = absurd (let wrong : true ≡ false = sym (ap (λ (x : ℕ). eqb x 0) is) ∙ behind in cc)
 frame_allowed opened k s u (q ∷ d) all_up all_down w up p rest n r place at l g first sends requests is lt h behind =
     let own : IsAccess k.regions (message_xids (q ∷ d)) p =
     access_at k.regions [] (q ∷ d) p (rest ++ w.queued_down) (subst (AreAccesses k.regions []) (sym l.parts_down ∙ ap (λ (ps : List FrameContent). (q ∷ d) ++ (ps ++ w.queued_down)) first) h.down_said) in
-    piece_allowed opened k s u (q ∷ d) all_up all_down w up p rest at (frame_of (frame_bytes opened Responder (numbered_segment n r p)) place) l g first
+    piece_allowed opened k s u (q ∷ d) all_up all_down w up p rest at (frame_of (frame_bytes opened Responder (written_segment n r p)) place) l g first
     (front_piece_down opened k s u q d all_up all_down w p rest n r place l first sends requests is) lt h own
 
 -- so it doesn't end the client
@@ -119,7 +119,7 @@ frames_allowed : (opened : LinkParameters) (s : ServerState) (u all_down left : 
 frames_allowed opened s u all_down left o up at stag offset why [] k d all_up w n r place l g first sends requests is bytes some behind h e = absurd (let wrong : None ≡ Some (ends.Denied stag offset why) = e in cc)
 frames_allowed opened s u all_down left o up at stag offset why (p ∷ new) k d all_up w n r place l g first sends requests is bytes some behind h e =
     let rules = client_rules opened in
-    let frame = frame_bytes opened Responder (numbered_segment n r p) in
+    let frame = frame_bytes opened Responder (written_segment n r p) in
     let later = frames_at opened Responder (n + sends_in p) (r + requests_in p) new in
     let event = FrameReceived (frame_of frame place) in
     let es = events_of (place + length frame) later in

@@ -50,8 +50,8 @@ message_said opened side n r message =
 -- a message and what comes after it
 pub message_first : (opened : LinkParameters) (side : Side) (n r : ℕ) (message : List ℕ) (ps : List FrameContent) → send (n + 1) message ++ output_bytes opened side (n + 1) r ps ≡ output_bytes opened side n r (send_frames message ++ ps)
 message_first opened side n r message ps =
-    let sends : n + 1 ≡ n + total_of sends_in (send_frames message) = omega (arith, send_counts sends_in 1 (λ offset payload. refl) (λ m. refl) message) in
-    let requests : r ≡ r + total_of requests_in (send_frames message) = omega (arith, send_counts requests_in 0 (λ offset payload. refl) (λ m. refl) message) in
+    let sends : n + 1 ≡ n + total_of sends_in (send_frames message) = omega (arith, send_counts sends_in 1 (λ named offset payload. refl) (λ m. refl) message) in
+    let requests : r ≡ r + total_of requests_in (send_frames message) = omega (arith, send_counts requests_in 0 (λ named offset payload. refl) (λ m. refl) message) in
     (λ i. message_said opened side n r message i ++ output_bytes opened side (sends i) (requests i) ps)
     ∙ sym (spelled_append opened side n r (send_frames message) ps)
 
@@ -68,7 +68,7 @@ requests_said opened side n r (x ∷ reads) =
 
 pub step_said : (opened : LinkParameters) (k : ServerState) (st : FrameEffect) → effect_output k st ≡ output_bytes opened Responder k.messages_queued k.requests_sent (effect_frames st)
 step_said opened k st =
-    let none : total_of requests_in (errors_frames st.errors) ≡ 0 = sends_zero requests_in (λ (m : List ℕ). m) st.errors (λ offset payload. refl) (λ m. refl) in
+    let none : total_of requests_in (errors_frames st.errors) ≡ 0 = sends_zero requests_in (λ (m : List ℕ). m) st.errors (λ named offset payload. refl) (λ m. refl) in
     (λ i. sends_said opened Responder k.messages_queued k.requests_sent st.errors i ++ requests_said opened Responder (k.messages_queued + total_of sends_in (errors_frames st.errors)) k.requests_sent (newly_open_reads st) i)
     ∙ ap (λ (r : ℕ). output_bytes opened Responder k.messages_queued k.requests_sent (errors_frames st.errors) ++ output_bytes opened Responder (k.messages_queued + total_of sends_in (errors_frames st.errors)) r (map request_frame (newly_open_reads st)))
     (sym (ap (λ (x : ℕ). k.requests_sent + x) none ∙ add-zero k.requests_sent))

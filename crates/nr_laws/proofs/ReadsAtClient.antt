@@ -38,11 +38,11 @@ first_asked [] sink at size stag to ps e = absurd cc
 first_asked (r ∷ others) sink at size stag to ps e = (r, others, refl, cc, cc, cc, cc)
 
 pub reads_read_down : (opened : LinkParameters) (k : ClientState) (s : ServerState) (w : Transit) (f : Frame) (sink at size stag to : ℕ) (rest : List FrameContent) → ReadsAgree s w → w.down ≡ RequestFrame sink at size stag to ∷ rest
-    → Carries k.received.sends k.received.requests f (RequestFrame sink at size stag to) → IsThere k f.end sink at size stag to
+    → Carries k.invalidates k.received.sends k.received.requests f (RequestFrame sink at size stag to) → IsThere k f.end sink at size stag to
     → ReadsAgree s (down_one w (client_frames opened k (FrameReceived f)) rest)
 reads_read_down opened k s w f sink at size stag to rest c first p there =
     let segment : Segment = Untagged true OPCODE_READ_REQUEST 0 QUEUE_READ_REQUEST (msn_word (k.received.requests + 1)) 0 (request_payload sink at size stag to) in
-    let is : client_segment k f ≡ Ok segment = segment_is k.received.sends k.received.requests f (RequestFrame sink at size stag to) segment p refl in
+    let is : plain_segment k f ≡ Ok segment = plain_is k f (RequestFrame sink at size stag to) segment p refl in
     let bytes = take size (drop to (client_memory_at k f.end stag)) in
     let len : length bytes ≡ size = omega (arith, length-take size (drop to (client_memory_at k f.end stag)), length-drop to (client_memory_at k f.end stag), there.there) in
     let said : client_frames opened k (FrameReceived f) ≡ tagged_frames OPCODE_READ_RESPONSE sink at bytes =

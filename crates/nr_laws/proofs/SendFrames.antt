@@ -21,26 +21,26 @@ use Rattle.nr_laws.proofs.Totals.{total_append, total_map_zero}
 
 -- ---- Counts
 
-pub send_counts : (one : FrameContent → ℕ) (n : ℕ) → ((offset : ℕ) (payload : List ℕ) → one (PartFrame offset payload) ≡ 0) → ((m : SentMessage) → one (SendFrame m) ≡ n) → (message : List ℕ) → total_of one (send_frames message) ≡ n
+pub send_counts : (one : FrameContent → ℕ) (n : ℕ) → ((named : Bool) (offset : ℕ) (payload : List ℕ) → one (PartFrame named offset payload) ≡ 0) → ((m : SentMessage) → one (SendFrame m) ≡ n) → (message : List ℕ) → total_of one (send_frames message) ≡ n
 unfolding send_frames
 send_counts one n none is message =
     let parts = map (part_frame message) (range_with_len 0 (last_index message)) in
     total_append one parts (SendFrame (last_part message) ∷ [])
     ∙ omega (arith, total_map_zero one (part_frame message) (range_with_len 0 (last_index message)) (λ i. none (segment_max * i) (segment_payload message i)), is (last_part message))
 
-pub sends_zero : {X : Type 0} (one : FrameContent → ℕ) (f : X → List ℕ) (xs : List X) → ((offset : ℕ) (payload : List ℕ) → one (PartFrame offset payload) ≡ 0) → ((m : SentMessage) → one (SendFrame m) ≡ 0) → total_of one (sends_frames f xs) ≡ 0
+pub sends_zero : {X : Type 0} (one : FrameContent → ℕ) (f : X → List ℕ) (xs : List X) → ((named : Bool) (offset : ℕ) (payload : List ℕ) → one (PartFrame named offset payload) ≡ 0) → ((m : SentMessage) → one (SendFrame m) ≡ 0) → total_of one (sends_frames f xs) ≡ 0
 sends_zero one f [] none is = refl
 sends_zero one f (x ∷ xs) none is =
     total_append one (send_frames (f x)) (sends_frames f xs) ∙ omega (arith, send_counts one 0 none is (f x), sends_zero one f xs none is)
 
-pub sends_one : {X : Type 0} (one : FrameContent → ℕ) (f : X → List ℕ) (xs : List X) → ((offset : ℕ) (payload : List ℕ) → one (PartFrame offset payload) ≡ 0) → ((m : SentMessage) → one (SendFrame m) ≡ 1) → total_of one (sends_frames f xs) ≡ length xs
+pub sends_one : {X : Type 0} (one : FrameContent → ℕ) (f : X → List ℕ) (xs : List X) → ((named : Bool) (offset : ℕ) (payload : List ℕ) → one (PartFrame named offset payload) ≡ 0) → ((m : SentMessage) → one (SendFrame m) ≡ 1) → total_of one (sends_frames f xs) ≡ length xs
 sends_one one f [] none is = refl
 sends_one one f (x ∷ xs) none is =
     total_append one (send_frames (f x)) (sends_frames f xs) ∙ omega (arith, send_counts one 1 none is (f x), sends_one one f xs none is)
 
 -- ---- What holds of each
 
-pub each_send : (P : FrameContent → Type 0) → ((offset : ℕ) (payload : List ℕ) → P (PartFrame offset payload)) → (message : List ℕ) → P (SendFrame (last_part message)) → AllByRecursion P (send_frames message)
+pub each_send : (P : FrameContent → Type 0) → ((offset : ℕ) (payload : List ℕ) → P (PartFrame named offset payload)) → (message : List ℕ) → P (SendFrame (last_part message)) → AllByRecursion P (send_frames message)
 unfolding send_frames
 each_send P parts message last = each_append P (map (part_frame message) (range_with_len 0 (last_index message))) (SendFrame (last_part message) ∷ []) (by (range_with_len 0 (last_index message))) (last, tt)
   where
@@ -48,7 +48,7 @@ each_send P parts message last = each_append P (map (part_frame message) (range_
     by [] = tt
     by (i ∷ is) = (parts (segment_max * i) (segment_payload message i), by is)
 
-pub each_sends : {X : Type 0} (P : FrameContent → Type 0) → ((offset : ℕ) (payload : List ℕ) → P (PartFrame offset payload)) → (f : X → List ℕ) (xs : List X) → AllByRecursion (λ x. P (SendFrame (last_part (f x)))) xs → AllByRecursion P (sends_frames f xs)
+pub each_sends : {X : Type 0} (P : FrameContent → Type 0) → ((offset : ℕ) (payload : List ℕ) → P (PartFrame named offset payload)) → (f : X → List ℕ) (xs : List X) → AllByRecursion (λ x. P (SendFrame (last_part (f x)))) xs → AllByRecursion P (sends_frames f xs)
 each_sends P parts f [] h = tt
 each_sends P parts f (x ∷ xs) h = each_append P (send_frames (f x)) (sends_frames f xs) (each_send P parts (f x) h.0) (each_sends P parts f xs h.1)
 
@@ -77,7 +77,7 @@ are_sends message = sends_from message (last_index message) 0 None (omega arith)
 pub sends_append : (begun : Option (List ℕ)) (ps qs : List FrameContent) → AreSends begun ps → AreSends None qs → AreSends begun (ps ++ qs)
 sends_append begun [] qs h k = subst (λ (b : Option (List ℕ)). AreSends b qs) (sym h) k
 sends_append begun (HelloFrame ∷ ps) qs h k = sends_append begun ps qs h k
-sends_append begun (PartFrame offset payload ∷ ps) qs h k = (h.0, sends_append (Some (begun_bytes begun ++ payload)) ps qs h.1 k)
+sends_append begun (PartFrame named offset payload ∷ ps) qs h k = (h.0, sends_append (Some (begun_bytes begun ++ payload)) ps qs h.1 k)
 sends_append begun (SendFrame message ∷ ps) qs h k = (h.0, h.1, sends_append None ps qs h.2 k)
 sends_append begun (RequestFrame sink at size stag to ∷ ps) qs h k = sends_append begun ps qs h k
 sends_append begun (TaggedFrame last opcode stag to payload ∷ ps) qs h k = sends_append begun ps qs h k
@@ -90,7 +90,7 @@ are_all_sends f (x ∷ xs) = sends_append None (send_frames (f x)) (sends_frames
 pub send_goes_on : (bytes : List ℕ) (ps : List FrameContent) → AreSends (Some bytes) ps → 0 < total_of sends_in ps
 send_goes_on bytes [] h = absurd (let wrong : Some bytes ≡ None = h in cc)
 send_goes_on bytes (HelloFrame ∷ ps) h = omega (arith, send_goes_on bytes ps h)
-send_goes_on bytes (PartFrame offset payload ∷ ps) h = omega (arith, send_goes_on (bytes ++ payload) ps h.1)
+send_goes_on bytes (PartFrame named offset payload ∷ ps) h = omega (arith, send_goes_on (bytes ++ payload) ps h.1)
 send_goes_on bytes (SendFrame message ∷ ps) h = omega arith
 send_goes_on bytes (RequestFrame sink at size stag to ∷ ps) h = omega (arith, send_goes_on bytes ps h)
 send_goes_on bytes (TaggedFrame last opcode stag to payload ∷ ps) h = omega (arith, send_goes_on bytes ps h)

@@ -89,7 +89,7 @@ server_runs opened k d all_up left [] s u all_down w n r place l first sends req
     record { after = s; said = []; state = refl; output = refl; linked = same; guarded = guarded; accessed = accessed }
 server_runs opened k d all_up left (p ∷ new) s u all_down w n r place l first sends requests at bytes some e =
     let rules = server_rules opened in
-    let frame = frame_bytes opened Initiator (numbered_segment n r p) in
+    let frame = frame_bytes opened Initiator (written_segment n r p) in
     let later = frames_at opened Initiator (n + sends_in p) (r + requests_in p) new in
     let event = FrameReceived (frame_of frame place) in
     let es = events_of (place + length frame) later in
@@ -151,7 +151,7 @@ pub server_ends : (opened : LinkParameters) (k : ClientState) (d all_up left : L
 server_ends opened k d all_up left o end [] s u all_down w n r place l g first sends requests at bytes some e = absurd (let wrong : None ≡ Some end = e in cc)
 server_ends opened k d all_up left o end (p ∷ new) s u all_down w n r place l g first sends requests at bytes some e =
     let rules = server_rules opened in
-    let frame = frame_bytes opened Initiator (numbered_segment n r p) in
+    let frame = frame_bytes opened Initiator (written_segment n r p) in
     let later = frames_at opened Initiator (n + sends_in p) (r + requests_in p) new in
     let event = FrameReceived (frame_of frame place) in
     let es = events_of (place + length frame) later in

@@ -114,17 +114,17 @@ shape_read k c_k place r (Some c) st kept same none apart is h =
 sends_said : (st : FrameEffect) → total_of sends_in (effect_frames st) ≡ length st.errors
 sends_said st =
     total_append sends_in (errors_frames st.errors) (map request_frame (newly_open_reads st))
-    ∙ omega (arith, sends_one sends_in (λ (m : List ℕ). m) st.errors (λ offset payload. refl) (λ x. refl), total_map_zero sends_in request_frame (newly_open_reads st) (λ x. refl))
+    ∙ omega (arith, sends_one sends_in (λ (m : List ℕ). m) st.errors (λ named offset payload. refl) (λ x. refl), total_map_zero sends_in request_frame (newly_open_reads st) (λ x. refl))
 
 pub reads_said : (st : FrameEffect) → total_of requests_in (effect_frames st) ≡ length (newly_open_reads st)
 reads_said st =
     total_append requests_in (errors_frames st.errors) (map request_frame (newly_open_reads st))
-    ∙ omega (arith, sends_zero requests_in (λ (m : List ℕ). m) st.errors (λ offset payload. refl) (λ x. refl), total_map_one requests_in request_frame (newly_open_reads st) (λ x. refl))
+    ∙ omega (arith, sends_zero requests_in (λ (m : List ℕ). m) st.errors (λ named offset payload. refl) (λ x. refl), total_map_one requests_in request_frame (newly_open_reads st) (λ x. refl))
 
 pub hello_said : (st : FrameEffect) → total_of hellos_in (effect_frames st) ≡ 0
 hello_said st =
     total_append hellos_in (errors_frames st.errors) (map request_frame (newly_open_reads st))
-    ∙ omega (arith, sends_zero hellos_in (λ (m : List ℕ). m) st.errors (λ offset payload. refl) (λ x. refl), total_map_zero hellos_in request_frame (newly_open_reads st) (λ x. refl))
+    ∙ omega (arith, sends_zero hellos_in (λ (m : List ℕ). m) st.errors (λ named offset payload. refl) (λ x. refl), total_map_zero hellos_in request_frame (newly_open_reads st) (λ x. refl))
 
 -- ---- Counts after a frame
 
@@ -221,7 +221,7 @@ totals_frame_lem opened k s w f segment rest behind is h =
     (subst (λ (t : ServerState). TotalsAgree k t (up_one w rest (effect_frames (effect_in s f (Ok segment))))) (sym (after_is_lem opened s f (Ok segment) behind is)) h)
 
 pub totals_send_up : (opened : LinkParameters) (k : ClientState) (s : ServerState) (w : Transit) (f : Frame) (message : SentMessage) (rest : List FrameContent) → TotalsAgree k s w → w.up ≡ SendFrame message ∷ rest
-    → Carries s.received.sends s.received.requests f (SendFrame message) → (frame_effect s f).refusal ≡ None
+    → Carries false s.received.sends s.received.requests f (SendFrame message) → (frame_effect s f).refusal ≡ None
     → TotalsAgree k (server_state_after opened s (FrameReceived f)) (record { queued_up = w.queued_up; up = rest; queued_down = w.queued_down ++ effect_frames (frame_effect s f); down = w.down })
 totals_send_up opened k s w f message rest c first p goes_on =
     let segment : Segment = last_segment s.received.sends message in
@@ -246,15 +246,15 @@ totals_send_up opened k s w f message rest c first p goes_on =
     } in
     totals_frame_lem opened k s w f segment rest p.behind is (totals_moved opened k s t w st rest 1 (length (open_reads s)) 0 c m front.2)
 
-pub totals_part_up : (opened : LinkParameters) (k : ClientState) (s : ServerState) (w : Transit) (f : Frame) (offset : ℕ) (payload : List ℕ) (rest : List FrameContent) → TotalsAgree k s w → w.up ≡ PartFrame offset payload ∷ rest
-    → Carries s.received.sends s.received.requests f (PartFrame offset payload)
+pub totals_part_up : (opened : LinkParameters) (k : ClientState) (s : ServerState) (w : Transit) (f : Frame) (named : Bool) (offset : ℕ) (payload : List ℕ) (rest : List FrameContent) → TotalsAgree k s w → w.up ≡ PartFrame named offset payload ∷ rest
+    → Carries false s.received.sends s.received.requests f (PartFrame named offset payload)
     → TotalsAgree k (server_state_after opened s (FrameReceived f)) (record { queued_up = w.queued_up; up = rest; queued_down = w.queued_down ++ effect_frames (frame_effect s f); down = w.down })
-totals_part_up opened k s w f offset payload rest c first p =
+totals_part_up opened k s w f named offset payload rest c first p =
     let segment : Segment = part_segment s.received.sends offset payload in
-    let is : frame_segment f ≡ Ok segment = segment_is s.received.sends s.received.requests f (PartFrame offset payload) segment p refl in
+    let is : frame_segment f ≡ Ok segment = segment_is s.received.sends s.received.requests f (PartFrame named offset payload) segment p refl in
     let st = effect_in s f (Ok segment) in
     let t = with_by s f (Ok segment) st in
-    let front = at_front s.received.begun w.up w.queued_up (PartFrame offset payload) rest first c.whole_up in
+    let front = at_front s.received.begun w.up w.queued_up (PartFrame named offset payload) rest first c.whole_up in
     let m : FrameTotals s t st w.up rest 0 (length (open_reads s)) 0 = record {
       shape = record { counted = omega arith; kept_is = refl; kept_there = omega arith };
       kept_gone = omega arith;
@@ -330,7 +330,7 @@ moves_tagged s f last opcode stag to payload up rest false is first few apart wi
 
 pub totals_tagged_up : (opened : LinkParameters) (k : ClientState) (s : ServerState) (w : Transit) (f : Frame) (last : Bool) (opcode stag to : ℕ) (payload : List ℕ) (rest : List FrameContent) → TotalsAgree k s w
     → AreDistinct (λ (c : PendingCall). c.number) s.calls → w.up ≡ TaggedFrame last opcode stag to payload ∷ rest
-    → Carries s.received.sends s.received.requests f (TaggedFrame last opcode stag to payload)
+    → Carries false s.received.sends s.received.requests f (TaggedFrame last opcode stag to payload)
     → TotalsAgree k (server_state_after opened s (FrameReceived f)) (record { queued_up = w.queued_up; up = rest; queued_down = w.queued_down ++ effect_frames (frame_effect s f); down = w.down })
 totals_tagged_up opened k s w f last opcode stag to payload rest c apart first p =
     let segment : Segment = Tagged last opcode stag to payload in
@@ -358,7 +358,7 @@ pub long_none : (one : FrameContent → ℕ) → ((last : Bool) (stag to : ℕ) 
 long_none one none true chunk bytes = fills_none one none chunk bytes
 long_none one none false chunk bytes = refl
 
-pub answer_counts : (one : FrameContent → ℕ) (n : ℕ) → ((last : Bool) (stag to : ℕ) (payload : List ℕ) → one (TaggedFrame last OPCODE_WRITE stag to payload) ≡ 0) → ((offset : ℕ) (payload : List ℕ) → one (PartFrame offset payload) ≡ 0) → ((message : SentMessage) → one (SendFrame message) ≡ n)
+pub answer_counts : (one : FrameContent → ℕ) (n : ℕ) → ((last : Bool) (stag to : ℕ) (payload : List ℕ) → one (TaggedFrame last OPCODE_WRITE stag to payload) ≡ 0) → ((named : Bool) (offset : ℕ) (payload : List ℕ) → one (PartFrame named offset payload) ≡ 0) → ((message : SentMessage) → one (SendFrame message) ≡ n)
     → (s : ServerState) (xid : ℕ) (offer : ChunkLists) (a : Option Answer) → total_of one (answer_frames s xid offer a) ≡ n
 answer_counts one n none parts is s xid offer None = send_counts one n parts is (chunk_error xid (credit_word s))
 answer_counts one n none parts is s xid offer (Some a) =
@@ -378,15 +378,15 @@ totals_executes opened k s w e c apart there =
     let said = answer_frames s e.xid offer answer in
     let fewer = length_fewer (λ (c : PendingCall). c.xid) e.xid s.calls apart there in
     record {
-      hello = omega (arith, c.hello, total_append hellos_in w.queued_down said, answer_counts hellos_in 0 (λ last stag to payload. refl) (λ offset payload. refl) (λ message. refl) s e.xid offer answer);
+      hello = omega (arith, c.hello, total_append hellos_in w.queued_down said, answer_counts hellos_in 0 (λ last stag to payload. refl) (λ named offset payload. refl) (λ message. refl) s e.xid offer answer);
       calls_up = c.calls_up;
-      messages_down = omega (arith, c.messages_down, total_append sends_in w.queued_down said, answer_counts sends_in 1 (λ last stag to payload. refl) (λ offset payload. refl) (λ message. refl) s e.xid offer answer);
+      messages_down = omega (arith, c.messages_down, total_append sends_in w.queued_down said, answer_counts sends_in 1 (λ last stag to payload. refl) (λ named offset payload. refl) (λ message. refl) s e.xid offer answer);
       sends = c.sends;
       messages = omega (
         arith,
         c.messages,
         total_append sends_in w.queued_down said,
-        answer_counts sends_in 1 (λ last stag to payload. refl) (λ offset payload. refl) (λ message. refl) s e.xid offer answer,
+        answer_counts sends_in 1 (λ last stag to payload. refl) (λ named offset payload. refl) (λ message. refl) s e.xid offer answer,
         waiting_append s.written s.message_ends ((s.due + length (execution_output s e)) ∷ []),
         one_waiting s.written (s.due + length (execution_output s e)) (omega (arith, c.within_down, execution_some s e)),
       );
@@ -397,7 +397,7 @@ totals_executes opened k s w e c apart there =
       waiting = omega (arith, c.waiting, fewer);
       whole_up = c.whole_up;
       whole_down = queued_more k.received.begun w.down w.queued_down said c.whole_down (answer_sends s e.xid offer answer);
-      reads = omega (arith, c.reads, total_append requests_in w.queued_down said, answer_counts requests_in 0 (λ last stag to payload. refl) (λ offset payload. refl) (λ message. refl) s e.xid offer answer);
+      reads = omega (arith, c.reads, total_append requests_in w.queued_down said, answer_counts requests_in 0 (λ last stag to payload. refl) (λ named offset payload. refl) (λ message. refl) s e.xid offer answer);
       responses = c.responses;
     }
 

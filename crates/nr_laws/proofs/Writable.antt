@@ -15,7 +15,7 @@ use Rattle.nr_laws.proofs.StreamFrames.{IsWritableAs, AreWritableFrom}
 
 abbrev pub IsWritable : FrameContent → Type 0
 IsWritable HelloFrame = ⊥
-IsWritable (PartFrame offset payload) = (offset < 2 ^ 32) × (length payload ≤ segment_max)
+IsWritable (PartFrame named offset payload) = (offset < 2 ^ 32) × (length payload ≤ segment_max)
 IsWritable (SendFrame message) = (message.offset < 2 ^ 32) × (length message.payload ≤ segment_max)
 IsWritable (RequestFrame sink at size stag to) = Unit {0}
 IsWritable (TaggedFrame last opcode stag to payload) = (is_tagged_opcode opcode ≡ true) × (opcode < 16) × (stag < 2 ^ 32) × (to < 2 ^ 64) × (length payload ≤ segment_max)
@@ -28,7 +28,7 @@ AreWritable (p ∷ ps) = IsWritable p × AreWritable ps
 abbrev pub IsOutput : List FrameContent → Type 0
 IsOutput [] = Unit {0}
 IsOutput (HelloFrame ∷ ps) = AreWritable ps
-IsOutput (PartFrame offset payload ∷ ps) = ⊥
+IsOutput (PartFrame named offset payload ∷ ps) = ⊥
 IsOutput (SendFrame message ∷ ps) = ⊥
 IsOutput (RequestFrame sink at size stag to ∷ ps) = ⊥
 IsOutput (TaggedFrame last opcode stag to payload ∷ ps) = ⊥
@@ -53,7 +53,7 @@ len_request sink at size stag to =
 
 pub proper_one : (n r : ℕ) (p : FrameContent) → IsWritable p → IsWritableAs Fpdu (numbered_segment n r p)
 proper_one n r HelloFrame h = absurd h
-proper_one n r (PartFrame offset payload) h = record { supported = (refl, refl); fits = (lit< tt, lit< tt, lit< tt, word_below (n + 1), h.0); size = omega (arith, h.1) }
+proper_one n r (PartFrame named offset payload) h = record { supported = (refl, refl); fits = (lit< tt, lit< tt, lit< tt, word_below (n + 1), h.0); size = omega (arith, h.1) }
 proper_one n r (SendFrame message) h = record { supported = (refl, refl); fits = (lit< tt, lit< tt, lit< tt, word_below (n + 1), h.0); size = omega (arith, h.1) }
 proper_one n r (RequestFrame sink at size stag to) h =
     record { supported = (refl, refl); fits = (lit< tt, lit< tt, lit< tt, word_below (r + 1), lit< tt); size = omega (arith, len_request sink at size stag to) }
@@ -66,7 +66,7 @@ all_proper n r (p ∷ ps) h = (proper_one n r p h.0, all_proper (n + sends_in p)
 pub stream_proper : (side : Side) (ps : List FrameContent) → IsOutput ps → AreWritableFrom (HelloFrom side) 0 0 ps
 stream_proper side [] h = tt
 stream_proper side (HelloFrame ∷ ps) h = (tt, all_proper 0 0 ps h)
-stream_proper side (PartFrame offset payload ∷ ps) h = absurd h
+stream_proper side (PartFrame named offset payload ∷ ps) h = absurd h
 stream_proper side (SendFrame message ∷ ps) h = absurd h
 stream_proper side (RequestFrame sink at size stag to ∷ ps) h = absurd h
 stream_proper side (TaggedFrame last opcode stag to payload ∷ ps) h = absurd h
@@ -88,7 +88,7 @@ all_proper_at (x ∷ ps) p qs h = all_proper_at ps p qs h.1
 pub stream_left : (ps qs : List FrameContent) → IsOutput (ps ++ qs) → IsOutput ps
 stream_left [] qs h = tt
 stream_left (HelloFrame ∷ ps) qs h = all_proper_left ps qs h
-stream_left (PartFrame offset payload ∷ ps) qs h = h
+stream_left (PartFrame named offset payload ∷ ps) qs h = h
 stream_left (SendFrame message ∷ ps) qs h = h
 stream_left (RequestFrame sink at size stag to ∷ ps) qs h = h
 stream_left (TaggedFrame last opcode stag to payload ∷ ps) qs h = h
@@ -97,7 +97,7 @@ stream_left (TaggedFrame last opcode stag to payload ∷ ps) qs h = h
 pub stream_more : (ps qs : List FrameContent) → IsOutput ps → 0 < total_of hellos_in ps → AreWritable qs → IsOutput (ps ++ qs)
 stream_more [] qs h some k = absurd (omega (arith, some))
 stream_more (HelloFrame ∷ ps) qs h some k = all_proper_append ps qs h k
-stream_more (PartFrame offset payload ∷ ps) qs h some k = h
+stream_more (PartFrame named offset payload ∷ ps) qs h some k = h
 stream_more (SendFrame message ∷ ps) qs h some k = h
 stream_more (RequestFrame sink at size stag to ∷ ps) qs h some k = h
 stream_more (TaggedFrame last opcode stag to payload ∷ ps) qs h some k = h
@@ -106,7 +106,7 @@ stream_more (TaggedFrame last opcode stag to payload ∷ ps) qs h some k = h
 pub stream_none : (ps : List FrameContent) → IsOutput ps → total_of hellos_in ps ≡ 0 → ps ≡ []
 stream_none [] h none = refl
 stream_none (HelloFrame ∷ ps) h none = absurd (omega (arith, none))
-stream_none (PartFrame offset payload ∷ ps) h none = absurd h
+stream_none (PartFrame named offset payload ∷ ps) h none = absurd h
 stream_none (SendFrame message ∷ ps) h none = absurd h
 stream_none (RequestFrame sink at size stag to ∷ ps) h none = absurd h
 stream_none (TaggedFrame last opcode stag to payload ∷ ps) h none = absurd h
@@ -114,14 +114,14 @@ stream_none (TaggedFrame last opcode stag to payload ∷ ps) h none = absurd h
 -- the first one is the hello, and each after it is another
 pub stream_first : (p : FrameContent) (qs : List FrameContent) → IsOutput (p ∷ qs) → p ≡ HelloFrame
 stream_first HelloFrame qs h = refl
-stream_first (PartFrame offset payload) qs h = absurd h
+stream_first (PartFrame named offset payload) qs h = absurd h
 stream_first (SendFrame message) qs h = absurd h
 stream_first (RequestFrame sink at size stag to) qs h = absurd h
 stream_first (TaggedFrame last opcode stag to payload) qs h = absurd h
 
 pub stream_at_lem : (q : FrameContent) (ps : List FrameContent) (p : FrameContent) (qs : List FrameContent) → IsOutput (q ∷ ps ++ p ∷ qs) → IsWritable p
 stream_at_lem HelloFrame ps p qs h = all_proper_at ps p qs h
-stream_at_lem (PartFrame offset payload) ps p qs h = absurd h
+stream_at_lem (PartFrame named offset payload) ps p qs h = absurd h
 stream_at_lem (SendFrame message) ps p qs h = absurd h
 stream_at_lem (RequestFrame sink at size stag to) ps p qs h = absurd h
 stream_at_lem (TaggedFrame last opcode stag to payload) ps p qs h = absurd h
