@@ -15,20 +15,21 @@ use Rattle.nr_link.specs.Ending.{frame_end, frame_end_by, missing_access, end_of
 use Rattle.nr_reduce.specs.OfferedRegions.{region_grants}
 use Rattle.nr_reduce.specs.Events.RunEvent.{FrameReceived}
 use Rattle.nr_reduce.specs.ClientState.{ClientState}
-use Rattle.nr_reduce.specs.Client.{client_segment, client_readiness as client_readiness, client_end, or_message_end, client_message_end, segment_message}
+use Rattle.nr_reduce.specs.Client.{client_segment, client_readiness, client_end, or_message_end, client_message_end, segment_names}
 use Rattle.nr_reduce.specs.ServerState.{ServerState, PendingRead}
 use Rattle.nr_reduce.specs.Server.{server_readiness, server_end, or_refusal, refusal_end}
 use Rattle.nr_reduce.specs.ServerFrames.{frame_effect}
-use Rattle.nr_laws.proofs.FrameContents.{FrameContent, Carries, total_of, sends_in, SentMessage, part_segment}
+use Rattle.nr_laws.proofs.FrameContents.{FrameContent, Carries, total_of, sends_in, SentMessage, part_segment, last_segment}
 use Rattle.nr_laws.proofs.FrameContents.FrameContent.{PartFrame, SendFrame, TaggedFrame}
 use Rattle.nr_laws.proofs.LinkInvariants.{Transit, TotalsAgree, ReadsAgree, AreResponses, WithinWindow}
 use Rattle.nr_laws.proofs.FreeReceives.{receives}
-use Rattle.nr_laws.proofs.FaultlessSegments.{send_frame, response_flaw, part_frame_end}
-use Rattle.nr_laws.proofs.TotalsAtServer.{segment_is}
+use Rattle.nr_laws.proofs.FaultlessSegments.{send_frame, send_flaw, part_flaw, response_flaw, part_frame_end}
+use Rattle.nr_laws.proofs.ReadContents.{segment_is, plain_is, message_end_is}
 use Rattle.nr_laws.proofs.ExpectedResponses.{is_expected_lem}
 use Rattle.nr_laws.proofs.SendFrames.{at_front, send_goes_on}
 use Rattle.nr_link.specs.ReceiveState.{begun_bytes}
 use Rattle.nr_laws.proofs.NamedReplies.{message_end_in}
+use Rattle.nr_laws.proofs.PlainSegments.{plain_segment, plain_frame_end}
 
 -- ---- The server
 
@@ -89,13 +90,22 @@ or_true : (b : Bool) → (b || true) ≡ true
 or_true true = refl
 or_true false = refl
 
+-- a segment ends it as a plain one
+pub plain_end_by : (k : ClientState) (f : Frame) (segment : Segment) → plain_segment k f ≡ Ok segment → frame_end_by (client_readiness k) (region_grants f.end k.regions) f (client_segment k f) ≡ frame_end_by (client_readiness k) (region_grants f.end k.regions) f (Ok segment)
+plain_end_by k f segment is =
+    sym (plain_frame_end (client_readiness k) (region_grants f.end k.regions) f (client_segment k f))
+    ∙ ap (λ (r : Result Segment ℕ). frame_end_by (client_readiness k) (region_grants f.end k.regions) f r) is
+
 -- a message: its verdict alone
 pub client_send : (opened : LinkParameters) (k : ClientState) (s : ServerState) (w : Transit) (f : Frame) (message : SentMessage) (rest : List FrameContent) → TotalsAgree k s w → w.down ≡ SendFrame message ∷ rest
     → Carries k.invalidates k.received.sends k.received.requests f (SendFrame message) → 16 ≤ length message.bytes → length message.bytes ≤ k.down_max → client_end k (FrameReceived f) ≡ message_end_in k f (client_segment k f)
 client_send opened k s w f message rest c head p long short =
+    let segment : Segment = last_segment k.received.sends message in
+    let is : plain_segment k f ≡ Ok segment = plain_is k f (SendFrame message) segment p refl in
     let front = at_front k.received.begun w.down w.queued_down (SendFrame message) rest head c.whole_down in
     client_by_lem k f None p.behind
-    (send_frame (client_readiness k) (region_grants f.end k.regions) k.received.sends k.received.requests f message p refl front.0 front.1 (or_true (is_begun k.received.begun)) refl long (omega (arith, short)))
+    (plain_end_by k f segment is
+    ∙ ap (λ (x : Option (SegmentReason Denied)). end_of_fault f segment x) (send_flaw (client_readiness k None) message front.0 front.1 (or_true (is_begun k.received.begun)) refl long (omega (arith, short))))
 
 -- a segment of a Send that isn't its last: nothing
 pub client_part : (k : ClientState) (s : ServerState) (w : Transit) (f : Frame) (named : Bool) (offset : ℕ) (payload : List ℕ) (rest : List FrameContent) → TotalsAgree k s w → w.down ≡ PartFrame named offset payload ∷ rest
@@ -105,5 +115,6 @@ client_part k s w f named offset payload rest c head p =
     let is : plain_segment k f ≡ Ok segment = plain_is k f (PartFrame named offset payload) segment p refl in
     let front = at_front k.received.begun w.down w.queued_down (PartFrame named offset payload) rest head c.whole_down in
     client_by_lem k f None p.behind
-    (part_frame_end (client_readiness k) (region_grants f.end k.regions) k.received.sends k.received.requests f named offset payload p refl front.0 (or_true (is_begun k.received.begun)) refl)
-    ∙ ap (λ (r : Result Segment ℕ). message_end_in k f r) is
+    (plain_end_by k f segment is
+    ∙ ap (λ (x : Option (SegmentReason Denied)). end_of_fault f segment x) (part_flaw (client_readiness k None) offset payload front.0 (or_true (is_begun k.received.begun)) refl))
+    ∙ message_end_is k f segment is
