@@ -70,7 +70,7 @@ use Rattle.nr_laws.proofs.NamedReplies.{message_end_in}
 
 -- ---- A message
 
-abbrev VerdictReason : ReplyVerdict → Type 0
+abbrev pub VerdictReason : ReplyVerdict → Type 0
 VerdictReason (EndsLink reason) = IsMessageReason reason
 VerdictReason (GivesOutcome xid outcome) = Unit {0}
 
@@ -103,7 +103,7 @@ reason_lists k place o inline lists true = by o.is_revoked
     by true = tt
     by false = reason_payload o.xid (reply_conveyed o.call.prog o.call.vers o.call.proc inline lists (client_memory_at k place))
 
-reason_body : (k : ClientState) (place : ℕ) (o : OutstandingCall) (message : List ℕ) (body : Body) → VerdictReason (reply_by_body k place o message body)
+pub reason_body : (k : ClientState) (place : ℕ) (o : OutstandingCall) (message : List ℕ) (body : Body) → VerdictReason (reply_by_body k place o message body)
 reason_body k place o message (Msg lists at) = reason_lists k place o (Some (drop at message)) lists (answers_offer false (lists_of o.stag o.plan) lists)
 reason_body k place o message (Nomsg lists) = reason_lists k place o None lists (answers_offer true (lists_of o.stag o.plan) lists)
 reason_body k place o message (ErrVers version low high) = tt
