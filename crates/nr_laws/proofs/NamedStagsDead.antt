@@ -152,31 +152,31 @@ numbered_above : (n stag : ℕ) (regions : List Region) → stag < n → AreNumb
 numbered_above n stag [] lt h = tt
 numbered_above n stag (r ∷ regions) lt h = ((λ same. (let s = h.0 in omega (arith, lt, s, same))), numbered_above (n + 1) stag regions (omega (arith, lt)) h.1)
 
+none_away : (xid stag : ℕ) (xs : List Region) → AllByRecursion (λ (x : Region). x.stag ≡ stag → ⊥) xs → IsThere xs xid stag → ⊥
+none_away xid stag [] away e = absurd cc
+none_away xid stag (x ∷ xs) away e = at (eqb x.stag stag) refl e (none_away xid stag xs away.1)
+  where
+    at : (b : Bool) → eqb x.stag stag ≡ b → ((b && eqb x.call xid) || list_any (IsOwn xid stag) xs) ≡ true → (IsThere xs xid stag → ⊥) → ⊥
+    at true so e later = away.0 (eqb-true x.stag stag so)
+    at false so e later = later e
+
 -- all regions of the STag are of this call, if one is
 all_own : (n xid stag : ℕ) (regions : List Region) → AreNumbered n regions → IsThere regions xid stag → AllByRecursion (λ (r : Region). r.stag ≡ stag → r.call ≡ xid) regions
 all_own n xid stag [] h there = tt
-all_own n xid stag (r ∷ regions) h there = by (eqb r.stag stag) refl (eqb r.call xid) refl there
+all_own n xid stag (r ∷ regions) h there = by (eqb r.stag stag) refl (eqb r.call xid) refl there (all_own (n + 1) xid stag regions h.1)
   where
-    by : (b : Bool) → eqb r.stag stag ≡ b → (c : Bool) → eqb r.call xid ≡ c → ((b && c) || list_any (IsOwn xid stag) regions) ≡ true → AllByRecursion (λ (x : Region). x.stag ≡ stag → x.call ≡ xid) (r ∷ regions)
-    by false is c own e = ((λ same. absurd (let wrong : true ≡ false = sym (eq-eqb r.stag stag same) ∙ is in cc)), all_own (n + 1) xid stag regions h.1 e)
-    by true is true own e =
+    by : (b : Bool) → eqb r.stag stag ≡ b → (c : Bool) → eqb r.call xid ≡ c → ((b && c) || list_any (IsOwn xid stag) regions) ≡ true → (IsThere regions xid stag → AllByRecursion (λ (x : Region). x.stag ≡ stag → x.call ≡ xid) regions) → AllByRecursion (λ (x : Region). x.stag ≡ stag → x.call ≡ xid) (r ∷ regions)
+    by false is c own e later = ((λ same. absurd (let wrong : true ≡ false = sym (eq-eqb r.stag stag same) ∙ is in cc)), later e)
+    by true is true own e later =
         let same = eqb-true r.stag stag is in
         let first = h.0 in (
           (λ x. eqb-true r.call xid own),
           each_all (λ (x : Region). x.stag ≡ stag → ⊥) (λ (x : Region). x.stag ≡ stag → x.call ≡ xid) regions (λ x not_so so. absurd (not_so so)) (numbered_above (n + 1) stag regions (omega (arith, same, first)) h.1),
         )
-    by true is false own e =
+    by true is false own e later =
         let same = eqb-true r.stag stag is in
         let first = h.0 in
-        absurd (none regions (numbered_above (n + 1) stag regions (omega (arith, same, first)) h.1) e)
-      where
-        none : (xs : List Region) → AllByRecursion (λ (x : Region). x.stag ≡ stag → ⊥) xs → list_any (IsOwn xid stag) xs ≡ true → ⊥
-        none [] away e = cc
-        none (x ∷ xs) away e = at (eqb x.stag stag) refl e (none xs away.1)
-          where
-            at : (b : Bool) → eqb x.stag stag ≡ b → ((b && eqb x.call xid) || list_any (IsOwn xid stag) xs) ≡ true → (list_any (IsOwn xid stag) xs ≡ true → ⊥) → ⊥
-            at true so e later = away.0 (eqb-true x.stag stag so)
-            at false so e later = later e
+        absurd (none_away xid stag regions (numbered_above (n + 1) stag regions (omega (arith, same, first)) h.1) e)
 
 -- ---- The message that names it
 
@@ -205,13 +205,13 @@ names_given k f message stag e = by_header (header_of message) refl (stays_as_pl
         let at : find (λ x. eqb x.xid (word_at 0 message) && is_sent k x) k.outstanding ≡ Some o = ap (λ (n : ℕ). answered_call k n) (sym xid) ∙ found in
         record { call = o; there = at; own = found_xid (is_sent k) (word_at 0 message) k.outstanding o at; given = own }
 
-    by_call : (h : Header) → header_of message ≡ Ok h → (o : Option OutstandingCall) → answered_call k h.xid ≡ o → end_of_verdict f (by_call k f.end message h.body o) ≡ None → end_of_verdict f (cond (names_another o stag) (EndsLink 29) (reply_verdict k f.end message)) ≡ None → NamesGiven k message stag
-    by_call h is None found plain stays = absurd (no_link f 20 plain)
-    by_call h is (Some o) found plain stays = by_name h is o found (is_given o stag) refl stays
+    by_answered : (h : Header) → header_of message ≡ Ok h → (o : Option OutstandingCall) → answered_call k h.xid ≡ o → end_of_verdict f (by_call k f.end message h.body o) ≡ None → end_of_verdict f (cond (names_another o stag) (EndsLink 29) (reply_verdict k f.end message)) ≡ None → NamesGiven k message stag
+    by_answered h is None found plain stays = absurd (no_link f 20 plain)
+    by_answered h is (Some o) found plain stays = by_name h is o found (is_given o stag) refl stays
 
     by_header : (r : Result Header HeaderFault) → header_of message ≡ r → end_of_verdict f (reply_by_header k f.end message (header_of message)) ≡ None → end_of_verdict f (cond (names_another (call_in k (header_of message)) stag) (EndsLink 29) (reply_verdict k f.end message)) ≡ None → NamesGiven k message stag
     by_header (Ok h) is plain stays =
-        by_call h is (answered_call k h.xid) refl (ap (λ (r : Result Header HeaderFault). end_of_verdict f (reply_by_header k f.end message r)) (sym is) ∙ plain)
+        by_answered h is (answered_call k h.xid) refl (ap (λ (r : Result Header HeaderFault). end_of_verdict f (reply_by_header k f.end message r)) (sym is) ∙ plain)
         (ap (λ (r : Result Header HeaderFault). end_of_verdict f (cond (names_another (call_in k r) stag) (EndsLink 29) (reply_verdict k f.end message))) (sym is) ∙ stays)
     by_header (Err faults.Short) is plain stays = absurd (no_link f 16 (ap (λ (r : Result Header HeaderFault). end_of_verdict f (reply_by_header k f.end message r)) (sym is) ∙ plain))
     by_header (Err (faults.Version version)) is plain stays = absurd (no_link f 23 (ap (λ (r : Result Header HeaderFault). end_of_verdict f (reply_by_header k f.end message r)) (sym is) ∙ plain))

@@ -49,7 +49,7 @@ pub fn regions_handed_back()
 /// ends the client, and changes nothing else, or answers a call to which that STag was given: all regions under it are of that call, and are closed
 /// after it, and the regions of other calls are as they were.
 pub fn named_stags()
-    ensures dead { NamedStagsAreDead }
+    ensures { NamedStagsAreDead }
 {}
 
 /// What has been sent, whatever the peer sends: the first of the output that is due, in order. Each byte that a client has sent is of its hello, of
