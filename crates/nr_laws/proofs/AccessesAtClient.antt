@@ -86,8 +86,8 @@ accessed_submit opened k s d all_up all_down place a plan h is small stags bytes
     (by t.regions o one k.has_hello)
     (each_append (CallAsked opened t.regions) k.outstanding (o ∷ []) (each_all (CallAsked opened k.regions) (CallAsked opened t.regions) k.outstanding (λ x. send_more k.regions t.regions (offers_left k.regions new) (message_of_call opened x)) h.asked) (one, tt))
   where
-    by : (regions : List Region) (o : OutstandingCall) → CallAsked opened regions o → (b : Bool) → AllByRecursion (MessageOffered regions) (cond b (send_frames (message_of_call opened o)) [])
-    by regions o one true = each_send (MessageOffered regions) (λ offset payload. tt) (message_of_call opened o) one
+    by : (regions : List Region) (o : OutstandingCall) → CallAsked opened regions o → (b : Bool) → AllByRecursion (MessageOffered regions) (cond b (send_frames None (message_of_call opened o)) [])
+    by regions o one true = each_send (MessageOffered regions) None (λ offset payload. tt) (message_of_call opened o) one
     by regions o one false = tt
 
 -- ---- A queue is written

@@ -144,7 +144,7 @@ after_hello opened k f is = λ i. cond (is i) (with_hello opened k f) (with_segm
 
 asks_proper : (opened : LinkParameters) (os : List OutstandingCall) → CallsShort opened os → AreWritable (calls_frames opened os)
 asks_proper opened [] h = tt
-asks_proper opened (o ∷ os) h = all_proper_append (send_frames (message_of_call opened o)) (calls_frames opened os) (short_proper (message_of_call opened o) h.0) (asks_proper opened os h.1)
+asks_proper opened (o ∷ os) h = all_proper_append (send_frames None (message_of_call opened o)) (calls_frames opened os) (short_proper None (message_of_call opened o) tt h.0) (asks_proper opened os h.1)
 
 -- the calls of a client so far
 pub calls_said : (opened : LinkParameters) (k : ClientState) (s : ServerState) (u d all_up all_down : List FrameContent) (w : Transit) → EndsAgree opened k s u d all_up all_down w → total_of sends_in all_up ≡ calls_sent k

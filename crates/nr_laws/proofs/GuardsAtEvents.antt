@@ -67,12 +67,12 @@ sized_call opened k a plan is lt up =
     (sym (planned (call_payload a.xid a.call) (plan_for k a.xid a.call a.form) plan is)) (omega (arith, size.0), omega (arith, size.1, up)) in
     ((fits.0, fits.1, words.version, words.kind, one_chunk a.xid opened.wished k.stag (outstanding_of k a).plan), words.xid_is)
 
-none_says : (b : Bool) (message : List ℕ) → AnswersNone (cond b (send_frames message) [])
-none_says true message = send_answers message
+none_says : (b : Bool) (message : List ℕ) → AnswersNone (cond b (send_frames None message) [])
+none_says true message = send_answers None message
 none_says false message = (refl, refl)
 
-up_says : (opened : LinkParameters) (b : Bool) (message : List ℕ) → ClientMessage opened message → AllByRecursion (ClientContent opened) (cond b (send_frames message) [])
-up_says opened true message h = each_send (ClientContent opened) (λ offset payload. tt) message h
+up_says : (opened : LinkParameters) (b : Bool) (message : List ℕ) → ClientMessage opened message → AllByRecursion (ClientContent opened) (cond b (send_frames None message) [])
+up_says opened true message h = each_send (ClientContent opened) None (λ offset payload. refl) message (h, refl)
 up_says opened false message h = tt
 
 pub guards_submit : (opened : LinkParameters) (k : ClientState) (s : ServerState) (u d all_up all_down : List FrameContent) (w : Transit) (up place : ℕ) (a : AcceptedCall) (plan : Plan) → EndsAgree opened k s u d all_up all_down w → Guards opened k s u d all_up all_down w up → plan_for k a.xid a.call a.form ≡ Ok plan → a.xid ≡ k.next_xid → a.xid < numbers_end → length k.outstanding < k.grant
@@ -119,12 +119,12 @@ guards_submit opened k s u d all_up all_down w up place a plan l g is own lt roo
     message : List ℕ
     message = message_of_call opened (outstanding_of k a)
 
-    new_xid : (b : Bool) → k.has_hello ≡ b → XidsFrom (opened.first_xid + total_of sends_in all_up) (cond k.has_hello (send_frames message) [])
+    new_xid : (b : Bool) → k.has_hello ≡ b → XidsFrom (opened.first_xid + total_of sends_in all_up) (cond k.has_hello (send_frames None message) [])
     new_xid true e =
         let sends : total_of sends_in all_up ≡ k.sends = calls_said opened k s u d all_up all_down w l ∙ ap (λ (b : Bool). cond b k.sends 0) e in
-        subst (λ (b : Bool). XidsFrom (opened.first_xid + total_of sends_in all_up) (cond b (send_frames message) [])) (sym e)
+        subst (λ (b : Bool). XidsFrom (opened.first_xid + total_of sends_in all_up) (cond b (send_frames None message) [])) (sym e)
         (send_xids_from (opened.first_xid + total_of sends_in all_up) message ((sized_call opened k a plan is lt g.sizes.client_up).1 ∙ omega (arith, number, sends)))
-    new_xid false e = subst (λ (b : Bool). XidsFrom (opened.first_xid + total_of sends_in all_up) (cond b (send_frames message) [])) (sym e) tt
+    new_xid false e = subst (λ (b : Bool). XidsFrom (opened.first_xid + total_of sends_in all_up) (cond b (send_frames None message) [])) (sym e) tt
 
 -- ---- Memory is revoked, and a queue is written
 

@@ -97,17 +97,17 @@ requests_append (SendFrame message ∷ xs) ys = requests_append xs ys
 requests_append (RequestFrame sink at size stag to ∷ xs) ys = ap (λ (zs : List FrameContent). RequestFrame sink at size stag to ∷ zs) (requests_append xs ys)
 requests_append (TaggedFrame last opcode stag to payload ∷ xs) ys = requests_append xs ys
 
-pub send_asks_none : (message : List ℕ) → requests_of (send_frames message) ≡ []
+pub send_asks_none : (named : Option ℕ) (message : List ℕ) → requests_of (send_frames named message) ≡ []
 unfolding send_frames
-send_asks_none message = by (range_with_len 0 (last_index message))
+send_asks_none named message = by (range_with_len 0 (last_index message))
   where
-    by : (is : List ℕ) → requests_of (map (part_frame message) is ++ SendFrame (last_part message) ∷ []) ≡ []
+    by : (is : List ℕ) → requests_of (map (part_frame named message) is ++ SendFrame (last_part named message) ∷ []) ≡ []
     by [] = refl
     by (i ∷ is) = by is
 
 none_of_sends : (messages : List (List ℕ)) → requests_of (errors_frames messages) ≡ []
 none_of_sends [] = refl
-none_of_sends (m ∷ messages) = requests_append (send_frames m) (errors_frames messages) ∙ (λ i. send_asks_none m i ++ none_of_sends messages i)
+none_of_sends (m ∷ messages) = requests_append (send_frames None m) (errors_frames messages) ∙ (λ i. send_asks_none None m i ++ none_of_sends messages i)
 
 all_of_reads : (rs : List PendingRead) → requests_of (map request_frame rs) ≡ map request_frame rs
 all_of_reads [] = refl

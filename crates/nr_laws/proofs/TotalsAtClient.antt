@@ -270,16 +270,16 @@ totals_hello_down opened k s w f rest c first is =
 abbrev pub up_more : Transit → List FrameContent → Transit
 up_more w said = record { queued_up = w.queued_up ++ said; up = w.up; queued_down = w.queued_down; down = w.down }
 
-says_call : (b : Bool) (message : List ℕ) → total_of sends_in (cond b (send_frames message) []) ≡ hello_bit b
-says_call true message = send_counts sends_in 1 (λ named offset payload. refl) (λ m. refl) message
+says_call : (b : Bool) (message : List ℕ) → total_of sends_in (cond b (send_frames None message) []) ≡ hello_bit b
+says_call true message = send_counts sends_in 1 (λ named offset payload. refl) (λ m. refl) None message
 says_call false message = refl
 
-says_no : (one : FrameContent → ℕ) (b : Bool) (message : List ℕ) → ((named : Bool) (offset : ℕ) (payload : List ℕ) → one (PartFrame named offset payload) ≡ 0) → ((m : SentMessage) → one (SendFrame m) ≡ 0) → total_of one (cond b (send_frames message) []) ≡ 0
-says_no one true message parts none = send_counts one 0 parts none message
+says_no : (one : FrameContent → ℕ) (b : Bool) (message : List ℕ) → ((named : Bool) (offset : ℕ) (payload : List ℕ) → one (PartFrame named offset payload) ≡ 0) → ((m : SentMessage) → one (SendFrame m) ≡ 0) → total_of one (cond b (send_frames None message) []) ≡ 0
+says_no one true message parts none = send_counts one 0 parts none None message
 says_no one false message parts none = refl
 
-says_sends : (b : Bool) (message : List ℕ) → AreSends None (cond b (send_frames message) [])
-says_sends true message = are_sends message
+says_sends : (b : Bool) (message : List ℕ) → AreSends None (cond b (send_frames None message) [])
+says_sends true message = are_sends None message
 says_sends false message = refl
 
 said_more : (b : Bool) (n : ℕ) → cond b (n + 1) 0 ≡ cond b n 0 + hello_bit b
@@ -291,7 +291,7 @@ pub totals_accepts : (opened : LinkParameters) (k : ClientState) (s : ServerStat
 unfolding client_state_after client_frames
 totals_accepts opened k s w place a c =
     let message = message_of_call opened (outstanding_of k a) in
-    let said = cond k.has_hello (send_frames message) [] in
+    let said = cond k.has_hello (send_frames None message) [] in
     record {
       hello = omega (arith, c.hello, total_append hellos_in w.queued_up said, says_no hellos_in k.has_hello message (λ named offset payload. refl) (λ m. refl));
       calls_up = omega (arith, c.calls_up, said_more k.has_hello k.sends, total_append sends_in w.queued_up said, says_call k.has_hello message);
