@@ -15,12 +15,11 @@ use Rattle.nr_reduce.specs.ServerState.{ServerState, PendingCall}
 use Rattle.nr_reduce.specs.Client.{client_state_after}
 use Rattle.nr_reduce.specs.Server.{server_state_after}
 use Rattle.nr_reduce.specs.ServerFrames.{frame_effect}
-use Rattle.nr_laws.proofs.FrameContents.{FrameContent, numbered_segment, frame_bytes, total_of, sends_in, requests_in, client_frames, server_frames, Carries, last_segment, part_segment}
+use Rattle.nr_laws.proofs.FrameContents.{FrameContent, frame_bytes, total_of, sends_in, requests_in, client_frames, server_frames, Carries, last_segment, part_segment, written_segment}
 use Rattle.nr_laws.proofs.FrameContents.FrameContent.{HelloFrame, PartFrame, SendFrame, RequestFrame, TaggedFrame}
 use Rattle.nr_laws.proofs.LinkInvariants.{Transit}
 use Rattle.nr_laws.proofs.Totals.{total_append}
 use Rattle.nr_laws.proofs.CompletedFrames.{is_piece}
-use Rattle.nr_laws.proofs.TotalsAtServer.{segment_is}
 use Rattle.nr_laws.proofs.Writable.{IsOutput, proper_one, stream_first, stream_at_lem}
 use Rattle.nr_laws.proofs.AgreeingEnds.{EndsAgree, IsPlace, frame_of}
 use Rattle.nr_laws.proofs.GuardsAtServer.{each_at}
@@ -31,6 +30,7 @@ use Rattle.nr_laws.proofs.EffectsOffered.{EffectOffered, effect_send, effect_tag
 use Rattle.nr_laws.proofs.AccessesAtClient.{accessed_hello_down, accessed_piece_down}
 use Rattle.nr_laws.proofs.AccessesAtServer.{accessed_hello_up, accessed_frame_up}
 use Rattle.nr_laws.proofs.SendFrames.{at_front}
+use Rattle.nr_laws.proofs.ReadContents.{segment_is}
 
 -- ---- The client
 

@@ -25,7 +25,6 @@ use Rattle.nr_laws.specs.Typed.{IsTypedForm}
 use Rattle.nr_laws.proofs.PlannedSizes.{plan_up, plan_down, planned_for}
 use Rattle.nr_laws.proofs.FrameContents.{FrameContent, client_frames, response_frames, tagged_frame, tagged_frames, Carries, SentMessage, CompletesMessage, last_segment, part_segment, send_frames, calls_frames}
 use Rattle.nr_laws.proofs.FrameContents.FrameContent.{HelloFrame, PartFrame, SendFrame, RequestFrame, TaggedFrame}
-use Rattle.nr_laws.proofs.TotalsAtServer.{segment_is}
 use Rattle.nr_laws.proofs.TotalsAtClient.{after_is_lem, says_is, request_payload}
 use Rattle.nr_laws.proofs.ClientFrame.{says_hello, after_hello}
 use Rattle.nr_laws.proofs.OwnEvents.{planned}
@@ -36,6 +35,8 @@ use Rattle.nr_laws.proofs.Basics.{each_append, each_all, each_kept}
 use Rattle.nr_laws.proofs.SendFrames.{each_send, each_sends}
 use Rattle.nr_laws.proofs.Outputs.{message_of_call}
 use Rattle.nr_laws.proofs.LinkInvariants.{AreSends}
+use Rattle.nr_laws.proofs.ReadContents.{plain_is}
+use Rattle.nr_laws.proofs.PlainSegments.{plain_segment}
 
 -- ---- More regions, and more that is received
 

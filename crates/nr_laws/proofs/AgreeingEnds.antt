@@ -19,12 +19,12 @@ use Rattle.nr_reduce.specs.ServerState.{ServerState}
 use Rattle.nr_reduce.specs.ServerFrames.{FrameEffect, effect_in, frame_effect}
 use Rattle.nr_reduce.specs.Server.{server_end, server_state_after, server_output, server_readiness, or_refusal, refusal_end, newly_open_reads, effect_output, with_effect, with_own_hello, received_by}
 use Rattle.nr_laws.proofs.FirstHellos.{first_hello, first_of_server}
-use Rattle.nr_laws.proofs.FrameContents.{FrameContent, numbered_segment, frame_bytes, output_bytes, total_of, sends_in, requests_in, hellos_in, effect_frames, server_frames, Carries, SentMessage, CompletesMessage, part_segment, last_segment}
+use Rattle.nr_laws.proofs.FrameContents.{FrameContent, frame_bytes, output_bytes, total_of, sends_in, requests_in, hellos_in, effect_frames, server_frames, Carries, SentMessage, CompletesMessage, part_segment, last_segment, written_segment}
 use Rattle.nr_laws.proofs.FrameContents.FrameContent.{HelloFrame, PartFrame, SendFrame, RequestFrame, TaggedFrame}
 use Rattle.nr_laws.proofs.LinkInvariants.{Transit, TotalsAgree, PendingAgree}
 use Rattle.nr_laws.proofs.Totals.{total_append}
 use Rattle.nr_laws.proofs.CompletedFrames.{is_piece}
-use Rattle.nr_laws.proofs.TotalsAtServer.{totals_hello_up, totals_send_up, totals_tagged_up, after_is_lem, step_is, segment_is, with_by, reads_said, hello_said, totals_part_up}
+use Rattle.nr_laws.proofs.TotalsAtServer.{totals_hello_up, totals_send_up, totals_tagged_up, after_is_lem, step_is, with_by, reads_said, hello_said, totals_part_up}
 use Rattle.nr_laws.proofs.PendingFrames.{pending_agree_send_up, pending_agree_tagged_up, pending_agree_part_up}
 use Rattle.nr_laws.proofs.OwnXids.{OwnXids}
 use Rattle.nr_laws.proofs.OutputFrames.{step_said}
@@ -35,6 +35,7 @@ use Rattle.nr_laws.proofs.Outputs.{CallsShort}
 use Rattle.nr_laws.proofs.SendFrames.{at_front}
 use Rattle.nr_laws.proofs.Bytes.{bytes_both}
 use Rattle.nr_link.specs.ReceiveState.{ReceiveState, begun_bytes}
+use Rattle.nr_laws.proofs.ReadContents.{segment_is}
 
 -- `u` and `d` are what the server and the client received, `all_up` and `all_down` what the client and the server sent or queued
 pub record EndsAgree (opened : LinkParameters) (k : ClientState) (s : ServerState) (u d all_up all_down : List FrameContent) (w : Transit) : Type 0 where

@@ -14,19 +14,18 @@ use Rattle.nr_link.specs.Output.{msn_word}
 use Rattle.nr_link.specs.Reasons.{REASON_MSN, REASON_OFFSET, REASON_FORM, REASON_REQUESTS, REASON_LONG, REASON_SHORT}
 use Rattle.nr_link.specs.ReceiveState.{read_request_in, message_completed, is_send}
 use Rattle.nr_link.specs.SegmentFaults.{Readiness, SegmentReason, segment_reason, first_fault, reason_if, missing_fault, is_malformed, is_too_many, no_buffer, next_msn, next_offset, message_length_is, terminate_fault}
-use Rattle.nr_link.specs.Ending.{frame_end, frame_end_by, end_of_fault, hello_end, missing_access}
+use Rattle.nr_link.specs.Ending.{frame_end_by, end_of_fault, hello_end, missing_access}
 use Rattle.nr_reduce.specs.declared.mark.LinkParameters.{LinkParameters}
 use Rattle.nr_reduce.specs.Events.RunEvent.{FrameReceived}
 use Rattle.nr_reduce.specs.OfferedRegions.{region_grants}
 use Rattle.nr_reduce.specs.ClientState.{ClientState, OutstandingCall, client_memory_at}
 use Rattle.nr_reduce.specs.ServerState.{ServerState}
 use Rattle.nr_reduce.specs.Client.{client_segment, client_end, client_state_after, client_output, client_readiness, or_message_end, segment_request, calls_output, response_output, with_segment, with_hello}
-use Rattle.nr_laws.proofs.FrameContents.{FrameContent, numbered_segment, frame_bytes, output_bytes, total_of, sends_in, requests_in, hellos_in, client_frames, response_frames, tagged_frames, Carries, part_segment, last_segment, send_frames, calls_frames}
+use Rattle.nr_laws.proofs.FrameContents.{FrameContent, frame_bytes, output_bytes, total_of, sends_in, requests_in, hellos_in, client_frames, response_frames, tagged_frames, Carries, part_segment, last_segment, send_frames, calls_frames, written_segment}
 use Rattle.nr_laws.proofs.FrameContents.FrameContent.{HelloFrame, PartFrame, SendFrame, RequestFrame, TaggedFrame}
 use Rattle.nr_laws.proofs.LinkInvariants.{Transit, TotalsAgree, calls_sent, hello_bit}
 use Rattle.nr_laws.proofs.Totals.{total_append}
 use Rattle.nr_laws.proofs.CompletedFrames.{is_piece}
-use Rattle.nr_laws.proofs.TotalsAtServer.{segment_is}
 use Rattle.nr_laws.proofs.TotalsAtClient.{totals_hello_down, totals_send_down, totals_read_down, totals_tagged_down, down_one, after_is_lem, says_is, request_payload, tagged_none, bit_of, totals_part_down}
 use Rattle.nr_laws.proofs.OwnXids.{OwnXids, own_xids_came, segment_out}
 use Rattle.nr_laws.proofs.OutputFrames.{outs_said, response_said}
@@ -38,6 +37,8 @@ use Rattle.nr_reduce.proofs.Touches.{no_flaw}
 use Rattle.nr_laws.proofs.Basics.{each_kept}
 use Rattle.nr_laws.proofs.SendFrames.{sends_zero}
 use Rattle.nr_laws.proofs.ServerOutput.{short_proper}
+use Rattle.nr_laws.proofs.ReadContents.{plain_is}
+use Rattle.nr_laws.proofs.PlainSegments.{plain_segment}
 
 -- ---- A Read Request that doesn't end a client ends within 2 ^ 64 bytes of its sink
 

@@ -29,7 +29,6 @@ use Rattle.nr_laws.proofs.FrameContents.{FrameContent, total_of, sends_in, hello
 use Rattle.nr_laws.proofs.FrameContents.FrameContent.{HelloFrame, PartFrame, SendFrame, RequestFrame, TaggedFrame}
 use Rattle.nr_laws.proofs.LinkInvariants.{Transit, TotalsAgree, hello_bit, ReadsAgree, WithinWindow, HasSink, HaveSinks, AreAtMost, requests_of}
 use Rattle.nr_laws.proofs.Totals.{others}
-use Rattle.nr_laws.proofs.TotalsAtServer.{segment_is}
 use Rattle.nr_laws.proofs.TotalsAtClient.{down_one, after_is_lem, says_is, request_payload, totals_hello_down, totals_send_down, totals_read_down, totals_tagged_down, bit_of, totals_part_down}
 use Rattle.nr_laws.proofs.ReadsAtClient.{AnswersNone, reads_read_down, reads_says_up}
 use Rattle.nr_laws.proofs.ServerInvariant.{ServerAgrees}
@@ -52,6 +51,8 @@ use Rattle.nr_laws.proofs.Sinks.{sinks_taken}
 use Rattle.nr_laws.proofs.SendFrames.{at_front, each_sends}
 use Rattle.nr_laws.proofs.Outputs.{message_of_call}
 use Rattle.nr_laws.proofs.ExpectedResponses.{sends_answers}
+use Rattle.nr_laws.proofs.ReadContents.{plain_is}
+use Rattle.nr_laws.proofs.PlainSegments.{plain_segment}
 
 pub front_down : (opened : LinkParameters) (k : ClientState) (s : ServerState) (u d all_up all_down : List FrameContent) (w : Transit) (place : ℕ) (p : FrameContent) (rest : List FrameContent) → EndsAgree opened k s u d all_up all_down w → Guards opened k s u d all_up all_down w place → w.down ≡ p ∷ rest → ServerContent (matched_down opened) opened.granted p
 front_down opened k s u d all_up all_down w place p rest l g first =

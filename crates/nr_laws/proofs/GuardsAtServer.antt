@@ -18,10 +18,10 @@ use Rattle.nr_reduce.specs.ServerState.{ServerState, credit_word}
 use Rattle.nr_reduce.specs.ServerReads.{is_over}
 use Rattle.nr_reduce.specs.ServerFrames.{FrameEffect, effect_in, frame_effect}
 use Rattle.nr_reduce.specs.Server.{server_end, server_state_after, refusal_end, with_own_hello}
-use Rattle.nr_laws.proofs.FrameContents.{FrameContent, numbered_segment, frame_bytes, effect_frames, server_frames, Carries, SentMessage, last_segment, part_segment}
+use Rattle.nr_laws.proofs.FrameContents.{FrameContent, frame_bytes, effect_frames, server_frames, Carries, SentMessage, last_segment, part_segment, written_segment}
 use Rattle.nr_laws.proofs.FrameContents.FrameContent.{HelloFrame, PartFrame, SendFrame, TaggedFrame}
 use Rattle.nr_laws.proofs.LinkInvariants.{Transit, TotalsAgree, ReadsAgree, AreResponses}
-use Rattle.nr_laws.proofs.TotalsAtServer.{totals_hello_up, after_is_lem, step_is, segment_is, with_by}
+use Rattle.nr_laws.proofs.TotalsAtServer.{totals_hello_up, after_is_lem, step_is, with_by}
 use Rattle.nr_laws.proofs.ReadsAtClient.{reads_says_down}
 use Rattle.nr_laws.proofs.ServerInvariant.{ServerAgrees, server_takes_send, server_takes_response, server_takes_part}
 use Rattle.nr_laws.proofs.Replies.{replies_send, replies_tagged, AreReplies}
@@ -48,6 +48,7 @@ use Rattle.nr_laws.proofs.PendingFrames.{later_sinks}
 use Rattle.nr_reduce.proofs.OwnStags.{closed_length}
 use Rattle.nr_laws.proofs.SendFrames.{at_front}
 use Rattle.nr_laws.proofs.EachEffect.{part_effect}
+use Rattle.nr_laws.proofs.ReadContents.{segment_is}
 
 pub each_at : {X : Type 0} (P : X → Type 0) (xs : List X) (y : X) (ys : List X) → AllByRecursion P (xs ++ y ∷ ys) → P y
 each_at P [] y ys h = h.0

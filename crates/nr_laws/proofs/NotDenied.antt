@@ -34,7 +34,7 @@ use Rattle.nr_laws.specs.Typed.{TypedMark, IsTyped}
 use Rattle.nr_laws.specs.Stays.{NotRevokedMark, HasNoRevoke}
 use Rattle.nr_laws.specs.EndCauses.{KeepLaws}
 use Rattle.nr_laws.proofs.EndReasons.{EndsForMessage}
-use Rattle.nr_laws.proofs.FrameContents.{FrameContent, numbered_segment, frame_bytes, total_of, sends_in, requests_in, Carries, last_segment, part_segment}
+use Rattle.nr_laws.proofs.FrameContents.{FrameContent, frame_bytes, total_of, sends_in, requests_in, Carries, last_segment, part_segment, written_segment}
 use Rattle.nr_laws.proofs.FrameContents.FrameContent.{HelloFrame, PartFrame, SendFrame, RequestFrame, TaggedFrame}
 use Rattle.nr_laws.proofs.LinkInvariants.{Transit}
 use Rattle.nr_laws.proofs.Bytes.{bytes_both}
@@ -42,7 +42,6 @@ use Rattle.nr_laws.proofs.Totals.{total_append}
 use Rattle.nr_laws.proofs.LaterFrames.{EndBehind, frames_behind}
 use Rattle.nr_laws.proofs.StreamFrames.{frames_at}
 use Rattle.nr_laws.proofs.Writable.{IsOutput}
-use Rattle.nr_laws.proofs.TotalsAtServer.{segment_is}
 use Rattle.nr_laws.proofs.TotalsAtClient.{request_payload, down_one}
 use Rattle.nr_laws.proofs.RequestFields.{request_again}
 use Rattle.nr_laws.proofs.AgreeingEnds.{EndsAgree, IsPlace, frame_of}
@@ -61,6 +60,7 @@ use Rattle.nr_laws.proofs.AllowedAccesses.{offered_granted}
 use Rattle.nr_laws.proofs.Basics.{each_all}
 use Rattle.nr_reduce.proofs.Standing.{received_one}
 use Rattle.nr_laws.proofs.ClientRun.{each_both}
+use Rattle.nr_laws.proofs.ReadContents.{plain_is}
 
 -- ---- One frame
 

@@ -12,7 +12,7 @@ use Rattle.nr_link.specs.Frames.{Frame}
 use Rattle.nr_link.specs.ReceiveState.{ReceiveState, ReadRequest, received_after, message_completed, read_request_of}
 use Rattle.nr_link.specs.SegmentFaults.{Readiness, SegmentReason, segment_reason}
 use Rattle.nr_link.specs.SegmentFaults.SegmentReason.{Reason, NoBuffer, AccessDenied, PeerTerminated}
-use Rattle.nr_link.specs.Ending.{tagged_access, access_of, missing_access, end_of_fault, frame_end_by}
+use Rattle.nr_link.specs.Ending.{tagged_access, missing_access, end_of_fault, frame_end_by}
 use Rattle.nr_reduce.specs.ClientState.{ClientState}
 use Rattle.nr_reduce.specs.Client.{client_segment, segment_message, segment_request, with_segment}
 

@@ -17,7 +17,7 @@ use Rattle.nr_reduce.specs.Client.{client_end, client_message_end, client_segmen
 use Rattle.nr_reduce.specs.ServerState.{ServerState}
 use Rattle.nr_reduce.specs.Server.{server_end}
 use Rattle.nr_laws.specs.MessageSegments.{send_opcode, send_word}
-use Rattle.nr_laws.proofs.FrameContents.{FrameContent, SentMessage, IsSent, Carries, IsPlainContent, IsTaken, name_in, numbered_segment, written_segment, written_part, last_segment, part_opcode}
+use Rattle.nr_laws.proofs.FrameContents.{FrameContent, SentMessage, IsSent, Carries, IsPlainContent, IsTaken, name_in, numbered_segment, written_segment, last_segment, part_opcode}
 use Rattle.nr_laws.proofs.FrameContents.FrameContent.{HelloFrame, PartFrame, SendFrame, RequestFrame, TaggedFrame}
 use Rattle.nr_laws.proofs.NamedReplies.{message_end_in}
 use Rattle.nr_laws.proofs.PlainSegments.{plain, plain_message, plain_other, plain_result, plain_segment}

@@ -13,17 +13,17 @@ use Rattle.nr_link.specs.ReceiveState.{ReadRequest, read_request_in}
 use Rattle.nr_reduce.specs.Holds.{Answer, answer_message, first_chunk, no_segments, chunk_error}
 use Rattle.nr_reduce.specs.Events.RunEvent.{FrameReceived}
 use Rattle.nr_reduce.specs.ClientState.{ClientState, client_memory_at}
-use Rattle.nr_reduce.specs.Client.{client_segment}
 use Rattle.nr_reduce.specs.ServerState.{ServerState, PendingRead, credit_word}
 use Rattle.nr_laws.proofs.FrameContents.{FrameContent, Carries, request_frame, client_frames, tagged_frames, write_frames, answer_frames, send_frames}
 use Rattle.nr_laws.proofs.FrameContents.FrameContent.{RequestFrame, TaggedFrame}
 use Rattle.nr_laws.proofs.LinkInvariants.{Transit, AreResponses, requests_of, ReadsAgree}
-use Rattle.nr_laws.proofs.TotalsAtServer.{segment_is}
 use Rattle.nr_laws.proofs.TotalsAtClient.{says_is, request_payload, down_one}
 use Rattle.nr_laws.proofs.ExpectedResponses.{answers_append, answers_one}
 use Rattle.nr_laws.proofs.ReadsAtServer.{requests_append, send_asks_none}
 use Rattle.nr_link.specs.Limits.{segment_max}
 use Rattle.nr_reduce.specs.Server.{stag_named}
+use Rattle.nr_laws.proofs.ReadContents.{plain_is}
+use Rattle.nr_laws.proofs.PlainSegments.{plain_segment}
 
 -- ---- The client receives a Read Request, and answers it by the bytes that it asks for
 

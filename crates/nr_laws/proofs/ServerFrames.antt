@@ -15,7 +15,7 @@ use Rattle.nr_reduce.specs.ClientState.{ClientState}
 use Rattle.nr_reduce.specs.ServerState.{ServerState}
 use Rattle.nr_reduce.specs.Server.{server_rules, server_state_after}
 use Rattle.nr_reduce.proofs.Steps.{ended_stays}
-use Rattle.nr_laws.proofs.FrameContents.{FrameContent, numbered_segment, frame_bytes, output_bytes, total_of, sends_in, requests_in}
+use Rattle.nr_laws.proofs.FrameContents.{FrameContent, frame_bytes, output_bytes, total_of, sends_in, requests_in, written_segment}
 use Rattle.nr_laws.proofs.LinkInvariants.{Transit}
 use Rattle.nr_laws.proofs.Totals.{total_append}
 use Rattle.nr_laws.proofs.StreamFrames.{frames_at, spelled_append}

@@ -25,7 +25,6 @@ use Rattle.nr_rpc.specs.Reading.{call_of}
 use Rattle.nr_link.specs.declared.end.End.{End}
 use Rattle.nr_link.specs.Frames.{Frame, is_hello}
 use Rattle.nr_link.specs.Ending.{frame_segment, frame_end, hello_end}
-use Rattle.nr_laws.proofs.TotalsAtServer.{segment_is}
 use Rattle.nr_laws.proofs.CallNumbers.{none_pending}
 use Rattle.nr_reduce.specs.declared.mark.LinkParameters.{LinkParameters}
 use Rattle.nr_reduce.specs.Opening.{IsOpened}
@@ -41,7 +40,7 @@ use Rattle.nr_reduce.specs.ServerMessages.Verdict.{EndsLink, OtherVersion, BadCh
 use Rattle.nr_reduce.specs.ServerFrames.{FrameEffect, with_verdict, frame_effect}
 use Rattle.nr_reduce.specs.Server.{server_end, server_state_after, server_readiness, or_refusal, refusal_end}
 use Rattle.nr_laws.proofs.EndReasons.{IsCallReason, EndsForCall}
-use Rattle.nr_laws.proofs.FrameContents.{FrameContent, numbered_segment, frame_bytes, total_of, sends_in, requests_in, server_frames, Carries, SentMessage, CompletesMessage, last_segment, part_segment}
+use Rattle.nr_laws.proofs.FrameContents.{FrameContent, frame_bytes, total_of, sends_in, requests_in, server_frames, Carries, SentMessage, CompletesMessage, last_segment, part_segment, written_segment}
 use Rattle.nr_laws.proofs.FrameContents.FrameContent.{HelloFrame, PartFrame, SendFrame, RequestFrame, TaggedFrame}
 use Rattle.nr_laws.proofs.LinkInvariants.{Transit}
 use Rattle.nr_laws.proofs.Totals.{total_append}
@@ -53,6 +52,7 @@ use Rattle.nr_laws.proofs.GuardsAtServer.{front_up, front_xid, ServerTakes, take
 use Rattle.nr_laws.proofs.Basics.{some_not}
 use Rattle.nr_laws.proofs.EachEffect.{send_effect, tagged_effect_lem, part_effect}
 use Rattle.nr_laws.proofs.SendFrames.{at_front}
+use Rattle.nr_laws.proofs.ReadContents.{segment_is}
 
 -- ---- Why the effect of a frame refuses
 

@@ -18,12 +18,12 @@ use Rattle.nr_link.specs.Limits.{segment_max}
 use Rattle.nr_link.specs.Output.{msn_word, segment_count, segment_payload}
 use Rattle.nr_link.specs.Frames.{Frame, is_hello}
 use Rattle.nr_link.specs.ReceiveState.{read_request_in, begun_bytes}
-use Rattle.nr_link.specs.Ending.{frame_end, hello_end, frame_end_by}
+use Rattle.nr_link.specs.Ending.{hello_end, frame_end_by}
 use Rattle.nr_reduce.specs.OfferedRegions.{region_grants}
 use Rattle.nr_reduce.specs.Events.RunEvent.{FrameReceived, CallSubmitted, QueueWritten}
 use Rattle.nr_reduce.specs.ClientState.{ClientState, OutstandingCall, is_sent, client_memory_at, initial_client_state as client_initial_state}
 use Rattle.nr_reduce.specs.ClientMessages.{reply_verdict, reply_by_header, by_call, answered_call}
-use Rattle.nr_reduce.specs.Client.{client_segment, end_of_verdict, client_message_end, or_message_end, segment_message, client_readiness, client_end, client_state_after, with_segment, outstanding_of, segment_request, with_hello, call_output, call_ends, submitted_ends, response_output, segment_names}
+use Rattle.nr_reduce.specs.Client.{client_segment, end_of_verdict, or_message_end, client_readiness, client_end, client_state_after, with_segment, outstanding_of, segment_request, with_hello, call_output, call_ends, submitted_ends, response_output, segment_names}
 use Rattle.nr_reduce.specs.ServerState.{ServerState, initial_server_state as server_initial_state}
 use Rattle.nr_laws.proofs.FrameContents.{FrameContent, Carries, total_of, sends_in, requests_in, responses_in, hellos_in, one_if_response, tagged_frame, tagged_frames, response_frames, client_frames, SentMessage, part_segment, last_segment, send_frames, calls_frames}
 use Rattle.nr_laws.proofs.FrameContents.FrameContent.{HelloFrame, PartFrame, SendFrame, RequestFrame, TaggedFrame}
@@ -31,7 +31,6 @@ use Rattle.nr_laws.proofs.LinkInvariants.{Transit, TotalsAgree, AreDistinct, Are
 use Rattle.nr_laws.proofs.Totals.{total_append, total_map_zero, length_fewer, any_found, any_first}
 use Rattle.nr_laws.proofs.Outputs.{message_of_call}
 use Rattle.nr_laws.proofs.SendFrames.{send_counts, sends_zero, sends_one, are_sends, are_all_sends, tagged_sends, queued_more, none_queued, at_front}
-use Rattle.nr_laws.proofs.TotalsAtServer.{segment_is}
 use Rattle.nr_laws.proofs.HeaderXid.{header_xid}
 use Rattle.nr_reduce.specs.Plans.{call_message}
 use Rattle.nr_reduce.specs.Written.{ends_waiting}
@@ -39,6 +38,8 @@ use Rattle.nr_reduce.proofs.WholeWrotes.{ClientEnds, none_waiting}
 use Rattle.nr_laws.proofs.EndsWaiting.{waiting_append, all_waiting_lem, one_waiting, calls_above, calls_length, send_some, output_some}
 use Rattle.nr_reduce.proofs.Waiting.{or_message}
 use Rattle.nr_laws.proofs.NamedReplies.{message_end_in, stays_as_plain}
+use Rattle.nr_laws.proofs.ReadContents.{plain_is}
+use Rattle.nr_laws.proofs.PlainSegments.{plain_segment}
 
 -- ---- A message that the client takes is under the xid of a call that is out
 

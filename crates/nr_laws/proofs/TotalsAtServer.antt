@@ -28,7 +28,7 @@ use Rattle.nr_header.specs.declared.header.ChunkLists.{ChunkLists}
 use Rattle.nr_rpc.specs.Reading.{call_of, target_of}
 use Rattle.nr_reduce.specs.History.{ExecutedCall}
 use Rattle.nr_reduce.specs.Holds.{Answer, answer_message, chunk_error, first_chunk, no_segments}
-use Rattle.nr_laws.proofs.FrameContents.{FrameContent, SentMessage, Carries, numbered_segment, part_segment, last_segment, send_frames, errors_frames, total_of, sends_in, requests_in, responses_in, hellos_in, one_if_response, effect_frames, request_frame, write_frames, answer_frames, tagged_frames, tagged_frame, server_frames}
+use Rattle.nr_laws.proofs.FrameContents.{FrameContent, SentMessage, Carries, part_segment, last_segment, send_frames, errors_frames, total_of, sends_in, requests_in, responses_in, hellos_in, one_if_response, effect_frames, request_frame, write_frames, answer_frames, tagged_frames, tagged_frame, server_frames}
 use Rattle.nr_laws.proofs.FrameContents.FrameContent.{HelloFrame, PartFrame, SendFrame, TaggedFrame}
 use Rattle.nr_laws.proofs.LinkInvariants.{Transit, TotalsAgree, AreDistinct, AreSends}
 use Rattle.nr_laws.proofs.Totals.{total_append, total_map_zero, total_map_one, others, length_fewer, any_found, length_newly}
@@ -37,6 +37,7 @@ use Rattle.nr_laws.proofs.EachEffect.{whole_rule}
 use Rattle.nr_laws.proofs.EndsWaiting.{waiting_append, all_waiting_lem, one_waiting, sends_above, sends_length, execution_some}
 use Rattle.nr_reduce.specs.Written.{ends_waiting}
 use Rattle.nr_reduce.proofs.WholeWrotes.{ServerEnds, none_waiting}
+use Rattle.nr_laws.proofs.ReadContents.{segment_is}
 
 -- ---- What a step counts: the calls and error messages of `new` Sends more, and how many reads stay open
 
