@@ -92,7 +92,7 @@ guards_submit opened k s u d all_up all_down w up place a plan l g is own lt roo
         regions = g.server.regions;
         limits = g.server.limits;
       };
-      sizes = record { client_up = g.sizes.client_up; client_down = g.sizes.client_down; server_up = g.sizes.server_up; server_down = g.sizes.server_down };
+      sizes = record { client_up = g.sizes.client_up; client_down = g.sizes.client_down; server_up = g.sizes.server_up; server_down = g.sizes.server_down; client_takes = g.sizes.client_takes; server_names = g.sizes.server_names };
       window = record { window = omega (arith, g.window.grant, room, length-append k.outstanding (outstanding_of k a ∷ [])); grant = g.window.grant; receives = g.window.receives };
       up_said = each_append (ClientContent opened) all_up said g.up_said (up_says opened k.has_hello message one.0);
       down_said = g.down_said;
@@ -141,7 +141,7 @@ pub guards_revoke : (opened : LinkParameters) (k : ClientState) (s : ServerState
 unfolding client_state_after client_end
 guards_revoke opened k s u d all_up all_down w up place xid g = record {
   server = record { counts = totals_revoked opened k s w place xid g.server.counts; reads = g.server.reads; waits = g.server.waits; sinks = g.server.sinks; regions = g.server.regions; limits = g.server.limits };
-  sizes = record { client_up = g.sizes.client_up; client_down = g.sizes.client_down; server_up = g.sizes.server_up; server_down = g.sizes.server_down };
+  sizes = record { client_up = g.sizes.client_up; client_down = g.sizes.client_down; server_up = g.sizes.server_up; server_down = g.sizes.server_down; client_takes = g.sizes.client_takes; server_names = g.sizes.server_names };
   window = record { window = omega (arith, g.window.window, length-map k.outstanding (revoked_call xid)); grant = g.window.grant; receives = g.window.receives };
   up_said = g.up_said;
   down_said = g.down_said;
@@ -161,7 +161,7 @@ pub guards_written_up : (opened : LinkParameters) (k : ClientState) (s : ServerS
 unfolding client_state_after client_end
 guards_written_up opened k s u d all_up all_down w up taken all ends g = record {
   server = record { counts = totals_writes_up opened k s w taken all ends g.server.counts; reads = reads_writes_up s w g.server.reads; waits = g.server.waits; sinks = g.server.sinks; regions = g.server.regions; limits = g.server.limits };
-  sizes = record { client_up = g.sizes.client_up; client_down = g.sizes.client_down; server_up = g.sizes.server_up; server_down = g.sizes.server_down };
+  sizes = record { client_up = g.sizes.client_up; client_down = g.sizes.client_down; server_up = g.sizes.server_up; server_down = g.sizes.server_down; client_takes = g.sizes.client_takes; server_names = g.sizes.server_names };
   window = record { window = g.window.window; grant = g.window.grant; receives = g.window.receives };
   up_said = g.up_said;
   down_said = g.down_said;
@@ -187,7 +187,7 @@ guards_execute opened k s u d all_up all_down w up e r rest o l g fits first own
     let xid_word = pending_word opened k s u d all_up all_down w up e.xid l g there in
     record {
       server = server_executes opened k s w up e r rest g.server first own;
-      sizes = record { client_up = g.sizes.client_up; client_down = g.sizes.client_down; server_up = g.sizes.server_up; server_down = g.sizes.server_down };
+      sizes = record { client_up = g.sizes.client_up; client_down = g.sizes.client_down; server_up = g.sizes.server_up; server_down = g.sizes.server_down; client_takes = g.sizes.client_takes; server_names = g.sizes.server_names };
       window = g.window;
       up_said = g.up_said;
       down_said = each_append (ServerContent (matched_down opened) opened.granted) all_down (server_frames opened s (CallExecuted e)) g.down_said
@@ -209,7 +209,7 @@ pub guards_written_down : (opened : LinkParameters) (k : ClientState) (s : Serve
 unfolding server_state_after
 guards_written_down opened k s u d all_up all_down w up taken all ends g = record {
   server = server_writes opened k s w up taken all ends g.server;
-  sizes = record { client_up = g.sizes.client_up; client_down = g.sizes.client_down; server_up = g.sizes.server_up; server_down = g.sizes.server_down };
+  sizes = record { client_up = g.sizes.client_up; client_down = g.sizes.client_down; server_up = g.sizes.server_up; server_down = g.sizes.server_down; client_takes = g.sizes.client_takes; server_names = g.sizes.server_names };
   window = g.window;
   up_said = g.up_said;
   down_said = g.down_said;
@@ -230,7 +230,7 @@ pub guards_told : (opened : LinkParameters) (k : ClientState) (s : ServerState) 
 unfolding server_state_after
 guards_told opened k s u d all_up all_down w up what granted g = record {
   server = server_told opened k s w up what g.server;
-  sizes = record { client_up = g.sizes.client_up; client_down = g.sizes.client_down; server_up = g.sizes.server_up; server_down = g.sizes.server_down };
+  sizes = record { client_up = g.sizes.client_up; client_down = g.sizes.client_down; server_up = g.sizes.server_up; server_down = g.sizes.server_down; client_takes = g.sizes.client_takes; server_names = g.sizes.server_names };
   window = g.window;
   up_said = g.up_said;
   down_said = g.down_said;

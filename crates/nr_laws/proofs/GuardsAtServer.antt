@@ -178,7 +178,7 @@ takes_send opened k s u d all_up all_down w place message rest f o l g received 
           subst (λ (said : List FrameContent). Guards opened k (server_state_after opened s (FrameReceived f)) (u ++ SendFrame message ∷ []) d all_up (all_down ++ said) (taken_up w rest said) f.end) (sym says)
           (guards_up opened k s (server_state_after opened s (FrameReceived f)) u d all_up all_down w place f.end (SendFrame message) rest (effect_frames (frame_effect s f)) g
           (t.1 (not_refused_lem opened s f piece.behind stays)) (credit_down (matched_down opened) (credit_word s) opened.granted (omega (arith, word_most s, g.credit)) (effect_frames (frame_effect s f)) (step_down (matched_down opened) (credit_word s) (frame_effect s f) (replies_send (matched_down opened) (down_limited opened).0 s f message completes small_xid (word_below_lem 4 message.bytes are_bytes) small reads)))
-          (server_keeps_sizes opened k s (server_state_after opened s (FrameReceived f)) u (SendFrame message) received (ap (λ (x : ServerState). x.up_max) after) (ap (λ (x : ServerState). x.down_max) after) g.sizes) (ap (λ (x : ServerState). x.credit) after) (subst (λ (x : ServerState). AreWithin x.reads x.regions) (sym after) within) (subst (λ (x : ServerState). length x.regions ≤ x.received.sends) (sym after) sinks) numbers answered);
+          (server_keeps_sizes opened k s (server_state_after opened s (FrameReceived f)) u (SendFrame message) received (ap (λ (x : ServerState). x.up_max) after) (ap (λ (x : ServerState). x.down_max) after) (ap (λ (x : ServerState). x.invalidates) after) g.sizes) (ap (λ (x : ServerState). x.credit) after) (subst (λ (x : ServerState). AreWithin x.reads x.regions) (sym after) within) (subst (λ (x : ServerState). length x.regions ≤ x.received.sends) (sym after) sinks) numbers answered);
     }
 
 -- a segment of a Send that isn't its last
@@ -204,7 +204,7 @@ takes_part opened k s u d all_up all_down w place named offset payload rest f o 
           subst (λ (said : List FrameContent). Guards opened k (server_state_after opened s (FrameReceived f)) (u ++ PartFrame named offset payload ∷ []) d all_up (all_down ++ said) (taken_up w rest said) f.end) (sym says)
           (guards_up opened k s (server_state_after opened s (FrameReceived f)) u d all_up all_down w place f.end (PartFrame named offset payload) rest (effect_frames (frame_effect s f)) g
           t.1 (credit_down (matched_down opened) (credit_word s) opened.granted (omega (arith, word_most s, g.credit)) (effect_frames (frame_effect s f)) (step_down (matched_down opened) (credit_word s) (frame_effect s f) (part_effect s (λ e. AreReplies (matched_down opened) (credit_word s) e.errors) tt f offset payload reads)))
-          (server_keeps_sizes opened k s (server_state_after opened s (FrameReceived f)) u (PartFrame named offset payload) received (ap (λ (x : ServerState). x.up_max) after) (ap (λ (x : ServerState). x.down_max) after) g.sizes) (ap (λ (x : ServerState). x.credit) after) (subst (λ (x : ServerState). AreWithin x.reads x.regions) (sym after) within) (subst (λ (x : ServerState). length x.regions ≤ x.received.sends) (sym after) sinks) numbers answered);
+          (server_keeps_sizes opened k s (server_state_after opened s (FrameReceived f)) u (PartFrame named offset payload) received (ap (λ (x : ServerState). x.up_max) after) (ap (λ (x : ServerState). x.down_max) after) (ap (λ (x : ServerState). x.invalidates) after) g.sizes) (ap (λ (x : ServerState). x.credit) after) (subst (λ (x : ServerState). AreWithin x.reads x.regions) (sym after) within) (subst (λ (x : ServerState). length x.regions ≤ x.received.sends) (sym after) sinks) numbers answered);
     }
 
 pub takes_tagged : (opened : LinkParameters) (k : ClientState) (s : ServerState) (u d all_up all_down : List FrameContent) (w : Transit) (place : ℕ) (last : Bool) (opcode stag to : ℕ) (payload : List ℕ) (rest : List FrameContent) (f : Frame) → IsOpened opened → EndsAgree opened k s u d all_up all_down w → Guards opened k s u d all_up all_down w place → 0 < length u
@@ -231,7 +231,7 @@ takes_tagged opened k s u d all_up all_down w place last opcode stag to payload 
           subst (λ (said : List FrameContent). Guards opened k (server_state_after opened s (FrameReceived f)) (u ++ TaggedFrame last opcode stag to payload ∷ []) d all_up (all_down ++ said) (taken_up w rest said) f.end) (sym says)
           (guards_up opened k s (server_state_after opened s (FrameReceived f)) u d all_up all_down w place f.end (TaggedFrame last opcode stag to payload) rest (effect_frames (frame_effect s f)) g
           (t.1 (not_refused_lem opened s f piece.behind stays)) (credit_down (matched_down opened) (credit_word s) opened.granted (omega (arith, word_most s, g.credit)) (effect_frames (frame_effect s f)) (step_down (matched_down opened) (credit_word s) (frame_effect s f) (replies_tagged (matched_down opened) (down_limited opened).0 s f last opcode stag to payload (λ n c found. small_xid_lem opened k s u d all_up all_down w place n c l g found) small reads)))
-          (server_keeps_sizes opened k s (server_state_after opened s (FrameReceived f)) u (TaggedFrame last opcode stag to payload) received (ap (λ (x : ServerState). x.up_max) after) (ap (λ (x : ServerState). x.down_max) after) g.sizes) (ap (λ (x : ServerState). x.credit) after) (subst (λ (x : ServerState). AreWithin x.reads x.regions) (sym after) within) (subst (λ (x : ServerState). length x.regions ≤ x.received.sends) (sym after) sinks) numbers answered);
+          (server_keeps_sizes opened k s (server_state_after opened s (FrameReceived f)) u (TaggedFrame last opcode stag to payload) received (ap (λ (x : ServerState). x.up_max) after) (ap (λ (x : ServerState). x.down_max) after) (ap (λ (x : ServerState). x.invalidates) after) g.sizes) (ap (λ (x : ServerState). x.credit) after) (subst (λ (x : ServerState). AreWithin x.reads x.regions) (sym after) within) (subst (λ (x : ServerState). length x.regions ≤ x.received.sends) (sym after) sinks) numbers answered);
     }
 
 -- the client's hello

@@ -210,4 +210,6 @@ pub mod PlainOutputs
 pub mod NamedReplies
 pub mod PlainSegments
 pub mod NamedStags
+pub mod GivenStags
+pub mod NamedStagsDead
 pub mod ReadContents
