@@ -123,7 +123,7 @@ response_said regions k place (Some q) = cuts OPCODE_READ_RESPONSE q.sink q.sink
     cuts opcode stag to bytes (i ∷ is) = (tt, cuts opcode stag to bytes is)
 
 -- a frame that closes no region
-other_frame : (opened : LinkParameters) (k : ClientState) (s : ServerState) (d all_up all_down : List FrameContent) (place : ℕ) (p : FrameContent) (f : Frame) (segment : Segment) → AccessesAgree opened k s d all_up all_down place → is_hello f ≡ false → client_segment k f ≡ Ok segment
+other_frame : (opened : LinkParameters) (k : ClientState) (s : ServerState) (d all_up all_down : List FrameContent) (place : ℕ) (p : FrameContent) (f : Frame) (segment : Segment) → AccessesAgree opened k s d all_up all_down place → is_hello f ≡ false → plain_segment k f ≡ Ok segment
     → (with_segment k f (Ok segment)).regions ≡ k.regions → (with_segment k f (Ok segment)).outstanding ≡ k.outstanding
     → AccessesAgree opened (client_state_after opened k (FrameReceived f)) s (d ++ p ∷ []) (all_up ++ client_frames opened k (FrameReceived f)) all_down place
 other_frame opened k s d all_up all_down place p f segment h behind is same outs =

@@ -24,7 +24,7 @@ use Rattle.nr_reduce.specs.Client.{client_rules, initial_client}
 use Rattle.nr_reduce.specs.ServerState.{ServerState, PendingRead, credit_word, credit_told, is_busy}
 use Rattle.nr_reduce.specs.ServerFrames.{FrameEffect}
 use Rattle.nr_reduce.specs.Server.{newly_open_reads, offer_of, answer_of_target, stag_named}
-use Rattle.nr_laws.proofs.FrameContents.{FrameContent, request_frame, effect_frames, write_frames, answer_frames, tagged_frames, send_frames, errors_frames}
+use Rattle.nr_laws.proofs.FrameContents.{FrameContent, request_frame, effect_frames, write_frames, answer_frames, tagged_frames, send_frames, errors_frames, IsTaken, IsPlainContent}
 use Rattle.nr_laws.proofs.FrameContents.FrameContent.{HelloFrame, PartFrame, SendFrame, RequestFrame, TaggedFrame}
 use Rattle.nr_laws.proofs.LinkInvariants.{Transit, WithinWindow}
 use Rattle.nr_laws.proofs.ServerInvariant.{ServerAgrees}
@@ -36,11 +36,12 @@ use Rattle.nr_laws.proofs.WritableOffers.{OfferFits}
 use Rattle.nr_laws.proofs.ServerOutputs.{CallsFit, for_target, found_fits}
 use Rattle.nr_laws.proofs.ServerOutput.{execution_frames}
 use Rattle.nr_laws.proofs.Basics.{each_append}
-use Rattle.nr_laws.proofs.AgreedSizes.{SizesAgree, matched_up, matched_down}
+use Rattle.nr_laws.proofs.AgreedSizes.{SizesAgree, matched_up, matched_down, matched_invalidates}
 use Rattle.nr_laws.proofs.Outputs.{message_of_call}
 use Rattle.nr_laws.proofs.SendFrames.{each_send}
 
--- a message of a client has the size of one, by what both sides agree on, version 1, a kind that a client sends, and at most one read chunk
+-- a message of a client has the size of one, by what both sides agree on, version 1, a kind that a client sends, and at most one read chunk;
+-- and it names no STag
 abbrev pub ClientMessage : LinkParameters → List ℕ → Type 0
 ClientMessage opened message = (16 ≤ length message) × (length message ≤ matched_up opened) × (word_at 4 message ≡ 1) × (word_at 12 message ≤ 1) × OneChunk message
 
@@ -50,6 +51,14 @@ ClientContent opened (PartFrame named offset payload) = named ≡ false
 ClientContent opened (SendFrame message) = ClientMessage opened message.bytes × (message.named ≡ None)
 ClientContent opened (RequestFrame sink at size stag to) = Unit {0}
 ClientContent opened (TaggedFrame last opcode stag to payload) = Unit {0}
+
+-- so a client names no STag
+pub content_plain : (opened : LinkParameters) (p : FrameContent) → ClientContent opened p → IsPlainContent p
+content_plain opened HelloFrame h = tt
+content_plain opened (PartFrame named offset payload) h = h
+content_plain opened (SendFrame message) h = h.1
+content_plain opened (RequestFrame sink at size stag to) h = tt
+content_plain opened (TaggedFrame last opcode stag to payload) h = tt
 
 -- a message of a server too, and it grants at most `credit`; its tagged segments are of Writes
 abbrev pub ServerContent : (most credit : ℕ) → FrameContent → Type 0
@@ -72,6 +81,7 @@ pub record Guards (opened : LinkParameters) (k : ClientState) (s : ServerState) 
   pub sizes : SizesAgree opened k s u
   pub up_said : AllByRecursion (ClientContent opened) all_up
   pub down_said : AllByRecursion (ServerContent (matched_down opened) opened.granted) all_down
+  pub names : AllByRecursion (IsTaken (matched_invalidates opened)) all_down
   pub credit : s.credit ≤ opened.granted
   pub calls : AreSized opened k.outstanding
   pub within : AreWithin s.reads s.regions

@@ -213,3 +213,4 @@ pub mod NamedStags
 pub mod GivenStags
 pub mod NamedStagsDead
 pub mod ReadContents
+pub mod NamedFrames

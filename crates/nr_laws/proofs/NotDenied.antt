@@ -46,8 +46,8 @@ use Rattle.nr_laws.proofs.TotalsAtClient.{request_payload, down_one}
 use Rattle.nr_laws.proofs.RequestFields.{request_again}
 use Rattle.nr_laws.proofs.AgreeingEnds.{EndsAgree, IsPlace, frame_of}
 use Rattle.nr_laws.proofs.Guards.{Guards}
-use Rattle.nr_laws.proofs.GuardsAtClient.{front_down, asked_of}
-use Rattle.nr_laws.proofs.ClientStep.{LacksAccess, step_down}
+use Rattle.nr_laws.proofs.GuardsAtClient.{front_down, asked_of, front_taken}
+use Rattle.nr_laws.proofs.ClientStep.{LacksAccess, step_down, has_hello_lem}
 use Rattle.nr_laws.proofs.ClientFrame.{client_took}
 use Rattle.nr_laws.proofs.ServerFrames.{AreSome, events_of, place_next_lem, ends_first}
 use Rattle.nr_laws.proofs.AgreeingRuns.{MarkAgrees, place_of, preserved, arrives}
@@ -60,7 +60,8 @@ use Rattle.nr_laws.proofs.AllowedAccesses.{offered_granted}
 use Rattle.nr_laws.proofs.Basics.{each_all}
 use Rattle.nr_reduce.proofs.Standing.{received_one}
 use Rattle.nr_laws.proofs.ClientRun.{each_both}
-use Rattle.nr_laws.proofs.ReadContents.{plain_is}
+use Rattle.nr_laws.proofs.ReadContents.{plain_is, carries_taken}
+use Rattle.nr_laws.proofs.PlainSegments.{plain, plain_lack, plain_result, plain_segment}
 
 -- ---- One frame
 
@@ -71,8 +72,10 @@ numbered_regions opened k es is = subst (λ (r : EndState ClientState). AreNumbe
 abbrev LacksNothing : ClientState → Frame → Type 0
 LacksNothing k f = (segment : Segment) → client_segment k f ≡ Ok segment → missing_access (region_grants f.end k.regions) f segment ≡ None
 
-same_segment : (k : ClientState) (f : Frame) (segment : Segment) → client_segment k f ≡ Ok segment → missing_access (region_grants f.end k.regions) f segment ≡ None → LacksNothing k f
-same_segment k f segment is none other own = (let same : Ok segment ≡ Ok other = sym is ∙ own in subst (λ (x : Segment). missing_access (region_grants f.end k.regions) f x ≡ None) (let e : segment ≡ other = cc in e) none)
+same_segment : (k : ClientState) (f : Frame) (segment : Segment) → plain_segment k f ≡ Ok segment → missing_access (region_grants f.end k.regions) f segment ≡ None → LacksNothing k f
+same_segment k f segment is none other own =
+    let same : Ok segment ≡ Ok (plain other) = sym is ∙ ap plain_result own in
+    sym (plain_lack (region_grants f.end k.regions) f other) ∙ subst (λ (x : Segment). missing_access (region_grants f.end k.regions) f x ≡ None) (let e : segment ≡ plain other = cc in e) none
 
 piece_allowed : (opened : LinkParameters) (k : ClientState) (s : ServerState) (u d all_up all_down : List FrameContent) (w : Transit) (up : ℕ) (p : FrameContent) (rest : List FrameContent) (at : ℕ) (f : Frame) → EndsAgree opened k s u d all_up all_down w → Guards opened k s u d all_up all_down w up → w.down ≡ p ∷ rest
     → Carries k.invalidates k.received.sends k.received.requests f p → at < f.end → AccessesAgree opened k s d all_up all_down at → IsAccess k.regions (message_xids d) p → LacksNothing k f
@@ -104,7 +107,8 @@ frame_allowed opened k s u (q ∷ d) all_up all_down w up p rest n r place at l 
     let own : IsAccess k.regions (message_xids (q ∷ d)) p =
     access_at k.regions [] (q ∷ d) p (rest ++ w.queued_down) (subst (AreAccesses k.regions []) (sym l.parts_down ∙ ap (λ (ps : List FrameContent). (q ∷ d) ++ (ps ++ w.queued_down)) first) h.down_said) in
     piece_allowed opened k s u (q ∷ d) all_up all_down w up p rest at (frame_of (frame_bytes opened Responder (written_segment n r p)) place) l g first
-    (front_piece_down opened k s u q d all_up all_down w p rest n r place l first sends requests is) lt h own
+    (carries_taken k.invalidates k.received.sends k.received.requests (frame_of (frame_bytes opened Responder (written_segment n r p)) place) p
+    (front_taken opened k s u (q ∷ d) all_up all_down w up p rest l g first (has_hello_lem opened k s u q d all_up all_down w l)) (front_piece_down opened k s u q d all_up all_down w p rest n r place l first sends requests is)) lt h own
 
 -- so it doesn't end the client
 not_lacking : (k : ClientState) (f : Frame) (stag offset : ℕ) (why : Denied) → (is_hello f ≡ false → LacksNothing k f) → EndsForMessage (ends.Denied stag offset why) ⊎ LacksAccess k f (ends.Denied stag offset why) → ⊥
@@ -130,7 +134,7 @@ frames_allowed opened s u all_down left o up at stag offset why (p ∷ new) k d 
     let t = client_took opened k s u d all_up all_down w p (new ++ left) n r place l first sends requests is (IsBytes_left frame (concat later) bytes) stays in
     let after = client_state_after opened k event in
     let one = subst (λ (ps : List FrameContent). Guards opened after s u (d ++ p ∷ []) (all_up ++ ps) all_down (down_one w ps (new ++ left)) up) (sym t.said_is) (step.kept stays) in
-    let two = subst (λ (ps : List FrameContent). AccessesAgree opened after s (d ++ p ∷ []) (all_up ++ ps) all_down at) (sym t.said_is) (accessed_down opened k s u d all_up all_down w p (new ++ left) n r place at l first sends requests is h) in
+    let two = subst (λ (ps : List FrameContent). AccessesAgree opened after s (d ++ p ∷ []) (all_up ++ ps) all_down at) (sym t.said_is) (accessed_down opened k s u d all_up all_down w p (new ++ left) n r place at l first sends requests is stays h) in
     frames_allowed opened s u all_down left o up at stag offset why new after (d ++ p ∷ []) (all_up ++ t.said) (down_one w t.said (new ++ left)) (n + sends_in p) (r + requests_in p) (place + length frame) t.linked one refl
     (omega (arith, sends, total_append sends_in d (p ∷ []))) (omega (arith, requests, total_append requests_in d (p ∷ []))) (place_next_lem d p frame place is some.0)
     (IsBytes_right frame (concat later) bytes) some.1 behind.1 two rest)

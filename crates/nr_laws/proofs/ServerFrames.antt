@@ -115,7 +115,7 @@ server_runs opened k d all_up left (p ∷ new) s u all_down w n r place l first 
           let kept = step.kept a.stays in
           let one = subst (λ (ps : List FrameContent). Guards opened k after (u ++ p ∷ []) d all_up (all_down ++ ps) (taken_up w (new ++ left) ps) (place + length frame)) (sym t.said_is) kept in
           let two = subst (λ (ps : List FrameContent). AccessesAgree opened k after d all_up (all_down ++ ps) reached) (sym t.said_is)
-          (accessed_up opened k s u d all_up all_down w p (new ++ left) n r place reached l first sends requests at kept.answered.once h) in
+          (accessed_up opened k s u d all_up all_down w p (new ++ left) n r place reached l first sends requests at a.stays kept.answered.once h) in
           subst (λ (ps : List FrameContent). AccessesAgree opened k m.after d all_up ps reached) (append_assoc all_down t.said m.said) (m.accessed o one reached two);
       after = m.after;
       said = t.said ++ m.said;

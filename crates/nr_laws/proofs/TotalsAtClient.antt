@@ -17,7 +17,7 @@ use Rattle.nr_reduce.specs.History.{AcceptedCall}
 use Rattle.nr_link.specs.Limits.{segment_max}
 use Rattle.nr_link.specs.Output.{msn_word, segment_count, segment_payload}
 use Rattle.nr_link.specs.Frames.{Frame, is_hello}
-use Rattle.nr_link.specs.ReceiveState.{read_request_in, begun_bytes}
+use Rattle.nr_link.specs.ReceiveState.{read_request_in, begun_bytes, ReadRequest}
 use Rattle.nr_link.specs.Ending.{hello_end, frame_end_by}
 use Rattle.nr_reduce.specs.OfferedRegions.{region_grants}
 use Rattle.nr_reduce.specs.Events.RunEvent.{FrameReceived, CallSubmitted, QueueWritten}
@@ -38,8 +38,8 @@ use Rattle.nr_reduce.proofs.WholeWrotes.{ClientEnds, none_waiting}
 use Rattle.nr_laws.proofs.EndsWaiting.{waiting_append, all_waiting_lem, one_waiting, calls_above, calls_length, send_some, output_some}
 use Rattle.nr_reduce.proofs.Waiting.{or_message}
 use Rattle.nr_laws.proofs.NamedReplies.{message_end_in, stays_as_plain}
-use Rattle.nr_laws.proofs.ReadContents.{plain_is}
-use Rattle.nr_laws.proofs.PlainSegments.{plain_segment}
+use Rattle.nr_laws.proofs.ReadContents.{plain_is, message_end_is}
+use Rattle.nr_laws.proofs.PlainSegments.{plain_segment, plain_with, plain_asks}
 
 -- ---- A message that the client takes is under the xid of a call that is out
 
@@ -71,18 +71,21 @@ taken k f behind e =
 
 -- ---- The client receives a message
 
-pub after_is_lem : (opened : LinkParameters) (k : ClientState) (f : Frame) (r : Result Segment ℕ) → is_hello f ≡ false → client_segment k f ≡ r → client_state_after opened k (FrameReceived f) ≡ with_segment k f r
+pub after_is_lem : (opened : LinkParameters) (k : ClientState) (f : Frame) (r : Result Segment ℕ) → is_hello f ≡ false → plain_segment k f ≡ r → client_state_after opened k (FrameReceived f) ≡ with_segment k f r
 unfolding client_state_after
-after_is_lem opened k f r behind is = λ i. cond (behind i) (with_hello opened k f) (with_segment k f (is i))
+after_is_lem opened k f r behind is =
+    (λ i. cond (behind i) (with_hello opened k f) (with_segment k f (client_segment k f))) ∙ sym (plain_with k f (client_segment k f)) ∙ ap (λ (x : Result Segment ℕ). with_segment k f x) is
 
-pub says_is : (opened : LinkParameters) (k : ClientState) (f : Frame) (r : Result Segment ℕ) → is_hello f ≡ false → client_segment k f ≡ r → client_frames opened k (FrameReceived f) ≡ response_frames k f.end (segment_request r)
+pub says_is : (opened : LinkParameters) (k : ClientState) (f : Frame) (r : Result Segment ℕ) → is_hello f ≡ false → plain_segment k f ≡ r → client_frames opened k (FrameReceived f) ≡ response_frames k f.end (segment_request r)
 unfolding client_frames
-says_is opened k f r behind is = λ i. cond (behind i) (calls_frames opened k.outstanding) (response_frames k f.end (segment_request (is i)))
+says_is opened k f r behind is =
+    (λ i. cond (behind i) (calls_frames opened k.outstanding) (response_frames k f.end (segment_request (client_segment k f))))
+    ∙ ap (λ (q : Option ReadRequest). response_frames k f.end q) (sym (plain_asks (client_segment k f)) ∙ ap (λ (x : Result Segment ℕ). segment_request x) is)
 
 abbrev pub down_one : Transit → List FrameContent → List FrameContent → Transit
 down_one w said rest = record { queued_up = w.queued_up ++ said; up = w.up; queued_down = w.queued_down; down = rest }
 
-totals_frame_lem : (opened : LinkParameters) (k : ClientState) (s : ServerState) (w : Transit) (f : Frame) (segment : Segment) (said rest : List FrameContent) → is_hello f ≡ false → client_segment k f ≡ Ok segment → response_frames k f.end (segment_request (Ok segment)) ≡ said
+totals_frame_lem : (opened : LinkParameters) (k : ClientState) (s : ServerState) (w : Transit) (f : Frame) (segment : Segment) (said rest : List FrameContent) → is_hello f ≡ false → plain_segment k f ≡ Ok segment → response_frames k f.end (segment_request (Ok segment)) ≡ said
     → TotalsAgree (with_segment k f (Ok segment)) s (down_one w said rest) → TotalsAgree (client_state_after opened k (FrameReceived f)) s (down_one w (client_frames opened k (FrameReceived f)) rest)
 totals_frame_lem opened k s w f segment said rest behind is says h =
     subst (λ (ps : List FrameContent). TotalsAgree (client_state_after opened k (FrameReceived f)) s (down_one w ps rest)) (sym (says_is opened k f (Ok segment) behind is ∙ says))
@@ -100,7 +103,7 @@ totals_send_down opened k s w f message rest c first p stays apart =
     let is : plain_segment k f ≡ Ok segment = plain_is k f (SendFrame message) segment p refl in
     let whole : List ℕ = begun_bytes k.received.begun ++ message.payload in
     let unended : end_of_verdict f (reply_verdict k f.end whole) ≡ None =
-    stays_as_plain k f (segment_names (Ok segment)) whole (ap (λ (r : Result Segment ℕ). message_end_in k f r) (sym is) ∙ taken k f p.behind stays) in
+    stays_as_plain k f (segment_names (client_segment k f)) whole (sym (message_end_is k f segment is) ∙ taken k f p.behind stays) in
     let fewer = length_fewer (λ (o : OutstandingCall). o.xid) (word_at 0 whole) k.outstanding apart (out_there k f whole unended) in
     let front = at_front k.received.begun w.down w.queued_down (SendFrame message) rest first c.whole_down in
     let m : TotalsAgree (with_segment k f (Ok segment)) s (down_one w [] rest) = record {
