@@ -25,7 +25,6 @@ use Rattle.nr_laws.specs.Typed.{IsTypedForm}
 use Rattle.nr_laws.proofs.PlannedSizes.{plan_up, plan_down, planned_for}
 use Rattle.nr_laws.proofs.FrameContents.{FrameContent, client_frames, response_frames, tagged_frame, tagged_frames, Carries, SentMessage, CompletesMessage, last_segment, part_segment, send_frames, calls_frames}
 use Rattle.nr_laws.proofs.FrameContents.FrameContent.{HelloFrame, PartFrame, SendFrame, RequestFrame, TaggedFrame}
-use Rattle.nr_laws.proofs.TotalsAtServer.{segment_is}
 use Rattle.nr_laws.proofs.TotalsAtClient.{after_is_lem, says_is, request_payload}
 use Rattle.nr_laws.proofs.ClientFrame.{says_hello, after_hello}
 use Rattle.nr_laws.proofs.OwnEvents.{planned}
@@ -36,6 +35,8 @@ use Rattle.nr_laws.proofs.Basics.{each_append, each_all, each_kept}
 use Rattle.nr_laws.proofs.SendFrames.{each_send, each_sends}
 use Rattle.nr_laws.proofs.Outputs.{message_of_call}
 use Rattle.nr_laws.proofs.LinkInvariants.{AreSends}
+use Rattle.nr_laws.proofs.ReadContents.{plain_is}
+use Rattle.nr_laws.proofs.PlainSegments.{plain_segment}
 
 -- ---- More regions, and more that is received
 
@@ -86,8 +87,8 @@ accessed_submit opened k s d all_up all_down place a plan h is small stags bytes
     (by t.regions o one k.has_hello)
     (each_append (CallAsked opened t.regions) k.outstanding (o ∷ []) (each_all (CallAsked opened k.regions) (CallAsked opened t.regions) k.outstanding (λ x. send_more k.regions t.regions (offers_left k.regions new) (message_of_call opened x)) h.asked) (one, tt))
   where
-    by : (regions : List Region) (o : OutstandingCall) → CallAsked opened regions o → (b : Bool) → AllByRecursion (MessageOffered regions) (cond b (send_frames (message_of_call opened o)) [])
-    by regions o one true = each_send (MessageOffered regions) (λ offset payload. tt) (message_of_call opened o) one
+    by : (regions : List Region) (o : OutstandingCall) → CallAsked opened regions o → (b : Bool) → AllByRecursion (MessageOffered regions) (cond b (send_frames None (message_of_call opened o)) [])
+    by regions o one true = each_send (MessageOffered regions) None (λ offset payload. tt) (message_of_call opened o) one
     by regions o one false = tt
 
 -- ---- A queue is written
@@ -122,7 +123,7 @@ response_said regions k place (Some q) = cuts OPCODE_READ_RESPONSE q.sink q.sink
     cuts opcode stag to bytes (i ∷ is) = (tt, cuts opcode stag to bytes is)
 
 -- a frame that closes no region
-other_frame : (opened : LinkParameters) (k : ClientState) (s : ServerState) (d all_up all_down : List FrameContent) (place : ℕ) (p : FrameContent) (f : Frame) (segment : Segment) → AccessesAgree opened k s d all_up all_down place → is_hello f ≡ false → client_segment k f ≡ Ok segment
+other_frame : (opened : LinkParameters) (k : ClientState) (s : ServerState) (d all_up all_down : List FrameContent) (place : ℕ) (p : FrameContent) (f : Frame) (segment : Segment) → AccessesAgree opened k s d all_up all_down place → is_hello f ≡ false → plain_segment k f ≡ Ok segment
     → (with_segment k f (Ok segment)).regions ≡ k.regions → (with_segment k f (Ok segment)).outstanding ≡ k.outstanding
     → AccessesAgree opened (client_state_after opened k (FrameReceived f)) s (d ++ p ∷ []) (all_up ++ client_frames opened k (FrameReceived f)) all_down place
 other_frame opened k s d all_up all_down place p f segment h behind is same outs =

@@ -66,19 +66,19 @@ numbered_map number f x (o ∷ os) same h = (same o ∙ h.0, numbered_map number
 abbrev pub HasOwnXid : LinkParameters → OutstandingCall → Type 0
 HasOwnXid opened o = word_at 0 (message_of_call opened o) ≡ o.xid
 
-pub send_xids_from : (x : ℕ) (message : List ℕ) → word_at 0 message ≡ x → XidsFrom x (send_frames message)
+pub send_xids_from : (x : ℕ) (message : List ℕ) → word_at 0 message ≡ x → XidsFrom x (send_frames None message)
 unfolding send_frames
 send_xids_from x message own = by (range_with_len 0 (last_index message))
   where
-    by : (is : List ℕ) → XidsFrom x (map (part_frame message) is ++ SendFrame (last_part message) ∷ [])
+    by : (is : List ℕ) → XidsFrom x (map (part_frame None message) is ++ SendFrame (last_part None message) ∷ [])
     by [] = (own, tt)
     by (i ∷ is) = by is
 
 pub xids_asked : (opened : LinkParameters) (x : ℕ) (os : List OutstandingCall) → NumberedCalls x os → AllByRecursion (HasOwnXid opened) os → XidsFrom x (calls_frames opened os)
 xids_asked opened x [] h own = tt
 xids_asked opened x (o ∷ os) h own =
-    xids_append x (send_frames (message_of_call opened o)) (calls_frames opened os) (send_xids_from x (message_of_call opened o) (own.0 ∙ h.0))
-    (subst (λ (n : ℕ). XidsFrom n (calls_frames opened os)) (omega (arith, send_counts sends_in 1 (λ named offset payload. refl) (λ m. refl) (message_of_call opened o))) (xids_asked opened (x + 1) os h.1 own.1))
+    xids_append x (send_frames None (message_of_call opened o)) (calls_frames opened os) (send_xids_from x (message_of_call opened o) (own.0 ∙ h.0))
+    (subst (λ (n : ℕ). XidsFrom n (calls_frames opened os)) (omega (arith, send_counts sends_in 1 (λ named offset payload. refl) (λ m. refl) None (message_of_call opened o))) (xids_asked opened (x + 1) os h.1 own.1))
 
 -- ---- Calls at the server
 

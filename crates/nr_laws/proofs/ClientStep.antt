@@ -48,8 +48,7 @@ use Rattle.nr_laws.proofs.FaultlessSegments.{request_flaw, write_flaw}
 use Rattle.nr_laws.proofs.FreeReceives.{requests}
 use Rattle.nr_laws.proofs.EndsOfFrames.{client_by_lem, client_send, client_part, plain_end_by}
 use Rattle.nr_laws.proofs.PlainSegments.{plain_segment}
-use Rattle.nr_laws.proofs.ReadContents.{plain_is, message_end_is}
-use Rattle.nr_laws.proofs.TakenFrames.{front_carries}
+use Rattle.nr_laws.proofs.ReadContents.{plain_is, message_end_is, carries_taken}
 use Rattle.nr_laws.proofs.TotalsAtClient.{down_one, request_payload}
 use Rattle.nr_laws.proofs.AnswerLists.{IsRead}
 use Rattle.nr_laws.proofs.Replies.{IsReply}
@@ -61,7 +60,7 @@ use Rattle.nr_laws.proofs.AnsweredSteps.{answers_one}
 use Rattle.nr_laws.proofs.GuardsAtServer.{sent_most}
 use Rattle.nr_laws.proofs.AgreedSizes.{matched_down}
 use Rattle.nr_laws.proofs.Guards.{Guards}
-use Rattle.nr_laws.proofs.GuardsAtClient.{front_down, asked_of, guards_hello_down, guards_send_down, guards_read_down, guards_tagged_down, guards_part_down}
+use Rattle.nr_laws.proofs.GuardsAtClient.{front_down, front_taken, asked_of, guards_hello_down, guards_send_down, guards_read_down, guards_tagged_down, guards_part_down}
 use Rattle.nr_laws.proofs.Basics.{some_not}
 use Rattle.nr_laws.proofs.HeaderXid.{header_xid}
 use Rattle.nr_laws.proofs.EndsWaiting.{left_waiting}
@@ -307,4 +306,4 @@ step_down opened k s u (q ∷ d) all_up all_down w up p rest n r place o l g fir
     let sent : IsSent k.received.sends k.received.requests f p =
     subst (λ (x : ℕ). IsSent x k.received.requests f p) n_is (subst (λ (x : ℕ). IsSent n x f p) r_is (is_piece opened Responder n r place p (proper_one n r p proper) at)) in
     step_piece opened k s u (q ∷ d) all_up all_down w up p rest f o l g first proper
-    (front_carries opened k s u (q ∷ d) all_up all_down w up p rest k.received.sends k.received.requests f l g first greeted sent) greeted
+    (carries_taken k.invalidates k.received.sends k.received.requests f p (front_taken opened k s u (q ∷ d) all_up all_down w up p rest l g first greeted) sent) greeted

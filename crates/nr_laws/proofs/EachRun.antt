@@ -110,6 +110,7 @@ starts opened link = record {
     window = record { window = omega arith; grant = omega (arith, o.granted); receives = o.receives };
     up_said = (tt, tt);
     down_said = tt;
+    names = tt;
     credit = omega arith;
     calls = tt;
     within = record { fit = tt; few = lit< tt; small = tt };

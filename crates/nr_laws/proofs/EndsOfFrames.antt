@@ -19,11 +19,11 @@ use Rattle.nr_reduce.specs.Client.{client_segment, client_readiness, client_end,
 use Rattle.nr_reduce.specs.ServerState.{ServerState, PendingRead}
 use Rattle.nr_reduce.specs.Server.{server_readiness, server_end, or_refusal, refusal_end}
 use Rattle.nr_reduce.specs.ServerFrames.{frame_effect}
-use Rattle.nr_laws.proofs.FrameContents.{FrameContent, Carries, total_of, sends_in, SentMessage, part_segment, last_segment}
+use Rattle.nr_laws.proofs.FrameContents.{FrameContent, Carries, total_of, sends_in, SentMessage, part_segment}
 use Rattle.nr_laws.proofs.FrameContents.FrameContent.{PartFrame, SendFrame, TaggedFrame}
 use Rattle.nr_laws.proofs.LinkInvariants.{Transit, TotalsAgree, ReadsAgree, AreResponses, WithinWindow}
 use Rattle.nr_laws.proofs.FreeReceives.{receives}
-use Rattle.nr_laws.proofs.FaultlessSegments.{send_frame, send_flaw, part_flaw, response_flaw, part_frame_end}
+use Rattle.nr_laws.proofs.FaultlessSegments.{send_frame, response_flaw, part_frame_end}
 use Rattle.nr_laws.proofs.ReadContents.{segment_is, plain_is, message_end_is}
 use Rattle.nr_laws.proofs.ExpectedResponses.{is_expected_lem}
 use Rattle.nr_laws.proofs.SendFrames.{at_front, send_goes_on}
@@ -40,21 +40,23 @@ server_by_lem opened s f first_fault behind is = λ i. cond (behind i) (hello_en
 -- a Send: none of the link's reasons, and never a missing receive
 pub server_send : (opened : LinkParameters) (k : ClientState) (s : ServerState) (w : Transit) (f : Frame) (message : SentMessage) (rest : List FrameContent) → TotalsAgree k s w → WithinWindow opened k → w.up ≡ SendFrame message ∷ rest
     → Carries false s.received.sends s.received.requests f (SendFrame message) → 16 ≤ length message.bytes → length message.bytes ≤ s.up_max → server_end opened s (FrameReceived f) ≡ refusal_end f (frame_effect s f).refusal
+unfolding frame_end frame_segment
 server_send opened k s w f message rest c g head p long short =
     let some : 0 < total_of sends_in (w.up ++ w.queued_up) = omega (arith, ap (λ (ps : List FrameContent). total_of sends_in (ps ++ w.queued_up)) head) in
     let front = at_front s.received.begun w.up w.queued_up (SendFrame message) rest head c.whole_up in
     server_by_lem opened s f None p.behind
-    (send_frame (server_readiness opened s) (region_grants f.end s.regions) s.received.sends s.received.requests f message p refl front.0 front.1 (receives opened k s w c g some) refl long (omega (arith, short)))
+    (send_frame false (server_readiness opened s) (region_grants f.end s.regions) s.received.sends s.received.requests f message p refl front.0 front.1 (receives opened k s w c g some) refl long (omega (arith, short)))
 
 -- a segment of a Send that isn't its last: nothing
 pub server_part : (opened : LinkParameters) (k : ClientState) (s : ServerState) (w : Transit) (f : Frame) (named : Bool) (offset : ℕ) (payload : List ℕ) (rest : List FrameContent) → TotalsAgree k s w → WithinWindow opened k → w.up ≡ PartFrame named offset payload ∷ rest
     → Carries false s.received.sends s.received.requests f (PartFrame named offset payload) → server_end opened s (FrameReceived f) ≡ refusal_end f (frame_effect s f).refusal
+unfolding frame_end frame_segment
 server_part opened k s w f named offset payload rest c g head p =
     let front = at_front s.received.begun w.up w.queued_up (PartFrame named offset payload) rest head c.whole_up in
     let some : 0 < total_of sends_in (w.up ++ w.queued_up) =
     omega (arith, ap (λ (ps : List FrameContent). total_of sends_in (ps ++ w.queued_up)) head, send_goes_on (begun_bytes s.received.begun ++ payload) (rest ++ w.queued_up) front.1) in
     server_by_lem opened s f None p.behind
-    (part_frame_end (server_readiness opened s) (region_grants f.end s.regions) s.received.sends s.received.requests f named offset payload p refl front.0 (receives opened k s w c g some) refl)
+    (part_frame_end false (server_readiness opened s) (region_grants f.end s.regions) s.received.sends s.received.requests f named offset payload p refl front.0 (receives opened k s w c g some) refl)
 
 -- a segment of a Response: only what its access lacks
 lacks_none : (f : Frame) (segment : Segment) (lack : Option Denied) → lack ≡ None → end_of_fault f segment (first_fault (missing_fault lack ∷ [])) ≡ None
@@ -100,12 +102,9 @@ plain_end_by k f segment is =
 pub client_send : (opened : LinkParameters) (k : ClientState) (s : ServerState) (w : Transit) (f : Frame) (message : SentMessage) (rest : List FrameContent) → TotalsAgree k s w → w.down ≡ SendFrame message ∷ rest
     → Carries k.invalidates k.received.sends k.received.requests f (SendFrame message) → 16 ≤ length message.bytes → length message.bytes ≤ k.down_max → client_end k (FrameReceived f) ≡ message_end_in k f (client_segment k f)
 client_send opened k s w f message rest c head p long short =
-    let segment : Segment = last_segment k.received.sends message in
-    let is : plain_segment k f ≡ Ok segment = plain_is k f (SendFrame message) segment p refl in
     let front = at_front k.received.begun w.down w.queued_down (SendFrame message) rest head c.whole_down in
     client_by_lem k f None p.behind
-    (plain_end_by k f segment is
-    ∙ ap (λ (x : Option (SegmentReason Denied)). end_of_fault f segment x) (send_flaw (client_readiness k None) message front.0 front.1 (or_true (is_begun k.received.begun)) refl long (omega (arith, short))))
+    (send_frame k.invalidates (client_readiness k) (region_grants f.end k.regions) k.received.sends k.received.requests f message p refl front.0 front.1 (or_true (is_begun k.received.begun)) refl long (omega (arith, short)))
 
 -- a segment of a Send that isn't its last: nothing
 pub client_part : (k : ClientState) (s : ServerState) (w : Transit) (f : Frame) (named : Bool) (offset : ℕ) (payload : List ℕ) (rest : List FrameContent) → TotalsAgree k s w → w.down ≡ PartFrame named offset payload ∷ rest
@@ -115,6 +114,5 @@ client_part k s w f named offset payload rest c head p =
     let is : plain_segment k f ≡ Ok segment = plain_is k f (PartFrame named offset payload) segment p refl in
     let front = at_front k.received.begun w.down w.queued_down (PartFrame named offset payload) rest head c.whole_down in
     client_by_lem k f None p.behind
-    (plain_end_by k f segment is
-    ∙ ap (λ (x : Option (SegmentReason Denied)). end_of_fault f segment x) (part_flaw (client_readiness k None) offset payload front.0 (or_true (is_begun k.received.begun)) refl))
+    (part_frame_end k.invalidates (client_readiness k) (region_grants f.end k.regions) k.received.sends k.received.requests f named offset payload p refl front.0 (or_true (is_begun k.received.begun)) refl)
     ∙ message_end_is k f segment is

@@ -30,17 +30,17 @@ answers_append came (r ∷ rs) (TaggedFrame last opcode stag to payload ∷ ps) 
     (h.0, h.1, h.2, continues_more last came (length payload) r rs others (λ c qs. AreResponses c qs ps) (λ c qs. AreResponses c qs (ps ++ more)) (λ c qs later. answers_append c qs ps others more later k) h.3)
 
 -- messages are no responses
-pub send_answers : (message : List ℕ) → AreResponses 0 [] (send_frames message)
+pub send_answers : (named : Option ℕ) (message : List ℕ) → AreResponses 0 [] (send_frames named message)
 unfolding send_frames
-send_answers message = by (range_with_len 0 (last_index message))
+send_answers named message = by (range_with_len 0 (last_index message))
   where
-    by : (is : List ℕ) → AreResponses 0 [] (map (part_frame message) is ++ SendFrame (last_part message) ∷ [])
+    by : (is : List ℕ) → AreResponses 0 [] (map (part_frame named message) is ++ SendFrame (last_part named message) ∷ [])
     by [] = (refl, refl)
     by (i ∷ is) = by is
 
 pub sends_answers : {X : Type 0} (f : X → List ℕ) (xs : List X) → AreResponses 0 [] (sends_frames f xs)
 sends_answers f [] = (refl, refl)
-sends_answers f (x ∷ xs) = answers_append 0 [] (send_frames (f x)) [] (sends_frames f xs) (send_answers (f x)) (sends_answers f xs)
+sends_answers f (x ∷ xs) = answers_append 0 [] (send_frames None (f x)) [] (sends_frames f xs) (send_answers None (f x)) (sends_answers f xs)
 
 -- ---- A response as it is cut
 

@@ -212,5 +212,5 @@ pub mod PlainSegments
 pub mod NamedStags
 pub mod GivenStags
 pub mod NamedStagsDead
-pub mod TakenFrames
 pub mod ReadContents
+pub mod NamedFrames

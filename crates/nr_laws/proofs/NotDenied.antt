@@ -34,7 +34,7 @@ use Rattle.nr_laws.specs.Typed.{TypedMark, IsTyped}
 use Rattle.nr_laws.specs.Stays.{NotRevokedMark, HasNoRevoke}
 use Rattle.nr_laws.specs.EndCauses.{KeepLaws}
 use Rattle.nr_laws.proofs.EndReasons.{EndsForMessage}
-use Rattle.nr_laws.proofs.FrameContents.{FrameContent, numbered_segment, frame_bytes, total_of, sends_in, requests_in, Carries, last_segment, part_segment}
+use Rattle.nr_laws.proofs.FrameContents.{FrameContent, frame_bytes, total_of, sends_in, requests_in, Carries, last_segment, part_segment, written_segment}
 use Rattle.nr_laws.proofs.FrameContents.FrameContent.{HelloFrame, PartFrame, SendFrame, RequestFrame, TaggedFrame}
 use Rattle.nr_laws.proofs.LinkInvariants.{Transit}
 use Rattle.nr_laws.proofs.Bytes.{bytes_both}
@@ -42,14 +42,12 @@ use Rattle.nr_laws.proofs.Totals.{total_append}
 use Rattle.nr_laws.proofs.LaterFrames.{EndBehind, frames_behind}
 use Rattle.nr_laws.proofs.StreamFrames.{frames_at}
 use Rattle.nr_laws.proofs.Writable.{IsOutput}
-use Rattle.nr_laws.proofs.PlainSegments.{plain_segment}
-use Rattle.nr_laws.proofs.ReadContents.{plain_is}
 use Rattle.nr_laws.proofs.TotalsAtClient.{request_payload, down_one}
 use Rattle.nr_laws.proofs.RequestFields.{request_again}
 use Rattle.nr_laws.proofs.AgreeingEnds.{EndsAgree, IsPlace, frame_of}
 use Rattle.nr_laws.proofs.Guards.{Guards}
-use Rattle.nr_laws.proofs.GuardsAtClient.{front_down, asked_of}
-use Rattle.nr_laws.proofs.ClientStep.{LacksAccess, step_down}
+use Rattle.nr_laws.proofs.GuardsAtClient.{front_down, asked_of, front_taken}
+use Rattle.nr_laws.proofs.ClientStep.{LacksAccess, step_down, has_hello_lem}
 use Rattle.nr_laws.proofs.ClientFrame.{client_took}
 use Rattle.nr_laws.proofs.ServerFrames.{AreSome, events_of, place_next_lem, ends_first}
 use Rattle.nr_laws.proofs.AgreeingRuns.{MarkAgrees, place_of, preserved, arrives}
@@ -62,6 +60,8 @@ use Rattle.nr_laws.proofs.AllowedAccesses.{offered_granted}
 use Rattle.nr_laws.proofs.Basics.{each_all}
 use Rattle.nr_reduce.proofs.Standing.{received_one}
 use Rattle.nr_laws.proofs.ClientRun.{each_both}
+use Rattle.nr_laws.proofs.ReadContents.{plain_is, carries_taken}
+use Rattle.nr_laws.proofs.PlainSegments.{plain_segment}
 
 -- ---- One frame
 
@@ -105,7 +105,8 @@ frame_allowed opened k s u (q ∷ d) all_up all_down w up p rest n r place at l 
     let own : IsAccess k.regions (message_xids (q ∷ d)) p =
     access_at k.regions [] (q ∷ d) p (rest ++ w.queued_down) (subst (AreAccesses k.regions []) (sym l.parts_down ∙ ap (λ (ps : List FrameContent). (q ∷ d) ++ (ps ++ w.queued_down)) first) h.down_said) in
     piece_allowed opened k s u (q ∷ d) all_up all_down w up p rest at (frame_of (frame_bytes opened Responder (written_segment n r p)) place) l g first
-    (front_piece_down opened k s u q d all_up all_down w p rest n r place l first sends requests is) lt h own
+    (carries_taken k.invalidates k.received.sends k.received.requests (frame_of (frame_bytes opened Responder (written_segment n r p)) place) p
+    (front_taken opened k s u (q ∷ d) all_up all_down w up p rest l g first (has_hello_lem opened k s u q d all_up all_down w l)) (front_piece_down opened k s u q d all_up all_down w p rest n r place l first sends requests is)) lt h own
 
 -- so it doesn't end the client
 not_lacking : (k : ClientState) (f : Frame) (stag offset : ℕ) (why : Denied) → (is_hello f ≡ false → LacksNothing k f) → EndsForMessage (ends.Denied stag offset why) ⊎ LacksAccess k f (ends.Denied stag offset why) → ⊥
@@ -131,7 +132,7 @@ frames_allowed opened s u all_down left o up at stag offset why (p ∷ new) k d 
     let t = client_took opened k s u d all_up all_down w p (new ++ left) n r place l first sends requests is (IsBytes_left frame (concat later) bytes) stays in
     let after = client_state_after opened k event in
     let one = subst (λ (ps : List FrameContent). Guards opened after s u (d ++ p ∷ []) (all_up ++ ps) all_down (down_one w ps (new ++ left)) up) (sym t.said_is) (step.kept stays) in
-    let two = subst (λ (ps : List FrameContent). AccessesAgree opened after s (d ++ p ∷ []) (all_up ++ ps) all_down at) (sym t.said_is) (accessed_down opened k s u d all_up all_down w p (new ++ left) n r place at l first sends requests is h) in
+    let two = subst (λ (ps : List FrameContent). AccessesAgree opened after s (d ++ p ∷ []) (all_up ++ ps) all_down at) (sym t.said_is) (accessed_down opened k s u d all_up all_down w p (new ++ left) n r place at l first sends requests is stays h) in
     frames_allowed opened s u all_down left o up at stag offset why new after (d ++ p ∷ []) (all_up ++ t.said) (down_one w t.said (new ++ left)) (n + sends_in p) (r + requests_in p) (place + length frame) t.linked one refl
     (omega (arith, sends, total_append sends_in d (p ∷ []))) (omega (arith, requests, total_append requests_in d (p ∷ []))) (place_next_lem d p frame place is some.0)
     (IsBytes_right frame (concat later) bytes) some.1 behind.1 two rest)

@@ -198,11 +198,11 @@ accesses_each regions before (p ∷ ps) h = (
 )
 
 -- messages access nothing
-pub accesses_message : (regions : List Region) (before : List FrameContent) (message : List ℕ) → AreAccesses regions before (send_frames message)
-accesses_message regions before message =
-    accesses_each regions before (send_frames message) (each_send (IsAccess regions (message_xids (before ++ send_frames message))) (λ offset payload. tt) message tt)
+pub accesses_message : (regions : List Region) (before : List FrameContent) (named : Option ℕ) (message : List ℕ) → AreAccesses regions before (send_frames named message)
+accesses_message regions before named message =
+    accesses_each regions before (send_frames named message) (each_send (IsAccess regions (message_xids (before ++ send_frames named message))) named (λ offset payload. tt) message tt)
 
 pub accesses_messages : (regions : List Region) (before : List FrameContent) (messages : List (List ℕ)) → AreAccesses regions before (errors_frames messages)
 accesses_messages regions before [] = tt
 accesses_messages regions before (m ∷ messages) =
-    accesses_append regions before (send_frames m) (errors_frames messages) (accesses_message regions before m) (accesses_messages regions (before ++ send_frames m) messages)
+    accesses_append regions before (send_frames None m) (errors_frames messages) (accesses_message regions before None m) (accesses_messages regions (before ++ send_frames None m) messages)

@@ -88,7 +88,7 @@ submitted opened k s u d all_up all_down w place a plan l own is limits = by k.h
     message = message_of_call opened (outstanding_of k a)
 
     frames : List FrameContent
-    frames = send_frames message
+    frames = send_frames None message
 
     calls : (b : Bool) → k.has_hello ≡ b → total_of sends_in all_up ≡ cond b k.sends 0
     calls b e = calls_said opened k s u d all_up all_down w l ∙ ap (λ (x : Bool). cond x k.sends 0) e
@@ -109,9 +109,9 @@ submitted opened k s u d all_up all_down w place a plan l own is limits = by k.h
     by true e =
         with_said frames (ap (λ (x : Bool). cond x frames []) e)
         (ap (λ (x : Bool). cond x (call_output opened (k.sends + 1) (outstanding_of k a)) []) e
-        ∙ message_said opened Initiator k.sends (total_of requests_in all_up) message
+        ∙ message_said opened Initiator k.sends (total_of requests_in all_up) None message
         ∙ (λ i. output_bytes opened Initiator (sym (calls true e) i) (total_of requests_in all_up) frames))
-        (short_proper message short) (send_counts hellos_in 0 (λ named offset payload. refl) (λ m. refl) message) (send_counts requests_in 0 (λ named offset payload. refl) (λ m. refl) message)
+        (short_proper None message tt short) (send_counts hellos_in 0 (λ named offset payload. refl) (λ m. refl) None message) (send_counts requests_in 0 (λ named offset payload. refl) (λ m. refl) None message)
     by false e =
         with_said [] (ap (λ (x : Bool). cond x frames []) e) (ap (λ (x : Bool). cond x (call_output opened (k.sends + 1) (outstanding_of k a)) []) e) tt refl refl
 

@@ -20,12 +20,13 @@ use Rattle.nr_reduce.specs.ServerMessages.CallVerdict.{Refuses, IsReady}
 use Rattle.nr_laws.proofs.FrameContents.{Carries, SentMessage, part_segment, last_segment}
 use Rattle.nr_laws.proofs.FrameContents.FrameContent.{PartFrame, SendFrame, TaggedFrame}
 use Rattle.nr_laws.proofs.LinkInvariants.{PendingAgree, HaveSinks}
-use Rattle.nr_laws.proofs.TotalsAtServer.{after_is_lem, step_is, segment_is, with_by}
+use Rattle.nr_laws.proofs.TotalsAtServer.{after_is_lem, step_is, with_by}
 use Rattle.nr_laws.proofs.PendingSends.{AfterEffect, pending_agree_message, pending_agree_same, verdict_new}
 use Rattle.nr_laws.proofs.PendingExecuted.{pending_agree_read}
 use Rattle.nr_laws.proofs.Sinks.{sink_later, sinks_closed, sinks_more, sinks_append, sinks_taken, sinks_dropped, sinks_kept}
 use Rattle.nr_laws.proofs.NewSinks.{AreKnown, sinks_opened}
 use Rattle.nr_laws.proofs.EachEffect.{whole_rule}
+use Rattle.nr_laws.proofs.ReadContents.{segment_is}
 
 pub pending_agree_send_up : (opened : LinkParameters) (s : ServerState) (f : Frame) (message : SentMessage) → PendingAgree s → Carries false s.received.sends s.received.requests f (SendFrame message) → (frame_effect s f).refusal ≡ None → PendingAgree (server_state_after opened s (FrameReceived f))
 pending_agree_send_up opened s f message w p goes_on =

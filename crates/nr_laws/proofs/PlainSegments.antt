@@ -12,7 +12,7 @@ use Rattle.nr_link.specs.Frames.{Frame}
 use Rattle.nr_link.specs.ReceiveState.{ReceiveState, ReadRequest, received_after, message_completed, read_request_of}
 use Rattle.nr_link.specs.SegmentFaults.{Readiness, SegmentReason, segment_reason}
 use Rattle.nr_link.specs.SegmentFaults.SegmentReason.{Reason, NoBuffer, AccessDenied, PeerTerminated}
-use Rattle.nr_link.specs.Ending.{tagged_access, access_of, missing_access, end_of_fault, frame_end_by}
+use Rattle.nr_link.specs.Ending.{tagged_access, missing_access, end_of_fault, frame_end_by}
 use Rattle.nr_reduce.specs.ClientState.{ClientState}
 use Rattle.nr_reduce.specs.Client.{client_segment, segment_message, segment_request, with_segment}
 
@@ -99,3 +99,22 @@ plain_asks (Err reason) = refl
 pub plain_other : (s : Segment) → eqb (opcode_in s) OPCODE_SEND_INVALIDATE ≡ false → plain s ≡ s
 plain_other (Tagged last opcode stag to payload) other = refl
 plain_other (Untagged last opcode w queue msn offset payload) other = ap (λ (b : Bool). plain_if b last opcode w queue msn offset payload) other
+
+-- whether it is of a plain Send, or of none
+abbrev pub is_plain_send : Segment → Bool
+is_plain_send (Tagged last opcode stag to payload) = false
+is_plain_send (Untagged last opcode w queue msn offset payload) = eqb opcode OPCODE_SEND
+
+abbrev plain_send_in : Result Segment ℕ → Bool
+plain_send_in (Ok s) = is_plain_send s
+plain_send_in (Err reason) = false
+
+-- what is of no Send is as it was read
+pub other_read : (r : Result Segment ℕ) (s : Segment) → plain_result r ≡ Ok s → is_plain_send s ≡ false → r ≡ Ok s
+other_read (Err reason) s is other = absurd cc
+other_read (Ok (Tagged last opcode stag to payload)) s is other = is
+other_read (Ok (Untagged last opcode w queue msn offset payload)) s is other = by (eqb opcode OPCODE_SEND_INVALIDATE) is
+  where
+    by : (b : Bool) → ◌≡◌ {A = Result Segment ℕ} (Ok (plain_if b last opcode w queue msn offset payload)) (Ok s) → ◌≡◌ {A = Result Segment ℕ} (Ok (Untagged last opcode w queue msn offset payload)) (Ok s)
+    by true e = absurd (let wrong : true ≡ false = ap plain_send_in e ∙ other in cc)
+    by false e = e

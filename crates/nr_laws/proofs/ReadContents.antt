@@ -1,5 +1,5 @@
 -- What a frame has of its content is what a side reads of it, if the side takes it: plain in kind, with the STag beside it.
-use Rattle.std.proofs.Common.{◌≡◌, ℕ, Bool, true, false, cond, ◌&&◌, eqb, List, Option, None, Some, Result, Ok, Err, refl, sym, ap, ◌∙◌}
+use Rattle.std.proofs.Common.{◌≡◌, ℕ, Bool, true, false, cond, ◌&&◌, eqb, List, Option, None, Some, Result, Ok, Err, refl, sym, ap, ◌∙◌, ◌+◌}
 use Rattle.std.proofs.lemmas.Option.{same_Some}
 use Rattle.nr_wire.specs.Constants.{OPCODE_SEND_INVALIDATE, QUEUE_SEND, REASON_OPCODE}
 use Rattle.nr_wire.specs.Segment.{Segment, opcode_of, opcode_in, segment_of}
@@ -17,10 +17,10 @@ use Rattle.nr_reduce.specs.Client.{client_end, client_message_end, client_segmen
 use Rattle.nr_reduce.specs.ServerState.{ServerState}
 use Rattle.nr_reduce.specs.Server.{server_end}
 use Rattle.nr_laws.specs.MessageSegments.{send_opcode, send_word}
-use Rattle.nr_laws.proofs.FrameContents.{FrameContent, SentMessage, IsSent, Carries, IsPlainContent, IsTaken, name_in, numbered_segment, written_segment, written_part, last_segment, part_opcode}
+use Rattle.nr_laws.proofs.FrameContents.{FrameContent, SentMessage, IsSent, Carries, IsPlainContent, IsTaken, name_in, numbered_segment, written_segment, last_segment, part_opcode}
 use Rattle.nr_laws.proofs.FrameContents.FrameContent.{HelloFrame, PartFrame, SendFrame, RequestFrame, TaggedFrame}
 use Rattle.nr_laws.proofs.NamedReplies.{message_end_in}
-use Rattle.nr_laws.proofs.PlainSegments.{plain, plain_message, plain_other, plain_result, plain_segment}
+use Rattle.nr_laws.proofs.PlainSegments.{plain, plain_message, plain_other, plain_result, plain_segment, is_plain_send, other_read}
 use Rattle.nr_laws.proofs.ReadFrames.{client_read, server_read}
 
 -- ---- What is written, without the STags
@@ -130,6 +130,9 @@ segment_is n r f p segment is e = unnamed_is f.bytes segment (is.reads ∙ ap (�
 
 pub plain_is : (k : ClientState) (f : Frame) (p : FrameContent) (segment : Segment) → Carries k.invalidates k.received.sends k.received.requests f p → numbered_segment k.received.sends k.received.requests p ≡ Some segment → plain_segment k f ≡ Ok segment
 plain_is k f p segment is e = is.reads ∙ ap (λ (s : Segment). Ok s) (same_Some _ _ (sym is.is_segment ∙ e))
+
+pub own_is : (k : ClientState) (f : Frame) (p : FrameContent) (segment : Segment) → Carries k.invalidates k.received.sends k.received.requests f p → numbered_segment k.received.sends k.received.requests p ≡ Some segment → is_plain_send segment ≡ false → client_segment k f ≡ Ok segment
+own_is k f p segment is e other = other_read (client_segment k f) segment (plain_is k f p segment is e) other
 
 -- why a client ends for the message that a segment completes
 pub message_end_is : (k : ClientState) (f : Frame) (segment : Segment) → plain_segment k f ≡ Ok segment → message_end_in k f (client_segment k f) ≡ client_message_end k f (segment_names (client_segment k f)) (message_completed k.received segment)

@@ -19,11 +19,12 @@ use Rattle.nr_reduce.specs.ServerReads.{open_reads, is_read, reads_of, regions_o
 use Rattle.nr_reduce.specs.Server.{newly_open_reads, server_state_after}
 use Rattle.nr_reduce.specs.ServerMessages.Verdict.{EndsLink, OtherVersion, BadChunks, MakesPending}
 use Rattle.nr_reduce.specs.ServerMessages.CallVerdict.{Refuses, IsReady}
-use Rattle.nr_laws.proofs.FrameContents.{FrameContent, Carries, request_frame, effect_frames, SentMessage, last_segment, part_segment, send_frames, errors_frames, part_frame, last_part, last_index}
+use Rattle.nr_laws.proofs.FrameContents.{FrameContent, Carries, request_frame, effect_frames, SentMessage, last_segment, part_segment, send_frames, errors_frames, part_frame, last_part, last_index, total_of}
 use Rattle.nr_laws.proofs.FrameContents.FrameContent.{HelloFrame, PartFrame, SendFrame, RequestFrame, TaggedFrame}
 use Rattle.nr_laws.proofs.LinkInvariants.{Transit, AreResponses, ContinuesRead, requests_of, ReadsAgree}
-use Rattle.nr_laws.proofs.TotalsAtServer.{shape_message, after_is_lem, step_is, segment_is, with_by}
+use Rattle.nr_laws.proofs.TotalsAtServer.{shape_message, after_is_lem, step_is, with_by}
 use Rattle.nr_laws.proofs.EachEffect.{whole_rule}
+use Rattle.nr_laws.proofs.ReadContents.{segment_is}
 
 -- ---- What stays at the front of the reads
 
@@ -97,17 +98,17 @@ requests_append (SendFrame message ∷ xs) ys = requests_append xs ys
 requests_append (RequestFrame sink at size stag to ∷ xs) ys = ap (λ (zs : List FrameContent). RequestFrame sink at size stag to ∷ zs) (requests_append xs ys)
 requests_append (TaggedFrame last opcode stag to payload ∷ xs) ys = requests_append xs ys
 
-pub send_asks_none : (message : List ℕ) → requests_of (send_frames message) ≡ []
+pub send_asks_none : (named : Option ℕ) (message : List ℕ) → requests_of (send_frames named message) ≡ []
 unfolding send_frames
-send_asks_none message = by (range_with_len 0 (last_index message))
+send_asks_none named message = by (range_with_len 0 (last_index message))
   where
-    by : (is : List ℕ) → requests_of (map (part_frame message) is ++ SendFrame (last_part message) ∷ []) ≡ []
+    by : (is : List ℕ) → requests_of (map (part_frame named message) is ++ SendFrame (last_part named message) ∷ []) ≡ []
     by [] = refl
     by (i ∷ is) = by is
 
 none_of_sends : (messages : List (List ℕ)) → requests_of (errors_frames messages) ≡ []
 none_of_sends [] = refl
-none_of_sends (m ∷ messages) = requests_append (send_frames m) (errors_frames messages) ∙ (λ i. send_asks_none m i ++ none_of_sends messages i)
+none_of_sends (m ∷ messages) = requests_append (send_frames None m) (errors_frames messages) ∙ (λ i. send_asks_none None m i ++ none_of_sends messages i)
 
 all_of_reads : (rs : List PendingRead) → requests_of (map request_frame rs) ≡ map request_frame rs
 all_of_reads [] = refl

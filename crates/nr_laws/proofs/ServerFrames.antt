@@ -15,7 +15,7 @@ use Rattle.nr_reduce.specs.ClientState.{ClientState}
 use Rattle.nr_reduce.specs.ServerState.{ServerState}
 use Rattle.nr_reduce.specs.Server.{server_rules, server_state_after}
 use Rattle.nr_reduce.proofs.Steps.{ended_stays}
-use Rattle.nr_laws.proofs.FrameContents.{FrameContent, numbered_segment, frame_bytes, output_bytes, total_of, sends_in, requests_in}
+use Rattle.nr_laws.proofs.FrameContents.{FrameContent, frame_bytes, output_bytes, total_of, sends_in, requests_in, written_segment}
 use Rattle.nr_laws.proofs.LinkInvariants.{Transit}
 use Rattle.nr_laws.proofs.Totals.{total_append}
 use Rattle.nr_laws.proofs.StreamFrames.{frames_at, spelled_append}
@@ -115,7 +115,7 @@ server_runs opened k d all_up left (p ∷ new) s u all_down w n r place l first 
           let kept = step.kept a.stays in
           let one = subst (λ (ps : List FrameContent). Guards opened k after (u ++ p ∷ []) d all_up (all_down ++ ps) (taken_up w (new ++ left) ps) (place + length frame)) (sym t.said_is) kept in
           let two = subst (λ (ps : List FrameContent). AccessesAgree opened k after d all_up (all_down ++ ps) reached) (sym t.said_is)
-          (accessed_up opened k s u d all_up all_down w p (new ++ left) n r place reached l first sends requests at kept.answered.once h) in
+          (accessed_up opened k s u d all_up all_down w p (new ++ left) n r place reached l first sends requests at a.stays kept.answered.once h) in
           subst (λ (ps : List FrameContent). AccessesAgree opened k m.after d all_up ps reached) (append_assoc all_down t.said m.said) (m.accessed o one reached two);
       after = m.after;
       said = t.said ++ m.said;

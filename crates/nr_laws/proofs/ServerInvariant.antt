@@ -19,7 +19,7 @@ use Rattle.nr_reduce.specs.ServerMessages.Verdict.{MakesPending}
 use Rattle.nr_laws.proofs.FrameContents.{SentMessage, CompletesMessage, last_segment, FrameContent, Carries, part_segment}
 use Rattle.nr_laws.proofs.FrameContents.FrameContent.{PartFrame, SendFrame, TaggedFrame}
 use Rattle.nr_laws.proofs.LinkInvariants.{Transit, TotalsAgree, ReadsAgree, PendingAgree, HaveSinks, AreAtMost, WithinWindow}
-use Rattle.nr_laws.proofs.TotalsAtServer.{after_is_lem, segment_is, totals_send_up, totals_tagged_up, step_is, totals_part_up}
+use Rattle.nr_laws.proofs.TotalsAtServer.{after_is_lem, totals_send_up, totals_tagged_up, step_is, totals_part_up}
 use Rattle.nr_laws.proofs.DistinctKeys.{below_more, below_append}
 use Rattle.nr_laws.proofs.PendingSends.{verdict_new}
 use Rattle.nr_laws.proofs.ReadsAtServer.{reads_send_up, reads_tagged_up, moved, reads_part_up}
@@ -30,6 +30,7 @@ use Rattle.nr_laws.proofs.AllowedResponses.{server_response_taken}
 use Rattle.nr_laws.proofs.EachEffect.{held_messages, held_responses, send_effect, tagged_effect_lem}
 use Rattle.nr_reduce.proofs.OwnStags.{closed_length, closed_stag}
 use Rattle.nr_laws.proofs.SendFrames.{at_front}
+use Rattle.nr_laws.proofs.ReadContents.{segment_is}
 
 record Below (sends : ℕ) (regions : List Region) : Type 0 where
   stags : AreAtMost (λ (g : Region). g.stag) (length regions) regions

@@ -25,7 +25,6 @@ use Rattle.nr_rpc.specs.Reading.{call_of}
 use Rattle.nr_link.specs.declared.end.End.{End}
 use Rattle.nr_link.specs.Frames.{Frame, is_hello}
 use Rattle.nr_link.specs.Ending.{frame_segment, frame_end, hello_end}
-use Rattle.nr_laws.proofs.TotalsAtServer.{segment_is}
 use Rattle.nr_laws.proofs.CallNumbers.{none_pending}
 use Rattle.nr_reduce.specs.declared.mark.LinkParameters.{LinkParameters}
 use Rattle.nr_reduce.specs.Opening.{IsOpened}
@@ -41,18 +40,19 @@ use Rattle.nr_reduce.specs.ServerMessages.Verdict.{EndsLink, OtherVersion, BadCh
 use Rattle.nr_reduce.specs.ServerFrames.{FrameEffect, with_verdict, frame_effect}
 use Rattle.nr_reduce.specs.Server.{server_end, server_state_after, server_readiness, or_refusal, refusal_end}
 use Rattle.nr_laws.proofs.EndReasons.{IsCallReason, EndsForCall}
-use Rattle.nr_laws.proofs.FrameContents.{FrameContent, numbered_segment, frame_bytes, total_of, sends_in, requests_in, server_frames, Carries, SentMessage, CompletesMessage, last_segment, part_segment}
+use Rattle.nr_laws.proofs.FrameContents.{FrameContent, frame_bytes, total_of, sends_in, requests_in, server_frames, Carries, SentMessage, CompletesMessage, last_segment, part_segment, written_segment, written_last, IsSent}
 use Rattle.nr_laws.proofs.FrameContents.FrameContent.{HelloFrame, PartFrame, SendFrame, RequestFrame, TaggedFrame}
 use Rattle.nr_laws.proofs.LinkInvariants.{Transit}
 use Rattle.nr_laws.proofs.Totals.{total_append}
 use Rattle.nr_laws.proofs.CompletedFrames.{is_piece}
 use Rattle.nr_laws.proofs.Writable.{IsWritable, IsOutput, proper_one, stream_first, stream_at_lem}
 use Rattle.nr_laws.proofs.AgreeingEnds.{EndsAgree, IsPlace, frame_of, taken_up}
-use Rattle.nr_laws.proofs.Guards.{Guards}
+use Rattle.nr_laws.proofs.Guards.{Guards, content_plain}
 use Rattle.nr_laws.proofs.GuardsAtServer.{front_up, front_xid, ServerTakes, takes_send, takes_tagged, hello_guards}
 use Rattle.nr_laws.proofs.Basics.{some_not}
 use Rattle.nr_laws.proofs.EachEffect.{send_effect, tagged_effect_lem, part_effect}
 use Rattle.nr_laws.proofs.SendFrames.{at_front}
+use Rattle.nr_laws.proofs.ReadContents.{segment_is, carries_taken}
 
 -- ---- Why the effect of a frame refuses
 
@@ -169,8 +169,8 @@ step_piece opened k s u d all_up all_down w place (SendFrame message) rest f o l
     let segment : Segment = last_segment s.received.sends message in
     let reads : frame_segment f ≡ Ok segment = segment_is s.received.sends s.received.requests f (SendFrame message) segment piece refl in
     let completes = (at_front s.received.begun w.up w.queued_up (SendFrame message) rest first l.counts.whole_up).1 in
-    let are_bytes = message_bytes s.received message completes l.bytes_up (payload_bytes segment (subst IsBytes is bytes)) in
-    let fine = front_up opened k s u d all_up all_down w place (SendFrame message) rest l g first in
+    let are_bytes = message_bytes s.received message completes l.bytes_up (payload_bytes (written_last s.received.sends message) (subst IsBytes is bytes)) in
+    let fine = (front_up opened k s u d all_up all_down w place (SendFrame message) rest l g first).0 in
     let xid = front_xid opened k s u d all_up all_down w place message rest l g first in
     let again = none_pending opened.first_xid s.received.sends (word_at 0 message.bytes) s.calls g.numbers l.waits.calls_below xid in
     let some : 0 < total_of sends_in w.up = omega (arith, ap (total_of sends_in) first) in
@@ -205,5 +205,6 @@ step_up_lem opened k s (q ∷ u) d all_up all_down w p rest n r place o l g firs
     let n_is : n ≡ s.received.sends = sends ∙ sym l.sends_up in
     let r_is : r ≡ s.received.requests = requests ∙ sym l.requests_up in
     step_piece opened k s (q ∷ u) d all_up all_down w place p rest f o l g (omega arith) first proper
-    (subst (λ (x : ℕ). Carries x s.received.requests f p) n_is (subst (λ (x : ℕ). Carries n x f p) r_is (is_piece opened Initiator n r place p (proper_one n r p proper) at)))
+    (carries_taken false s.received.sends s.received.requests f p (content_plain opened p (front_up opened k s (q ∷ u) d all_up all_down w place p rest l g first))
+    (subst (λ (x : ℕ). IsSent x s.received.requests f p) n_is (subst (λ (x : ℕ). IsSent n x f p) r_is (is_piece opened Initiator n r place p (proper_one n r p proper) at))))
     bytes (λ i. frame_bytes opened Initiator (written_segment (n_is i) (r_is i) p)) (omega (arith, some))

@@ -13,7 +13,7 @@ use Rattle.nr_wire.proofs.Splits.{split_frame, split_partial}
 use Rattle.nr_reduce.specs.declared.mark.LinkParameters.{LinkParameters}
 use Rattle.nr_laws.proofs.FirstHellos.{first_hello, first_hello_is}
 use Rattle.nr_laws.proofs.Brought.{IsWord, encoding_is}
-use Rattle.nr_laws.proofs.FrameContents.{FrameContent, numbered_segment, frame_bytes, output_bytes, sends_in, requests_in, total_of}
+use Rattle.nr_laws.proofs.FrameContents.{FrameContent, written_segment, frame_bytes, output_bytes, sends_in, requests_in, total_of}
 use Rattle.nr_laws.proofs.LaterFrames.{behind}
 
 -- ---- Pieces that are frames
@@ -27,7 +27,7 @@ IsWritableAs Fpdu (Some segment) = IsWord segment
 -- the first frame of a side is its hello, and no other; each other is a segment whose numbers are words
 abbrev pub AreWritableFrom : Awaited → (sends requests : ℕ) → List FrameContent → Type 0
 AreWritableFrom a n r [] = Unit {0}
-AreWritableFrom a n r (p ∷ ps) = IsWritableAs a (numbered_segment n r p) × AreWritableFrom Fpdu (n + sends_in p) (r + requests_in p) ps
+AreWritableFrom a n r (p ∷ ps) = IsWritableAs a (written_segment n r p) × AreWritableFrom Fpdu (n + sends_in p) (r + requests_in p) ps
 
 -- the frames of frames
 abbrev pub frames_at : LinkParameters → Side → (sends requests : ℕ) → List FrameContent → List (List ℕ)
@@ -112,7 +112,7 @@ front opened side a n r (p ∷ ps) x y of proper e =
     frame = frame_bytes opened side (written_segment n r p)
 
     is_frame : IsFrame a frame
-    is_frame = proper_frame opened side a (numbered_segment n r p) of proper.0
+    is_frame = proper_frame opened side a (written_segment n r p) of proper.0
 
     more : List ℕ
     more = output_bytes opened side (n + sends_in p) (r + requests_in p) ps

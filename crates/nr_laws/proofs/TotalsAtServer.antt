@@ -18,7 +18,7 @@ use Rattle.nr_reduce.specs.ServerState.{ServerState, PendingCall, PendingRead, c
 use Rattle.nr_reduce.specs.ServerFrames.{FrameEffect, frame_effect, effect_in, message_effect, no_effect, ready_if_whole, with_verdict, with_refused_call, read_effect, response_effect, call_of_number, is_stream_read, with_access}
 use Rattle.nr_reduce.specs.ServerMessages.{Verdict, CallVerdict, verdict, by_payload, pending_payload, chunk_bytes}
 use Rattle.nr_reduce.specs.ServerReads.{open_reads, reads_of, regions_of, is_over}
-use Rattle.nr_reduce.specs.Server.{with_own_hello, effect_output, send_ends_from, execution_output, with_effect, newly_open_reads, server_state_after, offer_of, answer_of_target, received_by, response_bytes_after, tagged_accesses}
+use Rattle.nr_reduce.specs.Server.{with_own_hello, effect_output, send_ends_from, execution_output, with_effect, newly_open_reads, server_state_after, offer_of, answer_of_target, received_by, response_bytes_after, tagged_accesses, stag_named}
 use Rattle.nr_reduce.specs.ServerMessages.Verdict.{EndsLink, OtherVersion, BadChunks, MakesPending}
 use Rattle.nr_reduce.specs.ServerMessages.CallVerdict.{Refuses, IsReady}
 use Rattle.nr_reduce.specs.OfferedRegions.{regions_closed}
@@ -28,7 +28,7 @@ use Rattle.nr_header.specs.declared.header.ChunkLists.{ChunkLists}
 use Rattle.nr_rpc.specs.Reading.{call_of, target_of}
 use Rattle.nr_reduce.specs.History.{ExecutedCall}
 use Rattle.nr_reduce.specs.Holds.{Answer, answer_message, chunk_error, first_chunk, no_segments}
-use Rattle.nr_laws.proofs.FrameContents.{FrameContent, SentMessage, Carries, numbered_segment, part_segment, last_segment, send_frames, errors_frames, total_of, sends_in, requests_in, responses_in, hellos_in, one_if_response, effect_frames, request_frame, write_frames, answer_frames, tagged_frames, tagged_frame, server_frames}
+use Rattle.nr_laws.proofs.FrameContents.{FrameContent, SentMessage, Carries, part_segment, last_segment, send_frames, errors_frames, total_of, sends_in, requests_in, responses_in, hellos_in, one_if_response, effect_frames, request_frame, write_frames, answer_frames, tagged_frames, tagged_frame, server_frames}
 use Rattle.nr_laws.proofs.FrameContents.FrameContent.{HelloFrame, PartFrame, SendFrame, TaggedFrame}
 use Rattle.nr_laws.proofs.LinkInvariants.{Transit, TotalsAgree, AreDistinct, AreSends}
 use Rattle.nr_laws.proofs.Totals.{total_append, total_map_zero, total_map_one, others, length_fewer, any_found, length_newly}
@@ -37,6 +37,7 @@ use Rattle.nr_laws.proofs.EachEffect.{whole_rule}
 use Rattle.nr_laws.proofs.EndsWaiting.{waiting_append, all_waiting_lem, one_waiting, sends_above, sends_length, execution_some}
 use Rattle.nr_reduce.specs.Written.{ends_waiting}
 use Rattle.nr_reduce.proofs.WholeWrotes.{ServerEnds, none_waiting}
+use Rattle.nr_laws.proofs.ReadContents.{segment_is}
 
 -- ---- What a step counts: the calls and error messages of `new` Sends more, and how many reads stay open
 
@@ -206,9 +207,6 @@ pub step_is : (s : ServerState) (f : Frame) (r : Result Segment ℕ) → frame_s
 unfolding frame_effect
 step_is s f r is = λ i. effect_in s f (is i)
 
-pub segment_is : (n r : ℕ) (f : Frame) (p : FrameContent) (segment : Segment) → Carries n r f p → numbered_segment n r p ≡ Some segment → frame_segment f ≡ Ok segment
-segment_is n r f p segment is e = is.reads ∙ ap (λ (s : Segment). Ok s) (same_Some _ _ (sym is.is_segment ∙ e))
-
 -- ---- The server receives a segment of a Send
 
 abbrev pub up_one : Transit → List FrameContent → List FrameContent → Transit
@@ -360,13 +358,14 @@ long_none one none false chunk bytes = refl
 
 pub answer_counts : (one : FrameContent → ℕ) (n : ℕ) → ((last : Bool) (stag to : ℕ) (payload : List ℕ) → one (TaggedFrame last OPCODE_WRITE stag to payload) ≡ 0) → ((named : Bool) (offset : ℕ) (payload : List ℕ) → one (PartFrame named offset payload) ≡ 0) → ((message : SentMessage) → one (SendFrame message) ≡ n)
     → (s : ServerState) (xid : ℕ) (offer : ChunkLists) (a : Option Answer) → total_of one (answer_frames s xid offer a) ≡ n
-answer_counts one n none parts is s xid offer None = send_counts one n parts is (chunk_error xid (credit_word s))
+answer_counts one n none parts is s xid offer None = send_counts one n parts is None (chunk_error xid (credit_word s))
 answer_counts one n none parts is s xid offer (Some a) =
     let moved = write_frames (first_chunk offer.write) a.moved in
     let long = cond a.long (write_frames (no_segments offer.reply) a.stream) [] in
+    let named = stag_named s.invalidates offer in
     let message = answer_message xid (credit_word s) offer a in
-    total_append one moved (long ++ send_frames message)
-    ∙ omega (arith, total_append one long (send_frames message), fills_none one none (first_chunk offer.write) a.moved, long_none one none a.long (no_segments offer.reply) a.stream, send_counts one n parts is message)
+    total_append one moved (long ++ send_frames named message)
+    ∙ omega (arith, total_append one long (send_frames named message), fills_none one none (first_chunk offer.write) a.moved, long_none one none a.long (no_segments offer.reply) a.stream, send_counts one n parts is named message)
 
 pub totals_executes : (opened : LinkParameters) (k : ClientState) (s : ServerState) (w : Transit) (e : ExecutedCall) → TotalsAgree k s w
     → AreDistinct (λ (c : PendingCall). c.xid) s.calls → list_any (λ (c : PendingCall). eqb c.xid e.xid) s.calls ≡ true
