@@ -1,6 +1,6 @@
 -- The Sends of a client have the xids of its calls, one after the other; so no call that is pending at the server has the xid of a Send
 -- that is received.
-use Rattle.std.proofs.Common.{◌≡◌, ℕ, ◌+◌, Bool, false, not, ◌||◌, eqb, List, [], ◌∷◌, ◌++◌, length, map, Ok, refl, subst, ◌∙◌, arith}
+use Rattle.std.proofs.Common.{◌≡◌, ℕ, ◌+◌, Bool, false, not, ◌||◌, eqb, List, [], ◌∷◌, ◌++◌, length, map, Ok, refl, subst, ◌∙◌, arith, None}
 use Rattle.std.specs.List.{AllByRecursion, list_any, range_with_len}
 use Rattle.std.proofs.lemmas.Bool.{ne_eqb}
 use Rattle.nr_xdr.specs.Fields.{word_at}

@@ -12,7 +12,7 @@ use Rattle.nr_link.specs.declared.end.End.{End}
 use Rattle.nr_link.specs.Frames.{Frame, is_hello}
 use Rattle.nr_link.specs.Output.{msn_word}
 use Rattle.nr_link.specs.Reasons.{REASON_MSN, REASON_OFFSET, REASON_FORM, REASON_REQUESTS, REASON_LONG, REASON_SHORT}
-use Rattle.nr_link.specs.ReceiveState.{read_request_in, message_completed, is_send}
+use Rattle.nr_link.specs.ReceiveState.{read_request_in, message_completed, is_send, ReadRequest}
 use Rattle.nr_link.specs.SegmentFaults.{Readiness, SegmentReason, segment_reason, first_fault, reason_if, missing_fault, is_malformed, is_too_many, no_buffer, next_msn, next_offset, message_length_is, terminate_fault}
 use Rattle.nr_link.specs.Ending.{frame_end_by, end_of_fault, hello_end, missing_access}
 use Rattle.nr_reduce.specs.declared.mark.LinkParameters.{LinkParameters}

@@ -1,6 +1,6 @@
 -- What a server accesses of its client's memory is offered by the call that is to be answered, and no earlier message of the server
 -- answers that call.
-use Rattle.std.proofs.Common.{◌≡◌, ℕ, ◌+◌, ◌≤◌, Bool, true, false, List, [], ◌∷◌, ◌++◌, length, drop, None, Ok, sym, ap, subst, arith, append_assoc, append-nil, ◌⊎◌, inl, inr}
+use Rattle.std.proofs.Common.{◌≡◌, ℕ, ◌+◌, ◌≤◌, Bool, true, false, List, [], ◌∷◌, ◌++◌, length, drop, None, Ok, sym, ap, subst, arith, append_assoc, append-nil, ◌⊎◌, inl, inr, Option}
 use Rattle.std.specs.List.{AllByRecursion}
 use Rattle.nr_xdr.specs.Fields.{word_at}
 use Rattle.nr_header.specs.declared.header.RdmaSegment.{RdmaSegment as Part}

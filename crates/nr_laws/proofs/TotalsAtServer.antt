@@ -197,6 +197,7 @@ with_by k f r st = record {
   low = k.low;
   up_max = k.up_max;
   down_max = k.down_max;
+  invalidates = k.invalidates;
 }
 
 pub after_is_lem : (opened : LinkParameters) (s : ServerState) (f : Frame) (r : Result Segment ℕ) → is_hello f ≡ false → frame_segment f ≡ r → server_state_after opened s (FrameReceived f) ≡ with_by s f r (effect_in s f r)

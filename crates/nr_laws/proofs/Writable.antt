@@ -1,5 +1,5 @@
 -- What can be written as one frame: the numbers of a segment are words, and its payload fits.
-use Rattle.std.proofs.Common.{◌≡◌, ℕ, zero, suc, ◌+◌, ◌*◌, ◌≤◌, ◌<◌, ◌^◌, true, List, [], ◌∷◌, ◌++◌, length, map, drop, refl, arith, lit<, length-append, length-take, Option, None, Some}
+use Rattle.std.proofs.Common.{◌≡◌, ℕ, zero, suc, ◌+◌, ◌*◌, ◌≤◌, ◌<◌, ◌^◌, true, List, [], ◌∷◌, ◌++◌, length, map, drop, refl, arith, lit<, length-append, length-take, Option, None, Some, false}
 use Rattle.std.specs.List.{range_with_len}
 use Rattle.nr_xdr.specs.Item.{word, hyper}
 use Rattle.nr_xdr.proofs.WordBytes.{length_word, length_hyper}
