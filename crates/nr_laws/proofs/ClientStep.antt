@@ -39,7 +39,7 @@ use Rattle.nr_reduce.specs.ServerState.{ServerState}
 use Rattle.nr_laws.proofs.FirstHellos.{first_hello_is}
 use Rattle.nr_laws.specs.EndCauses.{IsDenied}
 use Rattle.nr_laws.proofs.EndReasons.{IsMessageReason, IsVerdictReason, EndsForMessage}
-use Rattle.nr_laws.proofs.FrameContents.{FrameContent, numbered_segment, frame_bytes, total_of, sends_in, requests_in, hellos_in, client_frames, IsSent, Carries, last_segment}
+use Rattle.nr_laws.proofs.FrameContents.{FrameContent, written_segment, frame_bytes, total_of, sends_in, requests_in, hellos_in, client_frames, IsSent, Carries, last_segment}
 use Rattle.nr_laws.proofs.FrameContents.FrameContent.{HelloFrame, PartFrame, SendFrame, RequestFrame, TaggedFrame}
 use Rattle.nr_laws.proofs.LinkInvariants.{Transit, hello_bit}
 use Rattle.nr_laws.proofs.Totals.{total_append}
