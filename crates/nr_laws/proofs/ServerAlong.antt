@@ -184,6 +184,7 @@ NamesBy opened es xs m s (IsAnswer y) = stag_invalidated s ≡ stag_named (serve
 NamesBy opened es xs m s (IsNoAnswer y) = stag_invalidated s ≡ None
 
 names_later : (opened : LinkParameters) (es : List RunEvent) (e : RunEvent) (xs : List Output) (m : List ℕ) (s : Segment) (y : Said opened es xs m) → NamesBy opened es xs m s y → NamesBy opened (es ++ e ∷ []) xs m s (said_later opened es e xs m y)
+unfolding said_later
 names_later opened es e xs m s (IsRefusal y) h = h
 names_later opened es e xs m s (IsAnswer y) h = h
 names_later opened es e xs m s (IsNoAnswer y) h = h
