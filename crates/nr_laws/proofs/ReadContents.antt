@@ -138,3 +138,8 @@ own_is k f p segment is e other = other_read (client_segment k f) segment (plain
 pub message_end_is : (k : ClientState) (f : Frame) (segment : Segment) → plain_segment k f ≡ Ok segment → message_end_in k f (client_segment k f) ≡ client_message_end k f (segment_names (client_segment k f)) (message_completed k.received segment)
 message_end_is k f segment is =
     ap (λ (o : Option (List ℕ)). client_message_end k f (segment_names (client_segment k f)) o) (sym (plain_message k (client_segment k f)) ∙ ap (λ (r : Result Segment ℕ). segment_message k r) is)
+
+-- a tagged segment is of no Send
+pub carries_tagged : (n r : ℕ) (f : Frame) (last : Bool) (opcode stag to : ℕ) (payload : List ℕ) → is_hello f ≡ false → frame_segment f ≡ Ok (Tagged last opcode stag to payload) → Carries false n r f (TaggedFrame last opcode stag to payload)
+unfolding frame_segment
+carries_tagged n r f last opcode stag to payload behind is = record { behind = behind; segment = Tagged last opcode stag to payload; is_segment = refl; reads = ap plain_result is; names = ap segment_names is }
