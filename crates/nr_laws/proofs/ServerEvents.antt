@@ -279,19 +279,19 @@ executed_step opened es place k outs e good t o is =
         let none : parts_out front ≡ [] = front_writes (stag_named k.invalidates offer) (k.messages_queued + 1) message front s post then in
         record {
           said = IsAnswer (record {
-          earlier = es;
-          call = e;
-          later = [];
-          is = refl;
-          live = live;
-          answer = a;
-          is_answer = there ∙ is;
-          message = first_is m message (completed_from None front) (completed_from None post)
-              (sym (completes_named (stag_named k.invalidates offer) (k.messages_queued + 1) message).completed ∙ ap (λ (xs : List Output). completed_from None xs) then ∙ completed_at_lem front s post m own)
-              ∙ ap (λ (q : ServerState). answer_message e.xid (credit_word q) (offer_of q e.xid) a) at;
-          before = (λ i. parts_out (outs_are i ++ is_pre i)) ∙ out_append (outs_of opened es) (segments ++ front)
-              ∙ ap (λ (ps : List Part). parts_out (outs_of opened es) ++ ps) (out_append segments front ∙ ap (λ (ps : List Part). parts_out segments ++ ps) none ∙ append-nil (parts_out segments))
-              ∙ ap (λ (q : ServerState). parts_out (outs_of opened es) ++ parts_out (map ASegment (answer_segments (offer_of q e.xid) a))) at;
+            earlier = es;
+            call = e;
+            later = [];
+            is = refl;
+            live = live;
+            answer = a;
+            is_answer = there ∙ is;
+            message = first_is m message (completed_from None front) (completed_from None post)
+                (sym (completes_named (stag_named k.invalidates offer) (k.messages_queued + 1) message).completed ∙ ap (λ (xs : List Output). completed_from None xs) then ∙ completed_at_lem front s post m own)
+                ∙ ap (λ (q : ServerState). answer_message e.xid (credit_word q) (offer_of q e.xid) a) at;
+            before = (λ i. parts_out (outs_are i ++ is_pre i)) ∙ out_append (outs_of opened es) (segments ++ front)
+                ∙ ap (λ (ps : List Part). parts_out (outs_of opened es) ++ ps) (out_append segments front ∙ ap (λ (ps : List Part). parts_out segments ++ ps) none ∙ append-nil (parts_out segments))
+                ∙ ap (λ (q : ServerState). parts_out (outs_of opened es) ++ parts_out (map ASegment (answer_segments (offer_of q e.xid) a))) at;
           });
           names = names_at (begun_from None front) (stag_named k.invalidates offer) (k.messages_queued + 1) message (range_with_len 0 (segment_count message)) front s post m then own
               ∙ ap (λ (q : ServerState). stag_named q.invalidates (offer_of q e.xid)) at;
@@ -301,15 +301,15 @@ executed_step opened es place k outs e good t o is =
         → answer_of_call (server_by opened es) e ≡ answer_of_call k e → k ≡ server_by opened es → is_live opened es → outs ≡ outs_of opened es → SaidBy opened (es ++ CallExecuted e ∷ []) (outs ++ pre) m s
     by None is pre s post m same one there at live outs_are = record {
       said = IsNoAnswer (record {
-      earlier = es;
-      call = e;
-      later = [];
-      is = refl;
-      live = live;
-      none = there ∙ is;
-      message = first_is m (chunk_error e.xid (credit_word k)) (completed_from None pre) (completed_from None post)
-          (sym (completes_message (k.messages_queued + 1) (chunk_error e.xid (credit_word k))).completed ∙ ap (λ (xs : List Output). completed_from None xs) same ∙ completed_at_lem pre s post m one)
-          ∙ ap (λ (q : ServerState). chunk_error e.xid (credit_word q)) at;
+        earlier = es;
+        call = e;
+        later = [];
+        is = refl;
+        live = live;
+        none = there ∙ is;
+        message = first_is m (chunk_error e.xid (credit_word k)) (completed_from None pre) (completed_from None post)
+            (sym (completes_message (k.messages_queued + 1) (chunk_error e.xid (credit_word k))).completed ∙ ap (λ (xs : List Output). completed_from None xs) same ∙ completed_at_lem pre s post m one)
+            ∙ ap (λ (q : ServerState). chunk_error e.xid (credit_word q)) at;
       });
       names = names_none_at (message_outputs (k.messages_queued + 1) (chunk_error e.xid (credit_word k))) pre s post same (plain_message (k.messages_queued + 1) (chunk_error e.xid (credit_word k)));
     }
