@@ -1,5 +1,5 @@
 -- The STag that a message names for an offer is one of those that its call was given.
-use Rattle.std.proofs.Common.{◌≡◌, ℕ, Bool, true, false, ◌||◌, eqb, List, [], ◌∷◌, ◌++◌, Option, None, Some, refl, sym, ap, ◌∙◌, eq-eqb}
+use Rattle.std.proofs.Common.{◌≡◌, ℕ, Bool, true, false, eqb, List, [], ◌∷◌, ◌++◌, Option, None, Some, refl, sym, ap, ◌∙◌, eq-eqb}
 use Rattle.std.specs.List.{list_any, flat_map}
 use Rattle.nr_header.specs.declared.header.RdmaSegment.{RdmaSegment}
 use Rattle.nr_regions.specs.declared.right.Right.{Right}
@@ -9,29 +9,13 @@ use Rattle.nr_reduce.specs.Plans.{Buffer, buffers, buffer_if, has_segment, entri
 use Rattle.nr_reduce.specs.ClientState.{OutstandingCall}
 use Rattle.nr_reduce.specs.ClientMessages.{is_given}
 use Rattle.nr_reduce.specs.Server.{first_handle, or_handle, read_handle, named_stag}
-use Rattle.nr_laws.proofs.DistinctKeys.{or_right_lem}
+use Rattle.nr_laws.proofs.DistinctKeys.{or_left_lem, any_left, any_right}
 
 abbrev IsAmong : ℕ → List Buffer → Type 0
 IsAmong stag bs = list_any (λ b. eqb b.stag stag) bs ≡ true
 
-or_left : (b c : Bool) → b ≡ true → (b || c) ≡ true
-or_left true c e = refl
-or_left false c e = absurd cc
-
-among_left : (stag : ℕ) (xs ys : List Buffer) → IsAmong stag xs → IsAmong stag (xs ++ ys)
-among_left stag [] ys h = absurd cc
-among_left stag (x ∷ xs) ys h = by (eqb x.stag stag) h (among_left stag xs ys)
-  where
-    by : (b : Bool) → (b || list_any (λ c. eqb c.stag stag) xs) ≡ true → (IsAmong stag xs → IsAmong stag (xs ++ ys)) → (b || list_any (λ c. eqb c.stag stag) (xs ++ ys)) ≡ true
-    by true e later = refl
-    by false e later = later e
-
-among_right : (stag : ℕ) (xs ys : List Buffer) → IsAmong stag ys → IsAmong stag (xs ++ ys)
-among_right stag [] ys h = h
-among_right stag (x ∷ xs) ys h = or_right_lem (eqb x.stag stag) (list_any (λ c. eqb c.stag stag) (xs ++ ys)) (among_right stag xs ys h)
-
 one_among : (b : Bool) (stag named : ℕ) (right : Right) (bytes : List ℕ) → b ≡ true → stag ≡ named → IsAmong named (buffer_if b stag right bytes)
-one_among true stag named right bytes some same = or_left (eqb stag named) false (eq-eqb stag named same)
+one_among true stag named right bytes some same = or_left_lem (eqb stag named) false (eq-eqb stag named same)
 one_among false stag named right bytes some same = absurd cc
 
 -- ---- The three lists
@@ -72,12 +56,12 @@ pub named_given : (stag named : ℕ) (p : Plan) → named_stag (lists_of stag p)
 unfolding named_stag lists_of buffers
 named_given stag named p e =
     either_handle (read_handle (read_list stag p p.read_at)) (or_handle (first_handle (flat_map (λ chunk. chunk) (write_list (write_stag stag p) p.write))) (first_handle (no_segments (reply_chunk (reply_stag stag p) p.reply)))) named e
-    (λ own. (let f = read_first stag named p.read_at p.read p refl own in among_left named (buffer_if (has_segment (Some p.read)) _ _ _) _ (one_among (has_segment (Some p.read)) (read_stag stag p) named _ _ f.some f.same)))
+    (λ own. (let f = read_first stag named p.read_at p.read p refl own in any_left (λ b. eqb b.stag named) (buffer_if (has_segment (Some p.read)) _ _ _) _ (one_among (has_segment (Some p.read)) (read_stag stag p) named _ _ f.some f.same)))
     (λ later.
-    among_right named (buffer_if (has_segment (Some p.read)) _ _ _) _
+    any_right (λ b. eqb b.stag named) (buffer_if (has_segment (Some p.read)) _ _ _) _
     (either_handle (first_handle (flat_map (λ chunk. chunk) (write_list (write_stag stag p) p.write))) (first_handle (no_segments (reply_chunk (reply_stag stag p) p.reply))) named later
-    (λ own. (let f = write_first (write_stag stag p) named p.write own in among_left named (buffer_if (has_segment p.write) _ _ _) _ (one_among (has_segment p.write) (write_stag stag p) named _ _ f.some f.same)))
-    (λ own. (let f = reply_first (reply_stag stag p) named p.reply own in among_right named (buffer_if (has_segment p.write) _ _ _) _ (one_among (has_segment p.reply) (reply_stag stag p) named _ _ f.some f.same)))))
+    (λ own. (let f = write_first (write_stag stag p) named p.write own in any_left (λ b. eqb b.stag named) (buffer_if (has_segment p.write) _ _ _) _ (one_among (has_segment p.write) (write_stag stag p) named _ _ f.some f.same)))
+    (λ own. (let f = reply_first (reply_stag stag p) named p.reply own in any_right (λ b. eqb b.stag named) (buffer_if (has_segment p.write) _ _ _) _ (one_among (has_segment p.reply) (reply_stag stag p) named _ _ f.some f.same)))))
 
 pub call_given : (o : OutstandingCall) (named : ℕ) → named_stag (lists_of o.stag o.plan) ≡ Some named → is_given o named ≡ true
 call_given o named e = named_given o.stag named o.plan e

@@ -96,7 +96,6 @@ pub record OfferedTo (opened : LinkParameters) (link : ℕ) (run : List Mark) (e
   pub own_xid : call.xid ≡ e.xid
   pub submitted : AnsweredCall opened link run earlier call
   pub same : e.xid ≡ submitted.submit.submit.xid
-  pub has : HasPlan opened link run submitted.submit.submit.xid submitted.submit.submit.accepted.plan
   pub fine : IsOffer (lists_of (client opened link submitted.submit.submit.earlier).state.stag submitted.submit.submit.accepted.plan)
   pub offer : offer_of (server_by opened es) e.xid ≡ lists_of (client opened link submitted.submit.submit.earlier).state.stag submitted.submit.submit.accepted.plan
 
@@ -107,7 +106,6 @@ offered_to opened link run typed far earlier more is_events message header is_he
   own_xid = own_xid;
   submitted = w;
   same = same;
-  has = has;
   fine = p.offer;
   offer = ap offer_by f.there ∙ p.lists;
 }
@@ -236,12 +234,15 @@ answer_judges opened link run reason opens typed far d j s = record {
     call_is : j.call.call ≡ u.call
     call_is = w.submit.own_call
 
+    has : HasPlan opened link run u.xid plan
+    has = record { call = u.call; form = u.form; before = u.earlier; at = record { after = u.later; is = u.is }; planned = u.accepted.planned }
+
     offer : offer_of server e.xid ≡ lists_of stag plan
     offer = g.offer
 
     -- its target
     own : IsOwnPayload u.xid u.call e.payload
-    own = own_executes opened link run m.earlier u.xid plan e.moment e.payload e.place e.reply typed far g.has
+    own = own_executes opened link run m.earlier u.xid plan e.moment e.payload e.place e.reply typed far has
         (record { after = m.later; is = m.is ∙ ap (λ (n : ℕ). m.earlier ++ marks.Execute link n e.moment e.payload e.place e.reply ∷ m.later) g.same })
 
     down : ℕ

@@ -29,7 +29,7 @@ use Rattle.nr_reduce.specs.Client.{client_segment, client_rules, client_end, cli
 use Rattle.nr_reduce.proofs.OwnStags.{AreNumbered, ClientNumbers, client_numbers, kept_after, closed_stag}
 use Rattle.nr_laws.specs.Invalidated.{IsInvalidated, NamedStagsAreDead}
 use Rattle.nr_laws.proofs.Basics.{each_all, each_append, each_kept}
-use Rattle.nr_laws.proofs.DistinctKeys.{or_right_lem}
+use Rattle.nr_laws.proofs.DistinctKeys.{or_right_lem, any_left, any_right}
 use Rattle.nr_laws.proofs.DoneCalls.{found_xid}
 use Rattle.nr_laws.proofs.HeaderXid.{header_xid}
 use Rattle.nr_laws.proofs.LiveRegions.{SomeOne, some_one}
@@ -51,18 +51,6 @@ HasGiven regions o = AllByRecursion (λ (b : Buffer). IsThere regions o.xid b.st
 
 abbrev AllGiven : ClientState → Type 0
 AllGiven k = AllByRecursion (HasGiven k.regions) k.outstanding
-
-there_append : (xid stag : ℕ) (xs ys : List Region) → IsThere xs xid stag → IsThere (xs ++ ys) xid stag
-there_append xid stag [] ys h = absurd cc
-there_append xid stag (x ∷ xs) ys h = by (IsOwn xid stag x) h (there_append xid stag xs ys)
-  where
-    by : (b : Bool) → (b || list_any (IsOwn xid stag) xs) ≡ true → (IsThere xs xid stag → IsThere (xs ++ ys) xid stag) → (b || list_any (IsOwn xid stag) (xs ++ ys)) ≡ true
-    by true e later = refl
-    by false e later = later e
-
-there_right : (xid stag : ℕ) (xs ys : List Region) → IsThere ys xid stag → IsThere (xs ++ ys) xid stag
-there_right xid stag [] ys h = h
-there_right xid stag (x ∷ xs) ys h = or_right_lem (IsOwn xid stag x) (list_any (IsOwn xid stag) (xs ++ ys)) (there_right xid stag xs ys h)
 
 own_closed : (b : Bool) (place xid stag : ℕ) (r : Region) → IsOwn xid stag (closed_if b place r) ≡ IsOwn xid stag r
 own_closed true place xid stag r = refl
@@ -134,8 +122,8 @@ given_after opened k (FrameReceived f) h = by (is_hello f)
 given_after opened k (CallSubmitted place a) h =
     let o = outstanding_of k a in
     let new : List Region = map (region_of a.xid place) (buffers k.stag o.plan) in
-    each_append (HasGiven (k.regions ++ new)) k.outstanding (o ∷ []) (all_more k.regions (k.regions ++ new) k.outstanding (λ xid stag own. there_append xid stag k.regions new own) h)
-    (each_all (λ (b : Buffer). IsThere new a.xid b.stag) (λ (b : Buffer). IsThere (k.regions ++ new) a.xid b.stag) (buffers k.stag o.plan) (λ b own. there_right a.xid b.stag k.regions new own) (new_there a.xid place [] (buffers k.stag o.plan)), tt)
+    each_append (HasGiven (k.regions ++ new)) k.outstanding (o ∷ []) (all_more k.regions (k.regions ++ new) k.outstanding (λ xid stag own. any_left (IsOwn xid stag) k.regions new own) h)
+    (each_all (λ (b : Buffer). IsThere new a.xid b.stag) (λ (b : Buffer). IsThere (k.regions ++ new) a.xid b.stag) (buffers k.stag o.plan) (λ b own. any_right (IsOwn a.xid b.stag) k.regions new own) (new_there a.xid place [] (buffers k.stag o.plan)), tt)
 given_after opened k (MemoryRevoked place xid) h =
     all_revoked (regions_closed (λ r. eqb r.call xid) place k.regions) xid k.outstanding (all_closed (λ r. eqb r.call xid) place k.regions k.outstanding h)
 given_after opened k (CallExecuted call) h = h
