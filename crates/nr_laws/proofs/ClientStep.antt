@@ -34,7 +34,7 @@ use Rattle.nr_reduce.specs.Chunks.{answers_offer, reply_conveyed}
 use Rattle.nr_reduce.specs.ClientState.{ClientState, OutstandingCall, client_memory_at}
 use Rattle.nr_reduce.specs.ClientMessages.{ReplyVerdict, reply_verdict, reply_by_head, reply_by_payload, by_lists, reply_by_body, by_call, answered_call, reply_by_header, reply_xid, invalidates_another, message_verdict}
 use Rattle.nr_reduce.specs.ClientMessages.ReplyVerdict.{EndsLink, GivesOutcome}
-use Rattle.nr_reduce.specs.Client.{client_segment, client_end, client_state_after, client_readiness, or_message_end, client_message_end, end_of_verdict, segment_names}
+use Rattle.nr_reduce.specs.Client.{client_segment, client_end, client_state_after, client_readiness, or_message_end, end_of_verdict, segment_names}
 use Rattle.nr_reduce.specs.ServerState.{ServerState}
 use Rattle.nr_laws.proofs.FirstHellos.{first_hello_is}
 use Rattle.nr_laws.specs.EndCauses.{IsDenied}

@@ -15,7 +15,7 @@ use Rattle.nr_link.specs.Ending.{frame_end, frame_end_by, missing_access, end_of
 use Rattle.nr_reduce.specs.OfferedRegions.{region_grants}
 use Rattle.nr_reduce.specs.Events.RunEvent.{FrameReceived}
 use Rattle.nr_reduce.specs.ClientState.{ClientState}
-use Rattle.nr_reduce.specs.Client.{client_segment, client_readiness, client_end, or_message_end, client_message_end, segment_names}
+use Rattle.nr_reduce.specs.Client.{client_segment, client_readiness, client_end, or_message_end}
 use Rattle.nr_reduce.specs.ServerState.{ServerState, PendingRead}
 use Rattle.nr_reduce.specs.Server.{server_readiness, server_end, or_refusal, refusal_end}
 use Rattle.nr_reduce.specs.ServerFrames.{frame_effect}

@@ -1,7 +1,6 @@
 -- The STag that a message names for an offer is one of those that its call was given.
-use Rattle.std.proofs.Common.{◌≡◌, ℕ, Bool, true, false, eqb, List, [], ◌∷◌, ◌++◌, Option, None, Some, refl, sym, ap, ◌∙◌, eq-eqb}
+use Rattle.std.proofs.Common.{◌≡◌, ℕ, Bool, true, false, eqb, List, [], ◌∷◌, Option, None, Some, refl, sym, ap, ◌∙◌, eq-eqb}
 use Rattle.std.specs.List.{list_any, flat_map}
-use Rattle.nr_header.specs.declared.header.RdmaSegment.{RdmaSegment}
 use Rattle.nr_regions.specs.declared.right.Right.{Right}
 use Rattle.nr_reduce.specs.declared.outline.Plan.{Plan}
 use Rattle.nr_reduce.specs.Holds.{no_segments}

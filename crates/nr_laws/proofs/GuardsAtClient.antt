@@ -20,7 +20,7 @@ use Rattle.nr_reduce.specs.Events.RunEvent.{FrameReceived}
 use Rattle.nr_reduce.specs.EndRules.{EndState, live, next_end_state_by, end_state_after}
 use Rattle.nr_reduce.specs.OfferedRegions.{Region, region_grants}
 use Rattle.nr_reduce.specs.ClientState.{ClientState, OutstandingCall, client_memory_at}
-use Rattle.nr_reduce.specs.Client.{client_segment, client_rules, client_end, client_state_after, initial_client, credits_of_word, with_segment, with_message, with_request, segment_request, due_with_response}
+use Rattle.nr_reduce.specs.Client.{client_rules, client_end, client_state_after, initial_client, credits_of_word, with_segment, with_message, with_request, segment_request, due_with_response}
 use Rattle.nr_reduce.specs.ServerState.{ServerState, PendingRead}
 use Rattle.nr_reduce.specs.ServerReads.{open_reads}
 use Rattle.nr_reduce.proofs.Steps.{end_state_after_append}
@@ -44,7 +44,7 @@ use Rattle.nr_laws.proofs.AnsweredSteps.{Answered, answered_message_lem, answere
 use Rattle.nr_wire.specs.declared.hello.Side.TheVariants.{Responder}
 use Rattle.nr_laws.proofs.FirstHellos.{first_hello}
 use Rattle.nr_laws.proofs.AgreedSizes.{SizesAgree, matched_down, client_keeps_sizes, client_takes_sizes, matched_invalidates}
-use Rattle.nr_laws.proofs.Guards.{ClientContent, ServerContent, IsAsked, AreSized, Guards, ClientMessage}
+use Rattle.nr_laws.proofs.Guards.{ClientContent, ServerContent, IsAsked, AreSized, Guards}
 use Rattle.nr_laws.proofs.GuardsAtServer.{each_at}
 use Rattle.nr_laws.proofs.Basics.{each_append, each_right, each_take, each_kept, each_all}
 use Rattle.nr_laws.proofs.Sinks.{sinks_taken}

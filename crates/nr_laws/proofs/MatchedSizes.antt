@@ -5,7 +5,7 @@ use Rattle.nr_wire.specs.Hello.{hello_of}
 use Rattle.nr_link.specs.declared.agreement.Agreement.{Agreement}
 use Rattle.nr_link.specs.declared.end.End.{End as Stop}
 use Rattle.nr_link.specs.Frames.{is_hello, Frame}
-use Rattle.nr_link.specs.Ending.{frame_end, hello_end, frame_end_by}
+use Rattle.nr_link.specs.Ending.{hello_end, frame_end_by}
 use Rattle.nr_reduce.specs.declared.mark.Mark.{Mark}
 use Rattle.nr_reduce.specs.declared.mark.LinkParameters.{LinkParameters}
 use Rattle.nr_reduce.specs.Events.{RunEvent, events}

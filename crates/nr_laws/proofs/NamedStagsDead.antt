@@ -1,9 +1,9 @@
 -- The STag that a Send with Invalidate names: its regions are those of the call that is answered, and are closed with it.
-use Rattle.std.proofs.Common.{◌≡◌, ◌≢◌, ℕ, zero, suc, ◌+◌, ◌≤◌, ◌<◌, Bool, true, false, cond, not, ◌&&◌, ◌||◌, eqb, List, [], ◌∷◌, ◌++◌, length, map, Option, None, Some, Result, Ok, Err, refl, sym, ap, subst, ◌∙◌, arith, inl, inr, ◌⊎◌, eqb-true, eq-eqb, ne_eqb}
+use Rattle.std.proofs.Common.{◌≡◌, ◌≢◌, ℕ, ◌+◌, ◌<◌, Bool, true, false, cond, not, ◌&&◌, ◌||◌, eqb, List, [], ◌∷◌, ◌++◌, map, Option, None, Some, Result, Ok, Err, refl, sym, ap, subst, ◌∙◌, arith, inl, inr, ◌⊎◌, eqb-true, eq-eqb}
 use Rattle.std.proofs.lemmas.Bool.{and_parts}
-use Rattle.std.proofs.lemmas.List.Elements.{All-from_recursion, recursion_from_All, All-contains, All-contains_itself}
+use Rattle.std.proofs.lemmas.List.Elements.{recursion_from_All, All-contains_itself}
 use Rattle.std.specs.Prelude.{Contains}
-use Rattle.std.specs.List.{AllByRecursion, filter, list_any, find}
+use Rattle.std.specs.List.{AllByRecursion, list_any, find}
 use Rattle.nr_xdr.specs.Fields.{word_at}
 use Rattle.nr_header.specs.declared.fault.HeaderFault.{HeaderFault}
 use Rattle.nr_header.specs.declared.fault.HeaderFault.TheVariants as faults
@@ -14,7 +14,7 @@ use Rattle.nr_wire.specs.Hello.{hello_of}
 use Rattle.nr_wire.specs.Segment.{Segment}
 use Rattle.nr_link.specs.declared.end.End.{End as Stop}
 use Rattle.nr_link.specs.Frames.{Frame, is_hello}
-use Rattle.nr_link.specs.ReceiveState.{ReadRequest, message_completed, read_request_of, stag_invalidated}
+use Rattle.nr_link.specs.ReceiveState.{ReadRequest, message_completed, read_request_of}
 use Rattle.nr_link.specs.Ending.{frame_end_by, hello_end}
 use Rattle.nr_reduce.specs.declared.mark.LinkParameters.{LinkParameters}
 use Rattle.nr_reduce.specs.Plans.{Buffer, buffers}
@@ -23,10 +23,10 @@ use Rattle.nr_reduce.specs.Events.RunEvent.{FrameReceived, CallSubmitted, Memory
 use Rattle.nr_reduce.specs.EndRules.{EndState, next_end_state, next_end_state_by, next_end_state_in, end_state_after}
 use Rattle.nr_reduce.specs.OfferedRegions.{Region, region_grants, until_at, closed_if, regions_closed}
 use Rattle.nr_reduce.specs.ClientState.{ClientState, OutstandingCall, is_sent}
-use Rattle.nr_reduce.specs.ClientMessages.{ReplyVerdict, reply_verdict, reply_by_header, by_call, answered_call, is_given, call_in, names_another, invalidates_another, message_verdict}
-use Rattle.nr_reduce.specs.ClientMessages.ReplyVerdict.{EndsLink, GivesOutcome}
+use Rattle.nr_reduce.specs.ClientMessages.{reply_verdict, reply_by_header, by_call, answered_call, is_given, call_in, names_another, message_verdict}
+use Rattle.nr_reduce.specs.ClientMessages.ReplyVerdict.{EndsLink}
 use Rattle.nr_reduce.specs.Client.{client_segment, client_rules, client_end, client_readiness, client_state_after, initial_client, outstanding_of, region_of, with_message, with_request, with_segment, with_hello, due_with_response, revoked_call, or_message_end, client_message_end, end_of_verdict, segment_message, segment_names}
-use Rattle.nr_reduce.proofs.OwnStags.{AreNumbered, ClientNumbers, client_numbers, kept_after, closed_stag}
+use Rattle.nr_reduce.proofs.OwnStags.{AreNumbered, client_numbers, kept_after}
 use Rattle.nr_laws.specs.Invalidated.{IsInvalidated, NamedStagsAreDead}
 use Rattle.nr_laws.proofs.Basics.{each_all, each_append, each_kept}
 use Rattle.nr_laws.proofs.DistinctKeys.{or_right_lem, any_left, any_right}

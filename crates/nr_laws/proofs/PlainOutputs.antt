@@ -11,7 +11,6 @@ use Rattle.nr_link.specs.Frames.{is_hello}
 use Rattle.nr_link.specs.Output.{segment_count}
 use Rattle.nr_link.specs.ReceiveState.{ReadRequest, stag_invalidated}
 use Rattle.nr_link.specs.Ending.{is_hello_reason}
-use Rattle.nr_link.specs.Reasons.{denied_word, NO_BUFFER_WORD}
 use Rattle.nr_reduce.specs.declared.mark.Mark.{Mark}
 use Rattle.nr_reduce.specs.declared.mark.LinkParameters.{LinkParameters}
 use Rattle.nr_reduce.specs.Events.{RunEvent, events}

@@ -1,15 +1,13 @@
 -- A segment of a Send with Invalidate, without the STag that it names: it is received as one of a plain Send.
-use Rattle.std.proofs.Common.{◌≡◌, ℕ, Bool, true, false, cond, eqb, List, Option, None, Some, Result, Ok, Err, refl, sym, ap, ◌∙◌}
+use Rattle.std.proofs.Common.{◌≡◌, ℕ, Bool, true, false, eqb, List, Option, None, Some, Result, Ok, Err, refl, sym, ap, ◌∙◌}
 use Rattle.std.proofs.lemmas.Bool.{eqb-true}
 use Rattle.nr_wire.specs.Constants.{OPCODE_SEND, OPCODE_SEND_INVALIDATE}
 use Rattle.nr_wire.specs.Segment.{Segment, opcode_in}
 use Rattle.nr_wire.specs.Segment.Segment.{Tagged, Untagged}
 use Rattle.nr_regions.specs.declared.denied.Denied.{Denied}
-use Rattle.nr_regions.specs.RegisteredMemory.{Access}
-use Rattle.nr_regions.specs.Access.{Grant, TaggedSegment}
-use Rattle.nr_link.specs.declared.end.End.{End}
+use Rattle.nr_regions.specs.Access.{Grant}
 use Rattle.nr_link.specs.Frames.{Frame}
-use Rattle.nr_link.specs.ReceiveState.{ReceiveState, ReadRequest, received_after, message_completed, read_request_of}
+use Rattle.nr_link.specs.ReceiveState.{ReceiveState, received_after, message_completed, read_request_of}
 use Rattle.nr_link.specs.SegmentFaults.{Readiness, SegmentReason, segment_reason}
 use Rattle.nr_link.specs.SegmentFaults.SegmentReason.{Reason, NoBuffer, AccessDenied, PeerTerminated}
 use Rattle.nr_link.specs.Ending.{tagged_access, missing_access, end_of_fault, frame_end_by}

@@ -8,7 +8,6 @@ use Rattle.nr_link.specs.Output.{msn_word}
 use Rattle.nr_link.specs.Frames.{Frame, is_hello}
 use Rattle.nr_link.specs.Ending.{frame_segment, opcode_is_judged, segment_taken}
 use Rattle.nr_link.specs.ReceiveState.{message_completed, stag_invalidated}
-use Rattle.nr_link.specs.declared.end.End.{End}
 use Rattle.nr_link.proofs.TakenSegments.{taken_read, read_opcode, plain_taken, tagged_taken}
 use Rattle.nr_reduce.specs.declared.mark.LinkParameters.{LinkParameters}
 use Rattle.nr_reduce.specs.Events.RunEvent.{FrameReceived}

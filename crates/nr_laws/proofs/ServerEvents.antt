@@ -24,7 +24,7 @@ use Rattle.nr_reduce.specs.Holds.{Answer, answer_message, chunk_error}
 use Rattle.nr_reduce.specs.ChunkBytes.{answer_segments}
 use Rattle.nr_reduce.specs.ServerState.{ServerState, ReadyCall, credit_word}
 use Rattle.nr_reduce.specs.ServerFrames.{FrameEffect, frame_effect}
-use Rattle.nr_reduce.specs.Server.{server_rules, server_end, server_output, server_state_after, with_effect, received_by, offer_of, initial_server, with_own_hello, stag_named}
+use Rattle.nr_reduce.specs.Server.{server_rules, server_end, server_output, server_state_after, with_effect, received_by, offer_of, with_own_hello, stag_named}
 use Rattle.nr_reduce.specs.RunLaws.{server_by}
 use Rattle.nr_laws.proofs.FirstHellos.{server_hello_is}
 use Rattle.nr_laws.proofs.EventOutputs.{IsNext, place_after, outputs_by, outputs_for}
@@ -32,7 +32,7 @@ use Rattle.nr_laws.proofs.Outputs.{Output, bytes_of_all, server_says, server_sai
 use Rattle.nr_laws.proofs.Outputs.Output.{AHello, ASegment}
 use Rattle.nr_laws.proofs.Brought.{AreFrom, IsHelloFrame}
 use Rattle.nr_laws.proofs.Words.{payload_bytes_lem, payload_by}
-use Rattle.nr_laws.specs.MessageSegments.{message_segment, named_segment}
+use Rattle.nr_laws.specs.MessageSegments.{named_segment}
 use Rattle.nr_laws.proofs.Completions.{completed_by, completed_from, begun_from, begun_append, completed_at_lem, Completes, completes_none, completes_message, completes_tagged, completes_final, completes_named}
 use Rattle.nr_laws.proofs.Memory.{Part, parts_out, out_append}
 use Rattle.nr_laws.proofs.ClientAlong.{final_words}

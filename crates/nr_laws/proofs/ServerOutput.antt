@@ -9,7 +9,7 @@ use Rattle.nr_header.specs.declared.header.ChunkLists.{ChunkLists}
 use Rattle.nr_rpc.specs.declared.head.CallTarget.{CallTarget}
 use Rattle.nr_rpc.specs.Reading.{call_of, target_of}
 use Rattle.nr_link.specs.Frames.{Frame}
-use Rattle.nr_link.specs.Output.{send, write, send_by}
+use Rattle.nr_link.specs.Output.{write, send_by}
 use Rattle.nr_link.specs.Ending.{frame_segment}
 use Rattle.nr_reduce.proofs.OwnLimits.{ServerLimits}
 use Rattle.nr_reduce.specs.Holds.{Answer, answer_message, answer_writes, writes_into, chunk_error, first_chunk, no_segments}

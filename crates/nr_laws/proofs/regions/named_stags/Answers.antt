@@ -1,4 +1,3 @@
-use Rattle.nr_laws.proofs.GivenStags.{named_given}
 use Rattle.nr_laws.proofs.NamedStagsDead.{named_stags_are_dead}
 use Rattle.nr_laws.proofs.regions.named_stags.Goals as goal
 
