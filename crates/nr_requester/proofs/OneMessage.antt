@@ -27,11 +27,11 @@ use Rattle.nr_requester.proofs.DeadRegions.{dead_sound}
 
 -- what holds of a result, of its value
 
-pub found_ok : {A E : Type 0} {P : A → Type 0} (r : Result A E) (a : A) → r ≡ Ok a → IfOk r P → P a
-found_ok {A} {E} {P} r a is h = subst (λ (x : Result A E). IfOk x P) is h
+pub found_ok : {A E : Type 0} (P : A → Type 0) (r : Result A E) (a : A) → r ≡ Ok a → IfOk r P → P a
+found_ok {A} {E} P r a is h = subst (λ (x : Result A E). IfOk x P) is h
 
-pub found_err : {A E : Type 0} {P : E → Type 0} (r : Result A E) (e : E) → r ≡ Err e → IfErr r P → P e
-found_err {A} {E} {P} r e is h = subst (λ (x : Result A E). IfErr x P) is h
+pub found_err : {A E : Type 0} (P : E → Type 0) (r : Result A E) (e : E) → r ≡ Err e → IfErr r P → P e
+found_err {A} {E} P r e is h = subst (λ (x : Result A E). IfErr x P) is h
 
 -- ---- What calls on the link leave
 

@@ -38,7 +38,7 @@ verdict-own-requires-clause-rooms c =
 
 pub complete-requires-clause-held : goal.complete-requires-clause-held
 complete-requires-clause-held c = λ d.
-    let b = found_ok c.verdict-own.result.1 (c.in-Ok.at, c.in-Ok.found) c.in-Ok.is c.verdict-own.ensures.ok in
+    let b = found_ok _ c.verdict-own.result.1 (c.in-Ok.at, c.in-Ok.found) c.in-Ok.is c.verdict-own.ensures.ok in
     let l : LinkSide = c.args.endpoint.now.link in
     let own = c.verdict-own.result.0 in
     let s = same_sound l.state.receive_queue.receive_length l.state.memory c.requires.calls.0 (vec_capacity c.args.answered.now) c.args.outstanding.now.items c.verdict-own.new.calls.items c.args.answered.now.items c.verdict-own.ensures.same c.requires.calls.1 in
@@ -55,7 +55,7 @@ stop-requires-clause-frame c = subst (λ (n : ℕ). 0 < n) (sym (ap (λ (l : Lin
 
 pub returns-in-Ok-clause-judged : goal.returns-in-Ok-clause-judged
 returns-in-Ok-clause-judged c =
-    let b = found_ok c.verdict-own.result.1 (c.in-Ok.at, c.in-Ok.found) c.in-Ok.is c.verdict-own.ensures.ok in
+    let b = found_ok _ c.verdict-own.result.1 (c.in-Ok.at, c.in-Ok.found) c.in-Ok.is c.verdict-own.ensures.ok in
     let l : LinkSide = c.args.endpoint.now.link in
     let same = c.verdict-own.ensures.same in
     let own = c.verdict-own.result.0 in
@@ -81,7 +81,7 @@ returns-in-Ok-clause-judged c =
 
 pub returns-in-Ok-clause-sound : goal.returns-in-Ok-clause-sound
 returns-in-Ok-clause-sound c = λ most next s.
-    let b = found_ok c.verdict-own.result.1 (c.in-Ok.at, c.in-Ok.found) c.in-Ok.is c.verdict-own.ensures.ok in
+    let b = found_ok _ c.verdict-own.result.1 (c.in-Ok.at, c.in-Ok.found) c.in-Ok.is c.verdict-own.ensures.ok in
     let l : LinkSide = c.args.endpoint.now.link in
     let own = c.verdict-own.result.0 in
     let d : OutstandingCall = first_of c.verdict-own.new.calls.items c.in-Ok.at b.within in
@@ -99,7 +99,7 @@ returns-in-Ok-clause-sound c = λ most next s.
 
 pub returns-in-Err-clause-judged : goal.returns-in-Err-clause-judged
 returns-in-Err-clause-judged c =
-    let b = found_err c.verdict-own.result.1 c.in-Err.reason c.in-Err.is c.verdict-own.ensures.err in
+    let b = found_err _ c.verdict-own.result.1 c.in-Err.reason c.in-Err.is c.verdict-own.ensures.err in
     let own = c.verdict-own.result.0 in
     let views = kept_views c.args.sent c.args.outstanding.now.items in
     let front : c.split_at.result.0.now ≡ take c.args.len c.args.buf = c.split_at.ensures.front ∙ ap (λ (xs : List ℕ). take c.args.len xs) c.as_slice.ensures in
@@ -129,7 +129,7 @@ returns-in-Err-clause-fewer c = (let same = same_length c.args.outstanding.now.i
 
 pub returns-in-Ok-clause-bounded : goal.returns-in-Ok-clause-bounded
 returns-in-Ok-clause-bounded c = λ most sends next bounded.
-    let b = found_ok c.verdict-own.result.1 (c.in-Ok.at, c.in-Ok.found) c.in-Ok.is c.verdict-own.ensures.ok in
+    let b = found_ok _ c.verdict-own.result.1 (c.in-Ok.at, c.in-Ok.found) c.in-Ok.is c.verdict-own.ensures.ok in
     let l : LinkSide = c.args.endpoint.now.link in
     let own = c.verdict-own.result.0 in
     let same = c.verdict-own.ensures.same in
