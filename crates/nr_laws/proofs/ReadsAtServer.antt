@@ -19,7 +19,7 @@ use Rattle.nr_reduce.specs.ServerReads.{open_reads, is_read, reads_of, regions_o
 use Rattle.nr_reduce.specs.Server.{newly_open_reads, server_state_after}
 use Rattle.nr_reduce.specs.ServerMessages.Verdict.{EndsLink, OtherVersion, BadChunks, MakesPending}
 use Rattle.nr_reduce.specs.ServerMessages.CallVerdict.{Refuses, IsReady}
-use Rattle.nr_laws.proofs.FrameContents.{FrameContent, Carries, request_frame, effect_frames, SentMessage, last_segment, part_segment, send_frames, errors_frames, part_frame, last_part, last_index, total_of}
+use Rattle.nr_laws.proofs.FrameContents.{FrameContent, Carries, request_frame, effect_frames, SentMessage, last_segment, part_segment, send_frames, errors_frames, part_frame, last_part, last_index}
 use Rattle.nr_laws.proofs.FrameContents.FrameContent.{HelloFrame, PartFrame, SendFrame, RequestFrame, TaggedFrame}
 use Rattle.nr_laws.proofs.LinkInvariants.{Transit, AreResponses, ContinuesRead, requests_of, ReadsAgree}
 use Rattle.nr_laws.proofs.TotalsAtServer.{shape_message, after_is_lem, step_is, with_by}
