@@ -90,7 +90,7 @@ where
         (sink_at (K.taken out.old) (K.faults out.old)) (sink_at (K.taken out.new) (K.faults out.new)) result }
 {
     let opened = Session::<NumberedSource<P, N>, NumberedSink<Q, N>>::open(
-        alloc, dial, get.addr, get.uid, get.gid, get.units,
+        alloc, dial, get.addr, get.uid, get.gid, get.units, get.invalidates,
     );
     let mut session = match opened {
         Ok(session) => session,

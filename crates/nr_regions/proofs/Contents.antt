@@ -7,7 +7,7 @@ use Rattle.nr_regions.specs.declared.right.Right.{Right}
 use Rattle.nr_regions.specs.declared.right.Right.TheVariants.{Fetch, Fill, Sink}
 use Rattle.nr_regions.specs.declared.denied.Denied.{Denied}
 use Rattle.nr_regions.specs.declared.denied.Denied.TheVariants.{NoStag, Bounds, Right as WrongRight}
-use Rattle.nr_regions.specs.RegisteredMemory.{Region, RegisteredMemory, Access, held_region, live_region, same_right, denial_in, region_offer, denial, after_register, after_release, after_invalidate, bytes_after_write}
+use Rattle.nr_regions.specs.RegisteredMemory.{RegisteredMemory, Access, held_region, live_region, same_right, denial_in, region_offer, denial, after_register, after_release, after_invalidate, bytes_after_write}
 use Rattle.nr_regions.specs.Access.{Grant, applies, grant_at, grant_offer, grant_denial, Allowed, HasOwnStag, HaveOwnStags, TaggedSegment, access_of_tagged, after_segment, contents}
 use Rattle.nr_regions.specs.Events.{MemoryEvent, after_event, after_events, tagged_segments, IsNoReleaseOf, IsGranted, StaysOpen, DeadUntilReleased}
 use Rattle.nr_regions.specs.Events.MemoryEvent.{Register, Release, Invalidate, Arrive}

@@ -11,7 +11,6 @@ use Rattle.std.specs.FinMap.{FinMap, empty, find, from_entries, get, insert, rem
 use Rattle.nr_regions.specs.declared.held.HeldBuffer.{HeldBuffer}
 use Rattle.nr_regions.specs.RegisteredMemory.{Region, Access, bytes_after_write, denial_in, region_offer}
 use Rattle.nr_regions.specs.Windows.{BufferParts}
-use Rattle.nr_regions.specs.declared.denied.Denied.{Denied}
 use Rattle.nr_regions.specs.declared.denied.Denied.TheVariants.{NoStag}
 use Rattle.nr_regions.specs.Table.{table, outsides, dead_flags, region_of, outside_of, is_dead_of, live_in, live_offer, not_live, mapped, mapped_entries}
 use Rattle.nr_regions.proofs.Holding.{get_insert_here, get_insert_other}
@@ -78,6 +77,16 @@ module _ {S X : Type 0} (f : HeldBuffer → X) where
       ∙ (λ i. cond (turned stag q i) None (sym (get_mapped m q) i))
       ∙ sym (get-remove nat_cmp_total (mapped f m) stag q))
 
+same_none : (b : Bool) → cond b None no_region ≡ None
+same_none true = refl
+same_none false = refl
+
+-- the STag of an access isn't asked
+denied_by : (access : Access) (b : Bool) (held : HeldBuffer) → denial_in (cond b None (Some (held.right, length held.window.bytes))) (record access { stag = 0 })
+    ≡ denial_in (region_offer (cond b None (Some (region_of held)))) access
+denied_by access true held = refl
+denied_by access false held = refl
+
 module _ {S : Type 0} where
   -- what a peer reaches under the STag of a buffer that is found, and of none
   live_found : (m : HashMap ℕ HeldBuffer S) (stag : ℕ) (held : HeldBuffer) → hash.get nat_eq m stag ≡ Some held
@@ -87,23 +96,14 @@ module _ {S : Type 0} where
       let region = get_mapped region_of m stag ∙ ap (option_map region_of) e in
       λ i. cond (unwrap_or (flag i) false) None (region i)
 
-  same_none : (b : Bool) → cond b None no_region ≡ None
-  same_none true = refl
-  same_none false = refl
-
   live_nowhere : (m : HashMap ℕ HeldBuffer S) (stag : ℕ) → hash.get nat_eq m stag ≡ None → live_in (dead_flags m) (table m) stag ≡ None
   live_nowhere m stag e =
       ap (λ (o : Option Region). cond (unwrap_or (get (dead_flags m) stag) false) None o) (get_mapped region_of m stag ∙ ap (option_map region_of) e)
       ∙ same_none (unwrap_or (get (dead_flags m) stag) false)
 
   -- why an access is denied
-  denied_by : (access : Access) (b : Bool) (held : HeldBuffer) → denial_in (cond b None (Some (held.right, length held.window.bytes))) access
-      ≡ denial_in (region_offer (cond b None (Some (region_of held)))) access
-  denied_by access true held = refl
-  denied_by access false held = refl
-
   pub denied_held : (m : HashMap ℕ HeldBuffer S) (stag : ℕ) (access : Access) (held : HeldBuffer) → hash.get nat_eq m stag ≡ Some held
-      → denial_in (live_offer held) access ≡ denial_in (region_offer (live_in (dead_flags m) (table m) stag)) access
+      → denial_in (live_offer held) (record access { stag = 0 }) ≡ denial_in (region_offer (live_in (dead_flags m) (table m) stag)) access
   denied_held m stag access held e =
       denied_by access held.is_dead held ∙ ap (λ (o : Option Region). denial_in (region_offer o) access) (sym (live_found m stag held e))
 

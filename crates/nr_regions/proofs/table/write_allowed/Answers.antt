@@ -1,7 +1,7 @@
-use Rattle.std.proofs.Common.{◌≤◌, ◌+◌, ◌∙◌, sym, ap, length, option_map, is_some, refl}
+use Rattle.std.proofs.Common.{◌≤◌, ◌+◌, ◌∙◌, sym, ap, length, is_some, refl}
 use Rattle.nr_regions.specs.declared.held.HeldBuffer.{HeldBuffer}
 use Rattle.nr_regions.specs.RegisteredMemory.{Access}
-use Rattle.nr_regions.specs.Table.{region_of, outside_of, is_dead_of, dead_flags, table, live_in}
+use Rattle.nr_regions.specs.Table.{region_of, outside_of, is_dead_of}
 use Rattle.nr_regions.proofs.Tables.{alive_found, if_found, mapped_again, mapped_over, denied_held, denied_none, table_write_over, outsides_write_over}
 use Rattle.nr_regions.proofs.table.write_allowed.Goals as goal
 
