@@ -94,13 +94,13 @@ impl DrillLink {
     fn fresh(alloc: Global, number: u32, opening: Opening) -> Result<DrillLink, Memory>
         ensures { IfOk result (λ v. IsFresh number opening v) }
     {
-        let client = Requester::open_with(
+        let client = Requester::open_sized(
             alloc,
             opening.credits,
             opening.client_units,
             opening.invalidates,
         )?;
-        let server = match Responder::open_with(
+        let server = match Responder::open_sized(
             alloc,
             opening.credits,
             opening.credits,

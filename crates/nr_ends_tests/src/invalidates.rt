@@ -12,7 +12,7 @@ use std::process::Abort;
 
 /// Two ends after their hellos. Replies name an STag if both say so.
 fn greeted(rt: &impl Abort, alloc: Global, size: usize, invalidates: (bool, bool)) -> TestLink {
-    let mut link = TestLink::open_with(rt, alloc, invalidates);
+    let mut link = TestLink::open_invalidating(rt, alloc, invalidates);
     same(rt, size, link.invalidates(), (false, false));
     let _hello = link.up(rt, alloc, size);
     let _back = link.down(rt, alloc, size);

@@ -17,8 +17,8 @@ counted m first n b is =
     ap (λ (x : Bool). length (cond x (first ∷ filter (λ stag. is_some (live_region m stag)) (range_with_len (first + 1) n)) (filter (λ stag. is_some (live_region m stag)) (range_with_len (first + 1) n)))) is ∙ by b
   where
     by : (x : Bool) → length (cond x (first ∷ filter (λ stag. is_some (live_region m stag)) (range_with_len (first + 1) n)) (filter (λ stag. is_some (live_region m stag)) (range_with_len (first + 1) n))) ≡ cond x 1 0 + live_count m (range_with_len (first + 1) n)
-    by true = refl
-    by false = refl
+    by true = omega arith
+    by false = omega arith
 
 all_counted : (m : RegisteredMemory) (first n : ℕ) → AllLive m first n → live_count m (range_with_len first n) ≡ n
 all_counted m first zero live = refl
