@@ -15,7 +15,7 @@ pub new_or_value-requires-clause-stands : goal.new_or_value-requires-clause-stan
 new_or_value-requires-clause-stands g c = c.of_parts-with_sink.ensures g.H.OpeningHistory.history c.requires
 
 pub new_or_value-requires-clause-earlier : goal.new_or_value-requires-clause-earlier
-new_or_value-requires-clause-earlier g c = earlier_opened g.O.Sink.taken g.O.Sink.faults c.args.requester c.args.sink g.H.OpeningHistory.history c.requires
+new_or_value-requires-clause-earlier g c = earlier_opened g.O.Sink.taken g.O.Sink.faults g.C.CallRule.allows c.args.requester c.args.sink g.H.OpeningHistory.history c.requires
 
 pub share_reader-requires-clause-feeds : goal.share_reader-requires-clause-feeds
 share_reader-requires-clause-feeds g c =
@@ -39,7 +39,7 @@ returns-in-Ok-share_reader-clause-rests g c =
       has_seen = t.1;
       home = ap home_of c.of-first.ensures ∙ (u.0.0 ∙ m.0.0);
       caller = new_caller c.split-caller.result (ap (λ w. w.mine) n.1);
-      law = subst KeepsLaw (sym seen) (law_of g.O.Sink.taken g.O.Sink.faults c.of_parts-with_sink.result history (c.of_parts-with_sink.ensures history c.requires));
+      law = subst KeepsLaw (sym seen) (law_of g.O.Sink.taken g.O.Sink.faults g.C.CallRule.allows c.of_parts-with_sink.result history (c.of_parts-with_sink.ensures history c.requires));
     }
 
 pub returns-in-Ok-share_reader-clause-source : goal.returns-in-Ok-share_reader-clause-source
@@ -71,7 +71,7 @@ returns-clause-err g c =
     let m = c.in-Ok-new_or_value.ensures.ok in let n = c.split-caller.ensures.new in let history = g.H.OpeningHistory.history in let r = c.take_back.result in let caller = c.split-caller.result in
     let seen : seen_by caller ≡ history = ap (λ w. w.seen) n.1 ∙ ap (λ v. v.seen) m.1 in
     let mine : mine_of caller ≡ [] = ap (λ w. w.mine) n.1 in
-    subst (λ (l : List Entry). GivesBack g.I.Source.left g.I.Source.given g.I.Source.faults g.O.Sink.taken g.O.Sink.faults l [] c.args.source r.0 r.1 r.2) seen
-    (subst (λ (ks : List ℕ). GivesBack g.I.Source.left g.I.Source.given g.I.Source.faults g.O.Sink.taken g.O.Sink.faults (seen_by caller) ks c.args.source r.0 r.1 r.2) mine
-    (subst (λ i. GivesBack g.I.Source.left g.I.Source.given g.I.Source.faults g.O.Sink.taken g.O.Sink.faults (seen_by caller) (mine_of caller) i r.0 r.1 r.2) c.of-first_source.ensures
+    subst (λ (l : List Entry). GivesBack g.I.Source.left g.I.Source.given g.I.Source.faults g.O.Sink.taken g.O.Sink.faults g.C.CallRule.allows l [] c.args.source r.0 r.1 r.2) seen
+    (subst (λ (ks : List ℕ). GivesBack g.I.Source.left g.I.Source.given g.I.Source.faults g.O.Sink.taken g.O.Sink.faults g.C.CallRule.allows (seen_by caller) ks c.args.source r.0 r.1 r.2) mine
+    (subst (λ i. GivesBack g.I.Source.left g.I.Source.given g.I.Source.faults g.O.Sink.taken g.O.Sink.faults g.C.CallRule.allows (seen_by caller) (mine_of caller) i r.0 r.1 r.2) c.of-first_source.ensures
     (c.take_back.ensures (record { source = c.of-first_source.result; pass = c.of-first.result }) c.in-Err-share_reader.ensures.err)))
