@@ -9,7 +9,7 @@ use Rattle.nr_wire.specs.declared.stream.Awaited.TheVariants.{Hello as HelloFrom
 use Rattle.nr_wire.specs.Stream.{Split, split, is_whole, frame_len}
 use Rattle.nr_wire.specs.Feeding.{bytes_taken, feeding_after, feeding_after_frames, feeding_after_step, feeding_in}
 use Rattle.nr_wire.specs.Hello.{Hello, hello_of}
-use Rattle.nr_wire.specs.Segment.{Segment, segment_of}
+use Rattle.nr_wire.specs.Segment.{Segment}
 use Rattle.nr_wire.specs.Segment.Segment.{Tagged, Untagged}
 use Rattle.nr_wire.proofs.Frames.{frame_len_append, is_whole_from, partial_from, whole_append, whole_from}
 use Rattle.nr_wire.proofs.Splits.{split_partial, split_whole}
@@ -25,7 +25,7 @@ use Rattle.nr_link.specs.Frames.{Frame}
 use Rattle.nr_link.proofs.Agreements.{agreements_bounded}
 use Rattle.nr_endpoint.specs.Hellos.{own_private, received_max, receive_length_for, side_agreement}
 use Rattle.nr_endpoint.specs.LinkState.{LinkState, LinkSide, has_ended, initial_link, peer}
-use Rattle.nr_endpoint.specs.Judging.{after_frame, with_agreement, segment_end, next_frame, with_frame, with_segment_by, with_fpdu, with_peer_hello, with_effect, with_read_response}
+use Rattle.nr_endpoint.specs.Judging.{after_frame, with_agreement, segment_end, next_frame, with_frame, with_segment_by, with_fpdu, with_peer_hello, with_effect, with_read_response, next_segment}
 use Rattle.nr_endpoint.specs.SendQueue.{SendQueue, written}
 use Rattle.nr_endpoint.specs.ReceiveQueue.{delivered, posted}
 use Rattle.nr_endpoint.specs.Calls.{Call, after_call, after_calls, ended_link, with_state}
@@ -127,7 +127,7 @@ module _ (terms : SideTerms) (side : Side) where
 
   frame_settled : (fed : List ℕ) (a : Awaited) (s : LinkState) (frame : List ℕ) → has_ended s ≡ false → SideSettled fed a s → SideSettled fed Fpdu (with_frame s a frame)
   frame_settled fed (HelloFrom of) s frame live is = absurd (let wrong : HelloFrom of ≡ Fpdu = is.awaits in cc)
-  frame_settled fed Fpdu s frame live is = fpdu_settled fed s (next_frame s frame) (segment_of frame) is
+  frame_settled fed Fpdu s frame live is = fpdu_settled fed s (next_frame s frame) (next_segment s frame) is
 
   -- ---- The peer's hello
 

@@ -11,12 +11,12 @@ ghost use Rattle.nr_endpoint.specs.Judging.{reply_hello};
 ghost use Rattle.nr_outside.specs.Faults.{Rises};
 ghost use Rattle.nr_endpoint.specs.Requesting.{with_read_requests};
 ghost use Rattle.nr_endpoint.specs.Offering.{FitsRegion, FitsSharedRegion, shared_output, writes_output};
-ghost use Rattle.nr_endpoint.specs.SendQueue.{initial_queue, output_len, with_hello, with_fpdus, with_send, with_write, with_request, with_response, with_end, terminate_by, writable, written, ends_left, ends_passed};
+ghost use Rattle.nr_endpoint.specs.SendQueue.{initial_queue, output_len, with_hello, with_fpdus, with_send, with_send_by, with_write, with_request, with_response, with_end, terminate_by, writable, written, ends_left, ends_passed};
 
 use crate::constants::{OPEN_READS_MAX, SEGMENT_MAX};
 use crate::framing::{
     Operation, RemoteWrite, append_segments, cut_room, joined, push_answer, push_cut,
-    push_long_answer, push_send, push_terminate,
+    push_long_answer, push_send, push_terminate, sender,
 };
 use crate::output::{Output, write_run};
 use crate::requests::{REQUEST_ROOM, RemoteRead, append_request, append_requests};
@@ -210,44 +210,49 @@ impl SendQueue {
         }
     }
 
-    /// A Send. An `Err` changes nothing.
-    #[tactic(auto, using(crate::proofs::Cuts::carried_send))]
-    pub fn send(&mut self, message: &[u8]) -> Result<(), Memory>
+    /// A Send, with Invalidate if it names an STag. An `Err` changes nothing.
+    #[tactic(auto, using(crate::proofs::Cuts::carried_by))]
+    pub fn send(&mut self, named: Option<u32>, message: &[u8]) -> Result<(), Memory>
         requires { length message.now < 2 ^ 32 }
-        ensures ok { OnOk result (self.new ≡ with_send message.now self.old) }
+        ensures ok { OnOk result (self.new ≡ with_send_by named message.now self.old) }
         ensures err { OnErr result (self.new ≡ self.old) }
     {
         let msn = self.last_send.wrapping_add(1);
         self.send_ends.reserve(1)?;
-        push_cut(&mut self.fpdus, Operation::Send { msn }, message)?;
+        push_cut(&mut self.fpdus, sender(named, msn), message)?;
         self.send_ends.push_back_reserved(self.fpdus.len());
         self.last_send = msn;
         Ok(())
     }
 
     /// The Send of a message in two parts, which are not joined before if they take one segment. An `Err` changes nothing.
-    pub fn send_parts(&mut self, front: &[u8], stream: &[u8]) -> Result<(), Memory>
+    pub fn send_parts(
+        &mut self,
+        named: Option<u32>,
+        front: &[u8],
+        stream: &[u8],
+    ) -> Result<(), Memory>
         requires { length front.now + length stream.now < 2 ^ 32 }
-        ensures ok { OnOk result (self.new ≡ with_send (front.now ++ stream.now) self.old) }
+        ensures ok { OnOk result (self.new ≡ with_send_by named (front.now ++ stream.now) self.old) }
         ensures err { OnErr result (self.new ≡ self.old) }
     {
         if front.len() + stream.len() <= SEGMENT_MAX {
-            return self.send_short(front, stream);
+            return self.send_short(named, front, stream);
         }
         let message = joined(self.alloc, front, stream)?;
-        self.send(message.as_slice())
+        self.send(named, message.as_slice())
     }
 
     /// The Send of a message in two parts, which is one segment. An `Err` changes nothing.
-    #[tactic(auto, using(crate::proofs::Cuts::carried_send))]
-    fn send_short(&mut self, front: &[u8], stream: &[u8]) -> Result<(), Memory>
+    #[tactic(auto, using(crate::proofs::Cuts::carried_by))]
+    fn send_short(&mut self, named: Option<u32>, front: &[u8], stream: &[u8]) -> Result<(), Memory>
         requires { length front.now + length stream.now ≤ SEGMENT_MAX }
-        ensures ok { OnOk result (self.new ≡ with_send (front.now ++ stream.now) self.old) }
+        ensures ok { OnOk result (self.new ≡ with_send_by named (front.now ++ stream.now) self.old) }
         ensures err { OnErr result (self.new ≡ self.old) }
     {
         let msn = self.last_send.wrapping_add(1);
         self.send_ends.reserve(1)?;
-        push_send(&mut self.fpdus, msn, front, stream)?;
+        push_send(&mut self.fpdus, named, msn, front, stream)?;
         self.send_ends.push_back_reserved(self.fpdus.len());
         self.last_send = msn;
         Ok(())
@@ -267,74 +272,90 @@ impl SendQueue {
     pub fn answer(
         &mut self,
         writes: &[RemoteWrite<'_>],
+        named: Option<u32>,
         front: &[u8],
         stream: &[u8],
     ) -> Result<(), Memory>
         requires size { length front.now + length stream.now < 2 ^ 32 }
         requires fits { All FitsRegion writes.now }
-        ensures ok { OnOk result (self.new ≡ with_send (front.now ++ stream.now) (with_fpdus (writes_output writes.now) self.old)) }
+        ensures ok { OnOk result (self.new ≡ with_send_by named (front.now ++ stream.now) (with_fpdus (writes_output writes.now) self.old)) }
         ensures err { OnErr result (self.new ≡ self.old) }
     {
         if front.len() + stream.len() <= SEGMENT_MAX {
-            return self.answer_short(writes, front, stream);
+            return self.answer_short(writes, named, front, stream);
         }
         let message = joined(self.alloc, front, stream)?;
-        self.answer_long(writes, message.as_slice())
+        self.answer_long(writes, named, message.as_slice())
     }
 
     /// RDMA Writes and then the Send of a message in two parts, which is one segment. An `Err` changes nothing.
-    #[tactic(auto, using(crate::proofs::Cuts::carried_send))]
+    #[tactic(auto, using(crate::proofs::Cuts::carried_by))]
     fn answer_short(
         &mut self,
         writes: &[RemoteWrite<'_>],
+        named: Option<u32>,
         front: &[u8],
         stream: &[u8],
     ) -> Result<(), Memory>
         requires size { length front.now + length stream.now ≤ SEGMENT_MAX }
         requires fits { All FitsRegion writes.now }
-        ensures ok { OnOk result (self.new ≡ with_send (front.now ++ stream.now) (with_fpdus (writes_output writes.now) self.old)) }
+        ensures ok { OnOk result (self.new ≡ with_send_by named (front.now ++ stream.now) (with_fpdus (writes_output writes.now) self.old)) }
         ensures err { OnErr result (self.new ≡ self.old) }
     {
         let msn = self.last_send.wrapping_add(1);
         self.send_ends.reserve(1)?;
-        push_answer(&mut self.fpdus, writes, msn, front, stream)?;
+        push_answer(&mut self.fpdus, writes, named, msn, front, stream)?;
         self.send_ends.push_back_reserved(self.fpdus.len());
         self.last_send = msn;
         Ok(())
     }
 
     /// RDMA Writes and then a Send. An `Err` changes nothing.
-    #[tactic(auto, using(crate::proofs::Cuts::carried_send))]
-    fn answer_long(&mut self, writes: &[RemoteWrite<'_>], message: &[u8]) -> Result<(), Memory>
+    #[tactic(auto, using(crate::proofs::Cuts::carried_by))]
+    fn answer_long(
+        &mut self,
+        writes: &[RemoteWrite<'_>],
+        named: Option<u32>,
+        message: &[u8],
+    ) -> Result<(), Memory>
         requires size { length message.now < 2 ^ 32 }
         requires fits { All FitsRegion writes.now }
-        ensures ok { OnOk result (self.new ≡ with_send message.now (with_fpdus (writes_output writes.now) self.old)) }
+        ensures ok { OnOk result (self.new ≡ with_send_by named message.now (with_fpdus (writes_output writes.now) self.old)) }
         ensures err { OnErr result (self.new ≡ self.old) }
     {
         let msn = self.last_send.wrapping_add(1);
         self.send_ends.reserve(1)?;
-        push_long_answer(&mut self.fpdus, writes, msn, message)?;
+        push_long_answer(&mut self.fpdus, writes, named, msn, message)?;
         self.send_ends.push_back_reserved(self.fpdus.len());
         self.last_send = msn;
         Ok(())
     }
 
     /// RDMA Writes of shared bytes and then the Send of a message in two parts. An `Err` changes nothing.
-    #[tactic(auto, using(crate::proofs::Cuts::carried_send))]
+    #[tactic(auto, using(crate::proofs::Cuts::carried_by))]
     pub fn answer_shared(
         &mut self,
         writes: &[SharedWrite],
+        named: Option<u32>,
         front: &[u8],
         stream: &[u8],
     ) -> Result<(), Memory>
         requires size { length front.now + length stream.now < 2 ^ 32 }
         requires fits { All FitsSharedRegion writes.now }
-        ensures ok { OnOk result (self.new ≡ with_send (front.now ++ stream.now) (with_fpdus (shared_output writes.now) self.old)) }
+        ensures ok { OnOk result (self.new ≡ with_send_by named (front.now ++ stream.now) (with_fpdus (shared_output writes.now) self.old)) }
         ensures err { OnErr result (self.new ≡ self.old) }
     {
         let msn = self.last_send.wrapping_add(1);
         self.send_ends.reserve(1)?;
-        push_shared_answer(&mut self.fpdus, self.alloc, writes, msn, front, stream)?;
+        push_shared_answer(
+            &mut self.fpdus,
+            self.alloc,
+            writes,
+            named,
+            msn,
+            front,
+            stream,
+        )?;
         self.send_ends.push_back_reserved(self.fpdus.len());
         self.last_send = msn;
         Ok(())

@@ -58,7 +58,7 @@ fn with_piece(rt: &impl Abort, fed: u64, piece: &[u8]) -> u64
 }
 
 /// A reason for which the layer above may end a side.
-#[tactic(auto, using(crate::proofs::StopReasons::stop_17, crate::proofs::StopReasons::stop_18, crate::proofs::StopReasons::stop_19, crate::proofs::StopReasons::stop_20, crate::proofs::StopReasons::stop_21, crate::proofs::StopReasons::stop_23, crate::proofs::StopReasons::stop_30))]
+#[tactic(auto, using(crate::proofs::StopReasons::stop_17, crate::proofs::StopReasons::stop_18, crate::proofs::StopReasons::stop_19, crate::proofs::StopReasons::stop_20, crate::proofs::StopReasons::stop_21, crate::proofs::StopReasons::stop_23, crate::proofs::StopReasons::stop_29, crate::proofs::StopReasons::stop_30))]
 fn stop_reason(rt: &impl Abort, reason: u32) -> u32
     ensures same { result ≡ reason }
     ensures reason { IsStopReason result }
@@ -80,6 +80,9 @@ fn stop_reason(rt: &impl Abort, reason: u32) -> u32
     }
     if reason == 23 {
         return 23;
+    }
+    if reason == 29 {
+        return 29;
     }
     check(rt, reason == 30);
     30

@@ -10,7 +10,6 @@ use Rattle.nr_wire.specs.Segment.Segment.{Tagged, Untagged}
 use Rattle.nr_link.specs.Frames.{Frame, is_hello}
 use Rattle.nr_link.specs.Output.{msn_word, segment_count}
 use Rattle.nr_link.specs.ReceiveState.{begun_bytes, ReadRequest}
-use Rattle.nr_link.specs.Ending.{frame_segment}
 use Rattle.nr_reduce.proofs.OwnLimits.{ClientLimits}
 use Rattle.nr_reduce.specs.declared.mark.LinkParameters.{LinkParameters}
 use Rattle.nr_reduce.specs.declared.outline.Plan.{Plan}
@@ -20,7 +19,7 @@ use Rattle.nr_reduce.specs.History.{AcceptedCall}
 use Rattle.nr_reduce.specs.Events.RunEvent.{FrameReceived, CallSubmitted, QueueWritten}
 use Rattle.nr_reduce.specs.OfferedRegions.{Region, closed_if, regions_closed}
 use Rattle.nr_reduce.specs.ClientState.{ClientState, OutstandingCall, call_payload, plan_for, client_memory_at}
-use Rattle.nr_reduce.specs.Client.{client_state_after, outstanding_of, region_of, with_segment, segment_request, with_hello}
+use Rattle.nr_reduce.specs.Client.{client_segment, client_state_after, outstanding_of, region_of, with_segment, segment_request, with_hello}
 use Rattle.nr_reduce.specs.ServerState.{ServerState}
 use Rattle.nr_laws.specs.Typed.{IsTypedForm}
 use Rattle.nr_laws.proofs.PlannedSizes.{plan_up, plan_down, planned_for}
@@ -123,7 +122,7 @@ response_said regions k place (Some q) = cuts OPCODE_READ_RESPONSE q.sink q.sink
     cuts opcode stag to bytes (i ∷ is) = (tt, cuts opcode stag to bytes is)
 
 -- a frame that closes no region
-other_frame : (opened : LinkParameters) (k : ClientState) (s : ServerState) (d all_up all_down : List FrameContent) (place : ℕ) (p : FrameContent) (f : Frame) (segment : Segment) → AccessesAgree opened k s d all_up all_down place → is_hello f ≡ false → frame_segment f ≡ Ok segment
+other_frame : (opened : LinkParameters) (k : ClientState) (s : ServerState) (d all_up all_down : List FrameContent) (place : ℕ) (p : FrameContent) (f : Frame) (segment : Segment) → AccessesAgree opened k s d all_up all_down place → is_hello f ≡ false → client_segment k f ≡ Ok segment
     → (with_segment k f (Ok segment)).regions ≡ k.regions → (with_segment k f (Ok segment)).outstanding ≡ k.outstanding
     → AccessesAgree opened (client_state_after opened k (FrameReceived f)) s (d ++ p ∷ []) (all_up ++ client_frames opened k (FrameReceived f)) all_down place
 other_frame opened k s d all_up all_down place p f segment h behind is same outs =
@@ -167,7 +166,7 @@ message_frame : (opened : LinkParameters) (k : ClientState) (s : ServerState) (d
     → AccessesAgree opened (client_state_after opened k (FrameReceived f)) s (d ++ SendFrame message ∷ []) (all_up ++ client_frames opened k (FrameReceived f)) all_down place
 message_frame opened k s d all_up all_down place message f h completes piece =
     let segment : Segment = last_segment k.received.sends message in
-    let is : frame_segment f ≡ Ok segment = segment_is k.received.sends k.received.requests f (SendFrame message) segment piece refl in
+    let is : client_segment k f ≡ Ok segment = segment_is k.received.sends k.received.requests f (SendFrame message) segment piece refl in
     let t = with_segment k f (Ok segment) in
     let whole : List ℕ = begun_bytes k.received.begun ++ message.payload in
     let same : message.bytes ≡ whole = sym completes in
@@ -186,14 +185,14 @@ pub accessed_piece_down : (opened : LinkParameters) (k : ClientState) (s : Serve
 accessed_piece_down opened k s d all_up all_down place HelloFrame ps f h sends piece = absurd (let wrong = piece.is_segment in cc)
 accessed_piece_down opened k s d all_up all_down place (PartFrame offset payload) ps f h sends piece =
     let segment : Segment = part_segment k.received.sends offset payload in
-    let is : frame_segment f ≡ Ok segment = segment_is k.received.sends k.received.requests f (PartFrame offset payload) segment piece refl in
+    let is : client_segment k f ≡ Ok segment = segment_is k.received.sends k.received.requests f (PartFrame offset payload) segment piece refl in
     other_frame opened k s d all_up all_down place (PartFrame offset payload) f segment h piece.behind is refl refl
 accessed_piece_down opened k s d all_up all_down place (SendFrame message) ps f h sends piece = message_frame opened k s d all_up all_down place message f h sends.1 piece
 accessed_piece_down opened k s d all_up all_down place (RequestFrame sink at size stag to) ps f h sends piece =
     let segment : Segment = Untagged true OPCODE_READ_REQUEST 0 QUEUE_READ_REQUEST (msn_word (k.received.requests + 1)) 0 (request_payload sink at size stag to) in
-    let is : frame_segment f ≡ Ok segment = segment_is k.received.sends k.received.requests f (RequestFrame sink at size stag to) segment piece refl in
+    let is : client_segment k f ≡ Ok segment = segment_is k.received.sends k.received.requests f (RequestFrame sink at size stag to) segment piece refl in
     other_frame opened k s d all_up all_down place (RequestFrame sink at size stag to) f segment h piece.behind is refl refl
 accessed_piece_down opened k s d all_up all_down place (TaggedFrame last opcode stag to payload) ps f h sends piece =
     let segment : Segment = Tagged last opcode stag to payload in
-    let is : frame_segment f ≡ Ok segment = segment_is k.received.sends k.received.requests f (TaggedFrame last opcode stag to payload) segment piece refl in
+    let is : client_segment k f ≡ Ok segment = segment_is k.received.sends k.received.requests f (TaggedFrame last opcode stag to payload) segment piece refl in
     other_frame opened k s d all_up all_down place (TaggedFrame last opcode stag to payload) f segment h piece.behind is refl refl

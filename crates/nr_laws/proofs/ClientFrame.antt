@@ -14,13 +14,13 @@ use Rattle.nr_link.specs.Output.{msn_word}
 use Rattle.nr_link.specs.Reasons.{REASON_MSN, REASON_OFFSET, REASON_FORM, REASON_REQUESTS, REASON_LONG, REASON_SHORT}
 use Rattle.nr_link.specs.ReceiveState.{read_request_in, message_completed, is_send}
 use Rattle.nr_link.specs.SegmentFaults.{Readiness, SegmentReason, segment_reason, first_fault, reason_if, missing_fault, is_malformed, is_too_many, no_buffer, next_msn, next_offset, message_length_is, terminate_fault}
-use Rattle.nr_link.specs.Ending.{frame_segment, frame_end, frame_end_by, end_of_fault, hello_end, missing_access}
+use Rattle.nr_link.specs.Ending.{frame_end, frame_end_by, end_of_fault, hello_end, missing_access}
 use Rattle.nr_reduce.specs.declared.mark.LinkParameters.{LinkParameters}
 use Rattle.nr_reduce.specs.Events.RunEvent.{FrameReceived}
 use Rattle.nr_reduce.specs.OfferedRegions.{region_grants}
 use Rattle.nr_reduce.specs.ClientState.{ClientState, OutstandingCall, client_memory_at}
 use Rattle.nr_reduce.specs.ServerState.{ServerState}
-use Rattle.nr_reduce.specs.Client.{client_end, client_state_after, client_output, client_readiness, or_message_end, segment_request, calls_output, response_output, with_segment, with_hello}
+use Rattle.nr_reduce.specs.Client.{client_segment, client_end, client_state_after, client_output, client_readiness, or_message_end, segment_request, calls_output, response_output, with_segment, with_hello}
 use Rattle.nr_laws.proofs.FrameContents.{FrameContent, numbered_segment, frame_bytes, output_bytes, total_of, sends_in, requests_in, hellos_in, client_frames, response_frames, tagged_frames, Carries, part_segment, last_segment, send_frames, calls_frames}
 use Rattle.nr_laws.proofs.FrameContents.FrameContent.{HelloFrame, PartFrame, SendFrame, RequestFrame, TaggedFrame}
 use Rattle.nr_laws.proofs.LinkInvariants.{Transit, TotalsAgree, calls_sent, hello_bit}
@@ -71,14 +71,14 @@ pub by_end : (k : ClientState) (f : Frame) (o : Option End) → or_message_end k
 by_end k f None e = refl
 by_end k f (Some end) e = absurd cc
 
-pub request_ends : (k : ClientState) (f : Frame) (n : ℕ) (payload : List ℕ) → is_hello f ≡ false → frame_segment f ≡ Ok (Untagged true OPCODE_READ_REQUEST 0 QUEUE_READ_REQUEST n 0 payload) → client_end k (FrameReceived f) ≡ None
+pub request_ends : (k : ClientState) (f : Frame) (n : ℕ) (payload : List ℕ) → is_hello f ≡ false → client_segment k f ≡ Ok (Untagged true OPCODE_READ_REQUEST 0 QUEUE_READ_REQUEST n 0 payload) → client_end k (FrameReceived f) ≡ None
     → (read_request_in payload).sink_to + (read_request_in payload).size ≤ 2 ^ 64
-unfolding client_end frame_end
+unfolding client_end
 request_ends k f n payload behind is e =
     let segment : Segment = Untagged true OPCODE_READ_REQUEST 0 QUEUE_READ_REQUEST n 0 payload in
     let grants = region_grants f.end k.regions in
-    let found : frame_end (client_readiness k) grants f ≡ None =
-    by_end k f (frame_end (client_readiness k) grants f) ((λ i. cond (sym behind i) (hello_end (hello_of Responder f.bytes)) (or_message_end k f (frame_end (client_readiness k) grants f))) ∙ e) in
+    let found : frame_end_by (client_readiness k) grants f (client_segment k f) ≡ None =
+    by_end k f (frame_end_by (client_readiness k) grants f (client_segment k f)) ((λ i. cond (sym behind i) (hello_end (hello_of Responder f.bytes)) (or_message_end k f (frame_end_by (client_readiness k) grants f (client_segment k f)))) ∙ e) in
     let none : end_of_fault f segment (segment_reason (client_readiness k (missing_access grants f segment)) segment) ≡ None =
     ap (λ (r : Result Segment ℕ). frame_end_by (client_readiness k) grants f r) (sym is) ∙ found in
     let malformed = not_malformed (client_readiness k (missing_access grants f segment)) n payload (no_flaw f segment _ none) in
@@ -128,19 +128,19 @@ pub record ClientTook (opened : LinkParameters) (k : ClientState) (s : ServerSta
 
 output_hello : (opened : LinkParameters) (k : ClientState) (f : Frame) → is_hello f ≡ true → client_output opened k (FrameReceived f) ≡ calls_output opened 1 k.outstanding
 unfolding client_output
-output_hello opened k f is = λ i. cond (is i) (calls_output opened 1 k.outstanding) (response_output k f.end (segment_request (frame_segment f)))
+output_hello opened k f is = λ i. cond (is i) (calls_output opened 1 k.outstanding) (response_output k f.end (segment_request (client_segment k f)))
 
-output_frame : (opened : LinkParameters) (k : ClientState) (f : Frame) (r : Result Segment ℕ) → is_hello f ≡ false → frame_segment f ≡ r → client_output opened k (FrameReceived f) ≡ response_output k f.end (segment_request r)
+output_frame : (opened : LinkParameters) (k : ClientState) (f : Frame) (r : Result Segment ℕ) → is_hello f ≡ false → client_segment k f ≡ r → client_output opened k (FrameReceived f) ≡ response_output k f.end (segment_request r)
 unfolding client_output
 output_frame opened k f r behind is = λ i. cond (behind i) (calls_output opened 1 k.outstanding) (response_output k f.end (segment_request (is i)))
 
 pub says_hello : (opened : LinkParameters) (k : ClientState) (f : Frame) → is_hello f ≡ true → client_frames opened k (FrameReceived f) ≡ calls_frames opened k.outstanding
 unfolding client_frames
-says_hello opened k f is = λ i. cond (is i) (calls_frames opened k.outstanding) (response_frames k f.end (segment_request (frame_segment f)))
+says_hello opened k f is = λ i. cond (is i) (calls_frames opened k.outstanding) (response_frames k f.end (segment_request (client_segment k f)))
 
 pub after_hello : (opened : LinkParameters) (k : ClientState) (f : Frame) → is_hello f ≡ true → client_state_after opened k (FrameReceived f) ≡ with_hello opened k f
 unfolding client_state_after
-after_hello opened k f is = λ i. cond (is i) (with_hello opened k f) (with_segment k f (frame_segment f))
+after_hello opened k f is = λ i. cond (is i) (with_hello opened k f) (with_segment k f (client_segment k f))
 
 asks_proper : (opened : LinkParameters) (os : List OutstandingCall) → CallsShort opened os → AreWritable (calls_frames opened os)
 asks_proper opened [] h = tt
@@ -175,7 +175,7 @@ took_hello opened k s u d all_up all_down w rest f l first is =
 
 -- another frame, by what the client sends of it
 took_frame : (opened : LinkParameters) (k : ClientState) (s : ServerState) (u d all_up all_down : List FrameContent) (w : Transit) (p : FrameContent) (rest said : List FrameContent) (f : Frame) (r : Result Segment ℕ) → EndsAgree opened k s u d all_up all_down w → w.down ≡ p ∷ rest
-    → is_hello f ≡ false → frame_segment f ≡ r → response_frames k f.end (segment_request r) ≡ said → response_output k f.end (segment_request r) ≡ output_bytes opened Initiator (total_of sends_in all_up) (total_of requests_in all_up) said
+    → is_hello f ≡ false → client_segment k f ≡ r → response_frames k f.end (segment_request r) ≡ said → response_output k f.end (segment_request r) ≡ output_bytes opened Initiator (total_of sends_in all_up) (total_of requests_in all_up) said
     → AreWritable said → total_of hellos_in said ≡ 0 → total_of requests_in said ≡ 0
     → TotalsAgree (client_state_after opened k (FrameReceived f)) s (down_one w (client_frames opened k (FrameReceived f)) rest)
     → (with_segment k f r).received.sends ≡ k.received.sends + sends_in p → (with_segment k f r).received.requests ≡ k.received.requests + requests_in p
@@ -199,18 +199,18 @@ took_piece : (opened : LinkParameters) (k : ClientState) (s : ServerState) (u d 
 took_piece opened k s u d all_up all_down w HelloFrame rest f l first proper piece bytes is stays = absurd proper
 took_piece opened k s u d all_up all_down w (PartFrame offset payload) rest f l first proper piece bytes is stays =
     let segment : Segment = part_segment k.received.sends offset payload in
-    let reads : frame_segment f ≡ Ok segment = segment_is k.received.sends k.received.requests f (PartFrame offset payload) segment piece refl in
+    let reads : client_segment k f ≡ Ok segment = segment_is k.received.sends k.received.requests f (PartFrame offset payload) segment piece refl in
     took_frame opened k s u d all_up all_down w (PartFrame offset payload) rest [] f (Ok segment) l first piece.behind reads refl refl tt refl refl
     (totals_part_down opened k s w f offset payload rest l.counts first piece) (omega arith) (omega arith)
 took_piece opened k s u d all_up all_down w (SendFrame message) rest f l first proper piece bytes is stays =
     let segment : Segment = last_segment k.received.sends message in
-    let reads : frame_segment f ≡ Ok segment = segment_is k.received.sends k.received.requests f (SendFrame message) segment piece refl in
+    let reads : client_segment k f ≡ Ok segment = segment_is k.received.sends k.received.requests f (SendFrame message) segment piece refl in
     took_frame opened k s u d all_up all_down w (SendFrame message) rest [] f (Ok segment) l first piece.behind reads refl refl tt refl refl
     (totals_send_down opened k s w f message rest l.counts first piece stays l.outs.apart) refl (omega arith)
 took_piece opened k s u d all_up all_down w (RequestFrame sink at size stag to) rest f l first proper piece bytes is stays =
     let payload = request_payload sink at size stag to in
     let segment : Segment = Untagged true OPCODE_READ_REQUEST 0 QUEUE_READ_REQUEST (msn_word (k.received.requests + 1)) 0 payload in
-    let reads : frame_segment f ≡ Ok segment = segment_is k.received.sends k.received.requests f (RequestFrame sink at size stag to) segment piece refl in
+    let reads : client_segment k f ≡ Ok segment = segment_is k.received.sends k.received.requests f (RequestFrame sink at size stag to) segment piece refl in
     let payload_is = payload_bytes segment (subst IsBytes is bytes) in
     let r = read_request_in payload in
     let answer = take r.size (drop r.to (client_memory_at k f.end r.stag)) in
@@ -223,7 +223,7 @@ took_piece opened k s u d all_up all_down w (RequestFrame sink at size stag to) 
     (totals_read_down opened k s w f sink at size stag to rest l.counts first piece) (omega arith) refl
 took_piece opened k s u d all_up all_down w (TaggedFrame last opcode stag to payload) rest f l first proper piece bytes is stays =
     let segment : Segment = Tagged last opcode stag to payload in
-    let reads : frame_segment f ≡ Ok segment = segment_is k.received.sends k.received.requests f (TaggedFrame last opcode stag to payload) segment piece refl in
+    let reads : client_segment k f ≡ Ok segment = segment_is k.received.sends k.received.requests f (TaggedFrame last opcode stag to payload) segment piece refl in
     took_frame opened k s u d all_up all_down w (TaggedFrame last opcode stag to payload) rest [] f (Ok segment) l first piece.behind reads refl refl tt refl refl
     (totals_tagged_down opened k s w f last opcode stag to payload rest l.counts first piece) (omega arith) (omega arith)
 

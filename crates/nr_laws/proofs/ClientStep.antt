@@ -22,7 +22,7 @@ use Rattle.nr_link.specs.Frames.{Frame, is_hello}
 use Rattle.nr_link.specs.Output.{msn_word}
 use Rattle.nr_link.specs.ReceiveState.{ReadRequest, read_request_in, begun_bytes}
 use Rattle.nr_link.specs.SegmentFaults.{SegmentReason, first_fault, missing_fault}
-use Rattle.nr_link.specs.Ending.{frame_segment, frame_end, frame_end_by, end_of_fault, denied_at, access_of, hello_end, missing_access}
+use Rattle.nr_link.specs.Ending.{frame_end, frame_end_by, end_of_fault, denied_at, access_of, hello_end, missing_access}
 use Rattle.nr_reduce.specs.declared.mark.LinkParameters.{LinkParameters}
 use Rattle.nr_reduce.specs.Opening.{IsOpened}
 use Rattle.nr_reduce.specs.declared.call.Outcome.TheVariants as outcomes
@@ -33,7 +33,7 @@ use Rattle.nr_reduce.specs.Chunks.{answers_offer, reply_conveyed}
 use Rattle.nr_reduce.specs.ClientState.{ClientState, OutstandingCall, client_memory_at}
 use Rattle.nr_reduce.specs.ClientMessages.{ReplyVerdict, reply_verdict, reply_by_head, reply_by_payload, by_lists, reply_by_body, by_call, answered_call, reply_by_header, reply_xid}
 use Rattle.nr_reduce.specs.ClientMessages.ReplyVerdict.{EndsLink, GivesOutcome}
-use Rattle.nr_reduce.specs.Client.{client_end, client_state_after, client_readiness, or_message_end, client_message_end, end_of_verdict, segment_message}
+use Rattle.nr_reduce.specs.Client.{client_segment, client_end, client_state_after, client_readiness, or_message_end, client_message_end, end_of_verdict, segment_message}
 use Rattle.nr_reduce.specs.ServerState.{ServerState}
 use Rattle.nr_laws.proofs.FirstHellos.{first_hello_is}
 use Rattle.nr_laws.specs.EndCauses.{IsDenied}
@@ -63,6 +63,7 @@ use Rattle.nr_laws.proofs.Basics.{some_not}
 use Rattle.nr_laws.proofs.HeaderXid.{header_xid}
 use Rattle.nr_laws.proofs.EndsWaiting.{left_waiting}
 use Rattle.nr_laws.proofs.SendFrames.{at_front}
+use Rattle.nr_laws.proofs.NamedReplies.{message_end_in}
 
 -- ---- A message
 
@@ -131,12 +132,12 @@ denied_end (Some access) why = (access.stag, access.to, why, refl)
 pub record LacksAccess (k : ClientState) (f : Frame) (end : End) : Type 0 where
   pub behind : is_hello f ≡ false
   pub segment : Segment
-  pub is_segment : frame_segment f ≡ Ok segment
+  pub is_segment : client_segment k f ≡ Ok segment
   pub why : Denied
   pub lacks : missing_access (region_grants f.end k.regions) f segment ≡ Some why
   pub denied : IsDenied end
 
-lacks_end : (k : ClientState) (f : Frame) (segment : Segment) (lack : Option Denied) (end : End) → is_hello f ≡ false → frame_segment f ≡ Ok segment → missing_access (region_grants f.end k.regions) f segment ≡ lack → end_of_fault f segment (first_fault (missing_fault lack ∷ [])) ≡ Some end → LacksAccess k f end
+lacks_end : (k : ClientState) (f : Frame) (segment : Segment) (lack : Option Denied) (end : End) → is_hello f ≡ false → client_segment k f ≡ Ok segment → missing_access (region_grants f.end k.regions) f segment ≡ lack → end_of_fault f segment (first_fault (missing_fault lack ∷ [])) ≡ Some end → LacksAccess k f end
 lacks_end k f segment None end behind is lacks e = absurd cc
 lacks_end k f segment (Some why) end behind is lacks e = record {
   behind = behind;
@@ -147,7 +148,7 @@ lacks_end k f segment (Some why) end behind is lacks e = record {
   denied = subst IsDenied (let same : denied_at (access_of segment) why ≡ end = cc in same) (denied_end (access_of segment) why);
 }
 
-or_message_some : (k : ClientState) (f : Frame) (o : Option End) (end : End) → client_message_end k f (segment_message k (frame_segment f)) ≡ None → or_message_end k f o ≡ Some end → o ≡ Some end
+or_message_some : (k : ClientState) (f : Frame) (o : Option End) (end : End) → message_end_in k f (client_segment k f) ≡ None → or_message_end k f o ≡ Some end → o ≡ Some end
 or_message_some k f None end none e = absurd (let wrong : None ≡ Some end = sym none ∙ e in cc)
 or_message_some k f (Some x) end none e = e
 
@@ -159,7 +160,7 @@ pub record ClientStep (opened : LinkParameters) (k : ClientState) (s : ServerSta
 
 hello_none : (k : ClientState) (f : Frame) (private : List ℕ) → is_hello f ≡ true → hello_of Responder f.bytes ≡ Ok (record { side = Responder; flags = 0; private = private }) → client_end k (FrameReceived f) ≡ None
 unfolding client_end
-hello_none k f private is says = (λ i. cond (is i) (hello_end (says i)) (or_message_end k f (frame_end (client_readiness k) (region_grants f.end k.regions) f)))
+hello_none k f private is says = (λ i. cond (is i) (hello_end (says i)) (or_message_end k f (frame_end_by (client_readiness k) (region_grants f.end k.regions) f (client_segment k f))))
 
 step_piece : (opened : LinkParameters) (k : ClientState) (s : ServerState) (u d all_up all_down : List FrameContent) (w : Transit) (place : ℕ) (p : FrameContent) (rest : List FrameContent) (f : Frame) → IsOpened opened → EndsAgree opened k s u d all_up all_down w → Guards opened k s u d all_up all_down w place → w.down ≡ p ∷ rest
     → IsWritable p → Carries k.received.sends k.received.requests f p → k.has_hello ≡ true → ClientStep opened k s u d all_up all_down w place p rest f
@@ -173,7 +174,7 @@ step_piece opened k s u d all_up all_down w place (PartFrame offset payload) res
     }
 step_piece opened k s u d all_up all_down w place (SendFrame message) rest f o l g first proper piece hello =
     let segment : Segment = last_segment k.received.sends message in
-    let reads : frame_segment f ≡ Ok segment = segment_is k.received.sends k.received.requests f (SendFrame message) segment piece refl in
+    let reads : client_segment k f ≡ Ok segment = segment_is k.received.sends k.received.requests f (SendFrame message) segment piece refl in
     let reply : IsReply (matched_down opened) opened.granted message.bytes = front_down opened k s u d all_up all_down w place (SendFrame message) rest l g first in
     let whole : List ℕ = begun_bytes k.received.begun ++ message.payload in
     let same : whole ≡ message.bytes = (at_front k.received.begun w.down w.queued_down (SendFrame message) rest first l.counts.whole_down).1 in
@@ -183,7 +184,7 @@ step_piece opened k s u d all_up all_down w place (SendFrame message) rest f o l
     l.outs.follow.1
     (omega (arith, l.counts.calls_up, l.counts.sends, l.counts.all_sends, left_waiting k.written k.send_ends)) g.answered in
     let ends : client_end k (FrameReceived f) ≡ end_of_verdict f (reply_verdict k f.end whole) =
-    client_send opened k s w f message rest l.counts first piece reply.least (omega (arith, reply.size, g.sizes.client_down hello)) ∙ ap (λ (r : Result Segment ℕ). client_message_end k f (segment_message k r)) reads in
+    client_send opened k s w f message rest l.counts first piece reply.least (omega (arith, reply.size, g.sizes.client_down hello)) ∙ ap (λ (r : Result Segment ℕ). message_end_in k f r) reads in
     record {
       only = λ end e. inl (reply_end f (reply_verdict k f.end whole) end (reason_verdict k f.end whole (subst IsRead (sym same) reply.read) answers.0 (ap (λ (xs : List ℕ). answered_call k (word_at 0 xs)) same ∙ answers.1)) (sym ends ∙ e));
       kept = λ stays. guards_send_down opened k s u d all_up all_down w place message rest f o l g first piece hello stays;
@@ -192,16 +193,16 @@ step_piece opened k s u d all_up all_down w place (RequestFrame sink at size sta
     let payload = request_payload sink at size stag to in
     let segment : Segment = Untagged true OPCODE_READ_REQUEST 0 QUEUE_READ_REQUEST (msn_word (k.received.requests + 1)) 0 payload in
     let grants = region_grants f.end k.regions in
-    let reads : frame_segment f ≡ Ok segment = segment_is k.received.sends k.received.requests f (RequestFrame sink at size stag to) segment piece refl in
+    let reads : client_segment k f ≡ Ok segment = segment_is k.received.sends k.received.requests f (RequestFrame sink at size stag to) segment piece refl in
     let a = asked_of s w place sink at size stag to rest g.server.reads first g.server.sinks g.server.regions.stags g.within in
     let again = request_again sink at size stag to a.sink_word a.at_word a.size_word a.stag_word a.to_word in
     let fits : (read_request_in payload).sink_to + (read_request_in payload).size ≤ 2 ^ 64 = omega (arith, ap (λ (r : ReadRequest). r.sink_to + r.size) again, a.room) in
     let some : 0 < total_of requests_in w.down = omega (arith, ap (total_of requests_in) first) in
     let flaw = request_flaw (client_readiness k (missing_access grants f segment)) payload (len_request sink at size stag to) fits (requests opened k s w l.counts some) in
-    let found : frame_end (client_readiness k) grants f ≡ end_of_fault f segment (first_fault (missing_fault (missing_access grants f segment) ∷ [])) =
+    let found : frame_end_by (client_readiness k) grants f (client_segment k f) ≡ end_of_fault f segment (first_fault (missing_fault (missing_access grants f segment) ∷ [])) =
     ap (λ (r : Result Segment ℕ). frame_end_by (client_readiness k) grants f r) reads ∙ ap (λ (x : Option (SegmentReason Denied)). end_of_fault f segment x) flaw in
     let ends = client_by_lem k f (end_of_fault f segment (first_fault (missing_fault (missing_access grants f segment) ∷ []))) piece.behind found in
-    let none : client_message_end k f (segment_message k (frame_segment f)) ≡ None = ap (λ (r : Result Segment ℕ). client_message_end k f (segment_message k r)) reads in
+    let none : message_end_in k f (client_segment k f) ≡ None = ap (λ (r : Result Segment ℕ). message_end_in k f r) reads in
     record {
       only = λ end e. inr (lacks_end k f segment (missing_access grants f segment) end piece.behind reads refl (or_message_some k f (end_of_fault f segment (first_fault (missing_fault (missing_access grants f segment) ∷ []))) end none (sym ends ∙ e)));
       kept = λ stays. guards_read_down opened k s u d all_up all_down w place sink at size stag to rest f l g first piece hello stays;
@@ -210,12 +211,12 @@ step_piece opened k s u d all_up all_down w place (TaggedFrame last opcode stag 
     let write : opcode ≡ OPCODE_WRITE = front_down opened k s u d all_up all_down w place (TaggedFrame last opcode stag to payload) rest l g first in
     let segment : Segment = Tagged last OPCODE_WRITE stag to payload in
     let grants = region_grants f.end k.regions in
-    let reads : frame_segment f ≡ Ok segment =
+    let reads : client_segment k f ≡ Ok segment =
     segment_is k.received.sends k.received.requests f (TaggedFrame last opcode stag to payload) (Tagged last opcode stag to payload) piece refl ∙ ap (λ (c : ℕ). Ok (Tagged last c stag to payload)) write in
-    let found : frame_end (client_readiness k) grants f ≡ end_of_fault f segment (first_fault (missing_fault (missing_access grants f segment) ∷ [])) =
+    let found : frame_end_by (client_readiness k) grants f (client_segment k f) ≡ end_of_fault f segment (first_fault (missing_fault (missing_access grants f segment) ∷ [])) =
     ap (λ (r : Result Segment ℕ). frame_end_by (client_readiness k) grants f r) reads ∙ ap (λ (x : Option (SegmentReason Denied)). end_of_fault f segment x) (write_flaw (client_readiness k (missing_access grants f segment)) last stag to payload) in
     let ends = client_by_lem k f (end_of_fault f segment (first_fault (missing_fault (missing_access grants f segment) ∷ []))) piece.behind found in
-    let none : client_message_end k f (segment_message k (frame_segment f)) ≡ None = ap (λ (r : Result Segment ℕ). client_message_end k f (segment_message k r)) reads in
+    let none : message_end_in k f (client_segment k f) ≡ None = ap (λ (r : Result Segment ℕ). message_end_in k f r) reads in
     record {
       only = λ end e. inr (lacks_end k f segment (missing_access grants f segment) end piece.behind reads refl (or_message_some k f (end_of_fault f segment (first_fault (missing_fault (missing_access grants f segment) ∷ []))) end none (sym ends ∙ e)));
       kept = λ stays. guards_tagged_down opened k s u d all_up all_down w place last opcode stag to payload rest f g first piece hello stays;

@@ -15,7 +15,7 @@ use Rattle.nr_link.specs.Ending.{frame_end, frame_end_by, missing_access, end_of
 use Rattle.nr_reduce.specs.OfferedRegions.{region_grants}
 use Rattle.nr_reduce.specs.Events.RunEvent.{FrameReceived}
 use Rattle.nr_reduce.specs.ClientState.{ClientState}
-use Rattle.nr_reduce.specs.Client.{client_readiness as client_readiness, client_end, or_message_end, client_message_end, segment_message}
+use Rattle.nr_reduce.specs.Client.{client_segment, client_readiness as client_readiness, client_end, or_message_end, client_message_end, segment_message}
 use Rattle.nr_reduce.specs.ServerState.{ServerState, PendingRead}
 use Rattle.nr_reduce.specs.Server.{server_readiness, server_end, or_refusal, refusal_end}
 use Rattle.nr_reduce.specs.ServerFrames.{frame_effect}
@@ -28,6 +28,7 @@ use Rattle.nr_laws.proofs.TotalsAtServer.{segment_is}
 use Rattle.nr_laws.proofs.ExpectedResponses.{is_expected_lem}
 use Rattle.nr_laws.proofs.SendFrames.{at_front, send_goes_on}
 use Rattle.nr_link.specs.ReceiveState.{begun_bytes}
+use Rattle.nr_laws.proofs.NamedReplies.{message_end_in}
 
 -- ---- The server
 
@@ -80,7 +81,7 @@ server_response opened s w f last stag to payload rest c head p allowed =
 
 -- ---- The client
 
-pub client_by_lem : (k : ClientState) (f : Frame) (found : Option End) → is_hello f ≡ false → frame_end (client_readiness k) (region_grants f.end k.regions) f ≡ found → client_end k (FrameReceived f) ≡ or_message_end k f found
+pub client_by_lem : (k : ClientState) (f : Frame) (found : Option End) → is_hello f ≡ false → frame_end_by (client_readiness k) (region_grants f.end k.regions) f (client_segment k f) ≡ found → client_end k (FrameReceived f) ≡ or_message_end k f found
 unfolding client_end
 client_by_lem k f found behind is = λ i. cond (behind i) (hello_end (hello_of Responder f.bytes)) (or_message_end k f (is i))
 
@@ -90,7 +91,7 @@ or_true false = refl
 
 -- a message: its verdict alone
 pub client_send : (opened : LinkParameters) (k : ClientState) (s : ServerState) (w : Transit) (f : Frame) (message : SentMessage) (rest : List FrameContent) → TotalsAgree k s w → w.down ≡ SendFrame message ∷ rest
-    → Carries k.received.sends k.received.requests f (SendFrame message) → 16 ≤ length message.bytes → length message.bytes ≤ k.down_max → client_end k (FrameReceived f) ≡ client_message_end k f (segment_message k (frame_segment f))
+    → Carries k.received.sends k.received.requests f (SendFrame message) → 16 ≤ length message.bytes → length message.bytes ≤ k.down_max → client_end k (FrameReceived f) ≡ message_end_in k f (client_segment k f)
 client_send opened k s w f message rest c head p long short =
     let front = at_front k.received.begun w.down w.queued_down (SendFrame message) rest head c.whole_down in
     client_by_lem k f None p.behind
@@ -101,8 +102,8 @@ pub client_part : (k : ClientState) (s : ServerState) (w : Transit) (f : Frame) 
     → Carries k.received.sends k.received.requests f (PartFrame offset payload) → client_end k (FrameReceived f) ≡ None
 client_part k s w f offset payload rest c head p =
     let segment : Segment = part_segment k.received.sends offset payload in
-    let is : frame_segment f ≡ Ok segment = segment_is k.received.sends k.received.requests f (PartFrame offset payload) segment p refl in
+    let is : client_segment k f ≡ Ok segment = segment_is k.received.sends k.received.requests f (PartFrame offset payload) segment p refl in
     let front = at_front k.received.begun w.down w.queued_down (PartFrame offset payload) rest head c.whole_down in
     client_by_lem k f None p.behind
     (part_frame_end (client_readiness k) (region_grants f.end k.regions) k.received.sends k.received.requests f offset payload p refl front.0 (or_true (is_begun k.received.begun)) refl)
-    ∙ ap (λ (r : Result Segment ℕ). client_message_end k f (segment_message k r)) is
+    ∙ ap (λ (r : Result Segment ℕ). message_end_in k f r) is

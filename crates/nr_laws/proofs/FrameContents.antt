@@ -19,7 +19,7 @@ use Rattle.nr_reduce.specs.Holds.{Answer, answer_message, chunk_error, first_chu
 use Rattle.nr_reduce.specs.Events.{RunEvent}
 use Rattle.nr_reduce.specs.Events.RunEvent.{FrameReceived, CallSubmitted, MemoryRevoked, CallExecuted, QueueWritten, ServerTold}
 use Rattle.nr_reduce.specs.ClientState.{ClientState, OutstandingCall, client_memory_at}
-use Rattle.nr_reduce.specs.Client.{outstanding_of, segment_request}
+use Rattle.nr_reduce.specs.Client.{client_segment, outstanding_of, segment_request}
 use Rattle.nr_reduce.specs.ServerState.{ServerState, PendingRead, credit_word}
 use Rattle.nr_reduce.specs.ServerFrames.{FrameEffect, frame_effect}
 use Rattle.nr_reduce.specs.Server.{newly_open_reads, offer_of, answer_of_target}
@@ -151,7 +151,7 @@ response_frames k place None = []
 response_frames k place (Some r) = tagged_frames OPCODE_READ_RESPONSE r.sink r.sink_to (take r.size (drop r.to (client_memory_at k place r.stag)))
 
 unfoldable pub client_frames : LinkParameters → ClientState → RunEvent → List FrameContent
-client_frames opened k (FrameReceived f) = if is_hello f then calls_frames opened k.outstanding else response_frames k f.end (segment_request (frame_segment f))
+client_frames opened k (FrameReceived f) = if is_hello f then calls_frames opened k.outstanding else response_frames k f.end (segment_request (client_segment k f))
 client_frames opened k (CallSubmitted place a) = if k.has_hello then send_frames (message_of_call opened (outstanding_of k a)) else []
 client_frames opened k (MemoryRevoked place xid) = []
 client_frames opened k (CallExecuted call) = []

@@ -12,7 +12,6 @@ use Rattle.nr_link.specs.declared.end.End.{End}
 use Rattle.nr_link.specs.Frames.{Frame, is_hello}
 use Rattle.nr_link.specs.Output.{msn_word, segment_count}
 use Rattle.nr_link.specs.ReceiveState.{begun_bytes, ReadRequest, message_completed, read_request_of}
-use Rattle.nr_link.specs.Ending.{frame_segment}
 use Rattle.nr_reduce.specs.declared.mark.LinkParameters.{LinkParameters}
 use Rattle.nr_reduce.specs.Opening.{IsOpened}
 use Rattle.nr_reduce.specs.Limits.{credits_max}
@@ -21,7 +20,7 @@ use Rattle.nr_reduce.specs.Events.RunEvent.{FrameReceived}
 use Rattle.nr_reduce.specs.EndRules.{EndState, live, next_end_state_by, end_state_after}
 use Rattle.nr_reduce.specs.OfferedRegions.{Region, region_grants}
 use Rattle.nr_reduce.specs.ClientState.{ClientState, OutstandingCall, client_memory_at}
-use Rattle.nr_reduce.specs.Client.{client_rules, client_end, client_state_after, initial_client, credits_of_word, with_segment, with_message, with_request, segment_request, due_with_response}
+use Rattle.nr_reduce.specs.Client.{client_segment, client_rules, client_end, client_state_after, initial_client, credits_of_word, with_segment, with_message, with_request, segment_request, due_with_response}
 use Rattle.nr_reduce.specs.ServerState.{ServerState, PendingRead}
 use Rattle.nr_reduce.specs.ServerReads.{open_reads}
 use Rattle.nr_reduce.proofs.Steps.{end_state_after_append}
@@ -212,7 +211,7 @@ pub guards_send_down : (opened : LinkParameters) (k : ClientState) (s : ServerSt
     → Guards opened (client_state_after opened k (FrameReceived f)) s u (d ++ SendFrame message ∷ []) (all_up ++ client_frames opened k (FrameReceived f)) all_down (down_one w (client_frames opened k (FrameReceived f)) rest) place
 guards_send_down opened k s u d all_up all_down w place message rest f o l g first piece hello stays =
     let segment : Segment = last_segment k.received.sends message in
-    let reads : frame_segment f ≡ Ok segment = segment_is k.received.sends k.received.requests f (SendFrame message) segment piece refl in
+    let reads : client_segment k f ≡ Ok segment = segment_is k.received.sends k.received.requests f (SendFrame message) segment piece refl in
     let t = client_state_after opened k (FrameReceived f) in
     let says : client_frames opened k (FrameReceived f) ≡ [] = says_is opened k f (Ok segment) piece.behind reads in
     let after : t ≡ with_segment k f (Ok segment) = after_is_lem opened k f (Ok segment) piece.behind reads in
@@ -249,7 +248,7 @@ guards_send_down opened k s u d all_up all_down w place message rest f o l g fir
         by false le = omega (arith, le)
 
 -- what the client answers to a Read Request has no message
-tagged_up : (opened : LinkParameters) (k : ClientState) (f : Frame) (r : Result Segment ℕ) → is_hello f ≡ false → frame_segment f ≡ r → AllByRecursion (ClientContent opened) (client_frames opened k (FrameReceived f))
+tagged_up : (opened : LinkParameters) (k : ClientState) (f : Frame) (r : Result Segment ℕ) → is_hello f ≡ false → client_segment k f ≡ r → AllByRecursion (ClientContent opened) (client_frames opened k (FrameReceived f))
 unfolding tagged_frames
 tagged_up opened k f r behind is = subst (AllByRecursion (ClientContent opened)) (sym (says_is opened k f r behind is)) (by (segment_request r))
   where
@@ -261,7 +260,7 @@ tagged_up opened k f r behind is = subst (AllByRecursion (ClientContent opened))
     by None = tt
     by (Some q) = cuts _ q.sink q.sink_to _ _
 
-tagged_xids : (x : ℕ) (opened : LinkParameters) (k : ClientState) (f : Frame) (r : Result Segment ℕ) → is_hello f ≡ false → frame_segment f ≡ r → XidsFrom x (client_frames opened k (FrameReceived f))
+tagged_xids : (x : ℕ) (opened : LinkParameters) (k : ClientState) (f : Frame) (r : Result Segment ℕ) → is_hello f ≡ false → client_segment k f ≡ r → XidsFrom x (client_frames opened k (FrameReceived f))
 unfolding tagged_frames
 tagged_xids x opened k f r behind is = subst (XidsFrom x) (sym (says_is opened k f r behind is)) (by (segment_request r))
   where
@@ -280,7 +279,7 @@ pub guards_read_down : (opened : LinkParameters) (k : ClientState) (s : ServerSt
     → Guards opened (client_state_after opened k (FrameReceived f)) s u (d ++ RequestFrame sink at size stag to ∷ []) (all_up ++ client_frames opened k (FrameReceived f)) all_down (down_one w (client_frames opened k (FrameReceived f)) rest) place
 guards_read_down opened k s u d all_up all_down w place sink at size stag to rest f l g first piece hello stays =
     let segment : Segment = Untagged true OPCODE_READ_REQUEST 0 QUEUE_READ_REQUEST (msn_word (k.received.requests + 1)) 0 (request_payload sink at size stag to) in
-    let reads : frame_segment f ≡ Ok segment = segment_is k.received.sends k.received.requests f (RequestFrame sink at size stag to) segment piece refl in
+    let reads : client_segment k f ≡ Ok segment = segment_is k.received.sends k.received.requests f (RequestFrame sink at size stag to) segment piece refl in
     let t = client_state_after opened k (FrameReceived f) in
     let said = client_frames opened k (FrameReceived f) in
     let after : t ≡ with_segment k f (Ok segment) = after_is_lem opened k f (Ok segment) piece.behind reads in
@@ -311,7 +310,7 @@ pub guards_part_down : (opened : LinkParameters) (k : ClientState) (s : ServerSt
     → Guards opened (client_state_after opened k (FrameReceived f)) s u (d ++ PartFrame offset payload ∷ []) (all_up ++ client_frames opened k (FrameReceived f)) all_down (down_one w (client_frames opened k (FrameReceived f)) rest) place
 guards_part_down opened k s u d all_up all_down w place offset payload rest f g first piece hello stays =
     let segment : Segment = part_segment k.received.sends offset payload in
-    let reads : frame_segment f ≡ Ok segment = segment_is k.received.sends k.received.requests f (PartFrame offset payload) segment piece refl in
+    let reads : client_segment k f ≡ Ok segment = segment_is k.received.sends k.received.requests f (PartFrame offset payload) segment piece refl in
     let t = client_state_after opened k (FrameReceived f) in
     let says : client_frames opened k (FrameReceived f) ≡ [] = says_is opened k f (Ok segment) piece.behind reads in
     let after : t ≡ with_segment k f (Ok segment) = after_is_lem opened k f (Ok segment) piece.behind reads in
@@ -332,7 +331,7 @@ pub guards_tagged_down : (opened : LinkParameters) (k : ClientState) (s : Server
     → Guards opened (client_state_after opened k (FrameReceived f)) s u (d ++ TaggedFrame last opcode stag to payload ∷ []) (all_up ++ client_frames opened k (FrameReceived f)) all_down (down_one w (client_frames opened k (FrameReceived f)) rest) place
 guards_tagged_down opened k s u d all_up all_down w place last opcode stag to payload rest f g first piece hello stays =
     let segment : Segment = Tagged last opcode stag to payload in
-    let reads : frame_segment f ≡ Ok segment = segment_is k.received.sends k.received.requests f (TaggedFrame last opcode stag to payload) segment piece refl in
+    let reads : client_segment k f ≡ Ok segment = segment_is k.received.sends k.received.requests f (TaggedFrame last opcode stag to payload) segment piece refl in
     let t = client_state_after opened k (FrameReceived f) in
     let says : client_frames opened k (FrameReceived f) ≡ [] = says_is opened k f (Ok segment) piece.behind reads in
     let after : t ≡ with_segment k f (Ok segment) = after_is_lem opened k f (Ok segment) piece.behind reads in

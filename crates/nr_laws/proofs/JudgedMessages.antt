@@ -1,28 +1,28 @@
 -- A client that ends for what it makes of a message: no rule of the link has such a reason, so a frame completed that message.
-use Rattle.std.proofs.Common.{◌≡◌, ℕ, Bool, true, false, cond, List, [], ◌∷◌, ◌++◌, Option, None, Some, Result, Ok, refl, sym, ap, subst, ◌∙◌, append_assoc}
+use Rattle.std.proofs.Common.{◌≡◌, ℕ, Bool, true, false, cond, List, [], ◌∷◌, ◌++◌, Option, None, Some, Result, Ok, refl, sym, ap, subst, ◌∙◌, append_assoc, ◌≢◌, inl, inr, arith, Err}
 use Rattle.nr_wire.specs.declared.hello.Side.TheVariants.{Initiator, Responder}
 use Rattle.nr_wire.specs.declared.stream.Awaited.TheVariants.{Hello as HelloFrom, Fpdu}
 use Rattle.nr_wire.specs.Hello.{hello_of}
-use Rattle.nr_wire.specs.Segment.{Segment}
+use Rattle.nr_wire.specs.Segment.{Segment, segment_of}
 use Rattle.nr_regions.specs.declared.denied.Denied.{Denied}
 use Rattle.nr_regions.specs.RegisteredMemory.{Access}
 use Rattle.nr_regions.specs.Access.{Grant}
 use Rattle.nr_link.specs.declared.end.End.{End as Stop}
 use Rattle.nr_link.specs.declared.end.End.TheVariants as ends
 use Rattle.nr_link.specs.Frames.{Frame, is_hello}
-use Rattle.nr_link.specs.ReceiveState.{message_completed}
+use Rattle.nr_link.specs.ReceiveState.{message_completed, stag_invalidated}
 use Rattle.nr_link.specs.SegmentFaults.{Readiness, SegmentReason, segment_reason}
 use Rattle.nr_link.specs.SegmentFaults.SegmentReason.{Reason, NoBuffer, AccessDenied, PeerTerminated}
-use Rattle.nr_link.specs.Ending.{frame_segment, frame_end, frame_end_by, end_of_fault, denied_at, access_of, hello_end, missing_access}
+use Rattle.nr_link.specs.Ending.{frame_end_by, end_of_fault, denied_at, access_of, hello_end, missing_access}
 use Rattle.nr_reduce.specs.declared.mark.Mark.{Mark}
 use Rattle.nr_reduce.specs.declared.mark.LinkParameters.{LinkParameters}
 use Rattle.nr_reduce.specs.OfferedRegions.{region_grants}
 use Rattle.nr_reduce.specs.Events.{RunEvent, events}
 use Rattle.nr_reduce.specs.Events.RunEvent.{FrameReceived, CallSubmitted, MemoryRevoked, CallExecuted, QueueWritten, ServerTold}
 use Rattle.nr_reduce.specs.ClientState.{ClientState}
-use Rattle.nr_reduce.specs.ClientMessages.{ReplyVerdict, reply_verdict}
+use Rattle.nr_reduce.specs.ClientMessages.{ReplyVerdict, reply_verdict, message_verdict}
 use Rattle.nr_reduce.specs.ClientMessages.ReplyVerdict.{EndsLink, GivesOutcome}
-use Rattle.nr_reduce.specs.Client.{client_rules, client_end, initial_client, client_readiness, or_message_end, client_message_end, end_of_verdict, segment_message}
+use Rattle.nr_reduce.specs.Client.{client_segment, client_rules, client_end, initial_client, client_readiness, or_message_end, client_message_end, end_of_verdict, segment_message}
 use Rattle.nr_reduce.specs.Run.{client}
 use Rattle.nr_laws.proofs.EndReasons.{IsMessageReason}
 use Rattle.nr_laws.specs.MatchedSoFar.{MatchedSoFar}
@@ -31,12 +31,17 @@ use Rattle.nr_laws.proofs.Outputs.{Output}
 use Rattle.nr_laws.proofs.Outputs.Output.{AHello, ASegment}
 use Rattle.nr_laws.proofs.Brought.{Brings, Brought, AreFrom, IsHelloFrame}
 use Rattle.nr_laws.proofs.Completions.{completed_by, begun_from}
-use Rattle.nr_laws.proofs.ReceivedMessages.{hears, client_receives, brings_at, completed_message}
+use Rattle.nr_laws.proofs.ReceivedMessages.{hears, client_receives, brings_at, completed_message, own_segment}
 use Rattle.nr_laws.proofs.ServerAlong.{outs_of, Said}
 use Rattle.nr_laws.proofs.ServerSide.{server_tells, client_receives_of}
 use Rattle.nr_laws.proofs.Outcomes.{client_by}
 use Rattle.nr_laws.proofs.EndingEvents.{EndsAt, ends_at_lem}
 use Rattle.nr_laws.proofs.OtherReasons.{OtherFault, fault_other}
+use Rattle.nr_laws.proofs.NamedReplies.{message_end_in, ends_as_plain}
+use Rattle.nr_laws.proofs.ReadFrames.{bad_frame}
+use Rattle.nr_link.proofs.TakenSegments.{taken_read, untaken}
+use Rattle.nr_link.specs.Reasons.{REASON_INVALIDATED}
+use Rattle.nr_wire.specs.Constants.{REASON_OPCODE}
 
 -- ---- A segment that ends a client by such a reason
 
@@ -64,12 +69,19 @@ by_verdict_lem : (f : Frame) (v : ReplyVerdict) (at reason : ℕ) → end_of_ver
 by_verdict_lem f (EndsLink x) at reason e = ap EndsLink (bad_reason f.at at x reason e)
 by_verdict_lem f (GivesOutcome xid outcome) at reason e = absurd cc
 
-by_message_lem : (k : ClientState) (f : Frame) (s : Segment) (at reason : ℕ) (o : Option (List ℕ)) → message_completed k.received s ≡ o → client_message_end k f o ≡ Some (ends.Bad at reason) → JudgesMessage k f s reason
-by_message_lem k f s at reason None whole e = absurd cc
-by_message_lem k f s at reason (Some message) whole e = record { message = message; whole = whole; judged = by_verdict_lem f (reply_verdict k f.end message) at reason e }
+-- the reason of a message isn't that of the STag that it names
+not_invalidated : (reason : ℕ) → IsMessageReason reason → reason ≢ REASON_INVALIDATED
+not_invalidated reason (inl chunks) is = omega (arith, chunks, is)
+not_invalidated reason (inr (inl head)) is = omega (arith, head, is)
+not_invalidated reason (inr (inr xid)) is = omega (arith, xid, is)
 
-segment_judges : (k : ClientState) (f : Frame) (s : Segment) (at reason : ℕ) → IsMessageReason reason → is_hello f ≡ false → frame_segment f ≡ Ok s → client_end k (FrameReceived f) ≡ Some (ends.Bad at reason) → JudgesMessage k f s reason
-unfolding client_end frame_end
+by_message_lem : (k : ClientState) (f : Frame) (s : Segment) (at reason : ℕ) (named : Option ℕ) (o : Option (List ℕ)) → IsMessageReason reason → message_completed k.received s ≡ o → client_message_end k f named o ≡ Some (ends.Bad at reason) → JudgesMessage k f s reason
+by_message_lem k f s at reason named None is whole e = absurd cc
+by_message_lem k f s at reason named (Some message) is whole e =
+    record { message = message; whole = whole; judged = ends_as_plain k f.end named message reason (not_invalidated reason is) (by_verdict_lem f (message_verdict k f.end named message) at reason e) }
+
+segment_judges : (k : ClientState) (f : Frame) (s : Segment) (at reason : ℕ) → IsMessageReason reason → is_hello f ≡ false → client_segment k f ≡ Ok s → client_end k (FrameReceived f) ≡ Some (ends.Bad at reason) → JudgesMessage k f s reason
+unfolding client_end
 segment_judges k f s at reason is behind own e =
     by (end_of_fault f s (segment_reason ready s)) (by_fault_lem f s (segment_reason ready s) (fault_other ready s) at reason is)
     (sym (λ i. cond (behind i) (hello_end (hello_of Responder f.bytes)) (or_message_end k f (frame_end_by (client_readiness k) grants f (own i)))) ∙ e)
@@ -82,13 +94,13 @@ segment_judges k f s at reason is behind own e =
 
     by : (o : Option Stop) → (o ≡ Some (ends.Bad at reason) → ⊥) → or_message_end k f o ≡ Some (ends.Bad at reason) → JudgesMessage k f s reason
     by (Some end) none e = absurd (none e)
-    by None none e = by_message_lem k f s at reason (message_completed k.received s) refl (ap (λ (r : Result Segment ℕ). client_message_end k f (segment_message k r)) (sym own) ∙ e)
+    by None none e = by_message_lem k f s at reason (stag_invalidated s) (message_completed k.received s) is refl (ap (λ (r : Result Segment ℕ). message_end_in k f r) (sym own) ∙ e)
 
 -- the hello of the other side ends no client
 hello_stays : (k : ClientState) (f : Frame) → is_hello f ≡ true → IsHelloFrame Responder f.bytes → client_end k (FrameReceived f) ≡ None
 unfolding client_end
 hello_stays k f first read =
-    ap (λ (b : Bool). cond b (hello_end (hello_of Responder f.bytes)) (or_message_end k f (frame_end (client_readiness k) (region_grants f.end k.regions) f))) first
+    ap (λ (b : Bool). cond b (hello_end (hello_of Responder f.bytes)) (or_message_end k f (frame_end_by (client_readiness k) (region_grants f.end k.regions) f (client_segment k f)))) first
     ∙ ap hello_end read.says
 
 -- ---- The event that ends a client
@@ -131,6 +143,11 @@ first_hello_lem (AHello bytes ∷ xs) ys o f from b is = absurd (later xs from.1
     later (ASegment s ∷ zs) h = later zs h.1
 first_hello_lem (ASegment s ∷ xs) ys o f from b is = absurd from
 
+not_opcode : (reason : ℕ) → IsMessageReason reason → reason ≡ REASON_OPCODE → ⊥
+not_opcode reason (inl chunks) is = omega (arith, chunks, is)
+not_opcode reason (inr (inl head)) is = omega (arith, head, is)
+not_opcode reason (inr (inr xid)) is = omega (arith, xid, is)
+
 -- the message for which the client ends, with what came before it, and why the server said it
 pub record EndsFor (opened : LinkParameters) (link : ℕ) (run : List Mark) (reason : ℕ) : Type 0 where
   pub earlier : List RunEvent
@@ -139,7 +156,7 @@ pub record EndsFor (opened : LinkParameters) (link : ℕ) (run : List Mark) (rea
   pub is : events link Initiator run ≡ earlier ++ FrameReceived frame ∷ later
   pub live : (client_by opened earlier).ended ≡ None
   pub segment : Segment
-  pub is_segment : frame_segment frame ≡ Ok segment
+  pub is_segment : segment_of frame.bytes ≡ Ok segment
   pub message : List ℕ
   pub judged : reply_verdict (client_by opened earlier).state frame.end message ≡ EndsLink reason
   pub before : List Output
@@ -176,7 +193,7 @@ ends_for opened link run at reason typed far bad e = by a.event a.is a.ends
           is = is;
           live = a.live;
           segment = s;
-          is_segment = reads;
+          is_segment = taken_read k.invalidates f.bytes s reads;
           message = j.message;
           judged = j.judged;
           before = b.earlier;
@@ -184,9 +201,13 @@ ends_for opened link run at reason typed far bad e = by a.event a.is a.ends
           said = t.said b.earlier s (b.later ++ r.left) j.message (parts ∙ ap (λ (o : Output). b.earlier ++ o ∷ (b.later ++ r.left)) same) one;
         })
       where
-        own : (o : Output) → Brought o f → (is_hello f ≡ true → EndsFor opened link run reason) → ((s : Segment) → is_hello f ≡ false → frame_segment f ≡ Ok s → o ≡ ASegment s → EndsFor opened link run reason) → EndsFor opened link run reason
+        own : (o : Output) → Brought o f → (is_hello f ≡ true → EndsFor opened link run reason) → ((s : Segment) → is_hello f ≡ false → client_segment k f ≡ Ok s → o ≡ ASegment s → EndsFor opened link run reason) → EndsFor opened link run reason
         own (AHello bytes) h hello segment = hello h.0
-        own (ASegment s) h hello segment = segment s h.0 h.1 refl
+        own (ASegment s) h hello segment = by_read (client_segment k f) refl
+          where
+            by_read : (r : Result Segment ℕ) → client_segment k f ≡ r → EndsFor opened link run reason
+            by_read (Ok t) reads = segment t h.0 reads (own_segment (ASegment s) f t h h.0 (taken_read k.invalidates f.bytes t reads))
+            by_read (Err x) reads = absurd (not_opcode reason bad (sym (bad_reason f.at at x reason (sym (bad_frame k f x h.0 reads) ∙ why)) ∙ untaken k.invalidates f.bytes s x h.1 reads))
 
     by : (x : RunEvent) → events link Initiator run ≡ a.earlier ++ x ∷ a.later → client_end k x ≡ Some (ends.Bad at reason) → EndsFor opened link run reason
     by (FrameReceived f) is why = by_frame f is why

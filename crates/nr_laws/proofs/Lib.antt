@@ -205,3 +205,8 @@ pub mod ItemsOfServer
 pub mod CountedReceives
 pub mod SentCalls
 pub mod FirstHellos
+pub mod ReadFrames
+pub mod PlainOutputs
+pub mod NamedReplies
+pub mod PlainSegments
+pub mod NamedStags

@@ -5,7 +5,7 @@ use Rattle.nr_wire.specs.Hello.{hello_of}
 use Rattle.nr_link.specs.declared.agreement.Agreement.{Agreement}
 use Rattle.nr_link.specs.declared.end.End.{End as Stop}
 use Rattle.nr_link.specs.Frames.{is_hello, Frame}
-use Rattle.nr_link.specs.Ending.{frame_segment, frame_end, hello_end}
+use Rattle.nr_link.specs.Ending.{frame_end, hello_end, frame_end_by}
 use Rattle.nr_reduce.specs.declared.mark.Mark.{Mark}
 use Rattle.nr_reduce.specs.declared.mark.LinkParameters.{LinkParameters}
 use Rattle.nr_reduce.specs.Events.{RunEvent, events}
@@ -13,7 +13,7 @@ use Rattle.nr_reduce.specs.Events.RunEvent.{FrameReceived, CallSubmitted, Memory
 use Rattle.nr_reduce.specs.EndRules.{EndMachine, EndState, next_end_state_by, next_end_state_in}
 use Rattle.nr_reduce.specs.OfferedRegions.{region_grants}
 use Rattle.nr_reduce.specs.ClientState.{ClientState}
-use Rattle.nr_reduce.specs.Client.{client_rules, client_end, client_readiness, client_state_after, initial_client, or_message_end, with_hello, with_segment}
+use Rattle.nr_reduce.specs.Client.{client_segment, client_rules, client_end, client_readiness, client_state_after, initial_client, or_message_end, with_hello, with_segment}
 use Rattle.nr_reduce.specs.ServerState.{ReadyCall, ServerState}
 use Rattle.nr_reduce.specs.ServerFrames.{frame_effect}
 use Rattle.nr_reduce.specs.Server.{server_rules, server_end, server_state_after, initial_server, with_effect, with_own_hello}
@@ -173,7 +173,7 @@ client_quiet opened place r t ended up down h = record {
 hello_stays : (opened : LinkParameters) (k : ClientState) (f : Frame) → is_hello f ≡ true → IsHelloFrame Responder f.bytes → client_end k (FrameReceived f) ≡ None
 unfolding client_end
 hello_stays opened k f is read =
-    ap (λ (b : Bool). cond b (hello_end (hello_of Responder f.bytes)) (or_message_end k f (frame_end (client_readiness k) (region_grants f.end k.regions) f))) is ∙ ap hello_end read.says
+    ap (λ (b : Bool). cond b (hello_end (hello_of Responder f.bytes)) (or_message_end k f (frame_end_by (client_readiness k) (region_grants f.end k.regions) f (client_segment k f)))) is ∙ ap hello_end read.says
 
 client_frame : (opened : LinkParameters) (place : ℕ) (k : ClientState) (f : Frame) → IsNext place (FrameReceived f) → (is_hello f ≡ true → f.bytes ≡ first_hello opened Responder) → ClientMatched opened place (record { state = k; ended = None })
     → (o : Option Stop) → client_end k (FrameReceived f) ≡ o → ClientMatched opened f.end (next_end_state_by (client_rules opened) k (FrameReceived f) o)
@@ -186,15 +186,15 @@ client_frame opened place k f next hears h (Some end) stops = by (is_hello f) re
         (let some = above_zero f.at is in let at = next.0 in omega (arith, some, at)) (let l = next.1 in omega (arith, l)) refl refl h
 client_frame opened place k f next hears h None stays = by (is_hello f) refl
   where
-    by : (b : Bool) → is_hello f ≡ b → ClientMatched opened f.end (record { state = cond b (with_hello opened k f) (with_segment k f (frame_segment f)); ended = None })
+    by : (b : Bool) → is_hello f ≡ b → ClientMatched opened f.end (record { state = cond b (with_hello opened k f) (with_segment k f (client_segment k f)); ended = None })
     by true is =
         let agreed = client_agrees opened f (hears is) in
         let up : (client_agreement opened f).up ≡ matched_up opened = ap (λ (a : Agreement). a.up) agreed in
         let down : (client_agreement opened f).down ≡ matched_down opened = ap (λ (a : Agreement). a.down) agreed in
         record { first = λ e. absurd (let l = next.1 in omega (arith, e, l)); sized = λ e. (up, down); within = (omega (arith, up), omega (arith, down)) }
     by false is =
-        let same = segment_sizes k f (frame_segment f) in
-        client_later opened place f.end (record { state = k; ended = None }) (record { state = with_segment k f (frame_segment f); ended = None })
+        let same = segment_sizes k f (client_segment k f) in
+        client_later opened place f.end (record { state = k; ended = None }) (record { state = with_segment k f (client_segment k f); ended = None })
         (let some = above_zero f.at is in let at = next.0 in omega (arith, some, at)) (let l = next.1 in omega (arith, l)) same.0 same.1 h
 
 client_step : (opened : LinkParameters) (place : ℕ) (k : ClientState) (ended : Option Stop) (e : RunEvent) → IsNext place e → ClientGood opened (record { state = k; ended = ended }) e × HearsHello (first_hello opened Responder) e

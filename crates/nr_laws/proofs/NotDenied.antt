@@ -14,7 +14,7 @@ use Rattle.nr_link.specs.declared.end.End.TheVariants as ends
 use Rattle.nr_link.specs.Output.{msn_word}
 use Rattle.nr_link.specs.Frames.{Frame, is_hello, frames_from, frames_completed}
 use Rattle.nr_link.specs.ReceiveState.{ReadRequest}
-use Rattle.nr_link.specs.Ending.{frame_segment, missing_access}
+use Rattle.nr_link.specs.Ending.{missing_access}
 use Rattle.nr_reduce.specs.declared.mark.Mark.{Mark}
 use Rattle.nr_reduce.specs.declared.mark.LinkParameters.{LinkParameters}
 use Rattle.nr_reduce.specs.Opening.{IsOpened}
@@ -26,7 +26,7 @@ use Rattle.nr_reduce.specs.EndRules.{EndState, live, end_state_after}
 use Rattle.nr_reduce.specs.OfferedRegions.{region_grants}
 use Rattle.nr_reduce.specs.ClientState.{ClientState}
 use Rattle.nr_reduce.specs.ServerState.{ServerState}
-use Rattle.nr_reduce.specs.Client.{client_rules, client_state_after, initial_client}
+use Rattle.nr_reduce.specs.Client.{client_segment, client_rules, client_state_after, initial_client}
 use Rattle.nr_reduce.specs.Run.{end_of_side}
 use Rattle.nr_reduce.specs.Matched.{IsPrefixOf}
 use Rattle.nr_reduce.proofs.OwnStags.{AreNumbered, client_numbers}
@@ -69,9 +69,9 @@ numbered_regions opened k es is = subst (λ (r : EndState ClientState). AreNumbe
 
 -- the access of a frame is allowed
 abbrev LacksNothing : ClientState → Frame → Type 0
-LacksNothing k f = (segment : Segment) → frame_segment f ≡ Ok segment → missing_access (region_grants f.end k.regions) f segment ≡ None
+LacksNothing k f = (segment : Segment) → client_segment k f ≡ Ok segment → missing_access (region_grants f.end k.regions) f segment ≡ None
 
-same_segment : (k : ClientState) (f : Frame) (segment : Segment) → frame_segment f ≡ Ok segment → missing_access (region_grants f.end k.regions) f segment ≡ None → LacksNothing k f
+same_segment : (k : ClientState) (f : Frame) (segment : Segment) → client_segment k f ≡ Ok segment → missing_access (region_grants f.end k.regions) f segment ≡ None → LacksNothing k f
 same_segment k f segment is none other own = (let same : Ok segment ≡ Ok other = sym is ∙ own in subst (λ (x : Segment). missing_access (region_grants f.end k.regions) f x ≡ None) (let e : segment ≡ other = cc in e) none)
 
 piece_allowed : (opened : LinkParameters) (k : ClientState) (s : ServerState) (u d all_up all_down : List FrameContent) (w : Transit) (up : ℕ) (p : FrameContent) (rest : List FrameContent) (at : ℕ) (f : Frame) → EndsAgree opened k s u d all_up all_down w → Guards opened k s u d all_up all_down w up → w.down ≡ p ∷ rest

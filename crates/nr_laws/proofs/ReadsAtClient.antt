@@ -10,10 +10,10 @@ use Rattle.nr_reduce.specs.declared.mark.LinkParameters.{LinkParameters}
 use Rattle.nr_link.specs.Output.{msn_word, segment_count, segment_payload}
 use Rattle.nr_link.specs.Frames.{Frame}
 use Rattle.nr_link.specs.ReceiveState.{ReadRequest, read_request_in}
-use Rattle.nr_link.specs.Ending.{frame_segment}
 use Rattle.nr_reduce.specs.Holds.{Answer, answer_message, first_chunk, no_segments, chunk_error}
 use Rattle.nr_reduce.specs.Events.RunEvent.{FrameReceived}
 use Rattle.nr_reduce.specs.ClientState.{ClientState, client_memory_at}
+use Rattle.nr_reduce.specs.Client.{client_segment}
 use Rattle.nr_reduce.specs.ServerState.{ServerState, PendingRead, credit_word}
 use Rattle.nr_laws.proofs.FrameContents.{FrameContent, Carries, request_frame, client_frames, tagged_frames, write_frames, answer_frames, send_frames}
 use Rattle.nr_laws.proofs.FrameContents.FrameContent.{RequestFrame, TaggedFrame}
@@ -42,7 +42,7 @@ pub reads_read_down : (opened : LinkParameters) (k : ClientState) (s : ServerSta
     → ReadsAgree s (down_one w (client_frames opened k (FrameReceived f)) rest)
 reads_read_down opened k s w f sink at size stag to rest c first p there =
     let segment : Segment = Untagged true OPCODE_READ_REQUEST 0 QUEUE_READ_REQUEST (msn_word (k.received.requests + 1)) 0 (request_payload sink at size stag to) in
-    let is : frame_segment f ≡ Ok segment = segment_is k.received.sends k.received.requests f (RequestFrame sink at size stag to) segment p refl in
+    let is : client_segment k f ≡ Ok segment = segment_is k.received.sends k.received.requests f (RequestFrame sink at size stag to) segment p refl in
     let bytes = take size (drop to (client_memory_at k f.end stag)) in
     let len : length bytes ≡ size = omega (arith, length-take size (drop to (client_memory_at k f.end stag)), length-drop to (client_memory_at k f.end stag), there.there) in
     let said : client_frames opened k (FrameReceived f) ≡ tagged_frames OPCODE_READ_RESPONSE sink at bytes =

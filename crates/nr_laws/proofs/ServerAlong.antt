@@ -3,10 +3,11 @@ use Rattle.std.proofs.Common.{◌≡◌, ℕ, ◌<◌, true, false, List, [], �
 use Rattle.nr_xdr.specs.Item.{IsBytes}
 use Rattle.nr_wire.specs.declared.hello.Side.TheVariants.{Initiator, Responder}
 use Rattle.nr_wire.specs.declared.stream.Awaited.TheVariants.{Hello as HelloFrom, Fpdu}
-use Rattle.nr_wire.specs.Segment.{Segment}
+use Rattle.nr_wire.specs.Segment.{Segment, segment_of}
 use Rattle.nr_link.specs.Frames.{Frame, is_hello}
 use Rattle.nr_link.specs.ReceiveState.{begun_bytes}
 use Rattle.nr_link.specs.Ending.{frame_segment}
+use Rattle.nr_link.proofs.TakenSegments.{plain_taken}
 use Rattle.nr_reduce.specs.declared.mark.LinkParameters.{LinkParameters}
 use Rattle.nr_reduce.specs.History.{ExecutedCall}
 use Rattle.nr_reduce.specs.Events.{RunEvent}
@@ -22,6 +23,7 @@ use Rattle.nr_reduce.proofs.Steps.{output_for_all_append, end_state_after_append
 use Rattle.nr_laws.proofs.EventOutputs.{GoesOn, place_after, outputs_for, outputs_all}
 use Rattle.nr_laws.proofs.Outputs.{Output, bytes_of_all, bytes_append, server_says, server_final_outputs, answer_of_call}
 use Rattle.nr_laws.proofs.Outputs.Output.{AHello, ASegment}
+use Rattle.nr_laws.proofs.PlainOutputs.{ArePlain, IsPlain}
 use Rattle.nr_laws.proofs.Brought.{AreFrom, Brings, IsHelloFrame}
 use Rattle.nr_laws.proofs.Words.{from_append}
 use Rattle.nr_laws.proofs.Completions.{completed_by, begun_from, begun_append}
@@ -63,27 +65,32 @@ ServerPlain r (CallExecuted e) = IsGoodExecution r e
 ServerPlain r (QueueWritten taken) = Unit {0}
 ServerPlain r (ServerTold what) = Unit {0}
 
-fpdus_preserve : (opened : LinkParameters) (place : ℕ) (r : EndState ServerState) (es : List RunEvent) (came : List Output) → GoesOn (server_rules opened) ServerPlain place r es → Brings es came → AreFrom Fpdu came → GoesOn (server_rules opened) ServerGood place r es
-fpdus_preserve opened place r [] came g b from = tt
-fpdus_preserve opened place r (FrameReceived f ∷ es) [] g b from = absurd b
-fpdus_preserve opened place r (FrameReceived f ∷ es) (AHello bytes ∷ came) g b from = absurd from
-fpdus_preserve opened place r (FrameReceived f ∷ es) (ASegment s ∷ came) g b from = (g.0, inr (s, b.0.0, b.0.1), fpdus_preserve opened f.end (next_end_state (server_rules opened) r (FrameReceived f)) es came g.2 b.1 from.1)
-fpdus_preserve opened place r (CallSubmitted p a ∷ es) came g b from = (g.0, g.1, fpdus_preserve opened place (next_end_state (server_rules opened) r (CallSubmitted p a)) es came g.2 b from)
-fpdus_preserve opened place r (MemoryRevoked p xid ∷ es) came g b from = (g.0, g.1, fpdus_preserve opened place (next_end_state (server_rules opened) r (MemoryRevoked p xid)) es came g.2 b from)
-fpdus_preserve opened place r (CallExecuted e ∷ es) came g b from = (g.0, g.1, fpdus_preserve opened place (next_end_state (server_rules opened) r (CallExecuted e)) es came g.2 b from)
-fpdus_preserve opened place r (QueueWritten taken ∷ es) came g b from = (g.0, g.1, fpdus_preserve opened place (next_end_state (server_rules opened) r (QueueWritten taken)) es came g.2 b from)
-fpdus_preserve opened place r (ServerTold what ∷ es) came g b from = (g.0, g.1, fpdus_preserve opened place (next_end_state (server_rules opened) r (ServerTold what)) es came g.2 b from)
+-- a segment of another opcode is read by a server as it is
+plain_frame : (f : Frame) (s : Segment) → segment_of f.bytes ≡ Ok s → IsPlain s → frame_segment f ≡ Ok s
+unfolding frame_segment
+plain_frame f s is plain = plain_taken false f.bytes s is plain
 
-pub hello_preserves : (opened : LinkParameters) (place : ℕ) (r : EndState ServerState) (es : List RunEvent) (came : List Output) → GoesOn (server_rules opened) ServerPlain place r es → Brings es came → AreFrom (HelloFrom Initiator) came → GoesOn (server_rules opened) ServerGood place r es
-hello_preserves opened place r [] came g b from = tt
-hello_preserves opened place r (FrameReceived f ∷ es) [] g b from = absurd b
-hello_preserves opened place r (FrameReceived f ∷ es) (AHello bytes ∷ came) g b from = (g.0, inl (b.0.0, subst (λ (bytes : List ℕ). IsHelloFrame Initiator bytes) (sym b.0.1) from.0), fpdus_preserve opened f.end (next_end_state (server_rules opened) r (FrameReceived f)) es came g.2 b.1 from.1)
-hello_preserves opened place r (FrameReceived f ∷ es) (ASegment s ∷ came) g b from = absurd from
-hello_preserves opened place r (CallSubmitted p a ∷ es) came g b from = (g.0, g.1, hello_preserves opened place (next_end_state (server_rules opened) r (CallSubmitted p a)) es came g.2 b from)
-hello_preserves opened place r (MemoryRevoked p xid ∷ es) came g b from = (g.0, g.1, hello_preserves opened place (next_end_state (server_rules opened) r (MemoryRevoked p xid)) es came g.2 b from)
-hello_preserves opened place r (CallExecuted e ∷ es) came g b from = (g.0, g.1, hello_preserves opened place (next_end_state (server_rules opened) r (CallExecuted e)) es came g.2 b from)
-hello_preserves opened place r (QueueWritten taken ∷ es) came g b from = (g.0, g.1, hello_preserves opened place (next_end_state (server_rules opened) r (QueueWritten taken)) es came g.2 b from)
-hello_preserves opened place r (ServerTold what ∷ es) came g b from = (g.0, g.1, hello_preserves opened place (next_end_state (server_rules opened) r (ServerTold what)) es came g.2 b from)
+fpdus_preserve : (opened : LinkParameters) (place : ℕ) (r : EndState ServerState) (es : List RunEvent) (came : List Output) → GoesOn (server_rules opened) ServerPlain place r es → Brings es came → AreFrom Fpdu came → ArePlain came → GoesOn (server_rules opened) ServerGood place r es
+fpdus_preserve opened place r [] came g b from plain = tt
+fpdus_preserve opened place r (FrameReceived f ∷ es) [] g b from plain = absurd b
+fpdus_preserve opened place r (FrameReceived f ∷ es) (AHello bytes ∷ came) g b from plain = absurd from
+fpdus_preserve opened place r (FrameReceived f ∷ es) (ASegment s ∷ came) g b from plain = (g.0, inr (s, b.0.0, plain_frame f s b.0.1 plain.0), fpdus_preserve opened f.end (next_end_state (server_rules opened) r (FrameReceived f)) es came g.2 b.1 from.1 plain.1)
+fpdus_preserve opened place r (CallSubmitted p a ∷ es) came g b from plain = (g.0, g.1, fpdus_preserve opened place (next_end_state (server_rules opened) r (CallSubmitted p a)) es came g.2 b from plain)
+fpdus_preserve opened place r (MemoryRevoked p xid ∷ es) came g b from plain = (g.0, g.1, fpdus_preserve opened place (next_end_state (server_rules opened) r (MemoryRevoked p xid)) es came g.2 b from plain)
+fpdus_preserve opened place r (CallExecuted e ∷ es) came g b from plain = (g.0, g.1, fpdus_preserve opened place (next_end_state (server_rules opened) r (CallExecuted e)) es came g.2 b from plain)
+fpdus_preserve opened place r (QueueWritten taken ∷ es) came g b from plain = (g.0, g.1, fpdus_preserve opened place (next_end_state (server_rules opened) r (QueueWritten taken)) es came g.2 b from plain)
+fpdus_preserve opened place r (ServerTold what ∷ es) came g b from plain = (g.0, g.1, fpdus_preserve opened place (next_end_state (server_rules opened) r (ServerTold what)) es came g.2 b from plain)
+
+pub hello_preserves : (opened : LinkParameters) (place : ℕ) (r : EndState ServerState) (es : List RunEvent) (came : List Output) → GoesOn (server_rules opened) ServerPlain place r es → Brings es came → AreFrom (HelloFrom Initiator) came → ArePlain came → GoesOn (server_rules opened) ServerGood place r es
+hello_preserves opened place r [] came g b from plain = tt
+hello_preserves opened place r (FrameReceived f ∷ es) [] g b from plain = absurd b
+hello_preserves opened place r (FrameReceived f ∷ es) (AHello bytes ∷ came) g b from plain = (g.0, inl (b.0.0, subst (λ (bytes : List ℕ). IsHelloFrame Initiator bytes) (sym b.0.1) from.0), fpdus_preserve opened f.end (next_end_state (server_rules opened) r (FrameReceived f)) es came g.2 b.1 from.1 plain)
+hello_preserves opened place r (FrameReceived f ∷ es) (ASegment s ∷ came) g b from plain = absurd from
+hello_preserves opened place r (CallSubmitted p a ∷ es) came g b from plain = (g.0, g.1, hello_preserves opened place (next_end_state (server_rules opened) r (CallSubmitted p a)) es came g.2 b from plain)
+hello_preserves opened place r (MemoryRevoked p xid ∷ es) came g b from plain = (g.0, g.1, hello_preserves opened place (next_end_state (server_rules opened) r (MemoryRevoked p xid)) es came g.2 b from plain)
+hello_preserves opened place r (CallExecuted e ∷ es) came g b from plain = (g.0, g.1, hello_preserves opened place (next_end_state (server_rules opened) r (CallExecuted e)) es came g.2 b from plain)
+hello_preserves opened place r (QueueWritten taken ∷ es) came g b from plain = (g.0, g.1, hello_preserves opened place (next_end_state (server_rules opened) r (QueueWritten taken)) es came g.2 b from plain)
+hello_preserves opened place r (ServerTold what ∷ es) came g b from plain = (g.0, g.1, hello_preserves opened place (next_end_state (server_rules opened) r (ServerTold what)) es came g.2 b from plain)
 
 -- ---- Why a message is said
 

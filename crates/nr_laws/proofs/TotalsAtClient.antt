@@ -18,12 +18,12 @@ use Rattle.nr_link.specs.Limits.{segment_max}
 use Rattle.nr_link.specs.Output.{msn_word, segment_count, segment_payload}
 use Rattle.nr_link.specs.Frames.{Frame, is_hello}
 use Rattle.nr_link.specs.ReceiveState.{read_request_in, begun_bytes}
-use Rattle.nr_link.specs.Ending.{frame_segment, frame_end, hello_end}
+use Rattle.nr_link.specs.Ending.{frame_end, hello_end, frame_end_by}
 use Rattle.nr_reduce.specs.OfferedRegions.{region_grants}
 use Rattle.nr_reduce.specs.Events.RunEvent.{FrameReceived, CallSubmitted, QueueWritten}
 use Rattle.nr_reduce.specs.ClientState.{ClientState, OutstandingCall, is_sent, client_memory_at, initial_client_state as client_initial_state}
 use Rattle.nr_reduce.specs.ClientMessages.{reply_verdict, reply_by_header, by_call, answered_call}
-use Rattle.nr_reduce.specs.Client.{end_of_verdict, client_message_end, or_message_end, segment_message, client_readiness, client_end, client_state_after, with_segment, outstanding_of, segment_request, with_hello, call_output, call_ends, submitted_ends, response_output}
+use Rattle.nr_reduce.specs.Client.{client_segment, end_of_verdict, client_message_end, or_message_end, segment_message, client_readiness, client_end, client_state_after, with_segment, outstanding_of, segment_request, with_hello, call_output, call_ends, submitted_ends, response_output, segment_names}
 use Rattle.nr_reduce.specs.ServerState.{ServerState, initial_server_state as server_initial_state}
 use Rattle.nr_laws.proofs.FrameContents.{FrameContent, Carries, total_of, sends_in, requests_in, responses_in, hellos_in, one_if_response, tagged_frame, tagged_frames, response_frames, client_frames, SentMessage, part_segment, last_segment, send_frames, calls_frames}
 use Rattle.nr_laws.proofs.FrameContents.FrameContent.{HelloFrame, PartFrame, SendFrame, RequestFrame, TaggedFrame}
@@ -38,6 +38,7 @@ use Rattle.nr_reduce.specs.Written.{ends_waiting}
 use Rattle.nr_reduce.proofs.WholeWrotes.{ClientEnds, none_waiting}
 use Rattle.nr_laws.proofs.EndsWaiting.{waiting_append, all_waiting_lem, one_waiting, calls_above, calls_length, send_some, output_some}
 use Rattle.nr_reduce.proofs.Waiting.{or_message}
+use Rattle.nr_laws.proofs.NamedReplies.{message_end_in, stays_as_plain}
 
 -- ---- A message that the client takes is under the xid of a call that is out
 
@@ -61,26 +62,26 @@ pub out_there : (k : ClientState) (f : Frame) (message : List ℕ) → end_of_ve
 unfolding reply_verdict
 out_there k f message e = out_header k f message (header_of message) refl e
 
-pub taken : (k : ClientState) (f : Frame) → is_hello f ≡ false → client_end k (FrameReceived f) ≡ None → client_message_end k f (segment_message k (frame_segment f)) ≡ None
+pub taken : (k : ClientState) (f : Frame) → is_hello f ≡ false → client_end k (FrameReceived f) ≡ None → message_end_in k f (client_segment k f) ≡ None
 unfolding client_end
 taken k f behind e =
-    or_message k f (frame_end (client_readiness k) (region_grants f.end k.regions) f)
-    ((λ i. cond (sym behind i) (hello_end (hello_of Responder f.bytes)) (or_message_end k f (frame_end (client_readiness k) (region_grants f.end k.regions) f))) ∙ e)
+    or_message k f (frame_end_by (client_readiness k) (region_grants f.end k.regions) f (client_segment k f))
+    ((λ i. cond (sym behind i) (hello_end (hello_of Responder f.bytes)) (or_message_end k f (frame_end_by (client_readiness k) (region_grants f.end k.regions) f (client_segment k f)))) ∙ e)
 
 -- ---- The client receives a message
 
-pub after_is_lem : (opened : LinkParameters) (k : ClientState) (f : Frame) (r : Result Segment ℕ) → is_hello f ≡ false → frame_segment f ≡ r → client_state_after opened k (FrameReceived f) ≡ with_segment k f r
+pub after_is_lem : (opened : LinkParameters) (k : ClientState) (f : Frame) (r : Result Segment ℕ) → is_hello f ≡ false → client_segment k f ≡ r → client_state_after opened k (FrameReceived f) ≡ with_segment k f r
 unfolding client_state_after
 after_is_lem opened k f r behind is = λ i. cond (behind i) (with_hello opened k f) (with_segment k f (is i))
 
-pub says_is : (opened : LinkParameters) (k : ClientState) (f : Frame) (r : Result Segment ℕ) → is_hello f ≡ false → frame_segment f ≡ r → client_frames opened k (FrameReceived f) ≡ response_frames k f.end (segment_request r)
+pub says_is : (opened : LinkParameters) (k : ClientState) (f : Frame) (r : Result Segment ℕ) → is_hello f ≡ false → client_segment k f ≡ r → client_frames opened k (FrameReceived f) ≡ response_frames k f.end (segment_request r)
 unfolding client_frames
 says_is opened k f r behind is = λ i. cond (behind i) (calls_frames opened k.outstanding) (response_frames k f.end (segment_request (is i)))
 
 abbrev pub down_one : Transit → List FrameContent → List FrameContent → Transit
 down_one w said rest = record { queued_up = w.queued_up ++ said; up = w.up; queued_down = w.queued_down; down = rest }
 
-totals_frame_lem : (opened : LinkParameters) (k : ClientState) (s : ServerState) (w : Transit) (f : Frame) (segment : Segment) (said rest : List FrameContent) → is_hello f ≡ false → frame_segment f ≡ Ok segment → response_frames k f.end (segment_request (Ok segment)) ≡ said
+totals_frame_lem : (opened : LinkParameters) (k : ClientState) (s : ServerState) (w : Transit) (f : Frame) (segment : Segment) (said rest : List FrameContent) → is_hello f ≡ false → client_segment k f ≡ Ok segment → response_frames k f.end (segment_request (Ok segment)) ≡ said
     → TotalsAgree (with_segment k f (Ok segment)) s (down_one w said rest) → TotalsAgree (client_state_after opened k (FrameReceived f)) s (down_one w (client_frames opened k (FrameReceived f)) rest)
 totals_frame_lem opened k s w f segment said rest behind is says h =
     subst (λ (ps : List FrameContent). TotalsAgree (client_state_after opened k (FrameReceived f)) s (down_one w ps rest)) (sym (says_is opened k f (Ok segment) behind is ∙ says))
@@ -95,9 +96,10 @@ pub totals_send_down : (opened : LinkParameters) (k : ClientState) (s : ServerSt
     → TotalsAgree (client_state_after opened k (FrameReceived f)) s (down_one w (client_frames opened k (FrameReceived f)) rest)
 totals_send_down opened k s w f message rest c first p stays apart =
     let segment : Segment = last_segment k.received.sends message in
-    let is : frame_segment f ≡ Ok segment = segment_is k.received.sends k.received.requests f (SendFrame message) segment p refl in
+    let is : client_segment k f ≡ Ok segment = segment_is k.received.sends k.received.requests f (SendFrame message) segment p refl in
     let whole : List ℕ = begun_bytes k.received.begun ++ message.payload in
-    let unended : end_of_verdict f (reply_verdict k f.end whole) ≡ None = ap (λ (r : Result Segment ℕ). client_message_end k f (segment_message k r)) (sym is) ∙ taken k f p.behind stays in
+    let unended : end_of_verdict f (reply_verdict k f.end whole) ≡ None =
+    stays_as_plain k f (segment_names (Ok segment)) whole (ap (λ (r : Result Segment ℕ). message_end_in k f r) (sym is) ∙ taken k f p.behind stays) in
     let fewer = length_fewer (λ (o : OutstandingCall). o.xid) (word_at 0 whole) k.outstanding apart (out_there k f whole unended) in
     let front = at_front k.received.begun w.down w.queued_down (SendFrame message) rest first c.whole_down in
     let m : TotalsAgree (with_segment k f (Ok segment)) s (down_one w [] rest) = record {
@@ -124,7 +126,7 @@ pub totals_part_down : (opened : LinkParameters) (k : ClientState) (s : ServerSt
     → TotalsAgree (client_state_after opened k (FrameReceived f)) s (down_one w (client_frames opened k (FrameReceived f)) rest)
 totals_part_down opened k s w f offset payload rest c first p =
     let segment : Segment = part_segment k.received.sends offset payload in
-    let is : frame_segment f ≡ Ok segment = segment_is k.received.sends k.received.requests f (PartFrame offset payload) segment p refl in
+    let is : client_segment k f ≡ Ok segment = segment_is k.received.sends k.received.requests f (PartFrame offset payload) segment p refl in
     let front = at_front k.received.begun w.down w.queued_down (PartFrame offset payload) rest first c.whole_down in
     let m : TotalsAgree (with_segment k f (Ok segment)) s (down_one w [] rest) = record {
       hello = omega (arith, c.hello, ap (total_of hellos_in) first, total_append hellos_in w.queued_up []);
@@ -177,7 +179,7 @@ pub totals_read_down : (opened : LinkParameters) (k : ClientState) (s : ServerSt
     → TotalsAgree (client_state_after opened k (FrameReceived f)) s (down_one w (client_frames opened k (FrameReceived f)) rest)
 totals_read_down opened k s w f sink at size stag to rest c first p =
     let segment : Segment = Untagged true OPCODE_READ_REQUEST 0 QUEUE_READ_REQUEST (msn_word (k.received.requests + 1)) 0 (request_payload sink at size stag to) in
-    let is : frame_segment f ≡ Ok segment = segment_is k.received.sends k.received.requests f (RequestFrame sink at size stag to) segment p refl in
+    let is : client_segment k f ≡ Ok segment = segment_is k.received.sends k.received.requests f (RequestFrame sink at size stag to) segment p refl in
     let r = read_request_in (request_payload sink at size stag to) in
     let bytes = take r.size (drop r.to (client_memory_at k f.end r.stag)) in
     let said = tagged_frames OPCODE_READ_RESPONSE r.sink r.sink_to bytes in
@@ -209,7 +211,7 @@ pub totals_tagged_down : (opened : LinkParameters) (k : ClientState) (s : Server
     → TotalsAgree (client_state_after opened k (FrameReceived f)) s (down_one w (client_frames opened k (FrameReceived f)) rest)
 totals_tagged_down opened k s w f last opcode stag to payload rest c first p =
     let segment : Segment = Tagged last opcode stag to payload in
-    let is : frame_segment f ≡ Ok segment = segment_is k.received.sends k.received.requests f (TaggedFrame last opcode stag to payload) segment p refl in
+    let is : client_segment k f ≡ Ok segment = segment_is k.received.sends k.received.requests f (TaggedFrame last opcode stag to payload) segment p refl in
     let m : TotalsAgree (with_segment k f (Ok segment)) s (down_one w [] rest) = record {
       hello = omega (arith, c.hello, ap (total_of hellos_in) first, total_append hellos_in w.queued_up []);
       calls_up = omega (arith, c.calls_up, total_append sends_in w.queued_up []);
@@ -261,7 +263,7 @@ totals_hello_down opened k s w f rest c first is =
       reads = omega (arith, c.reads, ap (total_of requests_in) first, total_append responses_in w.queued_up said, sends_zero responses_in (message_of_call opened) k.outstanding (λ offset payload. refl) (λ m. refl));
       responses = omega (arith, c.responses, total_append responses_in w.queued_up said, sends_zero responses_in (message_of_call opened) k.outstanding (λ offset payload. refl) (λ m. refl));
     } in
-    subst (λ (b : Bool). TotalsAgree (cond b (with_hello opened k f) (with_segment k f (frame_segment f))) s (down_one w (cond b said (response_frames k f.end (segment_request (frame_segment f)))) rest)) (sym is) m
+    subst (λ (b : Bool). TotalsAgree (cond b (with_hello opened k f) (with_segment k f (client_segment k f))) s (down_one w (cond b said (response_frames k f.end (segment_request (client_segment k f)))) rest)) (sym is) m
 
 -- ---- The client accepts a call, and writes
 

@@ -20,7 +20,7 @@ ghost use Rattle.nr_responder.specs.Answering.{Answers};
 ghost use Rattle.nr_responder.specs.Draining.{Drains};
 ghost use Rattle.nr_link.specs.declared.end.End.TheVariants as ends;
 ghost use Rattle.nr_header.specs.Constants.{PAYLOAD_MAX};
-ghost use Rattle.nr_link.specs.Agreement.{default_terms, sized_terms, IsSendLimit};
+ghost use Rattle.nr_link.specs.Agreement.{default_terms, sized_terms, IsSendLimit, terms_with};
 ghost use Rattle.nr_link.specs.Limits.{open_reads_max};
 ghost use Rattle.nr_link.specs.SegmentFaults.{is_begun};
 ghost use Rattle.nr_regions.specs.RegisteredMemory.{bytes_held};
@@ -104,8 +104,31 @@ impl Responder {
         ensures staging { IfOk result (λ r. length r.staging ≡ FPDU_MAX) }
         ensures stands { IfOk result (λ r. (opened : LinkParameters) (link : ℕ) → ServerOpened opened credits low (sized_terms units) → ResponderRepresents opened link [] r.side) }
     {
+        Responder::open_with(alloc, credits, low, units, false)
+    }
+
+    /// The same, and if `invalidates`, its hello says that it makes Sends with Invalidate (RFC 5040 section 5.1). If the client's says so too, each
+    /// reply to a call that offers memory is one: it names the first STag of the call's read list, else of its write list, else of its reply chunk.
+    pub fn open_with(
+        alloc: Global,
+        credits: u32,
+        low: u32,
+        units: u8,
+        invalidates: bool,
+    ) -> Result<Responder, Memory>
+        ensures state { IfOk result (λ r. r.side ≡ opened_side credits low (terms_with units invalidates)) }
+        ensures live { IfOk result (λ r. end_of r.side ≡ None) }
+        ensures fed { IfOk result (λ r. fed_bytes r.side.link ≡ 0) }
+        ensures staging { IfOk result (λ r. length r.staging ≡ FPDU_MAX) }
+        ensures stands { IfOk result (λ r. (opened : LinkParameters) (link : ℕ) → ServerOpened opened credits low (terms_with units invalidates) → ResponderRepresents opened link [] r.side) }
+    {
+        let terms = SideTerms {
+            units,
+            number: 0,
+            invalidates,
+        };
         Ok(Responder {
-            end: ServerEnd::open(alloc, credits, low, SideTerms::sized(units))?,
+            end: ServerEnd::open(alloc, credits, low, terms)?,
         })
     }
 
@@ -121,6 +144,13 @@ impl Responder {
             (result.0 ≡ (server opened link run).state.up_max) × (result.1 ≡ (server opened link run).state.down_max) }
     {
         self.end.agreed()
+    }
+
+    /// Whether a reply may be a Send with Invalidate (RFC 5040 section 5.1), as the hellos of both sides agree. Takes no memory.
+    pub fn invalidates(&self) -> bool
+        ensures { result ≡ self.now.side.link.state.agreed.invalidates }
+    {
+        self.end.endpoint.invalidates()
     }
 
     /// Takes a piece of the client's stream. `Err` if and only if the side has ended, with why; a side that has ended takes no more.

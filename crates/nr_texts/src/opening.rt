@@ -39,6 +39,8 @@ pub struct Opening {
     pub client_units: u8,
     /// The units of the Sends of each server: 1 to 16.
     pub server_units: u8,
+    /// Whether both ends of each link make or take Sends with Invalidate (RFC 5040 section 4).
+    pub invalidates: bool,
 }
 
 /// The number of bytes of `capacity B`, or the default if the words begin with another, and the words that are left.

@@ -13,7 +13,7 @@ use Rattle.nr_requester.proofs.requester.Requester.least_xid.Goals as goal
 pub returns-clause-some : goal.returns-clause-some
 returns-clause-some c =
     let i = c.self.inside in
-    let view : RequesterFeeding = requester_view i.endpoint.link i.sent i.wished i.sends i.next_xid i.grant i.outstanding.items i.answered.items in
+    let view : RequesterFeeding = requester_view i.endpoint.link i.sent i.wished i.sends i.next_xid i.grant i.outstanding.items i.answered.items i.local_releases in
     let call : Option ℕ = c.least_call-call.result in
     let answer : Option ℕ = c.least_answer-answer.result in
     let both = least_of_all i.endpoint.link i.sent i.wished i.sends i.next_xid i.grant i.outstanding.items i.answered.items call answer c.lesser_of.result
@@ -27,7 +27,7 @@ returns-clause-some c =
 pub returns-clause-none : goal.returns-clause-none
 returns-clause-none c =
     let i = c.self.inside in
-    let view : RequesterFeeding = requester_view i.endpoint.link i.sent i.wished i.sends i.next_xid i.grant i.outstanding.items i.answered.items in
+    let view : RequesterFeeding = requester_view i.endpoint.link i.sent i.wished i.sends i.next_xid i.grant i.outstanding.items i.answered.items i.local_releases in
     let call : Option ℕ = c.least_call-call.result in
     let answer : Option ℕ = c.least_answer-answer.result in
     let both = least_of_all i.endpoint.link i.sent i.wished i.sends i.next_xid i.grant i.outstanding.items i.answered.items call answer c.lesser_of.result

@@ -1,0 +1,106 @@
+-- No segment that a client writes is of a Send with Invalidate.
+use Rattle.std.proofs.Common.{◌≡◌, ℕ, ◌+◌, Bool, true, false, cond, eqb, List, [], ◌∷◌, ◌++◌, map, take, drop, Option, None, Some, refl}
+use Rattle.std.specs.List.{range_with_len}
+use Rattle.nr_wire.specs.declared.hello.Side.TheVariants.{Initiator}
+use Rattle.nr_wire.specs.Constants.{OPCODE_SEND_INVALIDATE}
+use Rattle.nr_wire.specs.Segment.{Segment, opcode_in}
+use Rattle.nr_link.specs.declared.end.End.{End as Stop}
+use Rattle.nr_link.specs.declared.end.End.TheVariants as ends
+use Rattle.nr_link.specs.Frames.{is_hello}
+use Rattle.nr_link.specs.Output.{segment_count}
+use Rattle.nr_link.specs.ReceiveState.{ReadRequest}
+use Rattle.nr_link.specs.Ending.{is_hello_reason}
+use Rattle.nr_link.specs.Reasons.{denied_word, NO_BUFFER_WORD}
+use Rattle.nr_reduce.specs.declared.mark.Mark.{Mark}
+use Rattle.nr_reduce.specs.declared.mark.LinkParameters.{LinkParameters}
+use Rattle.nr_reduce.specs.Events.{RunEvent, events}
+use Rattle.nr_reduce.specs.Events.RunEvent.{FrameReceived, CallSubmitted, MemoryRevoked, CallExecuted, QueueWritten, ServerTold}
+use Rattle.nr_reduce.specs.EndRules.{EndState, next_end_state}
+use Rattle.nr_reduce.specs.ClientState.{ClientState, OutstandingCall, client_memory_at}
+use Rattle.nr_reduce.specs.Client.{client_segment, client_rules, client_end, initial_client, segment_request, outstanding_of}
+use Rattle.nr_laws.specs.MessageSegments.{message_segment}
+use Rattle.nr_laws.proofs.Outputs.{Output, message_outputs, message_of_call, call_sends, one_response, response_outputs, terminate_segment, final_outputs, client_says}
+use Rattle.nr_laws.proofs.Outputs.Output.{AHello, ASegment}
+use Rattle.nr_laws.proofs.EventOutputs.{outputs_by, outputs_in, outputs_for, outputs_all}
+use Rattle.nr_laws.proofs.ClientRun.{client_outs}
+
+abbrev pub IsPlain : Segment → Type 0
+IsPlain s = eqb (opcode_in s) OPCODE_SEND_INVALIDATE ≡ false
+
+abbrev pub ArePlain : List Output → Type 0
+ArePlain [] = Unit {0}
+ArePlain (AHello bytes ∷ outs) = ArePlain outs
+ArePlain (ASegment s ∷ outs) = IsPlain s × ArePlain outs
+
+plain_append : (xs ys : List Output) → ArePlain xs → ArePlain ys → ArePlain (xs ++ ys)
+plain_append [] ys h g = g
+plain_append (AHello bytes ∷ xs) ys h g = plain_append xs ys h g
+plain_append (ASegment s ∷ xs) ys h g = (h.0, plain_append xs ys h.1 g)
+
+pub plain_first : (xs ys : List Output) → ArePlain (xs ++ ys) → ArePlain xs
+plain_first [] ys h = tt
+plain_first (AHello bytes ∷ xs) ys h = plain_first xs ys h
+plain_first (ASegment s ∷ xs) ys h = (h.0, plain_first xs ys h.1)
+
+plain_made : (f : ℕ → Segment) (is : List ℕ) → ((i : ℕ) → IsPlain (f i)) → ArePlain (map ASegment (map f is))
+plain_made f [] each = tt
+plain_made f (i ∷ is) each = (each i, plain_made f is each)
+
+plain_message : (msn : ℕ) (message : List ℕ) → ArePlain (message_outputs msn message)
+plain_message msn message = plain_made (message_segment msn message) (range_with_len 0 (segment_count message)) (λ i. refl)
+
+plain_calls : (opened : LinkParameters) (msn : ℕ) (os : List OutstandingCall) → ArePlain (call_sends opened msn os)
+plain_calls opened msn [] = tt
+plain_calls opened msn (o ∷ os) = plain_append (message_outputs msn (message_of_call opened o)) (call_sends opened (msn + 1) os) (plain_message msn (message_of_call opened o)) (plain_calls opened (msn + 1) os)
+
+plain_response : (k : ClientState) (place : ℕ) (o : Option ReadRequest) → ArePlain (response_outputs k place o)
+plain_response k place None = tt
+plain_response k place (Some r) =
+    let held : List ℕ = take r.size (drop r.to (client_memory_at k place r.stag)) in
+    plain_made (one_response r.sink r.sink_to held) (range_with_len 0 (segment_count held)) (λ i. refl)
+
+plain_final : (end : Stop) → ArePlain (final_outputs end)
+plain_final (ends.Bad at reason) = by (is_hello_reason reason)
+  where
+    by : (b : Bool) → ArePlain (cond b [] (ASegment (terminate_segment reason) ∷ []))
+    by true = tt
+    by false = (refl, tt)
+plain_final (ends.Denied stag offset why) = (refl, tt)
+plain_final (ends.NoBuffer msn) = (refl, tt)
+plain_final (ends.Terminated reason) = tt
+plain_final ends.Memory = tt
+
+plain_says : (opened : LinkParameters) (k : ClientState) (e : RunEvent) → ArePlain (client_says opened k e)
+unfolding client_says
+plain_says opened k (FrameReceived f) = by (is_hello f)
+  where
+    by : (b : Bool) → ArePlain (cond b (call_sends opened 1 k.outstanding) (response_outputs k f.end (segment_request (client_segment k f))))
+    by true = plain_calls opened 1 k.outstanding
+    by false = plain_response k f.end (segment_request (client_segment k f))
+plain_says opened k (CallSubmitted place a) = by k.has_hello
+  where
+    by : (b : Bool) → ArePlain (cond b (message_outputs (k.sends + 1) (message_of_call opened (outstanding_of k a))) [])
+    by true = plain_message (k.sends + 1) (message_of_call opened (outstanding_of k a))
+    by false = tt
+plain_says opened k (MemoryRevoked place xid) = tt
+plain_says opened k (CallExecuted call) = tt
+plain_says opened k (QueueWritten taken) = tt
+plain_says opened k (ServerTold what) = tt
+
+plain_by : (opened : LinkParameters) (k : ClientState) (e : RunEvent) (o : Option Stop) → ArePlain (outputs_by (client_rules opened) (client_says opened) final_outputs k e o)
+plain_by opened k e None = plain_says opened k e
+plain_by opened k e (Some end) = plain_final end
+
+plain_in : (opened : LinkParameters) (k : ClientState) (e : RunEvent) (ended : Option Stop) → ArePlain (outputs_in (client_rules opened) (client_says opened) final_outputs k e ended)
+plain_in opened k e None = plain_by opened k e (client_end k e)
+plain_in opened k e (Some end) = tt
+
+plain_all : (opened : LinkParameters) (r : EndState ClientState) (es : List RunEvent) → ArePlain (outputs_all (client_rules opened) (client_says opened) final_outputs r es)
+plain_all opened r [] = tt
+plain_all opened r (e ∷ es) =
+    plain_append (outputs_for (client_rules opened) (client_says opened) final_outputs r e) (outputs_all (client_rules opened) (client_says opened) final_outputs (next_end_state (client_rules opened) r e) es)
+    (plain_in opened r.state e r.ended) (plain_all opened (next_end_state (client_rules opened) r e) es)
+
+pub client_plain : (opened : LinkParameters) (link : ℕ) (run : List Mark) → ArePlain (client_outs opened link run)
+unfolding client_outs
+client_plain opened link run = plain_all opened (initial_client opened) (events link Initiator run)
