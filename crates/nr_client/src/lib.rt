@@ -25,6 +25,7 @@ mod session;
 mod transfer;
 mod walking;
 mod write_file;
+mod written_pieces;
 
 pub use call_end::CallEnd;
 pub use client_end::{ClientEnd, RpcKind};

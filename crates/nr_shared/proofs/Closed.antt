@@ -23,6 +23,8 @@ use Rattle.nr_shared.specs.Standing.{RepresentsHistory, Stands}
 use Rattle.nr_shared.proofs.Adding.{begins_then}
 use Rattle.nr_shared.proofs.Alone.{AreQuiet, bytes_quiet, stop_quiet}
 use Rattle.nr_shared.proofs.Chains.{no_link_after}
+use Rattle.nr_shared.proofs.Histories.{allowed_by}
+use Rattle.nr_requester.specs.RequesterState.{RequesterSide}
 use Rattle.nr_shared.proofs.Lists.{at_after, at_begin, in_ordered, not_twice, still_first, still_ordered}
 use Rattle.nr_shared.proofs.Resting.{seen_one}
 use Rattle.nr_reduce.specs.declared.call.Call.{Call}
@@ -118,3 +120,27 @@ module _ {I O C : Type 0} (left given : I → Option (List ℕ)) (source_faults 
     source_count = omega arith;
     stop = subst (λ (o : Option Stop). StopHolds o (source_faults source) (source_faults source) (left source) (length (bytes_fed h))) (sym going) tt;
   }
+
+-- by another rule, which allows what this one does
+pub back_by : {I O : Type 0} (left given : I → Option (List ℕ)) (source_faults : I → ℕ) (taken : O → Option (List ℕ)) (sink_faults : O → ℕ) (allows allows' : Call → Form → Type 0) → ((call : Call) (form : Form) → allows call form → allows' call form)
+    → (seen : List Entry) (mine : List ℕ) (first : I) (r : RequesterSide) (source : I) (sink : O) → GivesBack left given source_faults taken sink_faults allows seen mine first r source sink → GivesBack left given source_faults taken sink_faults allows' seen mine first r source sink
+back_by left given source_faults taken sink_faults allows allows' more seen mine first r source sink b = record {
+  history = b.history;
+  begins = b.begins;
+  lies = b.lies;
+  stays_open = b.stays_open;
+  earlier = b.earlier;
+  initial = b.initial;
+  is_initial = b.is_initial;
+  represents = b.represents;
+  calls = b.calls;
+  took = b.took;
+  sink_count = b.sink_count;
+  sink_failed = b.sink_failed;
+  in_order = b.in_order;
+  allowed = allowed_by allows allows' b.history more b.allowed;
+  output = b.output;
+  gave = b.gave;
+  source_count = b.source_count;
+  stop = b.stop;
+}

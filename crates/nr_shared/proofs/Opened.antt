@@ -68,11 +68,11 @@ below_next r xid fresh there = ⊎_elim
     (λ (ge : r.next_xid ≤ xid). (let f = fresh xid ge in absurd (false_true (sym (ap is_some (is_none (found_call xid r) (found_answer xid r) f.0 f.1)) ∙ there))))
     (cases_lt xid r.next_xid)
 
-module _ {O C : Type 0} (taken : O → Option (List ℕ)) (faults : O → ℕ) (allows : Call → Form → Type 0) where
-  live_first : (opened : LinkParameters) (link : ℕ) (before : List Mark) (c : InitialState) (r : RequesterSide) → c.requester ≡ r → FitsInitialState c opened link before → IsLive opened link r (run_of before 0 link (entries.Initial c ∷ []))
-  unfolding run_of
-  live_first opened link before c r is fits = subst (IsLive opened link r) (sym (append-nil before)) (subst (λ (x : RequesterSide). IsLive opened link x before) is fits.live)
+live_first : (opened : LinkParameters) (link : ℕ) (before : List Mark) (c : InitialState) (r : RequesterSide) → c.requester ≡ r → FitsInitialState c opened link before → IsLive opened link r (run_of before 0 link (entries.Initial c ∷ []))
+unfolding run_of
+live_first opened link before c r is fits = subst (IsLive opened link r) (sym (append-nil before)) (subst (λ (x : RequesterSide). IsLive opened link x before) is fits.live)
 
+module _ {O C : Type 0} (taken : O → Option (List ℕ)) (faults : O → ℕ) (allows : Call → Form → Type 0) where
   pub opens : (m : RequesterWithSink O C) (history : List Entry) → IsInitialHistory taken faults m.requester m.sink history → m.entries ≡ 1 → m.pending ≡ true → m.write_failed ≡ false → m.stopped ≡ None
       → ((x : ℕ) → m.requester.state.next_xid ≤ x → IsFresh m.requester.state x) → m.requester.state.next_xid ≤ 2 ^ 32 → Stands taken faults allows m history
   opens m history o count pending whole going fresh small =
@@ -106,8 +106,9 @@ module _ {O C : Type 0} (taken : O → Option (List ℕ)) (faults : O → ℕ) (
         });
       })
 
-  -- ---- The first pass
+-- ---- The first pass
 
+module _ {O : Type 0} (taken : O → Option (List ℕ)) (faults : O → ℕ) where
   pub earlier_opened : (r : RequesterSide) (sink : O) (history : List Entry) → IsInitialHistory taken faults r sink history → Earlier closes_of history
   earlier_opened r sink history o = subst (Earlier closes_of) (sym o.history_is) (earlier_first o.initial)
 
@@ -116,6 +117,13 @@ module _ {O C : Type 0} (taken : O → Option (List ℕ)) (faults : O → ℕ) (
       let len : length history ≡ 1 = ap length o.history_is in
       omega (arith, len)
 
+  pub opened_fed : (r : RequesterSide) (sink : O) (history : List Entry) → IsInitialHistory taken faults r sink history → bytes_fed history ≡ []
+  opened_fed r sink history o = ap (λ (l : List Entry). bytes_fed l) o.history_is
+
+  pub opened_stop : (r : RequesterSide) (sink : O) (history : List Entry) → IsInitialHistory taken faults r sink history → stop_of history ≡ None
+  opened_stop r sink history o = ap (λ (l : List Entry). stop_of l) o.history_is
+
+module _ {O C : Type 0} (taken : O → Option (List ℕ)) (faults : O → ℕ) where
   pub first_feeds : (r : RequesterSide) (sink : O) (history : List Entry) (p : Pass (RequesterWithSink O C) Entry) → IsInitialHistory taken faults r sink history → seen_by p ≡ history → mine_of p ≡ places (length history) → IsFeeding p
   first_feeds r sink history p o seen mine =
       let c = o.initial in
@@ -141,12 +149,6 @@ module _ {O C : Type 0} (taken : O → Option (List ℕ)) (faults : O → ℕ) (
       let l = in_places (length history) 0 k (subst (IsIn k) mine i) in
       let same : length (seen_by p) ≡ length history = ap length seen in
       omega (arith, l, same)
-
-  pub opened_fed : (r : RequesterSide) (sink : O) (history : List Entry) → IsInitialHistory taken faults r sink history → bytes_fed history ≡ []
-  opened_fed r sink history o = ap (λ (l : List Entry). bytes_fed l) o.history_is
-
-  pub opened_stop : (r : RequesterSide) (sink : O) (history : List Entry) → IsInitialHistory taken faults r sink history → stop_of history ≡ None
-  opened_stop r sink history o = ap (λ (l : List Entry). stop_of l) o.history_is
 
 -- its source
 pub first_reader : {I O C : Type 0} (left given : I → Option (List ℕ)) (faults : I → ℕ) (b : InitialSource I O C) (s : SourceReader I O C) → home_of s.pass ≡ home_of b.pass.value → IsOutside s.pass → Lies (seen_by s.pass) (mine_of s.pass) → IsFeeding s.pass

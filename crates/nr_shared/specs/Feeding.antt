@@ -38,4 +38,4 @@ pub record FeedsFor {I O C : Type 0} (left given : I → Option (List ℕ)) (fau
 
 -- it has one entry: the source when it was shared, and the pass that fed first
 abbrev pub Feeds : {I O C : Type 0} → (I → Option (List ℕ)) → (I → Option (List ℕ)) → (I → ℕ) → SourceReader I O C → List (InitialSource I O C) → Type 0
-Feeds {I} {O} left given faults s history = (b : InitialSource I O C) × (history ≡ b ∷ []) × FeedsFor left given faults b s
+Feeds {I} {O} {C} left given faults s history = (b : InitialSource I O C) × (history ≡ b ∷ []) × FeedsFor left given faults b s

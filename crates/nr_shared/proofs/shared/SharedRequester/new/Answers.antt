@@ -15,7 +15,7 @@ pub new_or_value-requires-clause-stands : goal.new_or_value-requires-clause-stan
 new_or_value-requires-clause-stands g c = c.of_parts-with_sink.ensures g.H.OpeningHistory.history c.requires
 
 pub new_or_value-requires-clause-earlier : goal.new_or_value-requires-clause-earlier
-new_or_value-requires-clause-earlier g c = earlier_opened g.O.Sink.taken g.O.Sink.faults g.C.CallRule.allows c.args.requester c.args.sink g.H.OpeningHistory.history c.requires
+new_or_value-requires-clause-earlier g c = earlier_opened g.O.Sink.taken g.O.Sink.faults c.args.requester c.args.sink g.H.OpeningHistory.history c.requires
 
 pub share_reader-requires-clause-feeds : goal.share_reader-requires-clause-feeds
 share_reader-requires-clause-feeds g c =
@@ -50,13 +50,13 @@ returns-in-Ok-share_reader-clause-source g c = (record { source = c.of-first_sou
 pub returns-in_default-clause-err : goal.returns-in_default-clause-err
 returns-in_default-clause-err g c =
     let o = c.requires in let t = g.O.Sink.taken in let f = g.O.Sink.faults in let r = c.args.requester in let k = c.args.sink in let history = g.H.OpeningHistory.history in
-    unshared g.I.Source.left g.I.Source.given g.I.Source.faults t f c.of_parts-with_sink.result history c.args.source (c.of_parts-with_sink.ensures history o) (earlier_opened t f r k history o) (opened_fed t f r k history o) (opened_stop t f r k history o)
+    unshared g.I.Source.left g.I.Source.given g.I.Source.faults t f g.C.CallRule.allows c.of_parts-with_sink.result history c.args.source (c.of_parts-with_sink.ensures history o) (earlier_opened t f r k history o) (opened_fed t f r k history o) (opened_stop t f r k history o)
 
 pub returns-in-Err-clause-err : goal.returns-in-Err-clause-err
 returns-in-Err-clause-err g c =
     let o = c.requires in let t = g.O.Sink.taken in let f = g.O.Sink.faults in let r = c.args.requester in let k = c.args.sink in let history = g.H.OpeningHistory.history in
-    subst (λ m. GivesBack g.I.Source.left g.I.Source.given g.I.Source.faults t f history [] c.args.source m.requester c.args.source m.sink) (sym c.in-Err.ensures.err)
-    (unshared g.I.Source.left g.I.Source.given g.I.Source.faults t f c.of_parts-with_sink.result history c.args.source (c.of_parts-with_sink.ensures history o) (earlier_opened t f r k history o) (opened_fed t f r k history o) (opened_stop t f r k history o))
+    subst (λ m. GivesBack g.I.Source.left g.I.Source.given g.I.Source.faults t f g.C.CallRule.allows history [] c.args.source m.requester c.args.source m.sink) (sym c.in-Err.ensures.err)
+    (unshared g.I.Source.left g.I.Source.given g.I.Source.faults t f g.C.CallRule.allows c.of_parts-with_sink.result history c.args.source (c.of_parts-with_sink.ensures history o) (earlier_opened t f r k history o) (opened_fed t f r k history o) (opened_stop t f r k history o))
 
 pub take_back-requires-clause-caller : goal.take_back-requires-clause-caller
 take_back-requires-clause-caller g c = new_caller c.split-caller.result (ap (λ w. w.mine) c.split-caller.ensures.new.1)
