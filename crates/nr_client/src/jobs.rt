@@ -335,7 +335,13 @@ fn fetch_round<R: Threads + Wait + Sync, I: Source + Send, O: Sink + Send, C: Ca
 }
 
 /// Reads the pieces of one round by jobs, and writes them in order of offset.
-fn read_round<R: Threads + Wait + Sync, I: Source + Send, O: Sink + Send, C: CallRule + Send, K: Sink>(
+fn read_round<
+    R: Threads + Wait + Sync,
+    I: Source + Send,
+    O: Sink + Send,
+    C: CallRule + Send,
+    K: Sink,
+>(
     rt: &R,
     alloc: Global,
     shared: &SharedRequester<I, O, C>,
@@ -382,7 +388,13 @@ fn read_round<R: Threads + Wait + Sync, I: Source + Send, O: Sink + Send, C: Cal
 }
 
 /// Reads all pieces of a file of this size by jobs.
-fn read_rounds<R: Threads + Wait + Sync, I: Source + Send, O: Sink + Send, C: CallRule + Send, K: Sink>(
+fn read_rounds<
+    R: Threads + Wait + Sync,
+    I: Source + Send,
+    O: Sink + Send,
+    C: CallRule + Send,
+    K: Sink,
+>(
     rt: &R,
     alloc: Global,
     shared: &SharedRequester<I, O, C>,
@@ -416,7 +428,13 @@ fn read_rounds<R: Threads + Wait + Sync, I: Source + Send, O: Sink + Send, C: Ca
 }
 
 /// Reads a file into an output by this many jobs, 1 to 16.
-pub(crate) fn read_by_jobs<R: Threads + Wait + Sync, I: Source + Send, O: Sink + Send, C: CallRule + Send, K: Sink>(
+pub(crate) fn read_by_jobs<
+    R: Threads + Wait + Sync,
+    I: Source + Send,
+    O: Sink + Send,
+    C: CallRule + Send,
+    K: Sink,
+>(
     rt: &R,
     alloc: Global,
     shared: &SharedRequester<I, O, C>,
@@ -460,7 +478,14 @@ pub(crate) fn read_by_jobs<R: Threads + Wait + Sync, I: Source + Send, O: Sink +
 }
 
 /// Shares a requester with its source and its sink, reads a file into an output by jobs, and gives the source and the sink back.
-pub(crate) fn read_shared<N: Appended, C: CallRule + Send, R: Threads + Wait + Sync, I: Source, O: Sink, K: Sink>(
+pub(crate) fn read_shared<
+    N: Appended,
+    C: CallRule + Send,
+    R: Threads + Wait + Sync,
+    I: Source,
+    O: Sink,
+    K: Sink,
+>(
     rt: &R,
     alloc: Global,
     requester: Requester,

@@ -77,7 +77,7 @@ module _ {I O C : Type 0} (left given : I → Option (List ℕ)) (source_faults 
         stays_open = λ k o n e at closes. (let own_j = owns k n e (subst (IsIn k) (sym mine) (still_first (mine_of p) (mine_of s.pass) k o.0)) at closes in ⊎_elim
             (λ (caller : IsIn n (mine_of p)). o.1 n e (at_begin (seen_by p) begins.0 n e (c.lies n caller) (subst (λ (l : List Entry). get_elem? l n ≡ some e) begins.1 at)) closes)
             (λ (feeds : IsIn n (mine_of s.pass)). not_twice (mine_of p) (mine_of s.pass) k (subst Rising mine rising) o.0
-                (f.feeding.closes_own n k e feeds (at_begin (seen_by s.pass) fed.0 n e (f.lies n feeds) (subst (λ (l : List Entry). get_elem? l n ≡ some e) fed.1 at)) closes))
+            (f.feeding.closes_own n k e feeds (at_begin (seen_by s.pass) fed.0 n e (f.lies n feeds) (subst (λ (l : List Entry). get_elem? l n ≡ some e) fed.1 at)) closes))
             (in_ordered (mine_of p) (mine_of s.pass) n (subst (IsIn n) mine own_j)));
         lies = λ k i. (let old = c.lies k i in let len = ap length begins.1 ∙ length-append (seen_by p) begins.0 in omega (arith, old, len));
         earlier = earlier;

@@ -194,8 +194,11 @@ module _ {O C : Type 0} (taken : O → Option (List ℕ)) (faults : O → ℕ) (
       let is = said m.requester.state call form why other says in
       let live : m.requester.state.side.ended ≡ None = sym (answers_end m.requester.state call form) ∙ (ap end_in is ∙ no_end) in
       not_out m.stopped st.initial m.requester h (ClientRefuses why call form h) (λ memory. none_memory (sym live ∙ memory)) st.represents
-      (λ f. (has_memory taken faults allows m h st (λ memory. none_memory (sym live ∙ memory)), λ opened link before fits. (let l = f.1 opened link before (fits_initial h st.initial opened link before st.is_initial fits) in
-      sym (answers_as_client opened link m.requester (run_of before 0 link h) call form l.stands) ∙ is)))
+      (λ f. (
+        has_memory taken faults allows m h st (λ memory. none_memory (sym live ∙ memory)),
+        λ opened link before fits. (let l = f.1 opened link before (fits_initial h st.initial opened link before st.is_initial fits) in
+            sym (answers_as_client opened link m.requester (run_of before 0 link h) call form l.stands) ∙ is),
+      ))
 
   -- what the requester says of a call that it refuses is said of the history
   pub refused_is : (m : RequesterWithSink O C) (h : List Entry) (call : Call) (form : Form) (why : Refused) → Stands taken faults allows m h → SaysSo m.requester.state call form why → IsRefused why call form h

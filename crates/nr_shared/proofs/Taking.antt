@@ -31,7 +31,7 @@ use Rattle.nr_shared.specs.declared.entry.InitialState.{InitialState}
 use Rattle.nr_shared.specs.declared.entry.Stop.{Stop}
 use Rattle.nr_shared.specs.declared.requester_with_sink.RequesterWithSink.{RequesterWithSink}
 use Rattle.nr_shared.specs.HandedBack.{IsAwaitedStill, IsLostWith, IsUnanswered, lost_entry}
-use Rattle.nr_shared.specs.Histories.{IsCallAt, IsUnclosed, submitted_call, closes_of, is_feeding, run_of}
+use Rattle.nr_shared.specs.Histories.{Allows, IsCallAt, IsUnclosed, submitted_call, closes_of, is_feeding, run_of}
 use Rattle.nr_shared.specs.Marks.{IsLive, IsOut}
 use Rattle.nr_shared.specs.Standing.{RepresentsHistory, RepresentsHistoryIf, IsWithin, Stands, is_out_of_memory}
 use Rattle.nr_shared.proofs.Calls.{calls_fewer}
@@ -114,9 +114,12 @@ module _ {O C : Type 0} (taken : O → Option (List ℕ)) (faults : O → ℕ) (
   still_awaited m h xid k call none going asked unclosed st =
       let there : is_some (open_call xid m.requester.state) ≡ true = ap is_some (st.calls xid k call asked unclosed).1 in
       not_out m.stopped st.initial m.requester h (IsAwaitedStill xid h) (λ bad. none_memory (sym going ∙ bad)) st.represents
-      (λ f. (has_memory taken faults allows m h st (λ bad. none_memory (sym going ∙ bad)), λ opened link before fits.
-      (let l = f.1 opened link before (fits_initial h st.initial opened link before st.is_initial fits) in
-      (sym l.stands.keeps.kept.keeps.ended ∙ going, none_came opened link m.requester (run_of before 0 link h) xid l.stands.answers (open_is_awaited opened link m.requester (run_of before 0 link h) xid l.stands there) none))))
+      (λ f. (
+        has_memory taken faults allows m h st (λ bad. none_memory (sym going ∙ bad)),
+        λ opened link before fits.
+            (let l = f.1 opened link before (fits_initial h st.initial opened link before st.is_initial fits) in
+            (sym l.stands.keeps.kept.keeps.ended ∙ going, none_came opened link m.requester (run_of before 0 link h) xid l.stands.answers (open_is_awaited opened link m.requester (run_of before 0 link h) xid l.stands there) none)),
+      ))
 
   -- a call whose answer isn't there
   pub none_has_come : (m : RequesterWithSink O C) (h : List Entry) (xid k : ℕ) (call : Call) → is_some (found_answer xid m.requester.state) ≡ false → IsCallAt h xid k call → IsUnclosed h k → Stands taken faults allows m h → IsUnanswered xid h
@@ -182,9 +185,9 @@ module _ {O C : Type 0} (taken : O → Option (List ℕ)) (faults : O → ℕ) (
       (within_close m.requester m'.requester m.pending m.write_failed m.stopped h e xid (fed_same h e quiet.fed) there shuts kept st.within))
 
   -- nothing changed
-  pub stands_same : (m m' : RequesterWithSink O C) (h : List Entry) → m'.sink ≡ m.sink → m'.entries ≡ m.entries → m'.pending ≡ m.pending → m'.write_failed ≡ m.write_failed → m'.stopped ≡ m.stopped → m'.requester ≡ m.requester → Stands taken faults allows m h → Stands taken faults allows m' h
-  stands_same m m' h sink count pending sink_failed stopped requester st = subst (λ (x : RequesterWithSink O C). Stands taken faults allows x h)
-      (λ i. record { requester = sym requester i; sink = sym sink i; entries = sym count i; pending = sym pending i; write_failed = sym sink_failed i; stopped = sym stopped i }) st
+  pub stands_same : (m m' : RequesterWithSink O C) (h : List Entry) → m'.sink ≡ m.sink → m'.entries ≡ m.entries → m'.pending ≡ m.pending → m'.write_failed ≡ m.write_failed → m'.stopped ≡ m.stopped → m'.requester ≡ m.requester → m'.rule ≡ m.rule → Stands taken faults allows m h → Stands taken faults allows m' h
+  stands_same m m' h sink count pending sink_failed stopped requester rule st = subst (λ (x : RequesterWithSink O C). Stands taken faults allows x h)
+      (λ i. record { requester = sym requester i; sink = sym sink i; entries = sym count i; pending = sym pending i; write_failed = sym sink_failed i; stopped = sym stopped i; rule = sym rule i }) st
 
   -- what a take gave that found the call lost
   pub record Loses (m m' : RequesterWithSink O C) (xid : ℕ) (buffers : Buffers) : Type 0 where

@@ -77,7 +77,10 @@ pub(crate) fn append_done<O: Sink, C: CallRule, K: Appended>(
 }
 
 /// Appends the Forget of a call.
-pub(crate) fn append_forget<O: Sink, C: CallRule, K: Appended>(turn: &mut MainTurn<'_, O, C>, _xid: u32)
+pub(crate) fn append_forget<O: Sink, C: CallRule, K: Appended>(
+    turn: &mut MainTurn<'_, O, C>,
+    _xid: u32,
+)
     requires entry { forget_by (seen_by (pass_of turn.old)) _xid ≡ K.entry }
     requires value { (y : RequesterWithSink O C) × Has turn.old y }
     requires may { MayStep closes_of (pass_of turn.old) (forget_by (seen_by (pass_of turn.old)) _xid) }
@@ -166,7 +169,10 @@ pub(crate) fn append_fed<O: Sink, C: CallRule, K: Appended>(
 }
 
 /// Appends the Stopped of the end of feeding.
-pub(crate) fn append_stopped<O: Sink, C: CallRule, K: Appended>(turn: &mut MainTurn<'_, O, C>, _cause: Stop)
+pub(crate) fn append_stopped<O: Sink, C: CallRule, K: Appended>(
+    turn: &mut MainTurn<'_, O, C>,
+    _cause: Stop,
+)
     requires entry { stopped_after (seen_by (pass_of turn.old)) _cause ≡ K.entry }
     requires value { (y : RequesterWithSink O C) × Has turn.old y }
     requires may { MayStep closes_of (pass_of turn.old) (stopped_after (seen_by (pass_of turn.old)) _cause) }

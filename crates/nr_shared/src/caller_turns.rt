@@ -54,7 +54,10 @@ pub enum CreditState {
 }
 
 /// Takes the answer of a call of the pass's own, if it is there; or forgets the call, if none comes any more.
-pub(crate) fn poll_under<O: Sink, C: CallRule>(turn: &mut MainTurn<'_, O, C>, ticket: Ticket) -> PollTurn
+pub(crate) fn poll_under<O: Sink, C: CallRule>(
+    turn: &mut MainTurn<'_, O, C>,
+    ticket: Ticket,
+) -> PollTurn
     requires ready { IsReady O.taken O.faults C.allows turn.old }
     requires has_call { HasOpenCall (pass_of turn.old) ticket }
     ensures same { IsSameTurn turn.old turn.new }

@@ -48,8 +48,9 @@ pub struct SourceHistoryOf<K> {
     of: PhantomData<K>,
 }
 
-impl<I: Source, O: Sink, C: CallRule, K: SourceHistory<I, O, C>> OpeningHistory<InitialSource<I, O, C>>
-    for SourceHistoryOf<K> {
+impl<I: Source, O: Sink, C: CallRule, K: SourceHistory<I, O, C>> OpeningHistory<
+    InitialSource<I, O, C>,
+> for SourceHistoryOf<K> {
     ghost history = { K.source_history };
 }
 

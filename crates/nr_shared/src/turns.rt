@@ -69,7 +69,10 @@ pub(crate) fn submit_under<O: Sink, C: CallRule>(
 }
 
 /// Takes the answer of a call of the pass's own; or the call comes back with its buffers, if the requester has ended before.
-pub(crate) fn try_take_under<O: Sink, C: CallRule>(turn: &mut MainTurn<'_, O, C>, ticket: Ticket) -> Take
+pub(crate) fn try_take_under<O: Sink, C: CallRule>(
+    turn: &mut MainTurn<'_, O, C>,
+    ticket: Ticket,
+) -> Take
     requires ready { IsReady O.taken O.faults C.allows turn.old }
     requires has_call { HasOpenCall (pass_of turn.old) ticket }
     ensures same { IsSameTurn turn.old turn.new }
@@ -132,7 +135,10 @@ pub(crate) fn drain_under<O: Sink, C: CallRule>(turn: &mut MainTurn<'_, O, C>)
 }
 
 /// Revokes the memory of a call of the pass's own.
-pub(crate) fn revoke_under<O: Sink, C: CallRule>(turn: &mut MainTurn<'_, O, C>, ticket: Ticket) -> (Call, Buffers)
+pub(crate) fn revoke_under<O: Sink, C: CallRule>(
+    turn: &mut MainTurn<'_, O, C>,
+    ticket: Ticket,
+) -> (Call, Buffers)
     requires ready { IsReady O.taken O.faults C.allows turn.old }
     requires has_call { HasOpenCall (pass_of turn.old) ticket }
     ensures same { IsSameTurn turn.old turn.new }

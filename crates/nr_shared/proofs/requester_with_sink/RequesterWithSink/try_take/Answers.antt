@@ -12,7 +12,7 @@ try_take-requires g c = let (history, k, call, (st, (asked, unclosed))) = c.requ
 
 pub returns-in-NotYet-clause-taken : goal.returns-in-NotYet-clause-taken
 returns-in-NotYet-clause-taken g c = let t = c.in-NotYet.ensures.taken in λ history k call st asked unclosed. (
-  stands_same g.O.Sink.taken g.O.Sink.faults g.C.CallRule.allows c.args.self.now _ history refl refl refl refl refl t.1.1.1 st,
+  stands_same g.O.Sink.taken g.O.Sink.faults g.C.CallRule.allows c.args.self.now _ history refl refl refl refl refl t.1.1.1 refl st,
   (t.0, still_awaited g.O.Sink.taken g.O.Sink.faults g.C.CallRule.allows c.args.self.now history c.args.ticket k call t.1.0 t.1.1.0 asked unclosed st),
 )
 
