@@ -22,6 +22,7 @@ mod reasons;
 mod requests;
 mod results;
 mod session;
+mod shared_calls;
 mod transfer;
 mod walking;
 mod write_file;

@@ -10,8 +10,8 @@ ghost use Rattle.nr_client.specs.private.OpenReads.{GivesData, GivesNone};
 
 use crate::client_end::ClientEnd;
 use crate::file_calls::read_call;
-use crate::jobs::outcome_of;
 use crate::read_data::{piece_left, write_data};
+use crate::shared_calls::outcome_of;
 use nr_nfs_base::Handle;
 use nr_outside::{Sink, Source};
 use nr_reduce::Outcome;
