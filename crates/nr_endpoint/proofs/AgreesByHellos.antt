@@ -14,7 +14,7 @@ use Rattle.nr_wire.specs.Segment.Segment.{Tagged, Untagged}
 use Rattle.nr_wire.proofs.Frames.{frame_len_append, is_whole_from, partial_from, whole_append, whole_from}
 use Rattle.nr_wire.proofs.Splits.{split_partial, split_whole}
 use Rattle.nr_wire.proofs.Feedings.{feeding_after_step-ended}
-use Rattle.nr_regions.specs.RegisteredMemory.{after_place, after_register, after_release}
+use Rattle.nr_regions.specs.RegisteredMemory.{after_invalidate, after_place, after_register, after_release}
 use Rattle.nr_link.specs.declared.agreement.SideTerms.{SideTerms}
 use Rattle.nr_link.specs.declared.agreement.Agreement.{Agreement}
 use Rattle.nr_link.specs.declared.end.End.{End}
@@ -29,7 +29,7 @@ use Rattle.nr_endpoint.specs.Judging.{after_frame, with_agreement, segment_end, 
 use Rattle.nr_endpoint.specs.SendQueue.{SendQueue, written}
 use Rattle.nr_endpoint.specs.ReceiveQueue.{delivered, posted}
 use Rattle.nr_endpoint.specs.Calls.{Call, after_call, after_calls, ended_link, with_state}
-use Rattle.nr_endpoint.specs.Calls.Call.{Feed, FeedOne, NextEvent, Post, Stop, OutOfMemory, Send, WriteRemote, ReadRemote, Drain, Register, Release}
+use Rattle.nr_endpoint.specs.Calls.Call.{Feed, FeedOne, NextEvent, Post, Stop, OutOfMemory, Send, SendInvalidate, WriteRemote, ReadRemote, Drain, Register, Release, Invalidate}
 use Rattle.nr_endpoint.specs.Laws.{bytes_fed, bytes_in_call}
 use Rattle.nr_endpoint.specs.AgreedLaws.{BeginsWith, HasAgreed, IsAgreed, AgreesByHellos}
 use Rattle.nr_endpoint.proofs.Agreed.{agreed_fits}
@@ -275,11 +275,13 @@ module _ (terms : SideTerms) (side : Side) where
   call_knows fed link (Stop reason) k = stop_knows fed link (has_ended link.state) _ refl _ k
   call_knows fed link OutOfMemory k = stop_knows fed link (has_ended link.state) _ refl link.state.send_queue k
   call_knows fed link (Send message) k = queued_knows fed link (has_ended link.state) _ link.state.reads k
+  call_knows fed link (SendInvalidate stag message) k = queued_knows fed link (has_ended link.state) _ link.state.reads k
   call_knows fed link (WriteRemote stag to bytes) k = queued_knows fed link (has_ended link.state) _ link.state.reads k
   call_knows fed link (ReadRemote sink at stag to len) k = queued_knows fed link (has_ended link.state) _ _ k
   call_knows fed link (Drain count) k = same_knows fed (with_state (record link.state { send_queue = written count link.state.send_queue }) link) k
   call_knows fed link (Register buf right) k = same_knows fed (with_state (record link.state { memory = after_register link.state.memory right buf }) link) k
   call_knows fed link (Release stag) k = same_knows fed (with_state (record link.state { memory = after_release link.state.memory stag }) link) k
+  call_knows fed link (Invalidate stag) k = same_knows fed (with_state (record link.state { memory = after_invalidate link.state.memory stag }) link) k
 
   calls_know : (fed : List ℕ) (link : LinkSide) (calls : List Call) → LinkKnows fed link → LinkKnows (fed ++ bytes_fed link calls) (after_calls link calls)
   unfolding after_calls

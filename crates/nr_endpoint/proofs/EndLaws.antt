@@ -308,14 +308,15 @@ call_caused done link Post is = caused_stays done (Post ∷ []) link.state.ended
 call_caused done link (Stop reason) is = ended_caused (done ++ Stop reason ∷ []) link.state _ (has_ended link.state) (caused_stays done (Stop reason ∷ []) link.state.ended is) (inr (Contains-push done (Stop reason)))
 call_caused done link OutOfMemory is = ended_caused (done ++ OutOfMemory ∷ []) link.state _ (has_ended link.state) (caused_stays done (OutOfMemory ∷ []) link.state.ended is) (Contains-push done OutOfMemory)
 call_caused done link (Send message) is = unless_caused (done ++ Send message ∷ []) link.state _ (has_ended link.state) refl (caused_stays done (Send message ∷ []) link.state.ended is)
-call_caused done link (SendInvalidate stag message) is = unless_caused (done ++ Send message ∷ []) link.state _ (has_ended link.state) refl (caused_stays done (Send message ∷ []) link.state.ended is)
+call_caused done link (SendInvalidate stag message) is =
+    unless_caused (done ++ SendInvalidate stag message ∷ []) link.state _ (has_ended link.state) refl (caused_stays done (SendInvalidate stag message ∷ []) link.state.ended is)
 call_caused done link (WriteRemote stag to bytes) is = unless_caused (done ++ WriteRemote stag to bytes ∷ []) link.state _ (has_ended link.state) refl (caused_stays done (WriteRemote stag to bytes ∷ []) link.state.ended is)
 call_caused done link (ReadRemote sink at stag to len) is =
     unless_caused (done ++ ReadRemote sink at stag to len ∷ []) link.state _ (has_ended link.state) refl (caused_stays done (ReadRemote sink at stag to len ∷ []) link.state.ended is)
 call_caused done link (Drain count) is = caused_stays done (Drain count ∷ []) link.state.ended is
 call_caused done link (Register buf right) is = caused_stays done (Register buf right ∷ []) link.state.ended is
 call_caused done link (Release stag) is = caused_stays done (Release stag ∷ []) link.state.ended is
-call_caused done link (Invalidate stag) is = caused_stays done (Release stag ∷ []) link.state.ended is
+call_caused done link (Invalidate stag) is = caused_stays done (Invalidate stag ∷ []) link.state.ended is
 
 calls_caused : (done : List Call) (link : LinkSide) (calls : List Call) → IfSome link.state.ended (HasCause done) → IfSome (after_calls link calls).state.ended (HasCause (done ++ calls))
 unfolding after_calls

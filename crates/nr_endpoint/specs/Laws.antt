@@ -90,8 +90,7 @@ pub record KeepsInput (link : LinkSide) (input : InputState) : Type 0 where
   pub rest : link.rest ≡ input.rest
   pub place : link.state.place ≡ input.place
 
--- Until a side has ended, what it keeps is the rest of the bytes that were fed after their complete frames, and its offset is the end
--- of these frames.
+-- Until a side has ended, it keeps the rest of the bytes that were fed after their complete frames; its offset is the end of these.
 abbrev pub StreamIsKept : Type 0
 StreamIsKept = (side : Side) (receives first_stag : ℕ) (terms : SideTerms) (calls : List Call) →
     let start = initial_link side receives first_stag terms in
@@ -280,8 +279,7 @@ EventsFollowAccesses = (link : LinkSide) (before after : List Call) →
     × ((memory_events link (before ++ after) ≡ memory_events link before ++ memory_events now after)
     × All (λ made. All (λ segment. made.end < segment.end) (tagged_segments (memory_events now after))) (deliveries_made link before))
 
--- A feed of one frame makes its event at the offset that the side has reached then, so no tagged segment of a later frame has been
--- placed.
+-- A feed of one frame makes its event at the offset that the side has then, so no tagged segment of a later frame has been placed.
 abbrev pub OneFrameDeliversAtItsEnd : Type 0
 OneFrameDeliversAtItsEnd = (link : LinkSide) (piece : List ℕ) →
     All (λ made. made.end ≡ (after_call link (FeedOne piece)).state.place) (deliveries_made link (FeedOne piece ∷ []))
@@ -293,8 +291,7 @@ OneFrameDeliversOnce = (link : LinkSide) (piece : List ℕ) →
 
 -- ---- What the peer reads of it
 
--- A Read Request that doesn't end the side makes an access that the memory doesn't deny, and is answered with the bytes of that
--- access, by their values at its frame.
+-- A Read Request that doesn't end the side makes an access that the memory doesn't deny, and is answered with its bytes at that frame.
 abbrev pub ReadsAreAllowed : Type 0
 ReadsAreAllowed = (s : LinkState) (frame : List ℕ) (segment : Segment) (request : ReadRequest) →
     next_segment s frame ≡ Ok segment → read_request_of segment ≡ Some request → segment_end s (next_frame s frame) segment ≡ None →
@@ -404,8 +401,7 @@ abbrev pub bytes_written : LinkSide → List Call → List ℕ
 bytes_written link [] = []
 bytes_written link (call ∷ calls) = bytes_drained link call ++ bytes_written (after_call link call) calls
 
--- An initiator writes its hello, and a responder nothing, but for the hello with which it rejects a connection and ends
--- (RFC 5044 section 7.1).
+-- An initiator writes its hello, and a responder nothing but the hello by which it rejects a connection and ends (RFC 5044 section 7.1).
 abbrev pub IsHelloAlone : Side → SideTerms → Bool → List ℕ → Type 0
 IsHelloAlone Initiator terms ended bytes = bytes ≡ hello_with Initiator (first_private terms Initiator)
 IsHelloAlone Responder terms ended bytes = (bytes ≡ []) ⊎ ((ended ≡ true) × (bytes ≡ refusing_hello))
@@ -452,8 +448,7 @@ MemoryComesFromOutOfMemory = (side : Side) (receives first_stag : ℕ) (terms : 
 abbrev pub DeniesAlike : RegisteredMemory → List Grant → ℕ → Type 0
 DeniesAlike m grants end = (access : Access) → denial m access ≡ grant_denial grants access end
 
--- So an FPDU ends a side if and only if it ends a side that offered these grants, and with the same reason, by the complete list of
--- nr_link.
+-- So an FPDU ends a side if and only if it ends a side that offered these grants, for the same reason, by the complete list of nr_link.
 abbrev pub GrantsEndAlike : Type 0
 GrantsEndAlike = (s : LinkState) (grants : List Grant) (frame : List ℕ) → s.ended ≡ None →
     DeniesAlike s.memory grants (next_frame s frame).end → (with_frame s Fpdu frame).ended ≡ frame_end_by (readiness s) grants (next_frame s frame) (next_segment s frame)

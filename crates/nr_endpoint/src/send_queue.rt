@@ -1,19 +1,18 @@
 //! What a side has to write.
 
 ghost use Rattle.std.specs.Prelude.{◌≡◌, ℕ, ◌+◌, ◌-◌, ◌^◌, ◌<◌, ◌≤◌, [], ◌++◌, if◌then◌else◌, length, take, drop, All, IfOk, OnOk, OnErr, MatchResult, min};
-ghost use Rattle.std.specs.Bool.{OnTrue};
 ghost use Rattle.std.specs.Io.KnownBytes.{Appends};
 ghost use Rattle.nr_wire.specs.Constants.{PRIVATE_MAX};
 ghost use Rattle.nr_wire.specs.Hello.{hello_encoding};
 ghost use Rattle.nr_link.specs.Output.{refusing_hello};
-ghost use Rattle.nr_link.specs.Ending.{final_output, rejection};
 ghost use Rattle.nr_endpoint.specs.Judging.{reply_hello};
 ghost use Rattle.nr_outside.specs.Faults.{Rises};
 ghost use Rattle.nr_endpoint.specs.Requesting.{with_read_requests};
 ghost use Rattle.nr_endpoint.specs.Offering.{FitsRegion, FitsSharedRegion, shared_output, writes_output};
-ghost use Rattle.nr_endpoint.specs.SendQueue.{initial_queue, output_len, with_hello, with_fpdus, with_send, with_send_by, with_write, with_request, with_response, with_end, terminate_by, writable, written, ends_left, ends_passed};
+ghost use Rattle.nr_endpoint.specs.SendQueue.{initial_queue, output_len, with_hello, with_fpdus, with_send, with_send_by, with_write, with_request, with_response, with_end, writable, written, ends_left, ends_passed};
 
 use crate::constants::{OPEN_READS_MAX, SEGMENT_MAX};
+use crate::ending::{is_rejection, terminate_word};
 use crate::framing::{
     Operation, RemoteWrite, append_segments, cut_room, joined, push_answer, push_cut,
     push_long_answer, push_send, push_terminate, sender,
@@ -23,10 +22,8 @@ use crate::requests::{REQUEST_ROOM, RemoteRead, append_request, append_requests}
 use crate::sharing::{SharedWrite, push_shared_answer};
 use bytes::BytesMut;
 use nr_link::End;
-use nr_link::constants::{WORD_BOUNDS, WORD_NO_BUFFER, WORD_NO_STAG, WORD_RIGHT};
 use nr_outside::{Failed, Sink};
-use nr_regions::Denied;
-use nr_wire::constants::{FLAG_REJECT, REASON_FLAGS, REASON_PRIVATE};
+use nr_wire::constants::FLAG_REJECT;
 use nr_wire::{Hello, Side, write_hello};
 use nr_xdr::Memory;
 use std::alloc::Global;
@@ -79,43 +76,6 @@ fn push_hello(
     )?;
     out.extend_from_slice(hello.as_slice())?;
     Ok(())
-}
-
-/// The word of the Terminate that a side writes last, if it writes one (RFC 5040 section 4.8; the words are own).
-#[tactic(auto, unfolding(nr_link::specs::Ending::final_output))]
-fn terminate_word(end: End) -> Option<u32>
-    ensures { final_output end ≡ terminate_by result }
-{
-    match end {
-        End::Bad { at: _, reason } => {
-            if reason <= REASON_PRIVATE {
-                None
-            } else {
-                Some(reason)
-            }
-        }
-        End::Denied { why, .. } => Some(match why {
-            Denied::NoStag => WORD_NO_STAG,
-            Denied::Bounds => WORD_BOUNDS,
-            Denied::Right => WORD_RIGHT,
-        }),
-        End::NoBuffer { msn: _ } => Some(WORD_NO_BUFFER),
-        End::Terminated { reason: _ } => None,
-        End::Memory => None,
-    }
-}
-
-/// Whether a side answers this end by a hello that rejects the connection (RFC 5044 section 7.1).
-/// Such an end has no Terminate.
-#[tactic(auto, unfolding(nr_link::specs::Ending::final_output))]
-fn is_rejection(side: Side, end: End) -> bool
-    ensures is { rejection side end ≡ (if result then refusing_hello else []) }
-    ensures alone { OnTrue result (final_output end ≡ []) }
-{
-    match (side, end) {
-        (Side::Responder, End::Bad { at: _, reason }) => reason == REASON_FLAGS,
-        _ => false,
-    }
 }
 
 /// Drops the first end if `n` more written bytes reach it, and answers 1. Else it goes to the back, counted from there on.

@@ -7,7 +7,7 @@ use crate::short_sink::ShortSink;
 use nr_endpoint::{DrainFault, Endpoint, Event, ReadRefused};
 use nr_link::{End, SideTerms};
 use nr_outside::MemSink;
-use nr_regions::{Registration, Right};
+use nr_regions::{Denied, Registration, Right};
 use nr_wire::Side;
 use nr_xdr::{Memory, Octets};
 use std::alloc::Global;
@@ -164,6 +164,22 @@ impl TestEndpoint {
     ) -> Result<(), Memory> {
         check(rt, front.len() + stream.len() < MANY);
         self.endpoint.send_parts(front, stream)
+    }
+
+    /// Queues a Send with Invalidate of the peer's region.
+    pub fn send_invalidate(
+        &mut self,
+        rt: &impl Abort,
+        message: &[u8],
+        stag: u32,
+    ) -> Result<(), Memory> {
+        check(rt, message.len() < MANY);
+        self.endpoint.send_invalidate(message, stag)
+    }
+
+    /// Lets the region under an STag die.
+    pub fn invalidate(&mut self, stag: u32) -> Result<(), Denied> {
+        self.endpoint.invalidate(stag)
     }
 
     /// Queues an RDMA Write of some bytes into the peer's region, from byte `to` on.
