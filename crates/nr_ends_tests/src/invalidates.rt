@@ -1,4 +1,4 @@
-//! Replies that name an STag of their call (RFC 5040 section 5.1): when they do, and what the client makes of them.
+//! Replies that name an STag of their call (RFC 5040 section 4.7): when they do, and what the client makes of them.
 
 use crate::calls::{ROWS, Row, Way, exchange, form};
 use crate::compare::same;
