@@ -10,9 +10,20 @@ use nr_responder::Sent;
 use std::alloc::Global;
 use std::process::Abort;
 
-/// Two ends after their hellos. Replies name an STag if both say so.
+/// Two ends of one unit after their hellos. Replies name an STag if both say so.
 fn greeted(rt: &impl Abort, alloc: Global, size: usize, invalidates: (bool, bool)) -> TestLink {
-    let mut link = TestLink::open_invalidating(rt, alloc, invalidates);
+    greeted_sized(rt, alloc, size, 1, invalidates)
+}
+
+/// Two ends of these units after their hellos.
+fn greeted_sized(
+    rt: &impl Abort,
+    alloc: Global,
+    size: usize,
+    units: u8,
+    invalidates: (bool, bool),
+) -> TestLink {
+    let mut link = TestLink::open_invalidating(rt, alloc, units, invalidates);
     same(rt, size, link.invalidates(), (false, false));
     let _hello = link.up(rt, alloc, size);
     let _back = link.down(rt, alloc, size);
@@ -65,6 +76,49 @@ fn replies_name_a_region(rt: HostRuntime) {
     }
 }
 
+/// A reply of 12,024 bytes, which goes in several frames, names the STag of a reply chunk that isn't used.
+fn in_frames(rt: &impl Abort, alloc: Global, size: usize) {
+    let row: Row = (Way::Reply(&[4]), 1, &[8, 0, 2], &[7; 3000], Sent::Inline);
+    let mut link = greeted_sized(rt, alloc, size, 16, (true, true));
+    exchange(rt, alloc, &mut link, 1, size, row);
+    same(rt, size, link.releases(), 0);
+    link.close();
+}
+
+#[test]
+fn replies_in_frames_name_one(rt: HostRuntime) {
+    for size in [7, 65536] {
+        in_frames(&rt, rt.alloc(), size);
+    }
+}
+
+/// The results of a READ of `hello`.
+static READ: [u32; 7] = [0, 0, 5, 1, 5, 0x68656c6c, 0x6f000000];
+
+/// The reply to a READ that was forgotten names its region, which the server can't reach any more when it is released.
+fn forgotten(rt: &impl Abort, alloc: Global, size: usize) {
+    let mut link = greeted(rt, alloc, size, (true, true));
+    let asked = call(rt, alloc, 6, &[8, 0, 2, 0, 0, 5]);
+    let ticket = link.submit(rt, asked, form(rt, alloc, Way::Chunk));
+    let _sent = link.up(rt, alloc, size);
+    link.forget(ticket);
+    let reply = reply(rt, alloc, 1, &READ);
+    let (_len, sent) = link.answer_len(rt, alloc, reply.as_slice());
+    same(rt, 1, sent, Sent::Inline);
+    let _answer = link.down(rt, alloc, size);
+    same(rt, 2, link.ends(), (None, None));
+    same(rt, 3, link.counts(), [0, 16, 0, 0, 0, 2]);
+    same(rt, 4, link.releases(), 0);
+    link.close();
+}
+
+#[test]
+fn forgotten_calls_are_named(rt: HostRuntime) {
+    for size in [1, 65536] {
+        forgotten(&rt, rt.alloc(), size);
+    }
+}
+
 /// The region of a call that is revoked is released while the server could reach it. The reply names its STag, which is not held any more: it
 /// changes nothing else.
 fn revoked(rt: &impl Abort, alloc: Global, size: usize) {
@@ -91,29 +145,27 @@ fn revoked_calls_are_named(rt: HostRuntime) {
     }
 }
 
-/// What both ends say; where the reply begins that names an STag that its call, a NULL call, wasn't given; the reason for which the client ends.
-static FOREIGN: [((bool, bool), u64, u32); 4] = [
+/// What both ends say; where the reply to a NULL call begins, and the STag that it names, which the call wasn't given; the reason for which the
+/// client ends.
+type Name = ((bool, bool), u64, u32, u32);
+
+static FOREIGN: [Name; 5] = [
     // The opcode isn't agreed (RFC 5040 section 4.8). A server's hello has terms only if the client's has.
-    ((false, false), 20, 8),
-    ((false, true), 20, 8),
-    ((true, false), 28, 8),
-    // The STag isn't of its call.
-    ((true, true), 28, 29),
+    ((false, false), 20, 7, 8),
+    ((false, true), 20, 7, 8),
+    ((true, false), 28, 7, 8),
+    // The STag isn't of its call; 0 is of none.
+    ((true, true), 28, 7, 29),
+    ((true, true), 28, 0, 29),
 ];
 
-fn foreign(
-    rt: &impl Abort,
-    alloc: Global,
-    size: usize,
-    row: usize,
-    cells: ((bool, bool), u64, u32),
-) {
-    let (invalidates, at, reason) = cells;
+fn foreign(rt: &impl Abort, alloc: Global, size: usize, row: usize, cells: Name) {
+    let (invalidates, at, stag, reason) = cells;
     let mut link = greeted(rt, alloc, size, invalidates);
     drop(link.submit(rt, call(rt, alloc, 0, &[]), Form::Auto));
     let _sent = link.up(rt, alloc, size);
     let mut reply = Vec::new(alloc);
-    put_named_reply(rt, &mut reply, 7);
+    put_named_reply(rt, &mut reply, stag);
     let end = End::Bad { at, reason };
     same(
         rt,
