@@ -129,9 +129,12 @@ impl Responder {
 
     /// Whether a reply may be a Send with Invalidate (RFC 5040 section 5.1), as the hellos of both sides agree. Takes no memory.
     pub fn invalidates(&self) -> bool
-        ensures { result ≡ self.now.side.link.state.agreed.invalidates }
+        ensures exact { result ≡ self.now.side.link.state.agreed.invalidates }
+        // Once the side has ended, it is what was agreed as it ended.
+        ensures of_run { end_of self.now.side ≢ Some ends.Memory → (opened : LinkParameters) (link : ℕ) (run : List Mark) → ResponderRepresents opened link run self.now.side →
+            result ≡ (server opened link run).state.invalidates }
     {
-        self.end.endpoint.invalidates()
+        self.end.invalidates()
     }
 
     /// Takes a piece of the client's stream. `Err` if and only if the side has ended, with why; a side that has ended takes no more.
