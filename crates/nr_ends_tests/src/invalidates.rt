@@ -3,9 +3,10 @@
 use crate::calls::{ROWS, Row, Way, exchange, form};
 use crate::compare::same;
 use crate::link::TestLink;
-use crate::words::{call, put_named_reply, reply};
+use crate::words::{bytes, call, put, put_named_reply, reply};
 use nr_link::End;
 use nr_reduce::Form;
+use nr_requester::{Buffers, Remains, Take};
 use nr_responder::Sent;
 use std::alloc::Global;
 use std::process::Abort;
@@ -182,6 +183,109 @@ fn other_names_are_refused(rt: HostRuntime) {
     for size in [1, 65536] {
         for (row, cells) in FOREIGN.iter().enumerate() {
             foreign(&rt, rt.alloc(), size, row, *cells);
+        }
+    }
+}
+
+/// The RDMA Writes of five bytes into each of the regions 1 and 2.
+static WRITTEN: [u32; 14] = [
+    0x0013c140, 1, 0, 0, 0x61626364, 0x65000000, 0, 0x0013c140, 2, 0, 0, 0x66676869, 0x6a000000, 0,
+];
+
+/// Both, and the reply to the READ with this xid as a Send with Invalidate that names this STag.
+fn written_and_named(rt: &impl Abort, alloc: Global, xid: u32, stag: u32) -> Vec<u8> {
+    let mut fed = bytes(rt, alloc, &WRITTEN);
+    put(rt, &mut fed, &[0x00464144, stag, 0, 2, 0, xid, 1, 16]);
+    put(rt, &mut fed, &[0, 0, 0, 0, xid, 1, 0, 0, 0, 0, 0]);
+    fed
+}
+
+/// Two READs of five bytes, with xids 2 and 3 and the regions 1 and 2. The server writes both, and then a reply to one that names the region of
+/// the other, which ends the client. The second goes back with its buffer as it was written.
+fn other_named(
+    rt: &impl Abort,
+    alloc: Global,
+    size: usize,
+    row: usize,
+    cells: (u32, u32),
+) -> TestLink {
+    let (xid, stag) = cells;
+    let mut link = greeted(rt, alloc, size, (true, true));
+    exchange(rt, alloc, &mut link, 1, size, ROWS[0]);
+    drop(link.submit(
+        rt,
+        call(rt, alloc, 6, &[8, 0, 2, 0, 0, 5]),
+        form(rt, alloc, Way::Chunk),
+    ));
+    let ticket = link.submit(
+        rt,
+        call(rt, alloc, 6, &[8, 0, 2, 0, 0, 5]),
+        form(rt, alloc, Way::Chunk),
+    );
+    let _sent = link.up(rt, alloc, size);
+    let fed = written_and_named(rt, alloc, xid, stag);
+    let end = End::Bad {
+        at: 160,
+        reason: 29,
+    };
+    same(
+        rt,
+        row,
+        link.pieces_down(rt, fed.as_slice(), size),
+        Err(end),
+    );
+    is_failed(rt, row, &link.take(ticket), end, b"fghij");
+    same(rt, row, link.releases(), 1);
+    link
+}
+
+/// The bytes of the buffer for a write chunk.
+fn write_of(buffers: &Buffers) -> Option<&[u8]> {
+    match &buffers.write {
+        Some(buffer) => Some(buffer.as_slice()),
+        None => None,
+    }
+}
+
+/// Ends the test if a call didn't fail for this end, with these bytes in its write chunk.
+fn is_failed(rt: &impl Abort, row: usize, take: &Take, end: End, written: &[u8]) {
+    match take {
+        Take::Failed {
+            buffers,
+            end: why,
+            ..
+        } => {
+            same(rt, row, *why, end);
+            same(rt, row, write_of(buffers) == Some(written), true);
+        }
+        _ => panic!(rt; "row {row}: the call didn't fail"),
+    }
+}
+
+/// Ends the test if the next call that goes back has other bytes in its write chunk.
+fn goes_back(rt: &impl Abort, row: usize, remains: &mut Remains, written: &[u8]) {
+    match remains.next() {
+        Some((_call, buffers)) => same(rt, row, write_of(&buffers) == Some(written), true),
+        None => panic!(rt; "row {row}: no call goes back"),
+    }
+}
+
+/// The first READ goes back with its buffer, too.
+fn others_stay(rt: &impl Abort, alloc: Global, size: usize, row: usize, cells: (u32, u32)) {
+    let mut remains = other_named(rt, alloc, size, row, cells)
+        .into_client()
+        .dismantle();
+    goes_back(rt, row, &mut remains, b"abcde");
+}
+
+/// The xid of the reply, and the STag that it names.
+static OTHERS: [(u32, u32); 2] = [(2, 2), (3, 1)];
+
+#[test]
+fn other_calls_stay_as_written(rt: HostRuntime) {
+    for size in [1, 65536] {
+        for (row, cells) in OTHERS.iter().enumerate() {
+            others_stay(&rt, rt.alloc(), size, row, *cells);
         }
     }
 }
