@@ -14,6 +14,10 @@ ghost use Rattle.nr_plain.specs.Journal.{nfs_procedure_of, cost_of};
 ghost use Rattle.nr_plain.specs.Replies.{nfs_by_procedure, nfs_call, mount_call, program_call, call_by_cred, cred_refusal, answer_to};
 ghost use Rattle.nr_plain.specs.ReplySizes.{any_reply_max};
 ghost use Rattle.nr_plain.specs.Stands.{RepresentsJournal, ExecutesCall, IsCause, state_kept, state_after_answer};
+ghost use Rattle.nr_plain.specs.Numbered.{IsFound, IsRefusedBy, IsSameButRoom};
+ghost use Rattle.nr_cache.specs.Caches.{HasClient, RemembersAll, found_by};
+ghost use Rattle.nr_cache.specs.Entries.{KeptEntry, found_for};
+ghost use Rattle.nr_cache.specs.Entries.Finding.{NewCall};
 
 use crate::call::{Call, Change, Request};
 use crate::caller::{caller, time};
@@ -21,6 +25,8 @@ use crate::dispatch::run;
 use crate::encoding::{accepted_head, refused};
 use crate::fault::Fault;
 use crate::mount;
+use crate::numbered::NumberedFault;
+use nr_cache::{Cache, Found};
 use nr_nfs_base::{
     MOUNT_PROGRAM, MOUNT_VERSION, MountProcedure, NFS_PROGRAM, NFS_VERSION, NfsProcedure, Numbered,
     Verifier,
@@ -32,8 +38,8 @@ use nr_xdr::{Memory, Octets};
 use std::alloc::Global;
 use std::marker::Model;
 
-/// A serial RPC server of NFS and MOUNT. It stands for its journal and does not keep it: what it keeps is the tree, and
-/// the length and the cost of the journal.
+/// A serial RPC server of NFS and MOUNT. It stands for its journal and does not keep it: what it keeps is the tree, the
+/// length and the cost of the journal, and replies of clients that have a number.
 #[derive(Drop)]
 pub struct Server {
     tree: Tree,
@@ -42,18 +48,19 @@ pub struct Server {
     capacity: u64,
     verifier: Verifier,
     export: Octets,
+    cache: Option<Cache>,
 }
 
 impl Model for Server {
-    ghost use Rattle.nr_plain.specs.Stands.{PlainServerState, kept_code, IsServing};
+    ghost use Rattle.nr_plain.specs.Stands.{PlainServerState, cache_kept, kept_code, IsServing};
 
     ghost Value = { PlainServerState };
 
     ghost coded = { kept_code };
 
-    ghost view = { λ s. record { tree = s.tree; count = s.count; cost = s.cost; parameters = record { capacity = s.capacity; verifier = s.verifier; export = s.export } } };
+    ghost view = { λ s. record { tree = s.tree; count = s.count; cost = s.cost; parameters = record { capacity = s.capacity; verifier = s.verifier; export = s.export }; cache = cache_kept s.cache } };
 
-    ghost invariant = { λ s. IsServing (record { tree = s.tree; count = s.count; cost = s.cost; parameters = record { capacity = s.capacity; verifier = s.verifier; export = s.export } }) };
+    ghost invariant = { λ s. IsServing (record { tree = s.tree; count = s.count; cost = s.cost; parameters = record { capacity = s.capacity; verifier = s.verifier; export = s.export }; cache = cache_kept s.cache }) };
 }
 
 /// The reply to a call, also to one that is refused or is no NFS procedure.
@@ -95,6 +102,7 @@ impl Server {
             capacity,
             verifier,
             export,
+            cache: None,
         }
     }
 
@@ -121,6 +129,7 @@ impl Server {
         ensures call { IfOk result (λ _. IsOk (call_of payload.now)) }
         ensures limit { IfOk result (λ r. length r.payload ≤ any_reply_max) }
         ensures cause { IfErr result (λ e. IsCause e (call_of payload.now)) }
+        ensures cache { self.new.cache ≡ self.old.cache }
         ensures err { OnErr result (self.new ≡ self.old) }
     {
         let place = self.count;
@@ -135,6 +144,70 @@ impl Server {
             payload: reply?,
             place,
         })
+    }
+
+    /// Makes the room for the replies of a client.
+    pub(crate) fn make_ready(&mut self, alloc: Global, client: u64) -> Result<(), Memory>
+        requires { client ≢ 0 }
+        ensures room { OnOk result (HasClient self.new.cache client) }
+        ensures same { IsSameButRoom self.old self.new }
+    {
+        let cache = match self.cache.take() {
+            Some(cache) => cache,
+            None => Cache::new(alloc),
+        };
+        self.ready_in(cache, client)
+    }
+
+    /// The same, of the cache that the server had, which is put back.
+    fn ready_in(&mut self, mut cache: Cache, client: u64) -> Result<(), Memory>
+        requires { client ≢ 0 }
+        ensures room { OnOk result (HasClient self.new.cache client) }
+        ensures rest { record self.new { cache = self.old.cache } ≡ self.old }
+        ensures replies { (E : List KeptEntry) → RemembersAll E cache → RemembersAll E self.new.cache }
+    {
+        let made = cache.ready(client);
+        self.cache = Some(cache);
+        made
+    }
+
+    /// The reply of a call that is kept, with its place; `None` for a new one.
+    pub(crate) fn remembered(
+        &self,
+        alloc: Global,
+        client: u64,
+        xid: u32,
+    ) -> Result<Option<Reply>, NumberedFault>
+        requires { client ≢ 0 }
+        ensures found { IfOk result (λ r. IsFound r (found_by self.now.cache client xid)) }
+        ensures refused { IfErr result (λ e. IsRefusedBy e (found_by self.now.cache client xid)) }
+        ensures exact { (E : List KeptEntry) → RemembersAll E self.now.cache → found_by self.now.cache client xid ≡ found_for E client xid }
+    {
+        let Some(cache) = &self.cache else {
+            return Ok(None);
+        };
+        match cache.find(client, xid) {
+            Found::Old { top } => Err(NumberedFault::Old { top }),
+            Found::New => Ok(None),
+            Found::Kept { place, reply } => Ok(Some(Reply {
+                payload: Octets::from_slice(alloc, reply)?,
+                place,
+            })),
+        }
+    }
+
+    /// Keeps the reply of a new call of a client.
+    pub(crate) fn keep(&mut self, client: u64, xid: u32, place: u64, reply: Octets)
+        requires number { client ≢ 0 }
+        requires room { HasClient self.old.cache client }
+        requires new { found_by self.old.cache client xid ≡ NewCall }
+        ensures rest { record self.new { cache = self.old.cache } ≡ self.old }
+        ensures kept { (E : List KeptEntry) → RemembersAll E self.old.cache →
+            RemembersAll (E ++ record { client = client; xid = xid; place = place; reply = reply } ∷ []) self.new.cache }
+    {
+        if let Some(cache) = &mut self.cache {
+            cache.keep(client, xid, place, reply);
+        }
     }
 
     /// What a call finds beside the tree.
