@@ -1,6 +1,6 @@
 -- The calls of clients that have a number: what a call is by the journal, and what the server makes of it. Each change of such a client takes
 -- effect once (own; RFC 1813 section 4.5 says why a server needs it).
-use Rattle.std.specs.Prelude.{◌≡◌, ◌≢◌, ⊥, ⊤, ℕ, ◌+◌, Bool, false, not, ◌&&◌, ◌==◌, if◌then◌else◌, List, [], ◌∷◌, ◌++◌, length, Option, None, Some, Result, Ok, Err}
+use Rattle.std.specs.Prelude.{◌≡◌, ◌≢◌, ⊥, ⊤, ℕ, ◌+◌, Bool, false, not, ◌&&◌, ◌==◌, if◌then◌else◌, List, [], ◌∷◌, ◌++◌, length, Option, None, Some, Result, Ok, Err, All}
 use Rattle.nr_outside.specs.declared.moment.Moment.{Moment}
 use Rattle.nr_rpc.specs.Reading.{call_of}
 use Rattle.nr_rpc.specs.declared.head.CallHead.{CallHead}
@@ -124,8 +124,12 @@ journal_after s T [] = T
 journal_after s T (c ∷ calls) = journal_after s (T ++ added_for s T c) calls
 
 -- no two entries have the same client other than 0 and the same xid
+abbrev pub IsOther : TaggedEntry → TaggedEntry → Type 0
+IsOther t u = u.client ≡ t.client → u.xid ≢ t.xid
+
 abbrev pub NoEntryTwice : List TaggedEntry → Type 0
-NoEntryTwice T = (before between after : List TaggedEntry) (t u : TaggedEntry) → T ≡ before ++ t ∷ (between ++ u ∷ after) → t.client ≢ 0 → t.client ≡ u.client → t.xid ≢ u.xid
+NoEntryTwice [] = ⊤
+NoEntryTwice (t ∷ T) = (t.client ≢ 0 → All (IsOther t) T) × NoEntryTwice T
 
 -- Over every list of calls, whatever they are and whatever their replies say.
 abbrev pub ChangesOnce : Type 0
