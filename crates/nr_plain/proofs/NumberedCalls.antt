@@ -3,7 +3,7 @@ use Rattle.std.proofs.Common.{◌≡◌, ℕ, ◌+◌, suc, Bool, true, false, c
 use Rattle.std.specs.Prelude.{◌≢◌}
 use Rattle.std.specs.FinMap.{empty}
 use Rattle.std.proofs.lemmas.Bool.{eqb-true, eqb-false}
-use Rattle.std.proofs.lemmas.List.{append-nil}
+use Rattle.std.proofs.lemmas.List.{append-nil, length-map, map-append}
 use Rattle.nr_outside.specs.declared.moment.Moment.{Moment}
 use Rattle.nr_rpc.specs.Reading.{call_of, head_xid}
 use Rattle.nr_rpc.specs.declared.head.CallHead.{CallHead}
@@ -20,9 +20,12 @@ use Rattle.nr_plain.specs.Setup.{Parameters, Setup, State}
 use Rattle.nr_plain.specs.Journal.{first_state, next_state, state_after, state_of, nfs_procedure_of}
 use Rattle.nr_plain.specs.Replies.{Answer, answer_to, call_by_cred, cred_refusal, entries_if, mount_call, nfs_by_arguments, nfs_by_procedure, nfs_call, program_call, refusal}
 use Rattle.nr_plain.specs.History.{entries_added, entries_alone, tagged, xid_in}
-use Rattle.nr_plain.specs.Numbered.{answer_of_entry, kept_entry, kept_from, kept_replies}
+use Rattle.nr_plain.specs.Added.{entries_of_call}
+use Rattle.nr_plain.specs.Stands.{PlainServerState, RepresentsJournal, ExecutesCall}
+use Rattle.nr_plain.specs.Numbered.{ExecutesTagged, answer_of_entry, kept_entry, kept_from, kept_replies}
 use Rattle.nr_plain.specs.declared.history_entry.TaggedEntry.{TaggedEntry}
 use Rattle.nr_plain.proofs.Serving.{mount_none}
+use Rattle.nr_plain.proofs.Histories.{tagged_alone}
 
 -- ===== one list of entries after the other
 
@@ -107,3 +110,50 @@ remembers_none (e ∷ E) is = absurd (own (eqb e.client e.client) refl (is e.cli
     own : (b : Bool) → eqb e.client e.client ≡ b → cond b (e ∷ entries_of e.client E) (entries_of e.client E) ≡ [] → ⊥
     own true same none = cc
     own false same none = eqb-false e.client e.client same refl
+
+-- ===== one call more
+
+-- the entries of the journal, alone
+abbrev grows : (s : Setup) (T : List TaggedEntry) (client : ℕ) (m : Moment) (payload reply : List ℕ) → Type 0
+grows s T client m payload reply = entries_alone (T ++ entries_added client m payload reply) ≡ entries_alone T ++ entries_of_call m payload reply
+
+pub alone_added : (s : Setup) (T : List TaggedEntry) (client : ℕ) (m : Moment) (payload reply : List ℕ) → grows s T client m payload reply
+alone_added s T client m payload reply =
+    map-append (λ (t : TaggedEntry). t.entry) T (entries_added client m payload reply)
+    ∙ ap (λ (l : List Entry). entries_alone T ++ l) (tagged_alone client (xid_in payload) (entries_of_call m payload reply))
+
+-- what it remembers
+pub executes_with : (s : Setup) (T : List TaggedEntry) (client : ℕ) (m : Moment) (payload reply : List ℕ) (place : ℕ) (new : PlainServerState) →
+    ExecutesCall s (entries_alone T) m payload reply place new → RemembersAll (kept_replies s (T ++ entries_added client m payload reply)) new.cache →
+    ExecutesTagged s T client m payload reply place new
+executes_with s T client m payload reply place new is remembers = record {
+  replied = is.replied;
+  place_is = is.place_is ∙ length-map T (λ (t : TaggedEntry). t.entry);
+  stands = record {
+    journal = subst (λ (J : List Entry). RepresentsJournal s J new) (sym (alone_added s T client m payload reply)) is.stands;
+    remembers = remembers;
+  };
+}
+
+-- a call that adds no entry, or is of a client without a number
+pub kept_none_added : (s : Setup) (T : List TaggedEntry) (client : ℕ) (m : Moment) (payload reply : List ℕ) → entries_of_call m payload reply ≡ [] →
+    kept_replies s (T ++ entries_added client m payload reply) ≡ kept_replies s T
+kept_none_added s T client m payload reply none =
+    ap (λ (es : List Entry). kept_replies s (T ++ map (tagged client (xid_in payload)) es)) none ∙ ap (kept_replies s) (append-nil T)
+
+-- a change of a client with a number
+pub kept_one_added : (s : Setup) (T : List TaggedEntry) (client : ℕ) (m : Moment) (payload reply : List ℕ) (e : Entry) → client ≢ 0 → entries_of_call m payload reply ≡ e ∷ [] →
+    reply ≡ (answer_of_entry s.parameters (state_of s (entries_alone T)) (xid_in payload) e).reply →
+    kept_replies s (T ++ entries_added client m payload reply) ≡ kept_replies s T ++ record { client = client; xid = xid_in payload; place = length T; reply = reply } ∷ []
+kept_one_added s T client m payload reply e numbered one is =
+    ap (λ (es : List Entry). kept_replies s (T ++ map (tagged client (xid_in payload)) es)) one
+    ∙ kept_append s.parameters (first_state s) 0 T (tagged client (xid_in payload) e ∷ [])
+    ∙ ap (λ (E : List KeptEntry). kept_replies s T ++ E) (by (eqb client 0) refl)
+  where
+    by : (b : Bool) → eqb client 0 ≡ b →
+        kept_entry s.parameters (state_of s (entries_alone T)) (0 + length T) (cond b (record { entry = e; client = 0; xid = 0 }) (record { entry = e; client = client; xid = xid_in payload })) ++ []
+        ≡ record { client = client; xid = xid_in payload; place = length T; reply = reply } ∷ []
+    by true same = absurd (numbered (eqb-true client 0 same))
+    by false same =
+        ap (λ (b : Bool). cond b [] (record { client = client; xid = xid_in payload; place = length T; reply = (answer_of_entry s.parameters (state_of s (entries_alone T)) (xid_in payload) e).reply } ∷ []) ++ []) same
+        ∙ ap (λ (r : List ℕ). record { client = client; xid = xid_in payload; place = length T; reply = r } ∷ []) (sym is)
