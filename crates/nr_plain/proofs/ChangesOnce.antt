@@ -54,10 +54,10 @@ module _ (prm : Parameters) (client xid : ℕ) (numbered : client ≢ 0) where
   others_from st place [] is = All-nil (HasOther client xid)
   others_from st place (t ∷ T) is = by (eqb t.client 0) refl is
     where
-      abbrev kept : KeptEntry
+      kept : KeptEntry
       kept = record { client = t.client; xid = t.xid; place = place; reply = (answer_of_entry prm st t.xid t.entry).reply }
 
-      abbrev more : List KeptEntry
+      more : List KeptEntry
       more = kept_from prm (next_state prm st t.entry) (place + 1) T
 
       by : (b : Bool) → eqb t.client 0 ≡ b → find (is_of_xid xid) (entries_of client (cond b [] (kept ∷ []) ++ more)) ≡ None → All (HasOther client xid) (t ∷ T)
