@@ -14,12 +14,10 @@ use Rattle.nr_regions.specs.Access.{Allowed, Grant, TaggedSegment, access_of_tag
 use Rattle.nr_regions.proofs.Contents.{allowed_iff}
 use Rattle.nr_link.specs.declared.end.End.{End as Stop}
 use Rattle.nr_link.specs.ReceiveState.{ReadRequest, read_request_of, read_request_in}
-use Rattle.nr_link.specs.Ending.{tagged_access}
 use Rattle.nr_link.specs.Ending as ending
 use Rattle.nr_reduce.specs.Events.{RunEvent, events}
 use Rattle.nr_reduce.specs.Events.RunEvent.{FrameReceived, CallSubmitted, MemoryRevoked, CallExecuted, QueueWritten, ServerTold}
 use Rattle.nr_link.specs.Frames.{Frame, is_hello}
-use Rattle.nr_link.specs.Ending.{final_output}
 use Rattle.nr_reduce.specs.declared.mark.LinkParameters.{LinkParameters}
 use Rattle.nr_reduce.specs.EndRules.{EndMachine, EndState, output_for_by, output_for_in, next_end_state, next_end_state_by, next_end_state_in, end_state_after}
 use Rattle.nr_reduce.specs.OfferedRegions.{Region, region_grants, region_bytes, region_bytes_by}

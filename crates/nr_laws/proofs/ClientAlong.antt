@@ -8,7 +8,7 @@ use Rattle.nr_link.specs.declared.end.End.TheVariants as ends
 use Rattle.nr_link.specs.Frames.{Frame, is_hello}
 use Rattle.nr_link.specs.ReceiveState.{ReadRequest, read_request_of, message_completed}
 use Rattle.nr_link.specs.SegmentFaults.{segment_reason}
-use Rattle.nr_link.specs.Ending.{frame_segment, missing_access, is_hello_reason}
+use Rattle.nr_link.specs.Ending.{missing_access, is_hello_reason}
 use Rattle.nr_link.proofs.TakenSegments.{taken_read}
 use Rattle.nr_reduce.proofs.OwnLimits.{ClientLimits}
 use Rattle.nr_reduce.specs.declared.mark.LinkParameters.{LinkParameters}

@@ -270,7 +270,7 @@ frame_answers opened es k outs f own stays h = by (is_hello f) refl
         (outs ++ cond b (call_sends opened 1 k.outstanding) (response_outputs k f.end (segment_request (client_segment k f))))
     by true first =
         quiet_answers opened es (FrameReceived f) k (with_hello opened k f) None None outs (call_sends opened 1 k.outstanding) (tagged_sends opened 1 k.outstanding)
-        (λ n. (refl, (λ i. cond (first i) [] (heard_by (client_segment k f)) ++ []))) (λ a d. d) h
+        (λ n. (refl, (λ i. cond (first i) [] (heard_by (segment_of f.bytes)) ++ []))) (λ a d. d) h
     by false behind = heard_answers opened es k outs f own behind stays h (client_segment k f) refl
 
 ended_answers : (opened : LinkParameters) (es : List RunEvent) (k : ClientState) (ended : Option Stop) (end : Stop) (outs more : List Output) (e : RunEvent) → tagged_in more ≡ [] → ClientAnswers opened es k ended outs → ClientAnswers opened (es ++ e ∷ []) k (Some end) (outs ++ more)

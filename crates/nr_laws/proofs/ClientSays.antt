@@ -17,7 +17,7 @@ use Rattle.nr_link.specs.Frames.{Frame, is_hello}
 use Rattle.nr_link.specs.Reasons.{REASON_MSN, REASON_OFFSET, REASON_FORM, REASON_REQUESTS, REASON_SHORT, REASON_LONG}
 use Rattle.nr_link.specs.SegmentFaults.{Readiness, SegmentReason, segment_reason, reason_if, next_msn, next_offset, no_buffer, is_malformed, missing_fault, is_too_many, message_length_is, terminate_fault}
 use Rattle.nr_link.specs.ReceiveState.{ReadRequest, read_request_in, read_request_of, message_completed, is_send}
-use Rattle.nr_link.specs.Ending.{frame_end, frame_end_by, end_of_fault, hello_end, missing_access}
+use Rattle.nr_link.specs.Ending.{frame_end_by, end_of_fault, hello_end, missing_access}
 use Rattle.nr_reduce.proofs.OwnLimits.{ClientLimits}
 use Rattle.nr_reduce.specs.declared.mark.LinkParameters.{LinkParameters}
 use Rattle.nr_reduce.specs.declared.outline.Plan.{Plan}

@@ -40,6 +40,7 @@ use Rattle.nr_laws.proofs.Outcomes.{client_by, WasGiven, outcome_given}
 use Rattle.nr_laws.proofs.OwnXids.{OwnXids, below_next, own_xids_came, own_xids_accepts, own_xids_writes}
 use Rattle.nr_laws.proofs.RevokedEvents.{NoRevoke, no_revoke, revoke_at}
 use Rattle.nr_laws.proofs.Revoked.{frame_regions, request_regions}
+use Rattle.nr_laws.proofs.ReadFrames.{client_read}
 
 -- ---- The xids of outstanding calls are below the one that is given next
 
@@ -188,7 +189,7 @@ closed_by_outcome opened link run c typed asked w =
     let under = found_below _ k.next_xid k.outstanding by.call by.is_call (below_next opened k numbers.follow) in
     let same = by.call_xid in
     let now : HasClosedRegions opened c.xid (client_state_after opened k (FrameReceived w.frame)) =
-    closed_frame opened k w.frame w.segment w.message c.xid w.behind w.is_segment w.whole (verdict_xid k w.frame.end w.message c.xid (Some c.outcome) w.given) (omega (arith, under, same)) in
+    closed_frame opened k w.frame w.segment w.message c.xid w.behind (client_read k w.frame w.behind w.stays ∙ w.is_segment) w.whole (verdict_xid k w.frame.end w.message c.xid (Some c.outcome) w.given) (omega (arith, under, same)) in
     let after : EndState ClientState = next_end_state rules before (FrameReceived w.frame) in
     let is_after : after ≡ record { state = client_state_after opened k (FrameReceived w.frame); ended = None } =
     ap (λ (o : Option Stop). next_end_state_in rules k (FrameReceived w.frame) o) w.live ∙ ap (λ (o : Option Stop). next_end_state_by rules k (FrameReceived w.frame) o) w.stays in

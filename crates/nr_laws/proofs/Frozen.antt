@@ -10,7 +10,7 @@ use Rattle.nr_regions.specs.RegisteredMemory.{denial_in}
 use Rattle.nr_link.specs.declared.end.End.{End as Stop}
 use Rattle.nr_link.specs.Frames.{Frame, is_hello, frames_completed}
 use Rattle.nr_link.specs.ReceiveState.{message_completed, read_request_of}
-use Rattle.nr_link.specs.Ending.{tagged_access, missing_access}
+use Rattle.nr_link.specs.Ending.{tagged_access}
 use Rattle.nr_reduce.specs.declared.call.Submission.TheVariants as submissions
 use Rattle.nr_reduce.specs.declared.mark.Mark.{Mark}
 use Rattle.nr_reduce.specs.declared.mark.Mark.TheVariants as marks

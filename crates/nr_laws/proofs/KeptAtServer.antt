@@ -37,6 +37,7 @@ use Rattle.nr_laws.proofs.PendingFrames.{pending_agree_tagged_up}
 use Rattle.nr_laws.proofs.PendingExecuted.{pending_agree_executes}
 use Rattle.nr_laws.proofs.PendingReads.{AreOwn, own_effect, own_executed}
 use Rattle.nr_laws.proofs.Basics.{each_kept}
+use Rattle.nr_laws.proofs.ReadContents.{carries_tagged}
 
 pub record KeptAtServer (k : ServerState) : Type 0 where
   pub agree : PendingAgree k
@@ -56,7 +57,7 @@ agree_frame : (opened : LinkParameters) (s : ServerState) (f : Frame) → is_hel
 agree_frame opened s f behind (Err reason) is agree goes_on =
     subst PendingAgree (sym (after_is_lem opened s f (Err reason) behind is)) (pending_agree_same s (with_by s f (Err reason) (effect_in s f (Err reason))) agree refl refl (append-nil s.ready) (omega arith))
 agree_frame opened s f behind (Ok (Tagged last opcode stag to payload)) is agree goes_on =
-    pending_agree_tagged_up opened s f last opcode stag to payload agree (record { behind = behind; segment = Tagged last opcode stag to payload; is_segment = refl; reads = is }) goes_on
+    pending_agree_tagged_up opened s f last opcode stag to payload agree (carries_tagged s.received.sends s.received.requests f last opcode stag to payload behind is) goes_on
 agree_frame opened s f behind (Ok (Untagged last opcode w queue msn offset payload)) is agree goes_on =
     let segment : Segment = Untagged last opcode w queue msn offset payload in
     let after = after_is_lem opened s f (Ok segment) behind is in

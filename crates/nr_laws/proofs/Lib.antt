@@ -210,3 +210,7 @@ pub mod PlainOutputs
 pub mod NamedReplies
 pub mod PlainSegments
 pub mod NamedStags
+pub mod GivenStags
+pub mod NamedStagsDead
+pub mod ReadContents
+pub mod NamedFrames

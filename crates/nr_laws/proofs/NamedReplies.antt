@@ -1,12 +1,12 @@
 -- A message that names an STag is judged as one that names none, unless the STag isn't of its call.
-use Rattle.std.proofs.Common.{◌≡◌, ◌≢◌, ℕ, Bool, true, false, cond, List, Option, None, Some, Result, refl, sym, ap, ◌∙◌}
+use Rattle.std.proofs.Common.{◌≡◌, ◌≢◌, ℕ, Bool, true, false, cond, List, Option, None, Result, sym, ap}
 use Rattle.nr_wire.specs.Segment.{Segment}
 use Rattle.nr_link.specs.declared.end.End.{End as Stop}
 use Rattle.nr_link.specs.Frames.{Frame}
 use Rattle.nr_link.specs.Reasons.{REASON_INVALIDATED}
 use Rattle.nr_reduce.specs.ClientState.{ClientState}
 use Rattle.nr_reduce.specs.ClientMessages.{ReplyVerdict, reply_verdict, invalidates_another, message_verdict}
-use Rattle.nr_reduce.specs.ClientMessages.ReplyVerdict.{EndsLink, GivesOutcome}
+use Rattle.nr_reduce.specs.ClientMessages.ReplyVerdict.{EndsLink}
 use Rattle.nr_reduce.specs.Client.{client_message_end, end_of_verdict, segment_message, segment_names}
 
 -- why a client ends for the message that a segment completes

@@ -21,7 +21,7 @@ or_word (Some stag) b h g = h
 
 read_word : (read : List ReadSegment) → EntriesFit read → IsStagWord (read_handle read)
 read_word [] h = tt
-read_word (r ∷ read) h = h.0.1.0
+read_word (r ∷ read) h = h.0.1
 
 chunk_word : (chunk : List RdmaSegment) → SegmentsFit chunk → IsStagWord (first_handle chunk)
 chunk_word [] h = tt

@@ -170,5 +170,5 @@ outcome_said opened link run typed asked served matched c there =
       behind = at.later ++ r.left;
       parts = parts;
       brings = at.brings;
-      said = t.said at.earlier w.segment (at.later ++ r.left) w.message parts one;
+      said = (t.said at.earlier w.segment (at.later ++ r.left) w.message parts one).said;
     }

@@ -1,25 +1,28 @@
--- No segment that a client writes is of a Send with Invalidate.
-use Rattle.std.proofs.Common.{◌≡◌, ℕ, ◌+◌, Bool, true, false, cond, eqb, List, [], ◌∷◌, ◌++◌, map, take, drop, Option, None, Some, refl}
+-- No segment that a client writes is of a Send with Invalidate, and none that a server writes for a frame.
+use Rattle.std.proofs.Common.{◌≡◌, ℕ, ◌+◌, Bool, true, false, cond, ◌&&◌, eqb, List, [], ◌∷◌, ◌++◌, map, take, drop, Option, None, Some, refl, ap, subst}
 use Rattle.std.specs.List.{range_with_len}
 use Rattle.nr_wire.specs.declared.hello.Side.TheVariants.{Initiator}
 use Rattle.nr_wire.specs.Constants.{OPCODE_SEND_INVALIDATE}
 use Rattle.nr_wire.specs.Segment.{Segment, opcode_in}
+use Rattle.nr_wire.specs.Segment.Segment.{Tagged, Untagged}
 use Rattle.nr_link.specs.declared.end.End.{End as Stop}
 use Rattle.nr_link.specs.declared.end.End.TheVariants as ends
 use Rattle.nr_link.specs.Frames.{is_hello}
 use Rattle.nr_link.specs.Output.{segment_count}
-use Rattle.nr_link.specs.ReceiveState.{ReadRequest}
+use Rattle.nr_link.specs.ReceiveState.{ReadRequest, stag_invalidated}
 use Rattle.nr_link.specs.Ending.{is_hello_reason}
-use Rattle.nr_link.specs.Reasons.{denied_word, NO_BUFFER_WORD}
 use Rattle.nr_reduce.specs.declared.mark.Mark.{Mark}
 use Rattle.nr_reduce.specs.declared.mark.LinkParameters.{LinkParameters}
 use Rattle.nr_reduce.specs.Events.{RunEvent, events}
 use Rattle.nr_reduce.specs.Events.RunEvent.{FrameReceived, CallSubmitted, MemoryRevoked, CallExecuted, QueueWritten, ServerTold}
 use Rattle.nr_reduce.specs.EndRules.{EndState, next_end_state}
 use Rattle.nr_reduce.specs.ClientState.{ClientState, OutstandingCall, client_memory_at}
+use Rattle.nr_reduce.specs.ServerState.{PendingRead, ServerState}
+use Rattle.nr_reduce.specs.ServerFrames.{FrameEffect}
+use Rattle.nr_reduce.specs.Server.{newly_open_reads}
 use Rattle.nr_reduce.specs.Client.{client_segment, client_rules, client_end, initial_client, segment_request, outstanding_of}
 use Rattle.nr_laws.specs.MessageSegments.{message_segment}
-use Rattle.nr_laws.proofs.Outputs.{Output, message_outputs, message_of_call, call_sends, one_response, response_outputs, terminate_segment, final_outputs, client_says}
+use Rattle.nr_laws.proofs.Outputs.{Output, message_outputs, message_of_call, call_sends, message_sends, one_response, response_outputs, request_outputs, effect_outputs, terminate_segment, final_outputs, client_says}
 use Rattle.nr_laws.proofs.Outputs.Output.{AHello, ASegment}
 use Rattle.nr_laws.proofs.EventOutputs.{outputs_by, outputs_in, outputs_for, outputs_all}
 use Rattle.nr_laws.proofs.ClientRun.{client_outs}
@@ -46,7 +49,7 @@ plain_made : (f : ℕ → Segment) (is : List ℕ) → ((i : ℕ) → IsPlain (f
 plain_made f [] each = tt
 plain_made f (i ∷ is) each = (each i, plain_made f is each)
 
-plain_message : (msn : ℕ) (message : List ℕ) → ArePlain (message_outputs msn message)
+pub plain_message : (msn : ℕ) (message : List ℕ) → ArePlain (message_outputs msn message)
 plain_message msn message = plain_made (message_segment msn message) (range_with_len 0 (segment_count message)) (λ i. refl)
 
 plain_calls : (opened : LinkParameters) (msn : ℕ) (os : List OutstandingCall) → ArePlain (call_sends opened msn os)
@@ -104,3 +107,30 @@ plain_all opened r (e ∷ es) =
 pub client_plain : (opened : LinkParameters) (link : ℕ) (run : List Mark) → ArePlain (client_outs opened link run)
 unfolding client_outs
 client_plain opened link run = plain_all opened (initial_client opened) (events link Initiator run)
+
+-- ---- A server, for a frame
+
+plain_sends : (msn : ℕ) (ms : List (List ℕ)) → ArePlain (message_sends msn ms)
+plain_sends msn [] = tt
+plain_sends msn (m ∷ ms) = plain_append (message_outputs msn m) (message_sends (msn + 1) ms) (plain_message msn m) (plain_sends (msn + 1) ms)
+
+plain_requests : (msn : ℕ) (reads : List PendingRead) → ArePlain (request_outputs msn reads)
+plain_requests msn [] = tt
+plain_requests msn (r ∷ reads) = (refl, plain_requests (msn + 1) reads)
+
+pub plain_effect : (k : ServerState) (s : FrameEffect) → ArePlain (effect_outputs k s)
+plain_effect k s =
+    plain_append (message_sends (k.messages_queued + 1) s.errors) (request_outputs (k.requests_sent + 1) (newly_open_reads s)) (plain_sends (k.messages_queued + 1) s.errors) (plain_requests (k.requests_sent + 1) (newly_open_reads s))
+
+-- such a segment names no STag
+names_no_stag : (s : Segment) → IsPlain s → stag_invalidated s ≡ None
+names_no_stag (Tagged last opcode stag to payload) h = refl
+names_no_stag (Untagged last opcode w queue msn offset payload) h = ap (λ (b : Bool). cond (b && last) (Some w) None) h
+
+plain_one : (pre : List Output) (s : Segment) (post : List Output) → ArePlain (pre ++ ASegment s ∷ post) → IsPlain s
+plain_one [] s post h = h.0
+plain_one (AHello bytes ∷ pre) s post h = plain_one pre s post h
+plain_one (ASegment x ∷ pre) s post h = plain_one pre s post h.1
+
+pub names_none_at : (outs pre : List Output) (s : Segment) (post : List Output) → outs ≡ pre ++ ASegment s ∷ post → ArePlain outs → stag_invalidated s ≡ None
+names_none_at outs pre s post is h = names_no_stag s (plain_one pre s post (subst ArePlain is h))

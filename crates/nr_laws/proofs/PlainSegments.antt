@@ -1,19 +1,18 @@
 -- A segment of a Send with Invalidate, without the STag that it names: it is received as one of a plain Send.
-use Rattle.std.proofs.Common.{◌≡◌, ℕ, Bool, true, false, cond, eqb, List, Option, None, Some, Result, Ok, Err, refl, sym, ap, ◌∙◌}
+use Rattle.std.proofs.Common.{◌≡◌, ℕ, Bool, true, false, eqb, List, Option, None, Some, Result, Ok, Err, refl, sym, ap, ◌∙◌}
 use Rattle.std.proofs.lemmas.Bool.{eqb-true}
 use Rattle.nr_wire.specs.Constants.{OPCODE_SEND, OPCODE_SEND_INVALIDATE}
-use Rattle.nr_wire.specs.Segment.{Segment}
+use Rattle.nr_wire.specs.Segment.{Segment, opcode_in}
 use Rattle.nr_wire.specs.Segment.Segment.{Tagged, Untagged}
 use Rattle.nr_regions.specs.declared.denied.Denied.{Denied}
-use Rattle.nr_regions.specs.RegisteredMemory.{Access}
-use Rattle.nr_regions.specs.Access.{Grant, TaggedSegment}
-use Rattle.nr_link.specs.declared.end.End.{End}
+use Rattle.nr_regions.specs.Access.{Grant}
 use Rattle.nr_link.specs.Frames.{Frame}
-use Rattle.nr_link.specs.ReceiveState.{ReceiveState, ReadRequest, received_after, message_completed, read_request_of}
+use Rattle.nr_link.specs.ReceiveState.{ReceiveState, received_after, message_completed, read_request_of}
 use Rattle.nr_link.specs.SegmentFaults.{Readiness, SegmentReason, segment_reason}
-use Rattle.nr_link.specs.Ending.{tagged_access, access_of, missing_access, end_of_fault, frame_end_by}
+use Rattle.nr_link.specs.SegmentFaults.SegmentReason.{Reason, NoBuffer, AccessDenied, PeerTerminated}
+use Rattle.nr_link.specs.Ending.{tagged_access, missing_access, end_of_fault, frame_end_by}
 use Rattle.nr_reduce.specs.ClientState.{ClientState}
-use Rattle.nr_reduce.specs.Client.{client_segment, due_with_response, with_segment}
+use Rattle.nr_reduce.specs.Client.{client_segment, segment_message, segment_request, with_segment}
 
 abbrev plain_if : Bool → (last : Bool) → (opcode w queue msn offset : ℕ) → List ℕ → Segment
 plain_if true last opcode w queue msn offset payload = Untagged last OPCODE_SEND 0 queue msn offset payload
@@ -64,14 +63,14 @@ plain_reason r s = alike (segment_reason r) (λ last w queue msn offset payload.
 
 -- a fault ends the side for the same reason
 pub plain_end : (f : Frame) (s : Segment) (fault : Option (SegmentReason Denied)) → end_of_fault f (plain s) fault ≡ end_of_fault f s fault
-plain_end f s fault = alike (λ (x : Segment). end_of_fault f x fault) (λ last w queue msn offset payload. by fault) s
+plain_end f s fault = alike (λ (x : Segment). end_of_fault f x fault) (λ last w queue msn offset payload. by last w queue msn offset payload fault) s
   where
-    by : {last : Bool} {w queue msn offset : ℕ} {payload : List ℕ} (x : Option (SegmentReason Denied)) → end_of_fault f (Untagged last OPCODE_SEND 0 queue msn offset payload) x ≡ end_of_fault f (Untagged last OPCODE_SEND_INVALIDATE w queue msn offset payload) x
-    by None = refl
-    by (Some (Rattle.nr_link.specs.SegmentFaults.SegmentReason.Reason reason)) = refl
-    by (Some (Rattle.nr_link.specs.SegmentFaults.SegmentReason.NoBuffer msn)) = refl
-    by (Some (Rattle.nr_link.specs.SegmentFaults.SegmentReason.AccessDenied why)) = refl
-    by (Some (Rattle.nr_link.specs.SegmentFaults.SegmentReason.PeerTerminated word)) = refl
+    by : (last : Bool) (w queue msn offset : ℕ) (payload : List ℕ) (x : Option (SegmentReason Denied)) → end_of_fault f (Untagged last OPCODE_SEND 0 queue msn offset payload) x ≡ end_of_fault f (Untagged last OPCODE_SEND_INVALIDATE w queue msn offset payload) x
+    by last w queue msn offset payload None = refl
+    by last w queue msn offset payload (Some (Reason reason)) = refl
+    by last w queue msn offset payload (Some (NoBuffer number)) = refl
+    by last w queue msn offset payload (Some (AccessDenied why)) = refl
+    by last w queue msn offset payload (Some (PeerTerminated word)) = refl
 
 pub plain_frame_end : (ready : Option Denied → Readiness Denied) (grants : List Grant) (f : Frame) (r : Result Segment ℕ) → frame_end_by ready grants f (plain_result r) ≡ frame_end_by ready grants f r
 plain_frame_end ready grants f (Ok s) =
@@ -84,3 +83,36 @@ plain_frame_end ready grants f (Err reason) = refl
 pub plain_with : (k : ClientState) (f : Frame) (r : Result Segment ℕ) → with_segment k f (plain_result r) ≡ with_segment k f r
 plain_with k f (Ok s) = alike (λ (x : Segment). with_segment k f (Ok x)) (λ last w queue msn offset payload. refl) s
 plain_with k f (Err reason) = refl
+
+-- it completes the same message, and asks for the same
+pub plain_message : (k : ClientState) (r : Result Segment ℕ) → segment_message k (plain_result r) ≡ segment_message k r
+plain_message k (Ok s) = plain_completed k.received s
+plain_message k (Err reason) = refl
+
+pub plain_asks : (r : Result Segment ℕ) → segment_request (plain_result r) ≡ segment_request r
+plain_asks (Ok s) = plain_request s
+plain_asks (Err reason) = refl
+
+-- a segment of another opcode is as it is
+pub plain_other : (s : Segment) → eqb (opcode_in s) OPCODE_SEND_INVALIDATE ≡ false → plain s ≡ s
+plain_other (Tagged last opcode stag to payload) other = refl
+plain_other (Untagged last opcode w queue msn offset payload) other = ap (λ (b : Bool). plain_if b last opcode w queue msn offset payload) other
+
+-- whether it is of a plain Send, or of none
+abbrev pub is_plain_send : Segment → Bool
+is_plain_send (Tagged last opcode stag to payload) = false
+is_plain_send (Untagged last opcode w queue msn offset payload) = eqb opcode OPCODE_SEND
+
+abbrev plain_send_in : Result Segment ℕ → Bool
+plain_send_in (Ok s) = is_plain_send s
+plain_send_in (Err reason) = false
+
+-- what is of no Send is as it was read
+pub other_read : (r : Result Segment ℕ) (s : Segment) → plain_result r ≡ Ok s → is_plain_send s ≡ false → r ≡ Ok s
+other_read (Err reason) s is other = absurd cc
+other_read (Ok (Tagged last opcode stag to payload)) s is other = is
+other_read (Ok (Untagged last opcode w queue msn offset payload)) s is other = by (eqb opcode OPCODE_SEND_INVALIDATE) is
+  where
+    by : (b : Bool) → ◌≡◌ {A = Result Segment ℕ} (Ok (plain_if b last opcode w queue msn offset payload)) (Ok s) → ◌≡◌ {A = Result Segment ℕ} (Ok (Untagged last opcode w queue msn offset payload)) (Ok s)
+    by true e = absurd (let wrong : true ≡ false = ap plain_send_in e ∙ other in cc)
+    by false e = e

@@ -1,5 +1,5 @@
 -- A frame that doesn't end a side is read as its segment, whether or not the side takes Sends with Invalidate.
-use Rattle.std.proofs.Common.{◌≡◌, ℕ, Bool, false, cond, Option, None, Some, Result, Ok, Err, refl, sym, ap, ◌∙◌}
+use Rattle.std.proofs.Common.{◌≡◌, ℕ, Bool, false, cond, None, Some, Result, Ok, Err, refl, sym, ap, ◌∙◌}
 use Rattle.nr_wire.specs.declared.hello.Side.TheVariants.{Initiator, Responder}
 use Rattle.nr_wire.specs.Hello.{hello_of}
 use Rattle.nr_wire.specs.Segment.{Segment, segment_of}

@@ -26,7 +26,7 @@ use Rattle.nr_reduce.specs.ServerFrames.{FrameEffect, no_effect, message_effect,
 use Rattle.nr_reduce.specs.Server.{server_end, server_state_after, with_effect, received_by, or_refusal, server_readiness, newly_open_reads, offer_of, stag_named}
 use Rattle.nr_reduce.specs.Holds.{Answer, answer_message, chunk_error}
 use Rattle.nr_link.specs.Output.{segment_count}
-use Rattle.nr_laws.specs.MessageSegments.{message_segment, named_segment}
+use Rattle.nr_laws.specs.MessageSegments.{named_segment}
 use Rattle.std.specs.List.{range_with_len}
 use Rattle.nr_header.specs.declared.header.ChunkLists.{ChunkLists}
 use Rattle.nr_reduce.proofs.Once.{NumberIs, verdict_number, whole_with, rises_with}

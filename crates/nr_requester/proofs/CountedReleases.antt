@@ -1,5 +1,5 @@
 -- Of the regions of a call, all of which a peer reaches until a message names one, all but one are counted as released.
-use Rattle.std.proofs.Common.{◌≡◌, ◌≢◌, ℕ, zero, suc, ◌+◌, ◌<◌, ◌≤◌, Bool, true, false, cond, eqb, List, ◌∷◌, ◌⊎◌, inl, inr, length, Option, refl, sym, ap, subst, ◌∙◌, arith}
+use Rattle.std.proofs.Common.{◌≡◌, ◌≢◌, ℕ, zero, suc, ◌+◌, ◌<◌, ◌≤◌, Bool, true, false, cond, eqb, ◌∷◌, inl, inr, length, Option, refl, sym, ap, ◌∙◌, arith}
 use Rattle.std.specs.Prelude.{is_some}
 use Rattle.std.specs.List.{filter, range_with_len}
 use Rattle.std.proofs.lemmas.Bool.{eqb-true, eq-eqb, cases_lt}
@@ -17,8 +17,8 @@ counted m first n b is =
     ap (λ (x : Bool). length (cond x (first ∷ filter (λ stag. is_some (live_region m stag)) (range_with_len (first + 1) n)) (filter (λ stag. is_some (live_region m stag)) (range_with_len (first + 1) n)))) is ∙ by b
   where
     by : (x : Bool) → length (cond x (first ∷ filter (λ stag. is_some (live_region m stag)) (range_with_len (first + 1) n)) (filter (λ stag. is_some (live_region m stag)) (range_with_len (first + 1) n))) ≡ cond x 1 0 + live_count m (range_with_len (first + 1) n)
-    by true = refl
-    by false = refl
+    by true = omega arith
+    by false = omega arith
 
 all_counted : (m : RegisteredMemory) (first n : ℕ) → AllLive m first n → live_count m (range_with_len first n) ≡ n
 all_counted m first zero live = refl

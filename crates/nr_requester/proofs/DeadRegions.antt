@@ -1,5 +1,5 @@
 -- A region that a message names dies: it is held with its bytes as before, and its release leaves what it would have left.
-use Rattle.std.proofs.Common.{◌≡◌, ◌≢◌, ℕ, ◌+◌, ◌≤◌, Bool, true, false, cond, eqb, List, [], ◌∷◌, ◌++◌, length, Option, None, Some, refl, sym, ap, subst, ◌∙◌, arith}
+use Rattle.std.proofs.Common.{◌≡◌, ◌≢◌, ℕ, ◌+◌, Bool, true, false, cond, eqb, List, [], ◌∷◌, ◌++◌, length, Option, None, Some, refl, sym, ap, ◌∙◌, arith}
 use Rattle.std.specs.Prelude.{is_none, is_some, ◌||◌}
 use Rattle.std.specs.List.{filter, list_any}
 use Rattle.std.specs.FinMap.{FinMap, get, insert, remove, same_map, nat_cmp-IsAntisymmetric}
@@ -118,11 +118,8 @@ same_removed dead k v = same_map nat_cmp_total nat_cmp-IsAntisymmetric (remove (
         let same : q ≡ k = eqb-true q k e in
         ap (λ (n : ℕ). get (remove (insert dead k v) k) n) same ∙ get_remove_here (insert dead k v) k ∙ sym (get_remove_here dead k) ∙ ap (λ (n : ℕ). get (remove dead k) n) (sym same)
     by q false e =
-        let other : q ≢ k = λ same. (let wrong : true ≡ false = sym (itself k) ∙ ap (λ (n : ℕ). eqb n k) (sym same) ∙ e in cc) in
+        let other : q ≢ k = λ same. (let wrong : true ≡ false = sym (eq-eqb k k refl) ∙ ap (λ (n : ℕ). eqb n k) (sym same) ∙ e in cc) in
         get_remove_other (insert dead k v) k q other ∙ get_insert_other dead k v q other ∙ sym (get_remove_other dead k q other)
-
-    itself : (n : ℕ) → eqb n n ≡ true
-    itself n = eq-eqb n n refl
 
 -- another one may be taken out before
 other_removed : (dead : FinMap nat_cmp Bool) (k r : ℕ) (v : Bool) → r ≢ k → remove (insert dead k v) r ≡ insert (remove dead r) k v
@@ -172,11 +169,11 @@ dead_released m stag stags e = died_released (live_region m stag) m stag stags e
 -- ---- How many of some regions a peer reaches
 
 one_more : (m : RegisteredMemory) (stag : ℕ) (stags : List ℕ) (b : Bool) → length (cond b (stag ∷ filter (λ s. is_some (live_region m s)) stags) (filter (λ s. is_some (live_region m s)) stags)) ≡ length (cond b (stag ∷ []) []) + live_count m stags
-one_more m stag stags true = refl
-one_more m stag stags false = refl
+one_more m stag stags true = omega arith
+one_more m stag stags false = omega arith
 
 pub count_front : (m : RegisteredMemory) (a : Option Claim) (stags : List ℕ) → live_count m (stag_of a ++ stags) ≡ live_count m (stag_of a) + live_count m stags
-count_front m None stags = refl
+count_front m None stags = omega arith
 count_front m (Some c) stags = one_more m c.stag stags (is_some (live_region m c.stag))
 
 pub count_claims : (m : RegisteredMemory) (c : Claims) → live_count m (stags_of c) ≡ live_count m (stag_of c.read) + (live_count m (stag_of c.write) + live_count m (stag_of c.reply))

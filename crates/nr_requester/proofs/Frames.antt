@@ -1,5 +1,5 @@
 -- A frame of the server's stream: a requester that keeps its client keeps it after the frame, and queues what is due.
-use Rattle.std.proofs.Common.{◌≡◌, ◌≢◌, ℕ, ◌+◌, ◌<◌, ◌≤◌, inl, inr, Bool, true, false, cond, List, [], ◌∷◌, ◌++◌, length, Option, None, Some, refl, sym, ap, subst, ◌∙◌, arith}
+use Rattle.std.proofs.Common.{◌≡◌, ◌≢◌, ℕ, ◌+◌, ◌<◌, ◌≤◌, inl, inr, Bool, true, false, cond, List, [], ◌∷◌, ◌++◌, length, take, drop, Option, None, Some, refl, sym, ap, subst, ◌∙◌, arith}
 use Rattle.std.specs.Prelude.{IfSome}
 use Rattle.std.proofs.lemmas.List.{append-nil}
 use Rattle.std.proofs.lemmas.Bool.{ne_eqb}
@@ -10,7 +10,7 @@ use Rattle.nr_wire.specs.Hello.{hello_of}
 use Rattle.nr_wire.specs.Segment.{Segment}
 use Rattle.nr_wire.specs.Segment.Segment.{Tagged, Untagged}
 use Rattle.nr_regions.specs.declared.denied.Denied.{Denied}
-use Rattle.nr_regions.specs.RegisteredMemory.{RegisteredMemory, denial, after_place}
+use Rattle.nr_regions.specs.RegisteredMemory.{Region, RegisteredMemory, denial, live_region, held_region, bytes_in, after_place}
 use Rattle.nr_regions.specs.Access.{TaggedSegment}
 use Rattle.nr_regions.specs.Events.{after_event, after_arrival}
 use Rattle.nr_regions.specs.Events.MemoryEvent.{Arrive}
@@ -18,6 +18,7 @@ use Rattle.nr_link.specs.declared.end.End.{End}
 use Rattle.nr_link.specs.declared.end.End.TheVariants as ends
 use Rattle.nr_link.specs.Frames.{Frame, is_hello}
 use Rattle.nr_link.specs.ReceiveState.{ReadRequest, message_completed, stag_invalidated, read_request_of}
+use Rattle.nr_link.specs.Output.{read_response}
 use Rattle.nr_link.specs.KeptSends.{received_within}
 use Rattle.nr_link.specs.Ending.{kind_of, frame_end_by, hello_end, final_output}
 use Rattle.nr_endpoint.specs.Hellos.{receive_length_for}
@@ -36,12 +37,13 @@ use Rattle.nr_reduce.specs.ClientMessages.ReplyVerdict.{EndsLink, GivesOutcome}
 use Rattle.nr_reduce.specs.Client.{client_rules, client_segment, client_end, client_output, client_readiness, end_of_verdict, client_message_end, or_message_end, response_output, outcomes_of}
 use Rattle.nr_reduce.specs.KeptCalls.{kept_named, kept_message_verdict}
 use Rattle.nr_reduce.specs.KeptClient.{KeptClient, ClientKeeps, bytes_under, released_all, kept_completed, kept_placed, kept_received, kept_by_message}
+use Rattle.nr_regions.proofs.Holding.{live_held}
 use Rattle.nr_reduce.proofs.Keeping.{kept_judges, kept_responds}
 use Rattle.nr_reduce.proofs.Taking.{kept_takes}
 use Rattle.nr_requester.specs.RequesterState.{RequesterState, kept_calls, queue_of, kept_client}
 use Rattle.nr_requester.specs.Standing.{LinkKeeps}
 use Rattle.nr_requester.specs.AfterCalls.{stags_for}
-use Rattle.nr_requester.specs.AfterPiece.{dead_memory, with_dead, answer_to, call_of, with_message, judged, with_deliveries, unless_ended, after_fpdu}
+use Rattle.nr_requester.specs.AfterPiece.{dead_memory, with_dead, call_of, with_message, judged, with_deliveries, unless_ended, after_fpdu}
 use Rattle.nr_requester.specs.declared.answer.AnsweredCall.{AnsweredCall}
 use Rattle.nr_requester.proofs.KeptCalls.{stags_alike}
 use Rattle.nr_requester.proofs.DeadRegions.{dead_bytes, dead_answer}
@@ -86,7 +88,9 @@ module _ (opened : LinkParameters) (r : RequesterState) (k : ClientState) (count
   -- a Read Request is answered by what the client's region holds
   request_is : (req : Option ReadRequest) → IfSome req (λ q. denial r.side.memory (fetch_access q) ≡ None) → RequestFine r.side k f.end req
   request_is None fine = record { queue = tt }
-  request_is (Some q) fine = record { queue = sym (kept_responds opened (kept_client r) k count f.end q keeps.client (omega (arith, lt)) fine) }
+  request_is (Some q) fine =
+      let live : live_region r.side.memory q.stag ≡ held_region r.side.memory q.stag = live_held r.side.memory q.stag ((keeps.client.memory refl).none_dead q.stag) in
+      record { queue = ap (λ (o : Option Region). read_response q.sink q.sink_to (take q.size (drop q.to (bytes_in o)))) live ∙ sym (kept_responds opened (kept_client r) k count f.end q keeps.client (omega (arith, lt)) fine) }
 
   part_taken : (last : Bool) (opcode w queue msn offset : ℕ) (payload : List ℕ) → segment_end r.side f (Untagged last opcode w queue msn offset payload) ≡ None → Reads opened k f (Untagged last opcode w queue msn offset payload) →
       message_completed k.received (Untagged last opcode w queue msn offset payload) ≡ None →

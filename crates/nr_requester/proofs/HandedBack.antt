@@ -81,7 +81,7 @@ none_below None h = refl
 none_below (Some c) h = absurd (h refl)
 
 -- the least of the calls, and that of the answers
-module _ (link : LinkSide) (sent wished sends next grant : ℕ) (items : List OutstandingCall) (answers : List AnsweredCall) (call answer : Option ℕ) where
+module _ (link : LinkSide) (sent wished sends next grant : ℕ) (items : List OutstandingCall) (answers : List AnsweredCall) (releases : ℕ) (call answer : Option ℕ) where
   abbrev r : RequesterState
   r = (requester_view link sent wished sends next grant items answers releases).state
 

@@ -26,7 +26,7 @@ use Rattle.nr_requester.specs.declared.outstanding.OutstandingCall.{OutstandingC
 use Rattle.nr_requester.specs.HeldClaims.{AreHeldFrom, claim_list, call_claims, all_claims, IsChunkOf, IsWriteOf, IsReplyOf, IsOfferOf, OffersOwn}
 use Rattle.nr_requester.specs.Judged.{header_reason, ComesBack, WriteComesBack, ReplyComesBack, by_stream, SameCall, SameCalls, kept_view, kept_views, Ends, Brings, outcome_by, LiesWithin}
 use Rattle.nr_requester.specs.declared.replies.Found.{Found}
-use Rattle.nr_requester.specs.Views.{HasRoom, names_another, own_named}
+use Rattle.nr_requester.specs.Views.{HasRoom, given_stags, names_another, own_named}
 use Rattle.nr_requester.proofs.Releases.{held_middle, held_one}
 use Rattle.std.proofs.lemmas.List.{take_at}
 use Rattle.nr_requester.proofs.Taken.{same_length}
@@ -252,10 +252,14 @@ set_here (c ∷ cs) zero x d lt = refl
 set_here (c ∷ cs) (suc n) x d lt = set_here cs n x d (omega (arith, lt))
 
 -- the call at a place, whatever is given for places beyond
-same_get : (cs : List OutstandingCall) (at : ℕ) (d e : OutstandingCall) → at < length cs → get_or cs at d ≡ get_or cs at e
+pub same_get : (cs : List OutstandingCall) (at : ℕ) (d e : OutstandingCall) → at < length cs → get_or cs at d ≡ get_or cs at e
 same_get [] at d e lt = absurd (omega (arith, lt))
 same_get (c ∷ cs) zero d e lt = refl
 same_get (c ∷ cs) (suc n) d e lt = same_get cs n d e (omega (arith, lt))
+
+-- a message names no STag of another call, whatever is given for places beyond
+pub own_given : (cs : List OutstandingCall) (at : ℕ) (d e : OutstandingCall) (named : Option ℕ) (r : Bool) → at < length cs → r ≡ names_another (given_stags (get_or cs at e).given) named → r ≡ false → names_another (given_stags (get_or cs at d).given) named ≡ false
+own_given cs at d e named r lt is own = ap (λ (x : OutstandingCall). names_another (given_stags x.given) named) (same_get cs at d e lt) ∙ sym is ∙ own
 
 abbrev sent_of : Option KeptCall → Bool
 sent_of None = true

@@ -1,6 +1,6 @@
 -- What is made of the event that waits, for the code.
-use Rattle.std.proofs.Common.{◌≡◌, ℕ, zero, suc, ◌<◌, ◌⊎◌, inl, inr, cond, List, [], ◌∷◌, length, drop, map, Option, None, Some, refl, sym, ap, subst, ◌∙◌, arith}
-use Rattle.std.specs.Prelude.{get_or, is_some}
+use Rattle.std.proofs.Common.{◌≡◌, ℕ, zero, suc, ◌<◌, ◌⊎◌, inl, inr, cond, List, [], ◌∷◌, length, drop, map, Option, None, Some, Result, Ok, Err, refl, sym, ap, subst, ◌∙◌, arith}
+use Rattle.std.specs.Prelude.{get_or, is_some, IfOk, IfErr}
 use Rattle.nr_regions.specs.RegisteredMemory.{RegisteredMemory}
 use Rattle.nr_link.specs.declared.end.End.{End}
 use Rattle.nr_link.specs.declared.end.End.TheVariants as ends
@@ -22,8 +22,15 @@ use Rattle.nr_requester.specs.declared.answer.AnsweredCall.{AnsweredCall}
 use Rattle.nr_requester.specs.declared.outstanding.OutstandingCall.{OutstandingCall}
 use Rattle.nr_requester.specs.Judged.{SameCalls}
 use Rattle.nr_requester.specs.Fed.{OneWaits, CallsSound, StopsDead, JudgesTo}
-use Rattle.nr_requester.specs.HeldClaims.{AreHeldFrom, all_claims}
 use Rattle.nr_requester.proofs.DeadRegions.{dead_sound}
+
+-- what holds of a result, of its value
+
+pub found_ok : {A E : Type 0} (P : A → Type 0) (r : Result A E) (a : A) → r ≡ Ok a → IfOk r P → P a
+found_ok {A} {E} P r a is h = subst (λ (x : Result A E). IfOk x P) is h
+
+pub found_err : {A E : Type 0} (P : E → Type 0) (r : Result A E) (e : E) → r ≡ Err e → IfErr r P → P e
+found_err {A} {E} P r e is h = subst (λ (x : Result A E). IfErr x P) is h
 
 -- ---- What calls on the link leave
 

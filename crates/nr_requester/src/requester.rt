@@ -102,23 +102,14 @@ impl Requester {
         ensures fed { IfOk result (λ r. fed_bytes r ≡ 0) }
         ensures stands { IfOk result (λ r. (opened : LinkParameters) (link : ℕ) → opened.first_xid ≡ 1 → opened.first_stag ≡ 1 → ClientOpened opened credits default_terms → RequesterRepresents opened link r []) }
     {
-        Requester::open_sized(alloc, credits, 1)
+        Requester::open_sized(alloc, credits, 1, false)
     }
 
-    /// The same, if a Send in either direction may have this many units of 1,024 bytes: 0 counts as 1, and more than 16 as 16. Its hello
-    /// says so, unless it is one unit (RFC 5044 section 7.1, private data). What the server says in its hello decides, too: see `agreed`.
-    pub fn open_sized(alloc: Global, credits: u32, units: u8) -> Result<Requester, Memory>
-        ensures state { IfOk result (λ r. r ≡ opened_as 1 1 credits (sized_terms units) r.staging) }
-        ensures staging { IfOk result (λ r. length r.staging ≡ FPDU_MAX) }
-        ensures fed { IfOk result (λ r. fed_bytes r ≡ 0) }
-        ensures stands { IfOk result (λ r. (opened : LinkParameters) (link : ℕ) → opened.first_xid ≡ 1 → opened.first_stag ≡ 1 → ClientOpened opened credits (sized_terms units) → RequesterRepresents opened link r []) }
-    {
-        Requester::open_with(alloc, credits, units, false)
-    }
-
-    /// The same, and if `invalidates`, its hello says that it takes Sends with Invalidate (RFC 5040 section 5.1). If the server's says so too, a
-    /// reply may name one STag of its call: that region dies before the reply is judged, and releases nothing (see `local_releases`).
-    pub fn open_with(
+    /// The same, if a Send in either direction may have this many units of 1,024 bytes: 0 counts as 1, and more than 16 as 16. If `invalidates`,
+    /// it takes Sends with Invalidate (RFC 5040 section 5.1). Its hello says both, unless it has one unit and takes none (RFC 5044 section
+    /// 7.1, private data). What the server says in its hello decides, too: see `agreed` and `invalidates`. If it agrees, a reply may name one
+    /// STag of its call: that region dies before the rest of the reply is judged, and its release isn't counted (see `local_releases`).
+    pub fn open_sized(
         alloc: Global,
         credits: u32,
         units: u8,

@@ -158,6 +158,10 @@ no_request_lem opened k s bytes last w queue msn offset payload h is lives =
     let two : Fetch ≡ Sink = sink_access opened k s (fetch_access (read_request_in payload)) h is fine.allowed in
     absurd cc
 
+plain_send : (a b : Bool) → (a || b) ≡ true → b ≡ false → a ≡ true
+plain_send true b is none = refl
+plain_send false b is none = absurd (let wrong : true ≡ false = sym is ∙ none in cc)
+
 by_opcode : (opened : LinkParameters) (k : ServerState) (s : LinkState) (bytes : List ℕ) (last : Bool) (opcode w queue msn offset : ℕ) (payload : List ℕ) → LinkKeeps opened k s → IsServer k s.place →
     segment_taken false bytes ≡ Ok (Untagged last opcode w queue msn offset payload) → segment_end s (next_frame s bytes) (Untagged last opcode w queue msn offset payload) ≡ None →
     (b : Bool) → eqb opcode OPCODE_READ_REQUEST ≡ b → IsSend s bytes
@@ -170,10 +174,6 @@ by_opcode opened k s bytes last opcode w queue msn offset payload h is reads liv
     let any = (alive_send s (next_frame s bytes) last opcode w queue msn offset payload refl known (eqb-false opcode OPCODE_READ_REQUEST request) lives).0 in
     let send : opcode ≡ OPCODE_SEND = eqb-true opcode OPCODE_SEND (plain_send (eqb opcode OPCODE_SEND) (eqb opcode OPCODE_SEND_INVALIDATE) any (by_form.plain last opcode w queue msn offset payload refl)) in
     record { last = last; w = w; queue_number = queue; msn = msn; offset = offset; payload = payload; side = h.side; reads = reads ∙ ap (λ (o : ℕ). Ok (Untagged last o w queue msn offset payload)) send }
-
-plain_send : (a b : Bool) → (a || b) ≡ true → b ≡ false → a ≡ true
-plain_send true b is none = refl
-plain_send false b is none = absurd (let wrong : true ≡ false = sym is ∙ none in cc)
 
 never : (f : Frame) (reason : ℕ) (s : LinkState) → (with_fpdu f (Err reason) s).ended ≢ None
 unfolding with_fpdu

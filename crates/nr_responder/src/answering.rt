@@ -141,7 +141,8 @@ fn reply_handle(reply: Option<&[RdmaSegment]>) -> Option<u32>
     }
 }
 
-/// The STag that a reply with Invalidate names, if these lists have a segment. Which one is own.
+/// The STag that a reply with Invalidate names, if these lists have a segment: of the first read entry, else of the first segment of the write
+/// list, else of the first segment of the reply chunk. Which one is own.
 #[tactic(auto, unfolding(nr_reduce::specs::Server::named_stag))]
 fn named_stag(lists: ListSlices<'_>) -> Option<u32>
     ensures { result ≡ named_stag (lists_of_slices lists.entry) }
@@ -291,8 +292,8 @@ fn push_answer<'a>(
     Ok(())
 }
 
-/// Queues the answer to a call with these lists and this payload: its RDMA Writes and its message, whose Send names an STag if that is agreed. `target` is what the payload's head asks
-/// for, if that was read. An `Err` changes nothing: memory ran out.
+/// Queues the answer to a call with these lists and this payload: its RDMA Writes and its message, whose Send names an STag if that is agreed.
+/// `target` is what the payload's head asks for, if that was read. An `Err` changes nothing: memory ran out.
 fn queue_with(
     endpoint: &mut Endpoint,
     alloc: Global,

@@ -21,7 +21,7 @@ use Rattle.nr_requester.specs.Judged.{kept_views, outcome_by}
 use Rattle.nr_requester.specs.Fed.{CallsSound, JudgesTo}
 use Rattle.nr_requester.specs.Views.{stored_view}
 use Rattle.nr_requester.proofs.MessageBodies.{one_held, shorter_rooms}
-use Rattle.nr_requester.proofs.OneMessage.{post_memory, post_ended, post_place, stop_sound, stop_on, first_of, same_xid, same_send, sound_as}
+use Rattle.nr_requester.proofs.OneMessage.{post_memory, post_ended, post_place, stop_sound, stop_on, first_of, same_xid, same_send, sound_as, found_ok, found_err}
 use Rattle.nr_requester.proofs.StepSides.{remove_fewer}
 use Rattle.nr_requester.proofs.Taken.{same_views, same_length, same_sound, completed_sound, judged_gives}
 use Rattle.nr_requester.proofs.FedBounds.{post_bounded, dead_bounded, stop_dead_bounded}
@@ -38,13 +38,14 @@ verdict-own-requires-clause-rooms c =
 
 pub complete-requires-clause-held : goal.complete-requires-clause-held
 complete-requires-clause-held c = λ d.
+    let b = found_ok _ c.verdict-own.result.1 (c.in-Ok.at, c.in-Ok.found) c.in-Ok.is c.verdict-own.ensures.ok in
     let l : LinkSide = c.args.endpoint.now.link in
     let own = c.verdict-own.result.0 in
     let s = same_sound l.state.receive_queue.receive_length l.state.memory c.requires.calls.0 (vec_capacity c.args.answered.now) c.args.outstanding.now.items c.verdict-own.new.calls.items c.args.answered.now.items c.verdict-own.ensures.same c.requires.calls.1 in
     let posted : c.post.new.self.link.state.memory ≡ l.state.memory = ap (λ (x : LinkSide). x.state.memory) c.post.ensures.state ∙ post_memory l in
     let memory : c.die.new.endpoint.link.state.memory ≡ dead_memory own l.state.memory = ap (λ (x : LinkSide). x.state.memory) c.die.ensures.link ∙ ap (λ (m : RegisteredMemory). dead_memory own m) posted in
     subst (λ (m : RegisteredMemory). AreHeldFrom m 0 (call_claims (get_or c.verdict-own.new.calls.items c.in-Ok.at d).claims)) (sym memory)
-    (one_held (dead_memory own l.state.memory) c.verdict-own.new.calls.items c.in-Ok.at d c.in-Ok.ensures.ok.within (dead_held own l.state.memory 0 _ s.held))
+    (one_held (dead_memory own l.state.memory) c.verdict-own.new.calls.items c.in-Ok.at d b.within (dead_held own l.state.memory 0 _ s.held))
 
 pub stop-requires-clause-live : goal.stop-requires-clause-live
 stop-requires-clause-live c = ap (λ (l : LinkSide). l.state.ended) c.post.ensures.state ∙ (post_ended c.args.endpoint.now.link ∙ c.requires.live)
@@ -54,7 +55,7 @@ stop-requires-clause-frame c = subst (λ (n : ℕ). 0 < n) (sym (ap (λ (l : Lin
 
 pub returns-in-Ok-clause-judged : goal.returns-in-Ok-clause-judged
 returns-in-Ok-clause-judged c =
-    let b = c.in-Ok.ensures.ok in
+    let b = found_ok _ c.verdict-own.result.1 (c.in-Ok.at, c.in-Ok.found) c.in-Ok.is c.verdict-own.ensures.ok in
     let l : LinkSide = c.args.endpoint.now.link in
     let same = c.verdict-own.ensures.same in
     let own = c.verdict-own.result.0 in
@@ -80,7 +81,7 @@ returns-in-Ok-clause-judged c =
 
 pub returns-in-Ok-clause-sound : goal.returns-in-Ok-clause-sound
 returns-in-Ok-clause-sound c = λ most next s.
-    let b = c.in-Ok.ensures.ok in
+    let b = found_ok _ c.verdict-own.result.1 (c.in-Ok.at, c.in-Ok.found) c.in-Ok.is c.verdict-own.ensures.ok in
     let l : LinkSide = c.args.endpoint.now.link in
     let own = c.verdict-own.result.0 in
     let d : OutstandingCall = first_of c.verdict-own.new.calls.items c.in-Ok.at b.within in
@@ -98,14 +99,15 @@ returns-in-Ok-clause-sound c = λ most next s.
 
 pub returns-in-Err-clause-judged : goal.returns-in-Err-clause-judged
 returns-in-Err-clause-judged c =
+    let b = found_err _ c.verdict-own.result.1 c.in-Err.reason c.in-Err.is c.verdict-own.ensures.err in
     let own = c.verdict-own.result.0 in
     let views = kept_views c.args.sent c.args.outstanding.now.items in
     let front : c.split_at.result.0.now ≡ take c.args.len c.args.buf = c.split_at.ensures.front ∙ ap (λ (xs : List ℕ). take c.args.len xs) c.as_slice.ensures in
     let own_is : own ≡ kept_named views c.args.named (take c.args.len c.args.buf) = c.verdict-own.ensures.own ∙ ap (λ (xs : List ℕ). kept_named views c.args.named xs) front in
-    let verdict = (λ i. kept_message_verdict views (bytes_under (sym c.regions.ensures i)) c.args.named (sym front i)) ∙ c.in-Err.ensures.err.0 in
+    let verdict = (λ i. kept_message_verdict views (bytes_under (sym c.regions.ensures i)) c.args.named (sym front i)) ∙ b.0 in
     subst (λ (o : Option ℕ). JudgesTo (kept_message_verdict views (bytes_under c.args.endpoint.now.link.state.memory) c.args.named (take c.args.len c.args.buf)) o (take c.args.len c.args.buf) c.args.endpoint.now.link c.stop.new.endpoint.link c.args.outstanding.now.items c.verdict-own.new.calls.items c.args.answered.now.items c.args.answered.now.items c.args.grant.now c.args.grant.now c.args.releases.now c.args.releases.now) own_is
     (subst (λ (v : ReplyVerdict). JudgesTo v own (take c.args.len c.args.buf) c.args.endpoint.now.link c.stop.new.endpoint.link c.args.outstanding.now.items c.verdict-own.new.calls.items c.args.answered.now.items c.args.answered.now.items c.args.grant.now c.args.grant.now c.args.releases.now c.args.releases.now) (sym verdict)
-    (stop_on own (after_call c.args.endpoint.now.link Post) c.post.new.self.link c.stop.new.endpoint.link c.in-Err.reason c.post.ensures.state c.stop.ensures.link, (same_views c.args.outstanding.now.items c.verdict-own.new.calls.items c.verdict-own.ensures.same, (refl, (refl, (c.in-Err.ensures.err.1, refl))))))
+    (stop_on own (after_call c.args.endpoint.now.link Post) c.post.new.self.link c.stop.new.endpoint.link c.in-Err.reason c.post.ensures.state c.stop.ensures.link, (same_views c.args.outstanding.now.items c.verdict-own.new.calls.items c.verdict-own.ensures.same, (refl, (refl, (b.1, refl))))))
 
 pub returns-in-Err-clause-sound : goal.returns-in-Err-clause-sound
 returns-in-Err-clause-sound c = λ most next s.
@@ -127,7 +129,7 @@ returns-in-Err-clause-fewer c = (let same = same_length c.args.outstanding.now.i
 
 pub returns-in-Ok-clause-bounded : goal.returns-in-Ok-clause-bounded
 returns-in-Ok-clause-bounded c = λ most sends next bounded.
-    let b = c.in-Ok.ensures.ok in
+    let b = found_ok _ c.verdict-own.result.1 (c.in-Ok.at, c.in-Ok.found) c.in-Ok.is c.verdict-own.ensures.ok in
     let l : LinkSide = c.args.endpoint.now.link in
     let own = c.verdict-own.result.0 in
     let same = c.verdict-own.ensures.same in

@@ -1,6 +1,6 @@
 use Rattle.std.proofs.Common.{[], refl}
 use Rattle.nr_reduce.specs.declared.mark.LinkParameters.{LinkParameters}
-use Rattle.nr_responder.proofs.responder.Responder.open_with.Goals as goal
+use Rattle.nr_responder.proofs.responder.Responder.open_sized.Goals as goal
 use Rattle.nr_link.specs.Agreement.{default_terms, terms_with}
 
 pub invariant_of-result : goal.invariant_of-result
