@@ -1,6 +1,6 @@
 -- Over any list of calls no change of a numbered client has two entries: only a new call adds an entry, and a call is new if and only if the
 -- journal has none of its client and xid.
-use Rattle.std.proofs.Common.{◌≡◌, ◌≢◌, ℕ, ◌+◌, ⊥, Bool, true, false, cond, eqb, List, [], ◌∷◌, ◌++◌, length, map, Option, None, Some, ◌⊎◌, inl, inr, ⊎_elim, refl, ap, sym, subst, ◌∙◌}
+use Rattle.std.proofs.Common.{◌≡◌, ◌≢◌, ℕ, ◌+◌, Bool, true, false, cond, eqb, List, [], ◌∷◌, ◌++◌, length, map, Option, None, Some, ◌⊎◌, inl, inr, ⊎_elim, refl, ap, sym, subst, ◌∙◌}
 use Rattle.std.specs.Prelude.{All, nat_le}
 use Rattle.std.specs.List.{find}
 use Rattle.std.proofs.lemmas.Bool.{eqb-true, eqb-false}
@@ -50,23 +50,22 @@ module _ (prm : Parameters) (client xid : ℕ) (numbered : client ≢ 0) where
       by true e none = same (eqb k.xid xid) refl none
       by false e none = (λ of. absurd (eqb-false k.client client e of), none)
 
+  -- one entry, and those after it
+  others_more : (st : State) (place : ℕ) (t : TaggedEntry) (T : List TaggedEntry) (more : List KeptEntry) (b : Bool) → eqb t.client 0 ≡ b →
+      (find (is_of_xid xid) (entries_of client more) ≡ None → All (HasOther client xid) T) →
+      find (is_of_xid xid) (entries_of client (cond b [] (record { client = t.client; xid = t.xid; place = place; reply = (answer_of_entry prm st t.xid t.entry).reply } ∷ []) ++ more)) ≡ None →
+      All (HasOther client xid) (t ∷ T)
+  others_more st place t T more true e rest none =
+      let zero_is : t.client ≡ 0 = eqb-true t.client 0 e in
+      All-cons (HasOther client xid) t T (λ of. absurd (numbered (sym of ∙ zero_is))) (rest none)
+  others_more st place t T more false e rest none =
+      let both = first_other (record { client = t.client; xid = t.xid; place = place; reply = (answer_of_entry prm st t.xid t.entry).reply }) more none in
+      All-cons (HasOther client xid) t T both.0 (rest both.1)
+
   others_from : (st : State) (place : ℕ) (T : List TaggedEntry) → find (is_of_xid xid) (entries_of client (kept_from prm st place T)) ≡ None → All (HasOther client xid) T
   others_from st place [] is = All-nil (HasOther client xid)
-  others_from st place (t ∷ T) is = by (eqb t.client 0) refl is
-    where
-      kept : KeptEntry
-      kept = record { client = t.client; xid = t.xid; place = place; reply = (answer_of_entry prm st t.xid t.entry).reply }
-
-      more : List KeptEntry
-      more = kept_from prm (next_state prm st t.entry) (place + 1) T
-
-      by : (b : Bool) → eqb t.client 0 ≡ b → find (is_of_xid xid) (entries_of client (cond b [] (kept ∷ []) ++ more)) ≡ None → All (HasOther client xid) (t ∷ T)
-      by true e none =
-          let zero_is : t.client ≡ 0 = eqb-true t.client 0 e in
-          All-cons (HasOther client xid) t T (λ of. absurd (numbered (sym of ∙ zero_is))) (others_from (next_state prm st t.entry) (place + 1) T none)
-      by false e none =
-          let both = first_other kept more none in
-          All-cons (HasOther client xid) t T both.0 (others_from (next_state prm st t.entry) (place + 1) T both.1)
+  others_from st place (t ∷ T) is =
+      others_more st place t T (kept_from prm (next_state prm st t.entry) (place + 1) T) (eqb t.client 0) refl (others_from (next_state prm st t.entry) (place + 1) T) is
 
 -- ===== one entry more
 

@@ -1,5 +1,5 @@
 -- The replies of the entries of a journal, and what one call more adds to them; and that no change of a numbered client takes effect twice.
-use Rattle.std.proofs.Common.{◌≡◌, ℕ, ◌+◌, suc, Bool, true, false, cond, eqb, List, [], ◌∷◌, ◌++◌, length, map, Option, None, Some, Result, Ok, Err, ⊥, ◌⊎◌, inl, inr, ⊎_elim, refl, ap, sym, subst, ◌∙◌, arith, append_assoc}
+use Rattle.std.proofs.Common.{◌≡◌, ℕ, ◌+◌, suc, Bool, true, false, cond, eqb, List, [], ◌∷◌, ◌++◌, length, map, Option, None, Some, Result, Ok, Err, ◌⊎◌, inl, inr, ⊎_elim, refl, ap, sym, subst, ◌∙◌, arith, append_assoc}
 use Rattle.std.specs.Prelude.{◌≢◌}
 use Rattle.std.specs.FinMap.{empty}
 use Rattle.std.proofs.lemmas.Bool.{eqb-true, eqb-false}
@@ -13,9 +13,9 @@ use Rattle.nr_nfs_base.specs.declared.procedure.NfsProcedure.{NfsProcedure}
 use Rattle.nr_nfs_base.specs.Codec.{read_all}
 use Rattle.nr_nfs_args.specs.Arguments.{NfsArguments, nfs_arguments_codec}
 use Rattle.nr_reduce.specs.declared.mark.Entry.{Entry}
-use Rattle.nr_cache.specs.Entries.{KeptEntry, Finding, entries_of, found_for}
+use Rattle.nr_cache.specs.Entries.{KeptEntry, Finding, entries_of, found_for, found_in, top_of}
 use Rattle.nr_cache.specs.Entries.Finding.{NewCall}
-use Rattle.nr_cache.specs.Caches.{RemembersAll}
+use Rattle.nr_cache.specs.Caches.{Clients, RemembersAll, found_by}
 use Rattle.nr_plain.specs.Setup.{Parameters, Setup, State}
 use Rattle.nr_plain.specs.Journal.{first_state, next_state, state_after, state_of, nfs_procedure_of}
 use Rattle.nr_plain.specs.Replies.{Answer, answer_to, call_by_cred, cred_refusal, entries_if, mount_call, nfs_by_arguments, nfs_by_procedure, nfs_call, program_call, refusal}
@@ -157,3 +157,15 @@ kept_one_added s T client m payload reply e numbered one is =
     by false same =
         ap (λ (b : Bool). cond b [] (record { client = client; xid = xid_in payload; place = length T; reply = (answer_of_entry s.parameters (state_of s (entries_alone T)) (xid_in payload) e).reply } ∷ []) ++ []) same
         ∙ ap (λ (r : List ℕ). record { client = client; xid = xid_in payload; place = length T; reply = r } ∷ []) (sym is)
+
+-- nothing is found in it, and that is what no entries say
+pub none_found : (E : List KeptEntry) (client xid : ℕ) → RemembersAll E empty → found_by empty client xid ≡ found_for E client xid
+unfolding found_by found_for found_in top_of
+none_found E client xid is = subst (λ (F : List KeptEntry). found_by empty client xid ≡ found_for F client xid) (sym (remembers_none E is)) refl
+
+pub none_new : (C : Clients) (client xid : ℕ) → C ≡ empty → found_by C client xid ≡ NewCall
+unfolding found_by
+none_new C client xid is = ap (λ (D : Clients). found_by D client xid) is
+
+pub none_found_at : (C : Clients) (E : List KeptEntry) (client xid : ℕ) → C ≡ empty → RemembersAll E C → found_by C client xid ≡ found_for E client xid
+none_found_at C E client xid is remembers = ap (λ (D : Clients). found_by D client xid) is ∙ none_found E client xid (subst (RemembersAll E) is remembers)

@@ -1,6 +1,6 @@
 -- The calls of clients that have a number: what a call is by the journal, and what the server makes of it. Each change of such a client takes
 -- effect once (own; RFC 1813 section 4.5 says why a server needs it).
-use Rattle.std.specs.Prelude.{◌≡◌, ◌≢◌, ⊥, ⊤, ℕ, ◌+◌, Bool, false, not, ◌&&◌, ◌==◌, if◌then◌else◌, List, [], ◌∷◌, ◌++◌, length, Option, None, Some, Result, Ok, Err, All}
+use Rattle.std.specs.Prelude.{◌≡◌, ◌≢◌, ⊤, ℕ, ◌+◌, Bool, false, not, ◌&&◌, ◌==◌, if◌then◌else◌, List, [], ◌∷◌, ◌++◌, length, Option, None, Some, Result, Ok, Err, All}
 use Rattle.nr_outside.specs.declared.moment.Moment.{Moment}
 use Rattle.nr_rpc.specs.Reading.{call_of}
 use Rattle.nr_rpc.specs.declared.head.CallHead.{CallHead}
@@ -51,6 +51,11 @@ pub record RepresentsTagged (s : Setup) (T : List TaggedEntry) (kept : PlainServ
   pub journal : RepresentsJournal s (entries_alone T) kept
   pub remembers : RemembersAll (kept_replies s T) kept.cache
 
+-- Two servers are the same but for the room that was made for the replies of a client.
+pub record IsSameButRoom (before after : PlainServerState) : Type 0 where
+  pub rest : record after { cache = before.cache } ≡ before
+  pub replies : (E : List KeptEntry) → RemembersAll E before.cache → RemembersAll E after.cache
+
 -- A new call was executed after the entries T, at the end of the journal, which has the entry of the call then, if it has one.
 pub record ExecutesTagged (s : Setup) (T : List TaggedEntry) (client : ℕ) (m : Moment) (payload reply : List ℕ) (place : ℕ) (after : PlainServerState) : Type 0 where
   pub replied : plain_reply s (entries_alone T) place m payload ≡ Some reply
@@ -60,7 +65,7 @@ pub record ExecutesTagged (s : Setup) (T : List TaggedEntry) (client : ℕ) (m :
 -- A call was answered after the entries T: a new one is executed; a kept one has the reply and the place of its entry, and changes nothing.
 abbrev pub AnswersBy : Setup → List TaggedEntry → (client : ℕ) → Moment → (payload reply : List ℕ) → (place : ℕ) → (before after : PlainServerState) → Finding → Type 0
 AnswersBy s T client m payload reply place before after (OldCall top) = ⊥
-AnswersBy s T client m payload reply place before after (KeptCall at given) = (place ≡ at) × (reply ≡ given) × (after ≡ before)
+AnswersBy s T client m payload reply place before after (KeptCall at given) = (place ≡ at) × (reply ≡ given) × IsSameButRoom before after
 AnswersBy s T client m payload reply place before after NewCall = ExecutesTagged s T client m payload reply place after
 
 abbrev pub AnswersFor : Setup → List TaggedEntry → (client : ℕ) → Moment → (payload reply : List ℕ) → (place : ℕ) → (before after : PlainServerState) → Type 0
@@ -71,11 +76,6 @@ abbrev pub IsNumberedCause : Setup → List TaggedEntry → (client : ℕ) → (
 IsNumberedCause s T client payload (faults.NotCall at) = call_of payload ≡ Err at
 IsNumberedCause s T client payload faults.Memory = ⊤
 IsNumberedCause s T client payload (faults.Old top) = finding s T client (xid_in payload) ≡ OldCall top
-
--- Two servers are the same but for the room that was made for the replies of a client.
-pub record IsSameButRoom (before after : PlainServerState) : Type 0 where
-  pub rest : record after { cache = before.cache } ≡ before
-  pub replies : (E : List KeptEntry) → RemembersAll E before.cache → RemembersAll E after.cache
 
 -- what is given of a call that is kept, and that nothing is given of a new one
 abbrev pub IsFound : Option Reply → Finding → Type 0

@@ -9,7 +9,8 @@ ghost use Rattle.nr_plain.specs.Setup.{Setup};
 ghost use Rattle.nr_plain.specs.History.{xid_in};
 ghost use Rattle.nr_plain.specs.Numbered.{AnswersFor, ChangesOnce, IsNumberedCause, IsSameButRoom, RepresentsTagged, is_changing, may_change, may_change_by};
 ghost use Rattle.nr_plain.specs.Journal.{nfs_procedure_of};
-ghost use Rattle.nr_plain.specs.Stands.{IsCause};
+ghost use Rattle.nr_plain.specs.Stands.{ExecutesCall, IsCause, RepresentsJournal};
+ghost use Rattle.nr_reduce.specs.declared.mark.Entry.{Entry};
 ghost use Rattle.nr_plain.specs.declared.history_entry.TaggedEntry.{TaggedEntry};
 ghost use Rattle.nr_plain.specs.declared.numbered.NumberedFault.TheVariants as faults;
 
@@ -43,7 +44,7 @@ impl From<Memory> for NumberedFault {
 }
 
 /// A fault of a call of any client.
-fn numbered(fault: Fault) -> NumberedFault
+fn fault_of(fault: Fault) -> NumberedFault
     ensures { (s : Setup) (T : List TaggedEntry) (client : ℕ) (payload : List ℕ) → IsCause fault (call_of payload) → IsNumberedCause s T client payload result }
 {
     match fault {
@@ -96,7 +97,7 @@ fn is_changing(proc: u32) -> bool
 }
 
 /// What a call asks.
-fn asked(alloc: Global, payload: &[u8]) -> Result<Asked, NumberedFault>
+fn read_asked(alloc: Global, payload: &[u8]) -> Result<Asked, NumberedFault>
     ensures xid { IfOk result (λ a. a.xid ≡ xid_in payload.now) }
     ensures changes { IfOk result (λ a. a.changes ≡ may_change (call_of payload.now)) }
     ensures call { IfOk result (λ _. IsOk (call_of payload.now)) }
@@ -110,6 +111,13 @@ fn asked(alloc: Global, payload: &[u8]) -> Result<Asked, NumberedFault>
     let asked = asked_by(&head);
     drop(head);
     Ok(asked)
+}
+
+/// Room for the reply of a change.
+fn reply_room(alloc: Global) -> Result<Vec<u8>, Memory>
+    ensures { IfOk result (λ room. (room.items ≡ []) × (CHANGE_REPLY_MAX ≤ vec_capacity room)) }
+{
+    Ok(Vec::with_capacity(alloc, CHANGE_REPLY_MAX)?)
 }
 
 /// The bytes of a reply, in room that was taken before.
@@ -147,9 +155,9 @@ impl Server {
         ensures room { may_change (call_of payload.now) ≡ false → self.new.cache ≡ self.old.cache }
     {
         if client == 0 {
-            return self.execute(alloc, now, payload).map_err(numbered);
+            return self.execute_plain(alloc, now, payload);
         }
-        let asked = asked(alloc, payload)?;
+        let asked = read_asked(alloc, payload)?;
         if asked.changes {
             self.make_ready(alloc, client)?;
         }
@@ -157,9 +165,28 @@ impl Server {
             return Ok(reply);
         }
         if !asked.changes {
-            return self.execute(alloc, now, payload).map_err(numbered);
+            return self.execute_plain(alloc, now, payload);
         }
         self.execute_change(alloc, client, asked.xid, now, payload)
+    }
+
+    /// Executes a call of a client without a number, or one that is no change.
+    fn execute_plain(
+        &mut self,
+        alloc: Global,
+        now: Moment,
+        payload: &[u8],
+    ) -> Result<Reply, NumberedFault>
+        ensures executed { IfOk result (λ r. (s : Setup) (J : List Entry) → RepresentsJournal s J self.old → ExecutesCall s J now payload.now r.payload r.place self.new) }
+        ensures call { IfOk result (λ _. IsOk (call_of payload.now)) }
+        ensures cause { IfErr result (λ e. (s : Setup) (T : List TaggedEntry) (client : ℕ) → IsNumberedCause s T client payload.now e) }
+        ensures cache { self.new.cache ≡ self.old.cache }
+        ensures err { OnErr result (self.new ≡ self.old) }
+    {
+        match self.execute(alloc, now, payload) {
+            Ok(reply) => Ok(reply),
+            Err(fault) => Err(fault_of(fault)),
+        }
     }
 
     /// Executes a new call of a numbered client, which may be a change, and keeps its reply then.
@@ -180,11 +207,8 @@ impl Server {
         ensures cause { IfErr result (λ e. (s : Setup) (T : List TaggedEntry) → IsNumberedCause s T client payload.now e) }
         ensures err { OnErr result (self.new ≡ self.old) }
     {
-        let room = Vec::with_capacity(alloc, CHANGE_REPLY_MAX)?;
-        let reply = match self.execute(alloc, now, payload) {
-            Ok(reply) => reply,
-            Err(fault) => return Err(numbered(fault)),
-        };
+        let room = reply_room(alloc)?;
+        let reply = self.execute_plain(alloc, now, payload)?;
         if self.journal_len() > reply.place {
             let kept = filled(room, reply.payload.as_slice());
             self.keep(client, xid, reply.place, kept);

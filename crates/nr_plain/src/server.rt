@@ -1,6 +1,6 @@
 //! The server.
 
-ghost use Rattle.std.specs.Prelude.{◌≡◌, ◌+◌, ◌<◌, ◌≤◌, ◌^◌, [], List, ℕ, length, None, Some, Ok, Err, IfOk, IfErr, OnOk, OnErr, IsOk, drop, ◌≢◌};
+ghost use Rattle.std.specs.Prelude.{◌≡◌, ◌+◌, ◌<◌, ◌≤◌, ◌^◌, [], ◌∷◌, ◌++◌, List, ℕ, length, None, Some, Ok, Err, IfOk, IfErr, OnOk, OnErr, IsOk, drop, ◌≢◌};
 ghost use Rattle.nr_nfs_args.specs.Arguments.{nfs_arguments_codec};
 ghost use Rattle.nr_nfs_base.specs.Codec.{read_all};
 ghost use Rattle.nr_nfs_base.specs.Procedures.{nfs_version, mount_version};
@@ -18,6 +18,7 @@ ghost use Rattle.nr_plain.specs.Numbered.{IsFound, IsRefusedBy, IsSameButRoom};
 ghost use Rattle.nr_cache.specs.Caches.{HasClient, RemembersAll, found_by};
 ghost use Rattle.nr_cache.specs.Entries.{KeptEntry, found_for};
 ghost use Rattle.nr_cache.specs.Entries.Finding.{NewCall};
+ghost use Rattle.nr_cache.specs.Windows.{finding_of};
 
 use crate::call::{Call, Change, Request};
 use crate::caller::{caller, time};
@@ -152,23 +153,13 @@ impl Server {
         ensures room { OnOk result (HasClient self.new.cache client) }
         ensures same { IsSameButRoom self.old self.new }
     {
-        let cache = match self.cache.take() {
-            Some(cache) => cache,
-            None => Cache::new(alloc),
-        };
-        self.ready_in(cache, client)
-    }
-
-    /// The same, of the cache that the server had, which is put back.
-    fn ready_in(&mut self, mut cache: Cache, client: u64) -> Result<(), Memory>
-        requires { client ≢ 0 }
-        ensures room { OnOk result (HasClient self.new.cache client) }
-        ensures rest { record self.new { cache = self.old.cache } ≡ self.old }
-        ensures replies { (E : List KeptEntry) → RemembersAll E cache → RemembersAll E self.new.cache }
-    {
-        let made = cache.ready(client);
-        self.cache = Some(cache);
-        made
+        if self.cache.is_none() {
+            self.cache = Some(Cache::new(alloc));
+        }
+        match &mut self.cache {
+            Some(cache) => cache.ready(client),
+            None => unreachable!(),
+        }
     }
 
     /// The reply of a call that is kept, with its place; `None` for a new one.
@@ -183,16 +174,9 @@ impl Server {
         ensures refused { IfErr result (λ e. IsRefusedBy e (found_by self.now.cache client xid)) }
         ensures exact { (E : List KeptEntry) → RemembersAll E self.now.cache → found_by self.now.cache client xid ≡ found_for E client xid }
     {
-        let Some(cache) = &self.cache else {
-            return Ok(None);
-        };
-        match cache.find(client, xid) {
-            Found::Old { top } => Err(NumberedFault::Old { top }),
-            Found::New => Ok(None),
-            Found::Kept { place, reply } => Ok(Some(Reply {
-                payload: Octets::from_slice(alloc, reply)?,
-                place,
-            })),
+        match &self.cache {
+            None => Ok(None),
+            Some(cache) => reply_found(alloc, cache.find(client, xid)),
         }
     }
 
@@ -205,8 +189,9 @@ impl Server {
         ensures kept { (E : List KeptEntry) → RemembersAll E self.old.cache →
             RemembersAll (E ++ record { client = client; xid = xid; place = place; reply = reply } ∷ []) self.new.cache }
     {
-        if let Some(cache) = &mut self.cache {
-            cache.keep(client, xid, place, reply);
+        match &mut self.cache {
+            Some(cache) => cache.keep(client, xid, place, reply),
+            None => unreachable!(),
         }
     }
 
@@ -375,6 +360,21 @@ impl Server {
                 },
             ),
         }
+    }
+}
+
+/// The reply of a call that is found so, if it is kept.
+fn reply_found(alloc: Global, found: Found<'_>) -> Result<Option<Reply>, NumberedFault>
+    ensures found { IfOk result (λ r. IsFound r (finding_of found)) }
+    ensures refused { IfErr result (λ e. IsRefusedBy e (finding_of found)) }
+{
+    match found {
+        Found::Old { top } => Err(NumberedFault::Old { top }),
+        Found::New => Ok(None),
+        Found::Kept { place, reply } => Ok(Some(Reply {
+            payload: Octets::from_slice(alloc, reply)?,
+            place,
+        })),
     }
 }
 
