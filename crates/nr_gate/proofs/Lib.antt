@@ -1,0 +1,3 @@
+pub mod Asking
+pub mod Steps
+pub mod Ends

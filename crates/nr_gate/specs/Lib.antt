@@ -1,0 +1,3 @@
+pub mod Forwarding
+pub mod Gating
+pub mod private
