@@ -1,3 +1,3 @@
-pub mod Asking
+pub mod Asked
 pub mod Steps
 pub mod Ends

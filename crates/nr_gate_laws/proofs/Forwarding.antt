@@ -21,7 +21,7 @@ use Rattle.nr_reduce.specs.declared.mark.Entry.{Entry as JournalEntry}
 use Rattle.nr_plain.specs.Journal.{state_of}
 use Rattle.nr_plain.specs.Setup.{Parameters, Setup, State}
 use Rattle.nr_plain.specs.Replies.{Answer, answer_by, call_by_cred, cred_refusal, plain_answer, plain_reply, program_call}
-use Rattle.nr_gate.proofs.Asking.{can_write}
+use Rattle.nr_gate.proofs.Asked.{can_write}
 use Rattle.nr_gate.specs.Forwarding.{forwarded, forwarded_by, with_xid}
 use Rattle.nr_gate_laws.specs.Forwarded.{answer_with_xid}
 use Rattle.nr_gate_laws.proofs.Worded.{IsWorded, alike, call_worded}

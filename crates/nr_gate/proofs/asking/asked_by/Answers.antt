@@ -1,5 +1,5 @@
 use Rattle.std.proofs.Common.{◌∙◌}
-use Rattle.nr_gate.proofs.Asking.{args_inside, asked_other, asked_version2}
+use Rattle.nr_gate.proofs.Asked.{args_inside, asked_other, asked_version2}
 use Rattle.nr_gate.proofs.asking.asked_by.Goals as goal
 
 pub split_at-requires : goal.split_at-requires
