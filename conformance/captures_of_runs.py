@@ -20,9 +20,15 @@ from antt import ROOT, Project
 from check_definitions import HERE, NAMES, RUNS, Names, Recorded
 from values import CannotEvaluate, call, deeply, field, show
 
-FILES = ('named', 'random', 'hostile', 'aimed', 'cut', 'sizes', 'grants')
+FILES = ('named', 'random', 'hostile', 'aimed', 'cut', 'sizes', 'grants', 'invalidate', 'invalidate_aimed')
 DEFAULT_CAPACITY = 1 << 40
 STATE: dict[str, Any] = {}
+
+
+def invalidates(o: Recorded) -> tuple[bool, bool]:
+    """Whether the client of a link and its server make or take Sends with Invalidate."""
+    both = o.get('invalidates', False)
+    return o.get('client_invalidates', both), o.get('server_invalidates', both)
 
 
 def why_not(run: Recorded) -> str | None:
@@ -36,6 +42,8 @@ def why_not(run: Recorded) -> str | None:
         return 'credits'
     if len({(o['client_units'], o['server_units']) for o in opened}) != 1:
         return 'units'
+    if len({side for o in opened for side in invalidates(o)}) != 1:
+        return 'a side alone that invalidates'
     if any(o['number'] != 0 for o in opened):
         return 'numbers of clients'
     for m in run['marks']:
@@ -70,7 +78,8 @@ def first_line(run: Recorded, capacity: int) -> str:
     units = (opened[0]['client_units'], opened[0]['server_units'])
     line = 'clients %d credits %d' % (len(opened), opened[0]['granted'])
     line += '' if capacity == DEFAULT_CAPACITY else ' capacity %d' % capacity
-    return line + ('' if units == (1, 1) else ' sizes %d %d' % units)
+    line += '' if units == (1, 1) else ' sizes %d %d' % units
+    return line + (' invalidate' if all(invalidates(opened[0])) else '')
 
 
 def submit(m: Recorded) -> str | None:

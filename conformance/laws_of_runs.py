@@ -1,6 +1,6 @@
 """Asks of recorded runs what the laws of nr_laws say: if the premises of a law are met, and whether what it says is so.
 
-    python3 conformance/laws_of_runs.py [--only WORD] [--jobs N] [--runs FOLDER]
+    python3 conformance/laws_of_runs.py [--only WORD] [--runs FOLDER --plain FILE] [--jobs N]
 
 That the recorded runs keep the laws of a link (Asked, Served) is what check_definitions.py compares; here the other
 premises and what each law says are computed, from the same definitions, mark by mark. It proves nothing. For each law
@@ -46,7 +46,9 @@ USES = [
     'use Rattle.nr_reduce.specs.OfferedRegions.{region_grants}',
     'use Rattle.nr_reduce.specs.Events.{events_at}',
     'use Rattle.nr_reduce.specs.EndRules.{next_end_state, output_for}',
-    'use Rattle.nr_link.specs.ReceiveState.{read_request_of}',
+    'use Rattle.nr_link.specs.ReceiveState.{read_request_of, message_completed, stag_invalidated}',
+    'use Rattle.nr_reduce.specs.Client.{client_segment}',
+    'use Rattle.nr_xdr.specs.Fields.{word_at}',
     'use Rattle.nr_link.specs.Output.{read_response}',
     'use Rattle.nr_link.specs.Ending.{tagged_access}',
     'use Rattle.nr_reduce.specs.Client.{client_rules, initial_client, outstanding_of}',
@@ -89,6 +91,10 @@ ROLES: dict[str, str] = {
     'messages_by_items': 'λ at written items. items_left is_send_item at written items',
     'access': 'λ frame. access_of frame',
     'segment': 'λ frame. frame_segment frame',
+    'client_segment': 'λ state frame. client_segment state frame',
+    'completed': 'λ state segment. message_completed state.received segment',
+    'named': 'λ segment. stag_invalidated segment',
+    'xid': 'λ message. word_at 0 message',
     'denial': 'λ frame regions access. grant_denial (region_grants frame.end regions) access frame.end',
     'placed': 'λ opened link side run stag. placed_bytes opened link side run stag',
     'output': 'λ opened state event. output_for (client_rules opened) state event',
@@ -141,6 +147,7 @@ LAWS = (
     'touches: server',
     'touches: requests',
     'touches: revoked',
+    'invalidated',
     'offered_regions: client adds',
     'offered_regions: client live',
     'offered_regions: client closed',
@@ -235,14 +242,20 @@ class Link:
                 self.regions(side, before, event)
                 if event.n == 'FrameReceived' and before['ended'].n == 'None':
                     self.frame(side, before, event.a[0])
+                    if side == 'client':
+                        self.invalidated(before, event.a[0])
                     self.memory(side, before, event)
+
+    def segment(self, side: str, before: Value, f: Value) -> Value:
+        """A frame as a segment: whether a client takes a Send with Invalidate is agreed."""
+        return self.names.ask('client_segment', before['state'], f) if side == 'client' else self.names.ask('segment', f)
 
     def frame(self, side: str, before: Value, f: Value) -> None:
         ask = self.names.ask
         if ask('hello', f):
             self.hellos[side] = f
             return
-        segment = ask('segment', f)
+        segment = self.segment(side, before, f)
         if segment.n != 'Ok':
             return
         access = ask('access', segment.a[0])
@@ -253,9 +266,27 @@ class Link:
             if side == 'server' and ask('request', segment.a[0]).n == 'Some':
                 self.note('touches: requests', stops)
 
+    def invalidated(self, before: Value, f: Value) -> None:
+        """A Send with Invalidate ends the client and changes nothing else, or what it names is dead, and no region of another call changed."""
+        ask = self.names.ask
+        segment = self.segment('client', before, f)
+        if ask('hello', f) or segment.n != 'Ok' or ask('named', segment.a[0]).n != 'Some':
+            return
+        stag = ask('named', segment.a[0]).a[0]
+        xid = ask('xid', ask('completed', before['state'], segment.a[0]).a[0])
+        if self.ends['client']['ended'].n == 'Some':
+            self.note('invalidated', self.ends['client']['state'] == before['state'], ('ends',))
+            return
+        old, new = before['state']['regions'], self.ends['client']['state']['regions']
+        own = [r for r in old if r['stag'] == stag]
+        dead = all(r['until'].n == 'Some' for r in new if r['stag'] == stag)
+        others = all(r in new for r in old if r['call'] != xid)
+        revoked = own and own[0]['until'].n == 'Some'
+        self.note('invalidated', len(own) == 1 and own[0]['call'] == xid and dead and others, ('revoked',) if revoked else ())
+
     def memory(self, side: str, before: Value, event: Value) -> None:
         ask, f = self.names.ask, event.a[0]
-        segment = ask('segment', f)
+        segment = self.segment(side, before, f)
         if ask('hello', f) or segment.n != 'Ok' or self.ends[side]['ended'].n != 'None':
             return
         for t in ask('tagged', f, segment.a[0]):
@@ -460,7 +491,8 @@ class Link:
                 self.note('sends_convey', brings == want, self.kind(x) + matched)
         if self.matched and len(self.hellos) == 2:
             agreed = {s: self.names.ask('agreed_' + s, self.opened, f) for s, f in self.hellos.items()}
-            goes = all(self.ends[s]['state'][k + '_max'] == agreed[s][k] for s in agreed for k in ('up', 'down'))
+            goes = all(self.ends[s]['state'][f] == agreed[s][k] for s in agreed
+                       for f, k in (('up_max', 'up'), ('down_max', 'down'), ('invalidates', 'invalidates')))
             larger = agreed['client']['up'] > 1024 or agreed['client']['down'] > 1024
             self.note('sides_agree', agreed['client'] == agreed['server'] and goes, ('larger',) if larger else ())
         # the laws below ask that each Wrote writes all output due
@@ -582,12 +614,13 @@ def main(argv: list[str]) -> int:
     p = argparse.ArgumentParser(description='Asks of recorded runs what the laws of nr_laws say.')
     p.add_argument('--project', default=ROOT, help='the folder that has the folder crates')
     p.add_argument('--runs', default=RUNS, help='the folder of recorded runs')
+    p.add_argument('--plain', default=PLAIN, help='the file of the answers of the plain server')
     p.add_argument('--only', default='', help='runs whose name has this word')
     p.add_argument('--jobs', type=int, default=os.cpu_count() or 1)
     a = p.parse_args(argv)
     with open(NAMES, encoding='utf-8') as h:
         spec = json.load(h)
-    with gzip.open(PLAIN, 'rt', encoding='utf-8') as h:
+    with gzip.open(a.plain, 'rt', encoding='utf-8') as h:
         plain = json.load(h)
     try:
         names = deeply(Roles, a.project, spec)

@@ -131,6 +131,11 @@ STD: dict[str, Value] = {
     'encode_lower': Fn(1, lambda xs: [ord(c) for c in bytes(listed(xs)).hex()]),
     'slice_split': Fn(2, _split), 'digits_value': Fn(2, _digits), 'decode_of': Fn(1, _decoded),
     'codes': Fn(1, lambda s: [ord(c) for c in s]),
+    # finite maps, as lists of a key and its value, by rising keys
+    'empty': [],
+    'get': Fn(2, lambda m, k: next((some(v) for key, v in m if key == k), NONE)),
+    'insert': Fn(3, lambda m, k, v: sorted([e for e in m if e[0] != k] + [(k, v)], key=lambda e: e[0])),
+    'remove': Fn(2, lambda m, k: [e for e in m if e[0] != k]),
     'w8': 1, 'w16': 2, 'w32': 4, 'w64': 8,
     'to_be_bytes': Fn(2, lambda w, n: list((n % 256 ** w).to_bytes(w, 'big'))),
     'from_be_bytes': Fn(2, lambda w, x: int.from_bytes(bytes(x[:w]).rjust(w, b'\0'), 'big')),

@@ -58,7 +58,7 @@ fn numbers_of(segment: &Segment<'_>) -> [u64; 8] {
     }
 }
 
-static SEGMENTS: [(&[u8], [u64; 8]); 14] = [
+static SEGMENTS: [(&[u8], [u64; 8]); 16] = [
     // A NULL call and its reply, and ERR_CHUNK, each in one Send.
     (
         b"\x00\x56\x41\x43\0\0\0\0\0\0\0\0\0\0\0\x01\0\0\0\0\
@@ -99,6 +99,15 @@ static SEGMENTS: [(&[u8], [u64; 8]); 14] = [
     (
         b"\x00\x16\x41\x47\0\0\0\0\0\0\0\x02\0\0\0\x01\0\0\0\0\0\0\0\x05\0\0\0\0",
         [0, 1, 7, 0, 2, 1, 0, 4],
+    ),
+    // Two segments of a Send with Invalidate (RFC 5040 section 5.1): the last one has the STag.
+    (
+        b"\x00\x13\x01\x44\0\0\0\0\0\0\0\0\0\0\0\x01\0\0\0\0A\0\0\0\0\0\0\0",
+        [0, 0, 4, 0, 0, 1, 0, 1],
+    ),
+    (
+        b"\x00\x12\x41\x44\0\0\0\x07\0\0\0\0\0\0\0\x01\0\0\0\x01\0\0\0\0",
+        [0, 1, 4, 7, 0, 1, 1, 0],
     ),
     // Not the last of its message: byte 4096 of message 7; bytes of a region from 0x0102030405060708 on.
     (
@@ -215,7 +224,7 @@ fn ignored_bits(rt: HostRuntime) {
 }
 
 /// The length of the ULPDU, the two control bytes, the queue, and the reason.
-static REFUSED: [(u8, u8, u8, u8, u32); 53] = [
+static REFUSED: [(u8, u8, u8, u8, u32); 55] = [
     (0, 0x41, 0x43, 0, 5),
     (1, 0x41, 0x43, 0, 5),
     (17, 0x41, 0x43, 0, 5),
@@ -239,10 +248,10 @@ static REFUSED: [(u8, u8, u8, u8, u32); 53] = [
     (17, 0x42, 0x84, 7, 5),
     (18, 0x42, 0x84, 7, 6),
     (18, 0x41, 0x84, 7, 7),
-    (18, 0x41, 0x44, 7, 8),
+    (18, 0x41, 0x45, 7, 8),
     (18, 0xc2, 0x83, 0, 6),
     (18, 0xc1, 0x83, 0, 7),
-    (18, 0xc1, 0x44, 0, 8),
+    (18, 0xc1, 0x45, 0, 8),
     (18, 0xc1, 0x43, 7, 9),
     (18, 0x41, 0x42, 7, 9),
     // Versions of DDP and of RDMAP.
@@ -268,8 +277,10 @@ static REFUSED: [(u8, u8, u8, u8, u32); 53] = [
     // Forms and queues.
     (18, 0xc1, 0x41, 1, 9),
     (18, 0xc1, 0x47, 2, 9),
+    (18, 0xc1, 0x44, 0, 9),
     (18, 0x41, 0x43, 1, 10),
     (18, 0x41, 0x43, 3, 10),
+    (18, 0x41, 0x44, 1, 10),
     (18, 0x41, 0x41, 0, 10),
     (18, 0x41, 0x41, 2, 10),
     (18, 0x41, 0x47, 0, 10),

@@ -38,7 +38,7 @@ impl Client {
     /// A client that has submitted nothing, with these units of 1,024 bytes for a Send.
     pub fn open(alloc: Global, credits: u32, units: u8) -> Result<Client, Memory> {
         Ok(Client {
-            end: Requester::open_sized(alloc, credits, units)?,
+            end: Requester::open_sized(alloc, credits, units, false)?,
             fed: 0,
             awaited: VecDeque::new(alloc),
         })

@@ -13,7 +13,8 @@ use Rattle.nr_regions.specs.declared.right.Right.TheVariants.{Fetch, Fill}
 use Rattle.nr_link.specs.Frames.{Frame, is_hello}
 use Rattle.nr_reduce.specs.Hellos.{client_hello}
 use Rattle.nr_link.specs.ReceiveState.{ReadRequest, ReceiveState, begun_bytes, message_completed, read_request_of}
-use Rattle.nr_link.specs.Ending.{frame_segment, tagged_access}
+use Rattle.nr_link.specs.Ending.{tagged_access}
+use Rattle.nr_link.proofs.TakenSegments.{taken_read}
 use Rattle.nr_reduce.specs.declared.call.Form.{Form}
 use Rattle.nr_reduce.specs.declared.call.Form.TheVariants as forms
 use Rattle.nr_reduce.specs.declared.item.Item.{Item}
@@ -30,7 +31,7 @@ use Rattle.nr_reduce.specs.OfferedRegions.{region_grants}
 use Rattle.nr_reduce.specs.Plans.{TooLarge, Buffer, plan_of, plan_in_form, inline_plan, given_within, given_total, within, plan_size, reduced_plan, reduced_plan_by, long_plan, offering, auto_offer, auto_plan, write_offer, given_read, buffer_if, buffers, has_segment, total, read_stag, write_stag, reply_stag}
 use Rattle.nr_reduce.specs.ClientState.{ClientState, OutstandingCall, call_payload, plan_for, client_memory_at}
 use Rattle.nr_reduce.specs.ClientMessages.{reply_verdict}
-use Rattle.nr_reduce.specs.Client.{outcomes_of, due_with_response, with_hello, client_rules, client_output, client_state_after, call_output, calls_output, response_output, segment_request, plan_or, outstanding_of, region_of, with_message, with_request, with_segment, revoked_call, initial_client}
+use Rattle.nr_reduce.specs.Client.{client_segment, outcomes_of, due_with_response, with_hello, client_rules, client_output, client_state_after, call_output, calls_output, response_output, segment_request, plan_or, outstanding_of, region_of, with_message, with_request, with_segment, revoked_call, initial_client}
 use Rattle.nr_reduce.specs.Run.{client, output_due}
 use Rattle.nr_laws.specs.Typed.{IsTyped}
 use Rattle.nr_byte_laws.specs.DueBytes.{CompletedInBytes}
@@ -170,9 +171,9 @@ client_written_lem : (o : LinkParameters) (k : ClientState) (e : RunEvent) → C
 unfolding client_output
 client_written_lem o k (FrameReceived f) c h = by (is_hello f)
   where
-    by : (b : Bool) → IsBytes (cond b (calls_output o 1 k.outstanding) (response_output k f.end (segment_request (frame_segment f))))
+    by : (b : Bool) → IsBytes (cond b (calls_output o 1 k.outstanding) (response_output k f.end (segment_request (client_segment k f))))
     by true = calls_bytes o 1 k.outstanding h.calls
-    by false = read_bytes_lem k f.end (segment_request (frame_segment f)) h
+    by false = read_bytes_lem k f.end (segment_request (client_segment k f)) h
 client_written_lem o k (CallSubmitted place a) c h = by k.has_hello
   where
     by : (b : Bool) → IsBytes (cond b (call_output o (k.sends + 1) (outstanding_of k a)) [])
@@ -211,11 +212,10 @@ completed_lem r segment begun b = by (message_completed r segment) refl
     by None is = tt
     by (Some message) is = completed_bytes r segment message begun b is
 
-segment_after : (k : ClientState) (f : Frame) (r : Result Segment ℕ) → frame_segment f ≡ r → IsBytes f.bytes → ClientOfBytes k → ClientOfBytes (with_segment k f r)
-unfolding frame_segment
+segment_after : (k : ClientState) (f : Frame) (r : Result Segment ℕ) → client_segment k f ≡ r → IsBytes f.bytes → ClientOfBytes k → ClientOfBytes (with_segment k f r)
 segment_after k f (Err reason) is b h = h
 segment_after k f (Ok segment) is b h =
-    let own = payload_bytes_lem f.bytes segment b is in
+    let own = payload_bytes_lem f.bytes segment b (taken_read k.invalidates f.bytes segment is) in
     let m = same_accesses k f.end (message_completed k.received segment) (due_with_response k f segment) (read_request_of segment) (completed_lem k.received segment h.begun own) h in
     record {
       begun = received_bytes k.received segment h.begun own;
@@ -240,9 +240,9 @@ client_after : (o : LinkParameters) (place : ℕ) (k : ClientState) (e : RunEven
 unfolding client_state_after
 client_after o place k (FrameReceived f) next c h = by (is_hello f)
   where
-    by : (b : Bool) → ClientOfBytes (cond b (with_hello o k f) (with_segment k f (frame_segment f)))
+    by : (b : Bool) → ClientOfBytes (cond b (with_hello o k f) (with_segment k f (client_segment k f)))
     by true = record { begun = h.begun; calls = h.calls; regions = h.regions; accesses = h.accesses; outcomes = h.outcomes }
-    by false = segment_after k f (frame_segment f) refl next.2 h
+    by false = segment_after k f (client_segment k f) refl next.2 h
 client_after o place k (CallSubmitted p a) next c h =
     let plan = submitted_bytes k a c in
     record {

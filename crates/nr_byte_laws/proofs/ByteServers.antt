@@ -28,6 +28,7 @@ use Rattle.nr_reduce.specs.Hellos.{server_hello}
 use Rattle.nr_link.specs.ReceiveState.{begun_bytes}
 use Rattle.nr_wire.specs.Constants.{REASON_FLAGS}
 use Rattle.nr_link.specs.Ending.{frame_segment, tagged_access, final_output, rejection, last_output}
+use Rattle.nr_link.proofs.TakenSegments.{frame_read}
 use Rattle.nr_reduce.specs.declared.item.Item.{Item}
 use Rattle.nr_reduce.specs.declared.item.Of.{Of}
 use Rattle.nr_reduce.specs.declared.item.Of.TheVariants as items
@@ -46,7 +47,7 @@ use Rattle.nr_reduce.specs.ServerMessages.{Verdict, CallVerdict, verdict, by_nee
 use Rattle.nr_reduce.specs.ServerMessages.CallVerdict.{Refuses, IsReady}
 use Rattle.nr_reduce.specs.ServerMessages.Verdict.{EndsLink, OtherVersion, BadChunks, MakesPending}
 use Rattle.nr_reduce.specs.ServerFrames.{effect_in, FrameEffect, no_effect, with_verdict, ready_if_whole, message_effect, with_access, frame_effect}
-use Rattle.nr_reduce.specs.Server.{with_own_hello, server_rules, server_output, server_state_after, sends_from, newly_open_reads, requests_from, effect_output, offer_of, answer_of_target, answer_output, execution_output, received_by, tagged_accesses, with_effect, initial_server}
+use Rattle.nr_reduce.specs.Server.{stag_named, with_own_hello, server_rules, server_output, server_state_after, sends_from, newly_open_reads, requests_from, effect_output, offer_of, answer_of_target, answer_output, execution_output, received_by, tagged_accesses, with_effect, initial_server}
 use Rattle.nr_reduce.specs.Run.{server, output_due}
 use Rattle.nr_laws.specs.Typed.{IsTyped}
 use Rattle.nr_laws.proofs.EventOutputs.{IsNext}
@@ -58,7 +59,7 @@ use Rattle.nr_laws.proofs.EachEffect.EffectCase.{Unchanged, OfMessage, OfRead, O
 use Rattle.nr_laws.proofs.ServerEvents.{received_bytes, completed_bytes}
 use Rattle.nr_laws.proofs.Words.{payload_bytes_lem, payload_by}
 use Rattle.nr_script.proofs.ByteLists.{no_bytes_lem}
-use Rattle.nr_byte_laws.proofs.ByteStreams.{header_bytes, send_bytes, write_bytes, request_bytes, server_hello_bytes, refusing_bytes, final_bytes}
+use Rattle.nr_byte_laws.proofs.ByteStreams.{header_bytes, named_bytes, send_bytes, write_bytes, request_bytes, server_hello_bytes, refusing_bytes, final_bytes}
 use Rattle.nr_byte_laws.proofs.ByteRuns.{RegionOfBytes, AccessOfBytes, found_each, memory_bytes, regions_closed_lem, CarriesBytes, KeepsBytes, run_bytes}
 use Rattle.nr_byte_laws.proofs.PayloadBytes.{IfBytes, bytes_if, whole_bytes_lem}
 use Rattle.nr_byte_laws.proofs.ByteClients.{access_bytes}
@@ -134,7 +135,7 @@ answer_message_bytes xid credit offer a stream =
 output_bytes_lem : (k : ServerState) (xid : ℕ) (offer : ChunkLists) (o : Option Answer) → IfAnswer o → IsBytes (answer_output k xid offer o)
 output_bytes_lem k xid offer None h = send_bytes (k.messages_queued + 1) (chunk_error xid (credit_word k)) (chunk_error_bytes xid (credit_word k))
 output_bytes_lem k xid offer (Some a) h =
-    bytes_both (answer_writes offer a) _ (writes_bytes offer a h.0 h.1) (send_bytes (k.messages_queued + 1) (answer_message xid (credit_word k) offer a) (answer_message_bytes xid (credit_word k) offer a h.0))
+    bytes_both (answer_writes offer a) _ (writes_bytes offer a h.0 h.1) (named_bytes (stag_named k.invalidates offer) (k.messages_queued + 1) (answer_message xid (credit_word k) offer a) (answer_message_bytes xid (credit_word k) offer a h.0))
 
 execution_bytes : (k : ServerState) (e : ExecutedCall) → IsBytes e.reply → IsBytes (execution_output k e)
 unfolding execution_output
@@ -297,11 +298,11 @@ effect_bytes k f segment is b h e (OfCall r reads c last at found own) =
     (record { calls = h.calls; regions = h.regions; ready = tt; errors = tt }))
 
 frame_effect_lem : (k : ServerState) (f : Frame) → IsBytes f.bytes → ServerOfBytes k → EffectOfBytes (frame_effect k f)
-unfolding frame_effect frame_segment
+unfolding frame_effect
 frame_effect_lem k f b h = by (frame_segment f) refl
   where
     by : (r : Result Segment ℕ) → frame_segment f ≡ r → EffectOfBytes (frame_effect k f)
-    by (Ok segment) is = effect_bytes k f segment is (payload_bytes_lem f.bytes segment b is) h (frame_effect k f) (effect_case k f segment is)
+    by (Ok segment) is = effect_bytes k f segment is (payload_bytes_lem f.bytes segment b (frame_read f segment is)) h (frame_effect k f) (effect_case k f segment is)
     by (Err reason) is = subst EffectOfBytes (sym (ap (λ (r : Result Segment ℕ). effect_in k f r) is)) (none_of_bytes k h)
 
 -- ===== what it writes
@@ -339,13 +340,11 @@ final_of_server end = bytes_both (rejection Responder end) (final_output end) (r
 -- ===== what it knows then
 
 begun_after : (k : ServerState) (f : Frame) (r : Result Segment ℕ) → frame_segment f ≡ r → IsBytes f.bytes → IsBytes (begun_bytes k.received.begun) → IsBytes (begun_bytes (received_by k.received r).begun)
-unfolding frame_segment
-begun_after k f (Ok segment) is b h = received_bytes k.received segment h (payload_bytes_lem f.bytes segment b is)
+begun_after k f (Ok segment) is b h = received_bytes k.received segment h (payload_bytes_lem f.bytes segment b (frame_read f segment is))
 begun_after k f (Err reason) is b h = h
 
 accesses_after : (f : Frame) (r : Result Segment ℕ) → frame_segment f ≡ r → IsBytes f.bytes → AllByRecursion AccessOfBytes (tagged_accesses f r)
-unfolding frame_segment
-accesses_after f (Ok segment) is b = access_bytes f segment (payload_bytes_lem f.bytes segment b is)
+accesses_after f (Ok segment) is b = access_bytes f segment (payload_bytes_lem f.bytes segment b (frame_read f segment is))
 accesses_after f (Err reason) is b = tt
 
 frame_after : (k : ServerState) (f : Frame) → IsBytes f.bytes → ServerOfBytes k → ServerOfBytes (with_effect k f (frame_effect k f))

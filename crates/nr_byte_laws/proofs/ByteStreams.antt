@@ -14,13 +14,13 @@ use Rattle.nr_link.specs.Agreement.{initiator_private, responder_private, respon
 use Rattle.nr_link.specs.Frames.{Frame}
 use Rattle.nr_reduce.specs.declared.mark.LinkParameters.{LinkParameters}
 use Rattle.nr_reduce.specs.Hellos.{client_hello, client_private, server_hello, server_private, private_of}
-use Rattle.nr_wire.specs.Constants.{HELLO_REVISION, TERMS_NUMBER, TERMS_INVALIDATE, UNITS_MAX, OPCODE_WRITE, OPCODE_READ_REQUEST, OPCODE_READ_RESPONSE, OPCODE_SEND, OPCODE_TERMINATE, QUEUE_SEND, QUEUE_READ_REQUEST, QUEUE_TERMINATE}
+use Rattle.nr_wire.specs.Constants.{HELLO_REVISION, TERMS_NUMBER, TERMS_INVALIDATE, UNITS_MAX, OPCODE_WRITE, OPCODE_READ_REQUEST, OPCODE_READ_RESPONSE, OPCODE_SEND, OPCODE_SEND_INVALIDATE, OPCODE_TERMINATE, QUEUE_SEND, QUEUE_READ_REQUEST, QUEUE_TERMINATE}
 use Rattle.nr_wire.specs.Fields.{half_word}
 use Rattle.nr_wire.specs.Hello.{hello_encoding, key}
 use Rattle.nr_wire.specs.Segment.{Segment, control, header, payload_in, opcode_in, ulpdu_size, tail_len, encoding as frame_of}
 use Rattle.nr_wire.specs.Segment.Segment.{Tagged, Untagged}
 use Rattle.nr_link.specs.Limits.{segment_max}
-use Rattle.nr_link.specs.Output.{msn_word, cut, segment_count, segment_payload, send, write, read_response, read_request, terminate_message, hello_with, refusing_hello}
+use Rattle.nr_link.specs.Output.{msn_word, cut, segment_count, segment_payload, send, send_by, send_invalidating, write, read_response, read_request, terminate_message, hello_with, refusing_hello}
 use Rattle.nr_link.specs.Ending.{final_output}
 use Rattle.nr_link.specs.declared.end.End.{End}
 use Rattle.nr_link.specs.declared.end.End.TheVariants as ends
@@ -107,6 +107,9 @@ cut_bytes segment bytes each h =
 send_small : OPCODE_SEND < 16
 send_small = omega arith
 
+invalidating_small : OPCODE_SEND_INVALIDATE < 16
+invalidating_small = omega arith
+
 write_small_lem : OPCODE_WRITE < 16
 write_small_lem = omega arith
 
@@ -124,6 +127,16 @@ unfolding send
 send_bytes msn message h =
     let one : Bool → ℕ → List ℕ → Segment = (λ last offset payload. Untagged last OPCODE_SEND 0 QUEUE_SEND (msn_word msn) offset payload) in
     cut_bytes one message (λ last offset payload p. segment_bytes_lem (one last offset payload) send_small p) h
+
+invalidating_bytes : (msn stag : ℕ) (message : List ℕ) → IsBytes message → IsBytes (send_invalidating msn stag message)
+unfolding send_invalidating
+invalidating_bytes msn stag message h =
+    let one : Bool → ℕ → List ℕ → Segment = (λ last offset payload. Untagged last OPCODE_SEND_INVALIDATE (cond last stag 0) QUEUE_SEND (msn_word msn) offset payload) in
+    cut_bytes one message (λ last offset payload p. segment_bytes_lem (one last offset payload) invalidating_small p) h
+
+pub named_bytes : (named : Option ℕ) (msn : ℕ) (message : List ℕ) → IsBytes message → IsBytes (send_by named msn message)
+named_bytes None msn message h = send_bytes msn message h
+named_bytes (Some stag) msn message h = invalidating_bytes msn stag message h
 
 pub write_bytes : (stag to : ℕ) (bytes : List ℕ) → IsBytes bytes → IsBytes (write stag to bytes)
 unfolding write

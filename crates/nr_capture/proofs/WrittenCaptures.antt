@@ -8,11 +8,11 @@ use Rattle.nr_reduce.specs.Limits.{credits_max}
 use Rattle.nr_texts.specs.declared.opening.Opening.{Opening}
 use Rattle.nr_texts.specs.Limits.{clients_max, default_capacity, default_units, capacity_max}
 use Rattle.nr_texts.specs.Words.{◌>>=◌, space, newline, parts, number_within, IsWord}
-use Rattle.nr_texts.specs.Openings.{capacity_in, sizes_in, opening_of, opening_in, IsOpening}
+use Rattle.nr_texts.specs.Openings.{capacity_in, sizes_of, sizes_in, invalidate_in, opening_of, opening_in, IsOpening}
 use Rattle.nr_texts.proofs.TypedTexts.{both_true_lem}
 use Rattle.nr_capture.specs.declared.capture.CapturedMark.{CapturedMark}
 use Rattle.nr_capture.specs.Capture.{CaptureLines, is_link, link_of, with_mark, with_line, opened_by, with_first_line, marks_from, capture_of}
-use Rattle.nr_capture.specs.Texts.{two_numbers_text, capacity_text, sizes_text, opening_text, mark_text, line_text, capture_text}
+use Rattle.nr_capture.specs.Texts.{two_numbers_text, capacity_text, sizes_text, invalidate_text, opening_text, mark_text, line_text, capture_text}
 use Rattle.nr_capture.specs.Writable.{IsWritableMark, IsWritable}
 use Rattle.nr_capture.proofs.Steps.{more, first_more}
 use Rattle.nr_capture.proofs.WrittenWords.{lacks, lacks_both, parts_cons, joined, one_part, with_word, IsNoDigit, decimal_lacks, number_back}
@@ -32,6 +32,9 @@ sizes_words is client server = if is then [] else codes "sizes" ∷ decimal clie
 
 abbrev capacity_words : Bool → ℕ → List (List ℕ)
 capacity_words is capacity = if is then [] else codes "capacity" ∷ decimal capacity ∷ []
+
+abbrev invalidate_words : Bool → List (List ℕ)
+invalidate_words is = if is then codes "invalidate" ∷ [] else []
 
 no_space : IsNoDigit space
 no_space le = omega (arith, le)
@@ -53,34 +56,53 @@ sizes_parts false x xs client server e c t =
     joined space (codes "sizes") (two_numbers_text client server) (codes "sizes" ∷ []) (decimal client ∷ decimal server ∷ []) refl (two_parts client server c t) in
     parts_cons space x (codes "sizes " ++ two_numbers_text client server) ∙ (λ i. e i ++ three i)
 
-capacity_back : (b s : Bool) (capacity client server : ℕ) → capacity == default_capacity ≡ b → capacity ≤ capacity_max →
-    capacity_in (capacity_words b capacity ++ sizes_words s client server) ≡ Some (capacity, sizes_words s client server)
-capacity_back true true capacity client server is k = ap (λ (n : ℕ). Some (n, sizes_words true client server)) (sym (eqb-true capacity default_capacity is))
-capacity_back true false capacity client server is k = ap (λ (n : ℕ). Some (n, sizes_words false client server)) (sym (eqb-true capacity default_capacity is))
-capacity_back false s capacity client server is k =
-    ap (λ (o : Option ℕ). o >>= λ b. Some (b, sizes_words s client server)) (number_back 0 capacity_max capacity (omega arith) k (omega (arith, k)))
+invalidate_parts : (v : Bool) (x : List ℕ) (xs : List (List ℕ)) → parts space x ≡ xs → parts space (x ++ invalidate_text v) ≡ xs ++ invalidate_words v
+invalidate_parts true x xs e = parts_cons space x (codes "invalidate") ∙ ap (λ (p : List (List ℕ)). p ++ codes "invalidate" ∷ []) e
+invalidate_parts false x xs e = ap (parts space) (append-nil x) ∙ e ∙ sym (append-nil xs)
 
-sizes_back : (s : Bool) (client server : ℕ) → client == default_units && server == default_units ≡ s → (1 ≤ client) × (client ≤ UNITS_MAX) → (1 ≤ server) × (server ≤ UNITS_MAX) →
-    sizes_in (sizes_words s client server) ≡ Some (client, server)
-sizes_back true client server is c t =
-    let h = both_true_lem (client == default_units) (server == default_units) is in
-    ap (λ (n : ℕ). Some (n, default_units)) (sym (eqb-true client default_units h.0)) ∙ ap (λ (n : ℕ). Some (client, n)) (sym (eqb-true server default_units h.1))
-sizes_back false client server is c t =
+capacity_back : (b s v : Bool) (capacity client server : ℕ) → capacity == default_capacity ≡ b → capacity ≤ capacity_max →
+    capacity_in (capacity_words b capacity ++ sizes_words s client server ++ invalidate_words v) ≡ Some (capacity, sizes_words s client server ++ invalidate_words v)
+capacity_back true true true capacity client server is k = ap (λ (n : ℕ). Some (n, invalidate_words true)) (sym (eqb-true capacity default_capacity is))
+capacity_back true true false capacity client server is k = ap (λ (n : ℕ). Some (n, invalidate_words false)) (sym (eqb-true capacity default_capacity is))
+capacity_back true false v capacity client server is k = ap (λ (n : ℕ). Some (n, sizes_words false client server ++ invalidate_words v)) (sym (eqb-true capacity default_capacity is))
+capacity_back false s v capacity client server is k =
+    ap (λ (o : Option ℕ). o >>= λ b. Some (b, sizes_words s client server ++ invalidate_words v)) (number_back 0 capacity_max capacity (omega arith) k (omega (arith, k)))
+
+no_sizes : (v : Bool) → sizes_in (invalidate_words v) ≡ Some ((default_units, default_units), invalidate_words v)
+no_sizes true = refl
+no_sizes false = refl
+
+units_back : (client server : ℕ) → (1 ≤ client) × (client ≤ UNITS_MAX) → (1 ≤ server) × (server ≤ UNITS_MAX) → sizes_of (decimal client) (decimal server) ≡ Some (client, server)
+units_back client server c t =
     ap (λ (o : Option ℕ). o >>= λ a. number_within 1 UNITS_MAX (decimal server) >>= λ b. Some (a, b)) (number_back 1 UNITS_MAX client c.0 c.1 (let le = c.1 in omega (arith, le)))
     ∙ ap (λ (o : Option ℕ). o >>= λ b. Some (client, b)) (number_back 1 UNITS_MAX server t.0 t.1 (let le = t.1 in omega (arith, le)))
 
+sizes_back : (s v : Bool) (client server : ℕ) → client == default_units && server == default_units ≡ s → (1 ≤ client) × (client ≤ UNITS_MAX) → (1 ≤ server) × (server ≤ UNITS_MAX) →
+    sizes_in (sizes_words s client server ++ invalidate_words v) ≡ Some ((client, server), invalidate_words v)
+sizes_back true v client server is c t =
+    let h = both_true_lem (client == default_units) (server == default_units) is in
+    no_sizes v
+    ∙ ap (λ (n : ℕ). Some ((n, default_units), invalidate_words v)) (sym (eqb-true client default_units h.0))
+    ∙ ap (λ (n : ℕ). Some ((client, n), invalidate_words v)) (sym (eqb-true server default_units h.1))
+sizes_back false v client server is c t = ap (λ (o : Option (ℕ × ℕ)). o >>= λ units. Some (units, invalidate_words v)) (units_back client server c t)
+
+invalidate_back : (v : Bool) → invalidate_in (invalidate_words v) ≡ Some v
+invalidate_back true = refl
+invalidate_back false = refl
+
 opening_words : (b s : Bool) (o : Opening) → IsOpening o → o.capacity == default_capacity ≡ b → o.client_units == default_units && o.server_units == default_units ≡ s →
-    opening_of (decimal o.clients) (decimal o.credits) (capacity_words b o.capacity ++ sizes_words s o.client_units o.server_units) ≡ Some o
+    opening_of (decimal o.clients) (decimal o.credits) (capacity_words b o.capacity ++ sizes_words s o.client_units o.server_units ++ invalidate_words o.invalidates) ≡ Some o
 opening_words b s o is e f =
     rw (
       number_back 1 clients_max o.clients is.some_clients is.few_clients (let le = is.few_clients in omega (arith, le)),
       number_back 1 credits_max o.credits is.some_credits is.few_credits (let le = is.few_credits in omega (arith, le)),
-      capacity_back b s o.capacity o.client_units o.server_units e is.capacity,
-      sizes_back s o.client_units o.server_units f (is.some_client_units, is.few_client_units) (is.some_server_units, is.few_server_units),
+      capacity_back b s o.invalidates o.capacity o.client_units o.server_units e is.capacity,
+      sizes_back s o.invalidates o.client_units o.server_units f (is.some_client_units, is.few_client_units) (is.some_server_units, is.few_server_units),
+      invalidate_back o.invalidates,
     ) refl
 
-opening_parts : (b s : Bool) (o : Opening) → IsOpening o → parts space (codes "clients " ++ decimal o.clients ++ codes " credits " ++ decimal o.credits ++ capacity_by b o.capacity ++ sizes_by s o.client_units o.server_units)
-    ≡ codes "clients" ∷ decimal o.clients ∷ codes "credits" ∷ decimal o.credits ∷ (capacity_words b o.capacity ++ sizes_words s o.client_units o.server_units)
+opening_parts : (b s : Bool) (o : Opening) → IsOpening o → parts space (codes "clients " ++ decimal o.clients ++ codes " credits " ++ decimal o.credits ++ capacity_by b o.capacity ++ sizes_by s o.client_units o.server_units ++ invalidate_text o.invalidates)
+    ≡ codes "clients" ∷ decimal o.clients ∷ codes "credits" ∷ decimal o.credits ∷ (capacity_words b o.capacity ++ sizes_words s o.client_units o.server_units ++ invalidate_words o.invalidates)
 opening_parts b s o is =
     let few = is.few_clients in let g = is.few_credits in let k = is.capacity in let c = is.few_client_units in let t = is.few_server_units in
     let x : List ℕ = codes "clients " ++ decimal o.clients in
@@ -92,8 +114,9 @@ opening_parts b s o is =
     let two : parts space y ≡ codes "clients" ∷ decimal o.clients ∷ codes "credits" ∷ decimal o.credits ∷ [] =
     ap (parts space) (append_assoc x (codes " credits ") (decimal o.credits)) ∙ parts_cons space x (codes "credits " ++ decimal o.credits) ∙ (λ i. one i ++ rest i) in
     let words : List (List ℕ) = codes "clients" ∷ decimal o.clients ∷ codes "credits" ∷ decimal o.credits ∷ [] in
-    sizes_parts s (y ++ capacity_by b o.capacity) (words ++ capacity_words b o.capacity) o.client_units o.server_units
-    (capacity_parts b y words o.capacity two (omega (arith, k))) (omega (arith, c)) (omega (arith, t))
+    invalidate_parts o.invalidates (y ++ capacity_by b o.capacity ++ sizes_by s o.client_units o.server_units) (words ++ capacity_words b o.capacity ++ sizes_words s o.client_units o.server_units)
+    (sizes_parts s (y ++ capacity_by b o.capacity) (words ++ capacity_words b o.capacity) o.client_units o.server_units
+    (capacity_parts b y words o.capacity two (omega (arith, k))) (omega (arith, c)) (omega (arith, t)))
 
 opening_back : (o : Opening) → IsOpening o → opening_in (parts space (opening_text o)) ≡ Some o
 unfolding opening_in opening_text
@@ -107,6 +130,10 @@ sizes_lack : (s : Bool) (client server : ℕ) → IsWord client → IsWord serve
 sizes_lack true client server c t = refl
 sizes_lack false client server c t = lacks_both newline (codes " sizes ") (two_numbers_text client server) refl (two_lack client server c t)
 
+invalidate_lacks : (v : Bool) → lacks newline (invalidate_text v) ≡ true
+invalidate_lacks true = refl
+invalidate_lacks false = refl
+
 opening_lacks : (o : Opening) → IsOpening o → lacks newline (opening_text o) ≡ true
 unfolding opening_text
 opening_lacks o is =
@@ -117,9 +144,12 @@ opening_lacks o is =
     let one : lacks newline x ≡ true = lacks_both newline (codes "clients ") (decimal o.clients) refl (decimal_lacks newline o.clients no_newline (omega (arith, few))) in
     let two : lacks newline y ≡ true = lacks_both newline x (codes " credits ") one refl in
     let three : lacks newline z ≡ true = lacks_both newline y (decimal o.credits) two (decimal_lacks newline o.credits no_newline (omega (arith, g))) in
-    lacks_both newline (z ++ capacity_text o.capacity) (sizes_text o.client_units o.server_units)
-    (lacks_both newline z (capacity_text o.capacity) three (capacity_lacks (o.capacity == default_capacity) o.capacity (omega (arith, k))))
-    (sizes_lack (o.client_units == default_units && o.server_units == default_units) o.client_units o.server_units (omega (arith, c)) (omega (arith, t)))
+    let w : List ℕ = z ++ capacity_text o.capacity in
+    let four : lacks newline w ≡ true = lacks_both newline z (capacity_text o.capacity) three (capacity_lacks (o.capacity == default_capacity) o.capacity (omega (arith, k))) in
+    let five : lacks newline (w ++ sizes_text o.client_units o.server_units) ≡ true =
+    lacks_both newline w (sizes_text o.client_units o.server_units) four
+    (sizes_lack (o.client_units == default_units && o.server_units == default_units) o.client_units o.server_units (omega (arith, c)) (omega (arith, t))) in
+    lacks_both newline (w ++ sizes_text o.client_units o.server_units) (invalidate_text o.invalidates) five (invalidate_lacks o.invalidates)
 
 -- ===== the marks
 

@@ -1,5 +1,5 @@
 -- The text of a capture, as it is written: numbers in decimal, bytes in hexadecimal of lower case, `-` for none.
-use Rattle.std.specs.Prelude.{ℕ, ◌==◌, ◌&&◌, if◌then◌else◌, List, [], ◌∷◌, ◌++◌, codes, Option, None, Some}
+use Rattle.std.specs.Prelude.{ℕ, Bool, ◌==◌, ◌&&◌, if◌then◌else◌, List, [], ◌∷◌, ◌++◌, codes, Option, None, Some}
 use Rattle.std.specs.Fmt.{decimal}
 use Rattle.std.specs.List.{flat_map}
 use Rattle.hex.specs.Hex.{encode_lower}
@@ -106,10 +106,13 @@ capacity_text capacity = if capacity == default_capacity then [] else codes " ca
 abbrev pub sizes_text : ℕ → ℕ → List ℕ
 sizes_text client server = if client == default_units && server == default_units then [] else codes " sizes " ++ two_numbers_text client server
 
+abbrev pub invalidate_text : Bool → List ℕ
+invalidate_text invalidates = if invalidates then codes " invalidate" else []
+
 unfoldable pub opening_text : Opening → List ℕ
 opening_text opening =
     codes "clients " ++ decimal opening.clients ++ codes " credits " ++ decimal opening.credits ++ capacity_text opening.capacity
-    ++ sizes_text opening.client_units opening.server_units
+    ++ sizes_text opening.client_units opening.server_units ++ invalidate_text opening.invalidates
 
 abbrev pub line_text : CapturedMark → List ℕ
 line_text mark = mark_text mark ++ codes "\n"

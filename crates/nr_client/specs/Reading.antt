@@ -23,7 +23,6 @@ use Rattle.nr_client.specs.declared.client_end.ClientEnd.{ClientEnd}
 use Rattle.nr_client.specs.declared.client_end.ClientEnd.TheVariants as client
 use Rattle.nr_client.specs.declared.call_end.CallEnd.{CallEnd}
 use Rattle.nr_client.specs.Calls.{Answers, Completes, Forgets, ForgetsCalls, RefusesToSubmit, Submits}
-use Rattle.nr_client.specs.Dialing.{session_credits}
 use Rattle.nr_client.specs.Ending.{IsCause, LinkCause}
 use Rattle.nr_client.specs.Following.{Next, Unanswered}
 use Rattle.nr_client.specs.Following.Next.{Calls, Returns}
@@ -165,9 +164,9 @@ read_ahead uid gid file (ReadEnds end bytes) reads = None
 abbrev pub IsMadeAlone : (uid gid : ℕ) → (file : List ℕ) → ReadingAt → Call → Type 0
 IsMadeAlone uid gid file s call = (reading uid gid file s.outcomes ≡ Calls call) × (is_at_piece (file_read s.outcomes) ≡ false)
 
--- the most READs of a file that are outstanding: as many as the credits that a session wishes for
+-- the most READs of a file that are outstanding
 abbrev pub reads_max : ℕ
-reads_max = session_credits
+reads_max = 4
 
 -- The READ of a piece is submitted while fewer than the maximum are outstanding, if a credit is left. If none is outstanding, it waits for a credit.
 abbrev pub IsMadeAhead : (uid gid : ℕ) → (file : List ℕ) → ReadingAt → Call → Type 0

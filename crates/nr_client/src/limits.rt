@@ -8,8 +8,9 @@ pub(crate) const COMPONENT_MAX: usize = NAME_LENGTH_MAX as usize;
 /// The number of credits that a session wishes for.
 pub(crate) const CREDITS: u32 = 16;
 
-/// The maximum number of READs of a file that are outstanding.
-pub(crate) const READS_MAX: usize = CREDITS as usize;
+/// The maximum number of READs of a file that are outstanding: with more, their data don't stay in a processor's caches
+/// until they are written.
+pub(crate) const READS_MAX: usize = 4;
 
 /// The maximum number of entries of a list.
 pub(crate) const ENTRIES_MAX: usize = 1_048_576;

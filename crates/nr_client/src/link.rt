@@ -2,7 +2,7 @@
 
 ghost use Rattle.std.specs.Prelude.{◌≡◌, ◌≤◌, ℕ, true, is_some, nat_lt, length, [], IfOk, IfErr, OnErr};
 ghost use Rattle.nr_rpc.specs.Credential.{CanWriteCred};
-ghost use Rattle.nr_link.specs.Agreement.{sized_terms};
+ghost use Rattle.nr_link.specs.Agreement.{terms_with};
 ghost use Rattle.nr_reduce.specs.Opening.{ClientOpened};
 ghost use Rattle.nr_reduce.specs.declared.mark.LinkParameters.{LinkParameters};
 ghost use Rattle.nr_requester.specs.Standing.{RequesterRepresents};
@@ -50,23 +50,25 @@ impl<I, O> Model for Link<I, O> {
 }
 
 impl<I: Source, O: Sink> Link<I, O> {
-    /// The client end of a new link. It wishes for this many credits, and has this many units for its Sends in each direction, of 1,024 bytes
-    /// each, 1 to 16 (0 counts as 1, and more than 16 as 16). After out of memory the source and the sink come back.
+    /// The client end of a new link. It wishes for this many credits, has this many units for its Sends in each direction, of 1,024 bytes
+    /// each, 1 to 16 (0 counts as 1, and more than 16 as 16), and says whether it takes Sends with Invalidate (RFC 8166 section 3.5.2). After out
+    /// of memory the source and the sink come back.
     pub fn open(
         alloc: Global,
         source: I,
         sink: O,
         credits: u32,
         units: u8,
+        invalidates: bool,
     ) -> Result<Link<I, O>, (I, O)>
-        ensures state { IfOk result (λ c. c ≡ record { requester = opened_as 1 1 credits (sized_terms units) c.requester.staging; source = source; sink = sink; read = 0 }) }
-        ensures stands { IfOk result (λ c. (opened : LinkParameters) (link : ℕ) → opened.first_xid ≡ 1 → opened.first_stag ≡ 1 → ClientOpened opened credits (sized_terms units) → RequesterRepresents opened link c.requester []) }
+        ensures state { IfOk result (λ c. c ≡ record { requester = opened_as 1 1 credits (terms_with units invalidates) c.requester.staging; source = source; sink = sink; read = 0 }) }
+        ensures stands { IfOk result (λ c. (opened : LinkParameters) (link : ℕ) → opened.first_xid ≡ 1 → opened.first_stag ≡ 1 → ClientOpened opened credits (terms_with units invalidates) → RequesterRepresents opened link c.requester []) }
         ensures returned { IfErr result (λ link. (link.0 ≡ source) × (link.1 ≡ sink)) }
     {
         let Ok(buf) = vec![in alloc; 0u8; PIECE_MAX] else {
             return Err((source, sink));
         };
-        let Ok(requester) = Requester::open_sized(alloc, credits, units) else {
+        let Ok(requester) = Requester::open_sized(alloc, credits, units, invalidates) else {
             drop(buf);
             return Err((source, sink));
         };

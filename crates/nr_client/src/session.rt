@@ -4,7 +4,7 @@ ghost use Rattle.std.specs.Prelude.{◌≡◌, ◌<◌, ◌≤◌, ℕ, [], OnOk
 ghost use Rattle.nr_nfs_base.specs.declared.attributes.Attributes.{Attributes};
 ghost use Rattle.nr_links.specs.Asked.{Asks as AsksFor};
 ghost use Rattle.nr_links.specs.Links.{CountsLost, EndsLink, HasOpenLink, IsNewLink, IsTold, MakesLink, ended_link};
-ghost use Rattle.nr_link.specs.Agreement.{sized_terms};
+ghost use Rattle.nr_link.specs.Agreement.{terms_with};
 ghost use Rattle.nr_reduce.specs.Opening.{ClientOpened};
 ghost use Rattle.nr_reduce.specs.declared.mark.LinkParameters.{LinkParameters};
 ghost use Rattle.nr_requester.specs.AfterCalls.{opened_as};
@@ -66,7 +66,8 @@ impl<I, O> Model for Session<I, O> {
 
 impl<P: LinkSource, Q: LinkSink, N: LinkNumber> Session<NumberedSource<P, N>, NumberedSink<Q, N>> {
     /// A session of a user over a link to this address, with this many units for the client's Sends in each direction, of 1,024 bytes each, 1 to
-    /// 16 (0 counts as 1, and more than 16 as 16). `DialFault` if the dialer failed. If memory runs out, the link is hung up as it was made.
+    /// 16 (0 counts as 1, and more than 16 as 16), and with Sends with Invalidate, if it takes them and the server makes them. `DialFault` if the
+    /// dialer failed. If memory runs out, the link is hung up as it was made.
     pub fn open<D: Dialer<Source = P, Sink = Q>>(
         alloc: Global,
         dialer: &mut D,
@@ -74,6 +75,7 @@ impl<P: LinkSource, Q: LinkSink, N: LinkNumber> Session<NumberedSource<P, N>, Nu
         uid: u32,
         gid: u32,
         units: u8,
+        invalidates: bool,
     ) -> Result<Session<NumberedSource<P, N>, NumberedSink<Q, N>>, ClientEnd>
         requires { D.next dialer.old ≡ N.number }
         ensures asked { OnOk result (AsksFor (D.asked dialer.old) (D.asked dialer.new) addr.now) }
@@ -81,8 +83,8 @@ impl<P: LinkSource, Q: LinkSink, N: LinkNumber> Session<NumberedSource<P, N>, Nu
         ensures counts { OnOk result (IfSome (D.ended dialer.old) (λ log. log.made ≡ N.number)) }
         ensures fresh { IfOk result (λ s. IsNewLink (P.given s.link.source.source) (Q.taken s.link.sink.sink) (P.faults s.link.source.source) (Q.faults s.link.sink.sink)) }
         ensures told { IfOk result (λ s. IsTold (D.ended dialer.new) (P.given s.link.source.source) (P.left s.link.source.source) (Q.taken s.link.sink.sink)) }
-        ensures state { IfOk result (λ s. (s.link.requester ≡ opened_as 1 1 session_credits (sized_terms units) s.link.requester.staging) × ((s.link.read ≡ 0) × ((s.uid ≡ uid) × (s.gid ≡ gid)))) }
-        ensures stands { IfOk result (λ s. (opened : LinkParameters) (link : ℕ) → opened.first_xid ≡ 1 → opened.first_stag ≡ 1 → ClientOpened opened session_credits (sized_terms units) → RequesterRepresents opened link s.link.requester []) }
+        ensures state { IfOk result (λ s. (s.link.requester ≡ opened_as 1 1 session_credits (terms_with units invalidates) s.link.requester.staging) × ((s.link.read ≡ 0) × ((s.uid ≡ uid) × (s.gid ≡ gid)))) }
+        ensures stands { IfOk result (λ s. (opened : LinkParameters) (link : ℕ) → opened.first_xid ≡ 1 → opened.first_stag ≡ 1 → ClientOpened opened session_credits (terms_with units invalidates) → RequesterRepresents opened link s.link.requester []) }
         ensures err { IfErr result (λ end. OpenFails end addr.now (dialer_at (D.asked dialer.old) (D.ended dialer.old) (D.lost dialer.old) (D.faults dialer.old))
             (dialer_at (D.asked dialer.new) (D.ended dialer.new) (D.lost dialer.new) (D.faults dialer.new))) }
         ensures counted { OnOk result (D.faults dialer.new ≡ D.faults dialer.old) }
@@ -94,7 +96,7 @@ impl<P: LinkSource, Q: LinkSink, N: LinkNumber> Session<NumberedSource<P, N>, Nu
         };
         let source = NumberedSource::new(source);
         let sink = NumberedSink::new(sink);
-        match Link::open(alloc, source, sink, CREDITS, units) {
+        match Link::open(alloc, source, sink, CREDITS, units, invalidates) {
             Ok(link) => Ok(Session {
                 alloc,
                 link,

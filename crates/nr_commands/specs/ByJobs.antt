@@ -1,6 +1,7 @@
 -- `get` by several jobs, from its words to its end.
 use Rattle.std.specs.Prelude.{◌≡◌, ℕ, List, Option, Result, Ok, Err}
 use Rattle.nr_outside.specs.Streams.{SinkAt, SourceAt, sink_at, source_at}
+use Rattle.nr_link.specs.Agreement.{terms_with}
 use Rattle.nr_words.specs.Lines.{Text}
 use Rattle.nr_words.specs.declared.commands.GetByJobs.{GetByJobs}
 use Rattle.nr_client.specs.declared.client_end.ClientEnd.{ClientEnd}
@@ -39,7 +40,7 @@ pub record ReadsAndCloses (uid gid : ℕ) (file : List ℕ) (number : ℕ) (s : 
 -- No session was opened; or one was, and no file was found; or the file was read. Nothing else was printed.
 pub data GetsByJobs (get : GetByJobs Text) (before after : DialerAt) (out out' : SinkAt) (result : Result (Unit {0}) ClientEnd) : Type 0 where
   NotOpened : (end : ClientEnd) → result ≡ Err end → OpenFails end get.addr before after → out' ≡ out → GetsByJobs get before after out out' result
-  NotFound : (dialed : DialerAt) → (s s' : SessionAt) → (end : ClientEnd) → (opens : Opens get.addr get.units before dialed s) → Finds get.uid get.gid get.export get.path s s' (Err end) →
+  NotFound : (dialed : DialerAt) → (s s' : SessionAt) → (end : ClientEnd) → (opens : Opens get.addr (terms_with get.units get.invalidates) before dialed s) → Finds get.uid get.gid get.export get.path s s' (Err end) →
       result ≡ Err end → out' ≡ out → Closes opens.number s' dialed after → GetsByJobs get before after out out' result
-  Found : (dialed : DialerAt) → (s s' : SessionAt) → (file : List ℕ) → (opens : Opens get.addr get.units before dialed s) → Finds get.uid get.gid get.export get.path s s' (Ok file) →
+  Found : (dialed : DialerAt) → (s s' : SessionAt) → (file : List ℕ) → (opens : Opens get.addr (terms_with get.units get.invalidates) before dialed s) → Finds get.uid get.gid get.export get.path s s' (Ok file) →
       ReadsAndCloses get.uid get.gid file opens.number s' dialed after out out' result → GetsByJobs get before after out out' result

@@ -3,7 +3,8 @@ use Rattle.std.specs.Prelude.{◌≡◌, ℕ, List, [], IfSome, Result, Ok, Err}
 use Rattle.nr_outside.specs.Streams.{SinkAt, SourceAt, Writes, WritesSome}
 use Rattle.nr_links.specs.Asked.{Asks as AsksFor}
 use Rattle.nr_links.specs.Links.{CountsLost, EndsLink, IsNewLink, IsTold, MakesLink, ended_link}
-use Rattle.nr_link.specs.Agreement.{sized_terms}
+use Rattle.nr_link.specs.Agreement.{terms_with}
+use Rattle.nr_link.specs.declared.agreement.SideTerms.{SideTerms}
 use Rattle.nr_reduce.specs.Opening.{ClientOpened}
 use Rattle.nr_reduce.specs.declared.mark.LinkParameters.{LinkParameters}
 use Rattle.nr_requester.specs.AfterCalls.{opened_as}
@@ -18,8 +19,12 @@ use Rattle.nr_client.specs.Dialing.{DialerAt, OpenFails, session_credits}
 use Rattle.nr_commands.specs.Commands.{Gets, Lists, MakesDirectory, MakesSymlink, MountsAndPrints, Puts, ReadsLink, Removes, Stats}
 use Rattle.nr_commands.specs.Sessions.{Part, SessionAt}
 
--- A session was opened over a new link to this address, of this number, with these units. Its requester has made no marks.
-pub record Opens (addr : List ℕ) (units : ℕ) (before after : DialerAt) (s : SessionAt) : Type 0 where
+-- what the client of a command says of the Sends of its link
+abbrev pub terms_of : Client Text → SideTerms
+terms_of c = terms_with c.units c.invalidates
+
+-- A session was opened over a new link to this address, of this number, on these terms. Its requester has made no marks.
+pub record Opens (addr : List ℕ) (terms : SideTerms) (before after : DialerAt) (s : SessionAt) : Type 0 where
   pub asks : AsksFor before.asked after.asked addr
   pub makes : MakesLink before.ended after.ended
   pub number : ℕ
@@ -27,8 +32,8 @@ pub record Opens (addr : List ℕ) (units : ℕ) (before after : DialerAt) (s : 
   pub told : IsTold after.ended s.bytes.given s.bytes.left s.bytes.taken
   pub fresh : IsNewLink s.bytes.given s.bytes.taken s.source_faults s.sink_faults
   pub nothing_read : s.bytes.read ≡ 0
-  pub requester : s.requester ≡ opened_as 1 1 session_credits (sized_terms units) s.requester.staging
-  pub stands : (opened : LinkParameters) (link : ℕ) → opened.first_xid ≡ 1 → opened.first_stag ≡ 1 → ClientOpened opened session_credits (sized_terms units) → RequesterRepresents opened link s.requester []
+  pub requester : s.requester ≡ opened_as 1 1 session_credits terms s.requester.staging
+  pub stands : (opened : LinkParameters) (link : ℕ) → opened.first_xid ≡ 1 → opened.first_stag ≡ 1 → ClientOpened opened session_credits terms → RequesterRepresents opened link s.requester []
   pub none_lost : after.lost ≡ before.lost
   pub unfailing : after.faults ≡ before.faults
 
@@ -69,5 +74,5 @@ pub record Prints (c : Client Text) (s s' : SessionAt) (input input' : SourceAt)
 -- A command was done, up to its result: no session was opened; or one was, its requests were made, and it was closed.
 pub data Runs (c : Client Text) (before after : DialerAt) (input input' : SourceAt) (out out' : SinkAt) (result : Result (Unit {0}) ClientEnd) : Type 0 where
   NotOpened : (end : ClientEnd) → result ≡ Err end → OpenFails end c.addr before after → input' ≡ input → out' ≡ out → Runs c before after input input' out out' result
-  Opened : (dialed : DialerAt) → (s s' : SessionAt) → (opens : Opens c.addr c.units before dialed s) → Prints c s s' input input' out out' result → Closes opens.number s' dialed after →
+  Opened : (dialed : DialerAt) → (s s' : SessionAt) → (opens : Opens c.addr (terms_of c) before dialed s) → Prints c s s' input input' out out' result → Closes opens.number s' dialed after →
       Runs c before after input input' out out' result

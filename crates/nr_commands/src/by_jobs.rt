@@ -9,6 +9,7 @@ ghost use Rattle.nr_client.specs.Jobs.{jobs_max};
 ghost use Rattle.nr_commands.specs.ByJobs.{GetsByJobs, ReadsAndCloses};
 ghost use Rattle.nr_commands.specs.Sessions.{session_at};
 
+use crate::files::keep_pieces;
 use crate::finding::find;
 use nr_client::{ClientEnd, Session};
 use nr_links::{Dialer, LinkNumber, LinkSink, LinkSource, NumberedSink, NumberedSource};
@@ -90,7 +91,13 @@ where
         (sink_at (K.taken out.old) (K.faults out.old)) (sink_at (K.taken out.new) (K.faults out.new)) result }
 {
     let opened = Session::<NumberedSource<P, N>, NumberedSink<Q, N>>::open(
-        alloc, dial, get.addr, get.uid, get.gid, get.units,
+        alloc,
+        dial,
+        get.addr,
+        get.uid,
+        get.gid,
+        get.units,
+        get.invalidates,
     );
     let mut session = match opened {
         Ok(session) => session,
@@ -103,6 +110,7 @@ where
             return Err(end);
         }
     };
+    keep_pieces(alloc);
     read_and_close(rt, session, &file, get.jobs as usize, dial, out)
 }
 

@@ -6,9 +6,18 @@ ghost use Rattle.nr_commands.specs.Sessions.{session_at};
 
 use crate::finding::{find, find_parent};
 use nr_client::{ClientEnd, Session};
-use nr_outside::{Sink, Source};
+use nr_outside::{Sink, Source, raise_trim_threshold};
 use nr_xdr::Octets;
 use std::alloc::Global;
+
+/// The size of the block by which the allocator is made to keep the memory of pieces of a file from one to the next, in
+/// bytes.
+const TRIM_BLOCK_LEN: usize = 1 << 24;
+
+/// The allocator keeps the memory of the pieces of a file, which are allocated and freed one after another.
+pub(crate) fn keep_pieces(alloc: Global) {
+    raise_trim_threshold(alloc, TRIM_BLOCK_LEN);
+}
 
 /// No text, after a request that was done.
 fn silent(alloc: Global, done: Result<(), ClientEnd>) -> Result<Octets, ClientEnd>
@@ -37,6 +46,7 @@ pub(crate) fn get<I: Source, O: Sink, K: Sink>(
         Ok(file) => file,
         Err(end) => return Err(end),
     };
+    keep_pieces(alloc);
     let done = session.read_file(&file, out);
     silent(alloc, done)
 }
@@ -58,6 +68,7 @@ pub(crate) fn put<I: Source, O: Sink, N: Source>(
         Ok(place) => place,
         Err(end) => return Err(end),
     };
+    keep_pieces(alloc);
     let done = session.write_file(&place.0, &place.1, input);
     silent(alloc, done)
 }

@@ -90,6 +90,7 @@ fn run_at<
         client.uid,
         client.gid,
         client.units,
+        client.invalidates,
     );
     let mut session = match opened {
         Ok(session) => session,

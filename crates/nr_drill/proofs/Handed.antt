@@ -10,7 +10,6 @@ use Rattle.nr_wire.specs.Segment.{Segment}
 use Rattle.nr_link.specs.declared.end.End.{End}
 use Rattle.nr_link.specs.Frames.{Frame, frames_completed, is_hello}
 use Rattle.nr_link.specs.ReceiveState.{ReadRequest, message_completed, read_request_of}
-use Rattle.nr_link.specs.Ending.{frame_segment}
 use Rattle.nr_xdr.specs.Fields.{word_at}
 use Rattle.nr_reduce.specs.declared.call.Call.{Call}
 use Rattle.nr_reduce.specs.declared.call.Form.{Form}
@@ -32,7 +31,7 @@ use Rattle.nr_reduce.specs.EndRules.{EndState, next_end_state, next_end_state_by
 use Rattle.nr_reduce.specs.ClientState.{ClientState, OutstandingCall, is_sent}
 use Rattle.nr_reduce.specs.ClientMessages.{ReplyVerdict, reply_verdict}
 use Rattle.nr_reduce.specs.ClientMessages.ReplyVerdict.{EndsLink, GivesOutcome}
-use Rattle.nr_reduce.specs.Client.{client_rules, client_end, client_state_after, outcomes_of, with_message, with_request, with_segment, outstanding_of, revoked_call, with_hello, due_with_response}
+use Rattle.nr_reduce.specs.Client.{client_rules, client_segment, client_end, client_state_after, outcomes_of, with_message, with_request, with_segment, outstanding_of, revoked_call, with_hello, due_with_response}
 use Rattle.nr_reduce.specs.ServerState.{ReadyCall}
 use Rattle.nr_reduce.specs.SubmitAnswer.{submit_answer_after}
 use Rattle.nr_reduce.specs.Run.{client, server}
@@ -118,9 +117,9 @@ after_below : (o : LinkParameters) (k : ClientState) (e : RunEvent) → IsFresh 
 unfolding client_state_after
 after_below o k (FrameReceived f) fresh h = by (is_hello f)
   where
-    by : (b : Bool) → XidsBelow o (cond b (with_hello o k f) (with_segment k f (frame_segment f)))
+    by : (b : Bool) → XidsBelow o (cond b (with_hello o k f) (with_segment k f (client_segment k f)))
     by true = record { waiting = h.waiting; brought = h.brought }
-    by false = segment_below o k f (frame_segment f) h
+    by false = segment_below o k f (client_segment k f) h
 after_below o k (CallSubmitted place a) fresh h =
     let more : k.next_xid ≤ k.next_xid + 1 = omega arith in
     record {

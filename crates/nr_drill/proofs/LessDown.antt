@@ -7,7 +7,6 @@ use Rattle.std.proofs.lemmas.List.Elements.{filter-append}
 use Rattle.nr_wire.specs.declared.hello.Side.TheVariants.{Initiator, Responder}
 use Rattle.nr_link.specs.declared.end.End.{End}
 use Rattle.nr_link.specs.Frames.{Frame, frames_of, frames_completed, is_hello}
-use Rattle.nr_link.specs.Ending.{frame_segment}
 use Rattle.nr_reduce.specs.declared.mark.Mark.{Mark}
 use Rattle.nr_reduce.specs.declared.mark.Mark.TheVariants as marks
 use Rattle.nr_reduce.specs.declared.mark.LinkParameters.{LinkParameters}
@@ -18,7 +17,7 @@ use Rattle.nr_reduce.specs.Events.RunEvent.{FrameReceived}
 use Rattle.nr_reduce.specs.EndRules.{EndState, next_end_state_by, next_end_state_in, next_end_state, end_state_after, output_for_all}
 use Rattle.nr_reduce.specs.ClientState.{ClientState}
 use Rattle.nr_reduce.specs.ServerState.{ServerState, PendingRead, ReadyCall}
-use Rattle.nr_reduce.specs.Client.{client_rules, client_end, client_state_after, with_hello, with_segment}
+use Rattle.nr_reduce.specs.Client.{client_rules, client_segment, client_end, client_state_after, with_hello, with_segment}
 use Rattle.nr_reduce.specs.Run.{client, server, output_due, end_of_side}
 use Rattle.nr_reduce.proofs.Steps.{AtEachMark_first, ended_stays}
 use Rattle.nr_reduce.proofs.Standing.{itself, received_one}
@@ -58,9 +57,9 @@ frame_accepts : (o : LinkParameters) (k : ClientState) (f : Frame) → (client_s
 unfolding client_state_after
 frame_accepts o k f = by (is_hello f)
   where
-    by : (b : Bool) → (cond b (with_hello o k f) (with_segment k f (frame_segment f))).sends ≡ k.sends
+    by : (b : Bool) → (cond b (with_hello o k f) (with_segment k f (client_segment k f))).sends ≡ k.sends
     by true = refl
-    by false = segment_sends k f (frame_segment f)
+    by false = segment_sends k f (client_segment k f)
 
 next_accepts : (o : LinkParameters) (k : ClientState) (ended : Option End) (f : Frame) → (next_end_state_in (client_rules o) k (FrameReceived f) ended).state.sends ≡ k.sends
 next_accepts o k (Some end) f = refl

@@ -1,7 +1,7 @@
 -- There is a Send of each call that a client accepted among the frames that its server received and those that wait for it.
 use Rattle.std.specs.Prelude.{◌<◌, filter}
 use Rattle.std.specs.List.{concat}
-use Rattle.std.proofs.Common.{◌≡◌, ◌≢◌, ℕ, suc, ◌+◌, arith, cond, eqb, ne_eqb, inl, inr, map, Bool, true, false, List, [], ◌∷◌, ◌++◌, length, drop, None, Ok, refl, sym, ap, ◌∙◌, append-nil, append_assoc, length-append, ◌&&◌, Option}
+use Rattle.std.proofs.Common.{◌≡◌, ◌≢◌, ℕ, suc, ◌+◌, arith, cond, eqb, ne_eqb, inl, inr, map, Bool, true, false, List, [], ◌∷◌, ◌++◌, length, drop, None, Ok, refl, sym, ap, ◌∙◌, append-nil, append_assoc, length-append, ◌&&◌, ◌||◌, Option}
 use Rattle.std.proofs.Math.Seq.{drop-append_seam}
 use Rattle.std.proofs.lemmas.List.{length-map}
 use Rattle.std.proofs.lemmas.List.Elements.{filter-append}
@@ -9,14 +9,15 @@ use Rattle.nr_wire.specs.declared.hello.Side.{Side}
 use Rattle.nr_wire.specs.declared.hello.Side.TheVariants.{Initiator, Responder}
 use Rattle.nr_wire.specs.declared.stream.Awaited.{Awaited}
 use Rattle.nr_wire.specs.declared.stream.Awaited.TheVariants.{Hello as HelloFrom, Fpdu}
-use Rattle.nr_wire.specs.Constants.{OPCODE_SEND}
-use Rattle.nr_wire.specs.Segment.{Segment, segment_of, encoding}
+use Rattle.nr_wire.specs.Constants.{OPCODE_SEND, OPCODE_SEND_INVALIDATE}
+use Rattle.nr_wire.specs.Segment.{Segment, encoding}
 use Rattle.nr_wire.specs.Segment.Segment.{Tagged, Untagged}
 use Rattle.nr_wire.proofs.Frames.{fields_some}
 use Rattle.nr_wire.specs.Stream.{Split, split, AreFrames, awaited_after}
 use Rattle.nr_wire.proofs.Splits.{split_append, split_frames, split_Splits}
 use Rattle.nr_link.specs.Frames.{Frame, frames_from, frames_of, frames_completed, is_hello}
-use Rattle.nr_link.specs.Ending.{frame_segment}
+use Rattle.nr_link.specs.Ending.{frame_segment, segment_taken}
+use Rattle.nr_link.proofs.TakenSegments.{plain_taken}
 use Rattle.nr_link.proofs.Streams.{frames_from_append, frames_completed_split}
 use Rattle.nr_reduce.specs.declared.mark.Mark.{Mark}
 use Rattle.nr_reduce.specs.declared.mark.LinkParameters.{LinkParameters}
@@ -31,6 +32,7 @@ use Rattle.nr_link.specs.ReceiveState.{begun_bytes}
 use Rattle.nr_laws.proofs.Completions.{completed_by, begun_by, completed_from}
 use Rattle.nr_reduce.specs.Hellos.{client_hello}
 use Rattle.nr_laws.proofs.Brought.{AreFrom, encoding_is}
+use Rattle.nr_laws.proofs.PlainOutputs.{ArePlain, IsPlain, client_plain}
 use Rattle.nr_laws.proofs.FirstHellos.{client_hello_is}
 use Rattle.nr_laws.proofs.EventOutputs.{whole_bytes}
 use Rattle.nr_laws.proofs.ClientSays.{HasHello, asked, asked_count}
@@ -104,32 +106,35 @@ one_more_lem : (f : Frame) (fs : List Frame) (b : Bool) → is_send f ≡ b → 
 one_more_lem f fs true is = ap (λ (b : Bool). length (cond b (f ∷ filter is_send fs) (filter is_send fs))) is
 one_more_lem f fs false is = ap (λ (b : Bool). length (cond b (f ∷ filter is_send fs) (filter is_send fs))) is
 
-counted : (b : Option (List ℕ)) (segment : Segment) (ms : List (List ℕ)) (n : ℕ) → n ≡ length ms → cond (is_send_segment (Ok segment)) (suc n) n ≡ length (completed_by b segment ++ ms)
-counted b (Tagged last opcode stag to payload) ms n is = is
-counted b (Untagged last opcode w queue msn offset payload) ms n is = by (eqb opcode OPCODE_SEND && last)
+counted : (b : Option (List ℕ)) (segment : Segment) (ms : List (List ℕ)) (n : ℕ) → n ≡ length ms → IsPlain segment → cond (is_send_segment (Ok segment)) (suc n) n ≡ length (completed_by b segment ++ ms)
+counted b (Tagged last opcode stag to payload) ms n is plain = is
+counted b (Untagged last opcode w queue msn offset payload) ms n is plain = by (eqb opcode OPCODE_SEND) (eqb opcode OPCODE_SEND_INVALIDATE) last plain
   where
-    by : (c : Bool) → cond c (suc n) n ≡ length (cond c ((begun_bytes b ++ payload) ∷ []) [] ++ ms)
-    by true = ap suc is
-    by false = is
+    by : (a c d : Bool) → c ≡ false → cond (a && d) (suc n) n ≡ length (cond ((a || c) && d) ((begun_bytes b ++ payload) ∷ []) [] ++ ms)
+    by true c true e = ap suc is
+    by true c false e = is
+    by false false d e = is
+    by false true d e = absurd cc
 
 -- as many as the messages that they complete
-segments_sends : (b : Option (List ℕ)) (place : ℕ) (outs : List Output) → 0 < place → AreFrom Fpdu outs → sends_among (frames_from place (map bytes_of outs)) ≡ length (completed_from b outs)
+segments_sends : (b : Option (List ℕ)) (place : ℕ) (outs : List Output) → 0 < place → AreFrom Fpdu outs → ArePlain outs → sends_among (frames_from place (map bytes_of outs)) ≡ length (completed_from b outs)
 unfolding frame_segment
-segments_sends b place [] some h = refl
-segments_sends b place (AHello bytes ∷ outs) some h = absurd h
-segments_sends b place (ASegment s ∷ outs) some h =
+segments_sends b place [] some h plain = refl
+segments_sends b place (AHello bytes ∷ outs) some h plain = absurd h
+segments_sends b place (ASegment s ∷ outs) some h plain =
     let f : Frame = record { at = place; end = place + length (encoding s); bytes = encoding s } in
     let later = frames_from (place + length (encoding s)) (map bytes_of outs) in
     let appended : is_hello f ≡ false = ne_eqb place 0 (λ e. omega (arith, e, some)) in
-    let read : is_send f ≡ is_send_segment (Ok s) = (λ i. cond (appended i) false (is_send_segment (segment_of (encoding s)))) ∙ ap is_send_segment (encoding_is s h.0).says in
+    let taken : segment_taken false (encoding s) ≡ Ok s = plain_taken false (encoding s) s (encoding_is s h.0).says plain.0 in
+    let read : is_send f ≡ is_send_segment (Ok s) = (λ i. cond (appended i) false (is_send_segment (segment_taken false (encoding s)))) ∙ ap is_send_segment taken in
     one_more_lem f later (is_send_segment (Ok s)) read
-    ∙ counted b s (completed_from (begun_by b s) outs) (sends_among later) (segments_sends (begun_by b s) (place + length (encoding s)) outs (omega (arith, some)) h.1)
+    ∙ counted b s (completed_from (begun_by b s) outs) (sends_among later) (segments_sends (begun_by b s) (place + length (encoding s)) outs (omega (arith, some)) h.1 plain.1) plain.0
 
-stream_sends : (o : LinkParameters) (outs : List Output) → AreFrom Fpdu outs → sends_among (frames_of Initiator (client_hello o ++ bytes_of_all outs)) ≡ length (completed_from None outs)
-stream_sends o outs h =
+stream_sends : (o : LinkParameters) (outs : List Output) → AreFrom Fpdu outs → ArePlain outs → sends_among (frames_of Initiator (client_hello o ++ bytes_of_all outs)) ≡ length (completed_from None outs)
+stream_sends o outs h plain =
     let n = length (client_hello o) in
     let some : 0 < 0 + n = (let a = (client_hello_is o).is_frame.fields in let b = fields_some (HelloFrom Initiator) in omega (arith, a, b)) in
-    ap sends_among (stream_frames o outs h) ∙ segments_sends None (0 + n) outs some h
+    ap sends_among (stream_frames o outs h) ∙ segments_sends None (0 + n) outs some h plain
 
 -- ===== on a link whose client hasn't ended
 
@@ -154,7 +159,7 @@ sends_waiting o link run way typed asked_so lives heard carried =
     let calls = asked o (events link Initiator run) in
     let knows : k.has_hello ≡ true = has_hello_lem (whole_bytes link Initiator run) k.has_hello (whole_some link run heard) (t.says.greeted lives) in
     let all : sends_among (frames_of Initiator (got ++ way)) ≡ length (completed_from None (client_outs o link run)) =
-    ap (λ (xs : List ℕ). sends_among (frames_of Initiator xs)) (carried ∙ t.bytes) ∙ stream_sends o (client_outs o link run) t.says.words in
+    ap (λ (xs : List ℕ). sends_among (frames_of Initiator xs)) (carried ∙ t.bytes) ∙ stream_sends o (client_outs o link run) t.says.words (client_plain o link run) in
     let said : length (completed_from None (client_outs o link run)) ≡ length calls =
     ap (λ (ms : List (List ℕ)). length ms) (t.says.completes.completed ∙ (λ i. cond (knows i) (map (message_of_call o) calls) [])) ∙ length-map calls (message_of_call o) in
     let accepted : length calls ≡ k.sends = asked_count o (events link Initiator run) ∙ sym t.says.count in

@@ -5,7 +5,7 @@ use Rattle.std.proofs.Common.{◌≡◌, ◌≢◌, ℕ, suc, ◌+◌, ◌⊎◌
 use Rattle.std.proofs.Math.Seq.{drop-length}
 use Rattle.std.proofs.lemmas.List.Sums.{sum_by-cons}
 use Rattle.std.proofs.lemmas.List.{take_all, length-append, take-append-drop}
-use Rattle.nr_wire.specs.Constants.{OPCODE_READ_RESPONSE}
+use Rattle.nr_wire.specs.Constants.{OPCODE_READ_RESPONSE, REASON_OPCODE}
 use Rattle.nr_wire.specs.declared.hello.Side.{Side}
 use Rattle.nr_wire.specs.declared.hello.Side.TheVariants.{Initiator, Responder}
 use Rattle.nr_wire.specs.declared.stream.Awaited.TheVariants.{Hello as HelloFrom}
@@ -20,7 +20,7 @@ use Rattle.nr_link.specs.Frames.{Frame, frames_from, frames_of, frames_completed
 use Rattle.nr_link.specs.Limits.{open_reads_max}
 use Rattle.nr_reduce.specs.Hellos.{server_hello}
 use Rattle.nr_link.specs.ReceiveState.{begun_bytes}
-use Rattle.nr_link.specs.Ending.{frame_segment}
+use Rattle.nr_link.specs.Ending.{frame_segment, is_not_taken, segment_taken}
 use Rattle.nr_link.proofs.Streams.{frames_completed_split}
 use Rattle.nr_reduce.specs.declared.mark.Mark.{Mark}
 use Rattle.nr_reduce.specs.declared.mark.Mark.TheVariants as marks
@@ -185,15 +185,20 @@ behind_hello side got more heard =
     (some_bytes_lem side fs some (split_Splits (HelloFrom side) got).each))
 
 -- a Send has bytes
-empty_not_send : is_send_segment (segment_of []) ≡ false
+empty_by : (b : Bool) → is_send_segment (cond b (Err REASON_OPCODE) (segment_of [])) ≡ false
 unfolding segment_of frame_reason half_word_of
-empty_not_send = refl
+empty_by true = refl
+empty_by false = refl
+
+empty_not_send : is_send_segment (segment_taken false []) ≡ false
+unfolding segment_taken
+empty_not_send = empty_by (is_not_taken false [] (segment_of []))
 
 send_has_bytes : (at end : ℕ) (bytes : List ℕ) → is_send (record { at = at; end = end; bytes = bytes }) ≡ true → 0 < length bytes
 unfolding frame_segment
 send_has_bytes at end [] e = by (eqb at 0) e
   where
-    by : (b : Bool) → cond b false (is_send_segment (segment_of [])) ≡ true → 0 < 0
+    by : (b : Bool) → cond b false (is_send_segment (segment_taken false [])) ≡ true → 0 < 0
     by true e = absurd cc
     by false e = absurd (let wrong = sym empty_not_send ∙ e in cc)
 send_has_bytes at end (b ∷ bytes) e = omega arith

@@ -6,7 +6,6 @@ use Rattle.std.proofs.lemmas.List.{append-nil, length-append}
 use Rattle.nr_wire.specs.declared.hello.Side.TheVariants.{Initiator, Responder}
 use Rattle.nr_link.specs.declared.end.End.{End}
 use Rattle.nr_link.specs.Frames.{Frame, frames_completed, is_hello}
-use Rattle.nr_link.specs.Ending.{frame_segment}
 use Rattle.nr_reduce.specs.declared.call.Call.{Call}
 use Rattle.nr_reduce.specs.declared.call.Form.{Form}
 use Rattle.nr_reduce.specs.declared.call.Submission.TheVariants as submissions
@@ -15,7 +14,7 @@ use Rattle.nr_reduce.specs.declared.mark.Mark.TheVariants as marks
 use Rattle.nr_reduce.specs.declared.mark.LinkParameters.{LinkParameters}
 use Rattle.nr_reduce.specs.AtEachMark.{AtEachMark}
 use Rattle.nr_reduce.specs.Asked.{AskedMark, IsAll}
-use Rattle.nr_reduce.specs.Client.{client_rules, client_end, client_state_after, with_hello, with_segment}
+use Rattle.nr_reduce.specs.Client.{client_rules, client_segment, client_end, client_state_after, with_hello, with_segment}
 use Rattle.nr_reduce.specs.ClientState.{ClientState}
 use Rattle.nr_reduce.specs.EndRules.{EndState, end_state_after, next_end_state, next_end_state_by, next_end_state_in}
 use Rattle.nr_reduce.specs.Events.{RunEvent, events, events_at, if_own}
@@ -134,9 +133,9 @@ follows_within server script run is follows =
 -- ===== xids
 
 module _ (o : LinkParameters) where
-  frame_kept : (k : ClientState) (f : Frame) (b : Bool) → (cond b (with_hello o k f) (with_segment k f (frame_segment f))).next_xid ≡ k.next_xid
+  frame_kept : (k : ClientState) (f : Frame) (b : Bool) → (cond b (with_hello o k f) (with_segment k f (client_segment k f))).next_xid ≡ k.next_xid
   frame_kept k f true = refl
-  frame_kept k f false = segment_next k f (frame_segment f)
+  frame_kept k f false = segment_next k f (client_segment k f)
 
   -- an event that is no call
   abbrev IsQuiet : RunEvent → Type 0

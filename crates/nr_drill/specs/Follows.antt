@@ -1,7 +1,7 @@
 -- The marks that a script makes, in order.
 use Rattle.std.specs.Prelude.{Bool, true, false, ◌&&◌, is_none, ◌≡◌, ℕ, zero, suc, ◌+◌, List, [], ◌∷◌}
 use Rattle.std.specs.List.{list_all}
-use Rattle.nr_link.specs.Agreement.{sized_terms}
+use Rattle.nr_link.specs.Agreement.{terms_with}
 use Rattle.nr_reduce.specs.declared.mark.LinkParameters.{LinkParameters}
 use Rattle.nr_reduce.specs.declared.mark.Mark.{Mark}
 use Rattle.nr_reduce.specs.History.{is_dropped}
@@ -58,8 +58,8 @@ parameters_of opening link = record {
   granted = opening.credits;
   low = opening.credits;
   receives = opening.credits;
-  client = sized_terms opening.client_units;
-  server = sized_terms opening.server_units;
+  client = terms_with opening.client_units opening.invalidates;
+  server = terms_with opening.server_units opening.invalidates;
 }
 
 abbrev pub setting_of : SerialServer → Opening → Setting

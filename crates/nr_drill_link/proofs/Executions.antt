@@ -16,7 +16,7 @@ use Rattle.nr_reduce.specs.ServerState.{ReadyCall}
 use Rattle.nr_reduce.specs.Served.{next_call, IsExecuted}
 use Rattle.nr_requester.proofs.AllMarks.{others_leave_it}
 use Rattle.nr_responder.specs.declared.call.Sent.{Sent}
-use Rattle.nr_responder.specs.Answering.{Answers, answer_to, message_for}
+use Rattle.nr_responder.specs.Answering.{Answers, answer_to, message_for, name_for}
 use Rattle.nr_responder.specs.ResponderState.{ResponderSide, end_of, present_word}
 use Rattle.nr_responder.specs.Standing.{ResponderRepresents}
 use Rattle.nr_responder.proofs.Answered.{answer_link}
@@ -38,7 +38,8 @@ use Rattle.nr_drill_link.proofs.QuietSteps.{IsQuietStep, journal_one, quiet_sett
 pub live_answered : (v v2 : ResponderSide) (xid : ℕ) (reply : List ℕ) (sent : Sent) → Answers v v2 xid reply sent → end_of v ≡ None → end_of v2 ≡ None
 live_answered v v2 xid reply sent a live =
     ap end_of a.state
-    ∙ ap (λ (l : LinkSide). l.state.ended) (answer_link v.link a.writes (message_for xid (present_word v) a.call.lists (answer_to v.link.state.agreed.down a.call a.stream reply)) live)
+    ∙ ap (λ (l : LinkSide). l.state.ended) (answer_link v.link a.writes (name_for v.link.state.agreed.invalidates a.call.lists (answer_to v.link.state.agreed.down a.call a.stream reply))
+    (message_for xid (present_word v) a.call.lists (answer_to v.link.state.agreed.down a.call a.stream reply)) live)
     ∙ live
 
 -- a step of the drill, by the call that waits and the reply to it

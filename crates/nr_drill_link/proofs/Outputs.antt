@@ -5,7 +5,7 @@ use Rattle.std.proofs.Math.Seq.{take-length}
 use Rattle.nr_wire.specs.declared.hello.Side.{Side}
 use Rattle.nr_wire.specs.declared.hello.Side.TheVariants.{Initiator, Responder}
 use Rattle.nr_link.specs.declared.agreement.SideTerms.{SideTerms}
-use Rattle.nr_link.specs.Agreement.{sized_terms}
+use Rattle.nr_link.specs.Agreement.{terms_with}
 use Rattle.nr_reduce.specs.Opening.{ClientOpened, ServerOpened}
 use Rattle.nr_reduce.specs.declared.mark.LinkParameters.{LinkParameters}
 use Rattle.nr_reduce.specs.declared.mark.Mark.{Mark}
@@ -126,16 +126,16 @@ none_are_open r calls none = subst (λ (cs : List AwaitedCall). AreOpen r cs) (s
 abbrev empty_pipe : TransitState
 empty_pipe = record { waiting = []; kept = 0 }
 
-pub fresh_link : (number : ℕ) (opening : Opening) (client : RequesterSide) (server : ResponderSide) (up down : TransitState) (calls : List AwaitedCall) → client ≡ opened_as 1 1 opening.credits (sized_terms opening.client_units) client.staging → up ≡ empty_pipe → down ≡ empty_pipe → calls ≡ [] →
-    ((opened : LinkParameters) (l : ℕ) → opened.first_xid ≡ 1 → opened.first_stag ≡ 1 → ClientOpened opened opening.credits (sized_terms opening.client_units) → RequesterRepresents opened l client []) → end_of server ≡ None →
-    ((opened : LinkParameters) (l : ℕ) → ServerOpened opened opening.credits opening.credits (sized_terms opening.server_units) → ResponderRepresents opened l [] server) → IsFresh number opening (link_view number client server up down false 0 calls)
+pub fresh_link : (number : ℕ) (opening : Opening) (client : RequesterSide) (server : ResponderSide) (up down : TransitState) (calls : List AwaitedCall) → client ≡ opened_as 1 1 opening.credits (terms_with opening.client_units opening.invalidates) client.staging → up ≡ empty_pipe → down ≡ empty_pipe → calls ≡ [] →
+    ((opened : LinkParameters) (l : ℕ) → opened.first_xid ≡ 1 → opened.first_stag ≡ 1 → ClientOpened opened opening.credits (terms_with opening.client_units opening.invalidates) → RequesterRepresents opened l client []) → end_of server ≡ None →
+    ((opened : LinkParameters) (l : ℕ) → ServerOpened opened opening.credits opening.credits (terms_with opening.server_units opening.invalidates) → ResponderRepresents opened l [] server) → IsFresh number opening (link_view number client server up down false 0 calls)
 fresh_link number opening client server up down calls opened no_up no_down none asks live serves = record {
   number = refl;
   pipes = (λ i. record { up = (no_up i).waiting; down = (no_down i).waiting });
   stands = refl;
   lines = refl;
   awaited = ap (λ (cs : List AwaitedCall). map line_view cs) none;
-  client_live = opened_live client opening.credits (sized_terms opening.client_units) opened;
+  client_live = opened_live client opening.credits (terms_with opening.client_units opening.invalidates) opened;
   server_live = live;
   client = asks;
   server = serves;

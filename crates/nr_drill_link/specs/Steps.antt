@@ -2,7 +2,7 @@
 use Rattle.std.specs.Prelude.{◌≡◌, ◌≢◌, ℕ, ◌≤◌, List, [], ◌∷◌, ◌++◌, length, None, false}
 use Rattle.std.specs.List.{AllByRecursion}
 use Rattle.nr_wire.specs.declared.hello.Side.TheVariants.{Initiator, Responder}
-use Rattle.nr_link.specs.Agreement.{sized_terms}
+use Rattle.nr_link.specs.Agreement.{terms_with}
 use Rattle.nr_reduce.specs.Opening.{ClientOpened, ServerOpened}
 use Rattle.nr_reduce.specs.declared.mark.Mark.{Mark}
 use Rattle.nr_reduce.specs.declared.mark.Mark.TheVariants as marks
@@ -72,8 +72,8 @@ pub record IsFresh (link : ℕ) (opening : Opening) (v : DrillLinkState) : Type 
   pub awaited : v.awaited ≡ []
   pub client_live : v.client.state.side.ended ≡ None
   pub server_live : end_of v.server ≡ None
-  pub client : (opened : LinkParameters) (l : ℕ) → opened.first_xid ≡ 1 → opened.first_stag ≡ 1 → ClientOpened opened opening.credits (sized_terms opening.client_units) → RequesterRepresents opened l v.client []
-  pub server : (opened : LinkParameters) (l : ℕ) → ServerOpened opened opening.credits opening.credits (sized_terms opening.server_units) → ResponderRepresents opened l [] v.server
+  pub client : (opened : LinkParameters) (l : ℕ) → opened.first_xid ≡ 1 → opened.first_stag ≡ 1 → ClientOpened opened opening.credits (terms_with opening.client_units opening.invalidates) → RequesterRepresents opened l v.client []
+  pub server : (opened : LinkParameters) (l : ℕ) → ServerOpened opened opening.credits opening.credits (terms_with opening.server_units opening.invalidates) → ResponderRepresents opened l [] v.server
 
 -- a client was drained: these are all bytes that it had to write
 pub record ClientWrites (before after : RequesterSide) (bytes : List ℕ) : Type 0 where

@@ -94,8 +94,19 @@ impl DrillLink {
     fn fresh(alloc: Global, number: u32, opening: Opening) -> Result<DrillLink, Memory>
         ensures { IfOk result (λ v. IsFresh number opening v) }
     {
-        let client = Requester::open_sized(alloc, opening.credits, opening.client_units)?;
-        let server = match Responder::open_sized(alloc, opening.credits, opening.server_units) {
+        let client = Requester::open_sized(
+            alloc,
+            opening.credits,
+            opening.client_units,
+            opening.invalidates,
+        )?;
+        let server = match Responder::open_sized(
+            alloc,
+            opening.credits,
+            opening.credits,
+            opening.server_units,
+            opening.invalidates,
+        ) {
             Ok(server) => server,
             Err(memory) => {
                 drop(client);

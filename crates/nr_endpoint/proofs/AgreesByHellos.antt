@@ -9,12 +9,12 @@ use Rattle.nr_wire.specs.declared.stream.Awaited.TheVariants.{Hello as HelloFrom
 use Rattle.nr_wire.specs.Stream.{Split, split, is_whole, frame_len}
 use Rattle.nr_wire.specs.Feeding.{bytes_taken, feeding_after, feeding_after_frames, feeding_after_step, feeding_in}
 use Rattle.nr_wire.specs.Hello.{Hello, hello_of}
-use Rattle.nr_wire.specs.Segment.{Segment, segment_of}
+use Rattle.nr_wire.specs.Segment.{Segment}
 use Rattle.nr_wire.specs.Segment.Segment.{Tagged, Untagged}
 use Rattle.nr_wire.proofs.Frames.{frame_len_append, is_whole_from, partial_from, whole_append, whole_from}
 use Rattle.nr_wire.proofs.Splits.{split_partial, split_whole}
 use Rattle.nr_wire.proofs.Feedings.{feeding_after_step-ended}
-use Rattle.nr_regions.specs.RegisteredMemory.{after_place, after_register, after_release}
+use Rattle.nr_regions.specs.RegisteredMemory.{after_invalidate, after_place, after_register, after_release}
 use Rattle.nr_link.specs.declared.agreement.SideTerms.{SideTerms}
 use Rattle.nr_link.specs.declared.agreement.Agreement.{Agreement}
 use Rattle.nr_link.specs.declared.end.End.{End}
@@ -25,11 +25,11 @@ use Rattle.nr_link.specs.Frames.{Frame}
 use Rattle.nr_link.proofs.Agreements.{agreements_bounded}
 use Rattle.nr_endpoint.specs.Hellos.{own_private, received_max, receive_length_for, side_agreement}
 use Rattle.nr_endpoint.specs.LinkState.{LinkState, LinkSide, has_ended, initial_link, peer}
-use Rattle.nr_endpoint.specs.Judging.{after_frame, with_agreement, segment_end, next_frame, with_frame, with_segment_by, with_fpdu, with_peer_hello, with_effect, with_read_response}
+use Rattle.nr_endpoint.specs.Judging.{after_frame, with_agreement, segment_end, next_frame, with_frame, with_segment_by, with_fpdu, with_peer_hello, with_effect, with_read_response, next_segment}
 use Rattle.nr_endpoint.specs.SendQueue.{SendQueue, written}
 use Rattle.nr_endpoint.specs.ReceiveQueue.{delivered, posted}
 use Rattle.nr_endpoint.specs.Calls.{Call, after_call, after_calls, ended_link, with_state}
-use Rattle.nr_endpoint.specs.Calls.Call.{Feed, FeedOne, NextEvent, Post, Stop, OutOfMemory, Send, WriteRemote, ReadRemote, Drain, Register, Release}
+use Rattle.nr_endpoint.specs.Calls.Call.{Feed, FeedOne, NextEvent, Post, Stop, OutOfMemory, Send, SendInvalidate, WriteRemote, ReadRemote, Drain, Register, Release, Invalidate}
 use Rattle.nr_endpoint.specs.Laws.{bytes_fed, bytes_in_call}
 use Rattle.nr_endpoint.specs.AgreedLaws.{BeginsWith, HasAgreed, IsAgreed, AgreesByHellos}
 use Rattle.nr_endpoint.proofs.Agreed.{agreed_fits}
@@ -127,7 +127,7 @@ module _ (terms : SideTerms) (side : Side) where
 
   frame_settled : (fed : List ℕ) (a : Awaited) (s : LinkState) (frame : List ℕ) → has_ended s ≡ false → SideSettled fed a s → SideSettled fed Fpdu (with_frame s a frame)
   frame_settled fed (HelloFrom of) s frame live is = absurd (let wrong : HelloFrom of ≡ Fpdu = is.awaits in cc)
-  frame_settled fed Fpdu s frame live is = fpdu_settled fed s (next_frame s frame) (segment_of frame) is
+  frame_settled fed Fpdu s frame live is = fpdu_settled fed s (next_frame s frame) (next_segment s frame) is
 
   -- ---- The peer's hello
 
@@ -275,11 +275,13 @@ module _ (terms : SideTerms) (side : Side) where
   call_knows fed link (Stop reason) k = stop_knows fed link (has_ended link.state) _ refl _ k
   call_knows fed link OutOfMemory k = stop_knows fed link (has_ended link.state) _ refl link.state.send_queue k
   call_knows fed link (Send message) k = queued_knows fed link (has_ended link.state) _ link.state.reads k
+  call_knows fed link (SendInvalidate stag message) k = queued_knows fed link (has_ended link.state) _ link.state.reads k
   call_knows fed link (WriteRemote stag to bytes) k = queued_knows fed link (has_ended link.state) _ link.state.reads k
   call_knows fed link (ReadRemote sink at stag to len) k = queued_knows fed link (has_ended link.state) _ _ k
   call_knows fed link (Drain count) k = same_knows fed (with_state (record link.state { send_queue = written count link.state.send_queue }) link) k
   call_knows fed link (Register buf right) k = same_knows fed (with_state (record link.state { memory = after_register link.state.memory right buf }) link) k
   call_knows fed link (Release stag) k = same_knows fed (with_state (record link.state { memory = after_release link.state.memory stag }) link) k
+  call_knows fed link (Invalidate stag) k = same_knows fed (with_state (record link.state { memory = after_invalidate link.state.memory stag }) link) k
 
   calls_know : (fed : List ℕ) (link : LinkSide) (calls : List Call) → LinkKnows fed link → LinkKnows (fed ++ bytes_fed link calls) (after_calls link calls)
   unfolding after_calls

@@ -1,8 +1,8 @@
 -- What holds of a segment that doesn't end the side.
 use Rattle.std.proofs.Common.{◌≡◌, ℕ, ◌+◌, ◌^◌, ◌<◌, ◌≤◌, Bool, true, false, not, ◌&&◌, ◌||◌, eqb, nat_lt, nat_le, List, length, Option, Some, None, refl, subst, ◌∙◌}
 use Rattle.std.specs.Prelude.{IsTrue, ◌≢◌}
-use Rattle.std.proofs.lemmas.Bool.{eqb-true, eqb-false, ltb-false, ltb-true, leb-false}
-use Rattle.nr_wire.specs.Constants.{OPCODE_READ_REQUEST, OPCODE_SEND, OPCODE_TERMINATE}
+use Rattle.std.proofs.lemmas.Bool.{eqb-true, ltb-false, ltb-true, leb-false}
+use Rattle.nr_wire.specs.Constants.{OPCODE_READ_REQUEST, OPCODE_TERMINATE}
 use Rattle.nr_wire.specs.Segment.{is_untagged_opcode}
 use Rattle.nr_wire.specs.Segment.Segment.{Tagged, Untagged}
 use Rattle.nr_regions.specs.declared.denied.Denied.{Denied}
@@ -12,12 +12,12 @@ use Rattle.nr_link.specs.declared.end.End.TheVariants as ends
 use Rattle.nr_link.specs.Limits.{open_reads_max}
 use Rattle.nr_link.specs.Frames.{Frame}
 use Rattle.nr_link.specs.Reasons.{REASON_FORM, REASON_REQUESTS, REASON_LONG, REASON_SHORT}
-use Rattle.nr_link.specs.ReceiveState.{read_request_in}
+use Rattle.nr_link.specs.ReceiveState.{is_send, read_request_in}
 use Rattle.nr_link.specs.SegmentFaults.{is_begun, is_malformed}
 use Rattle.nr_endpoint.specs.LinkState.{LinkState}
 use Rattle.nr_endpoint.specs.Judging.{segment_end, fetch_access}
 use Rattle.nr_endpoint.specs.SegmentEnds.{bad_if, denied_if, no_buffer_if, or_end, tagged_end, message_end, send_end, send_len, request_end, terminate_end, RequestIsFine, SendIsFine}
-use Rattle.nr_endpoint.proofs.FaultList.{tagged_end_lem, send_end_lem, request_end_lem, terminate_end_lem, message_first, is_terminate}
+use Rattle.nr_endpoint.proofs.FaultList.{tagged_end_lem, any_send_end_lem, request_end_lem, terminate_end_lem, message_first, is_terminate}
 
 pub alive_tagged : (s : LinkState) (f : Frame) (last : Bool) (opcode stag to : ℕ) (payload : List ℕ) → f.at ≡ s.place →
     segment_end s f (Tagged last opcode stag to payload) ≡ None → tagged_end s last opcode stag to payload ≡ None
@@ -121,18 +121,20 @@ no_terminate : (s : LinkState) (last : Bool) (payload : List ℕ) → terminate_
 unfolding terminate_end
 no_terminate s last payload is = never_none s.place (is_malformed OPCODE_TERMINATE last payload) _ is
 
+-- a Send that doesn't end the side
+pub alive_any_send : (s : LinkState) (f : Frame) (last : Bool) (opcode w queue msn offset : ℕ) (payload : List ℕ) → f.at ≡ s.place → is_send opcode ≡ true →
+    segment_end s f (Untagged last opcode w queue msn offset payload) ≡ None → SendIsFine s last payload
+alive_any_send s f last opcode w queue msn offset payload at is lives =
+    send_fine s last msn payload (any_send_end_lem s f last opcode w queue msn offset payload is at (alive_message s f last opcode w queue msn offset payload at lives) ∙ lives)
+
 pub alive_send : (s : LinkState) (f : Frame) (last : Bool) (opcode w queue msn offset : ℕ) (payload : List ℕ) → f.at ≡ s.place → IsTrue (is_untagged_opcode opcode) → opcode ≢ OPCODE_READ_REQUEST →
-    segment_end s f (Untagged last opcode w queue msn offset payload) ≡ None → (opcode ≡ OPCODE_SEND) × SendIsFine s last payload
+    segment_end s f (Untagged last opcode w queue msn offset payload) ≡ None → (is_send opcode ≡ true) × SendIsFine s last payload
 alive_send s f last opcode w queue msn offset payload at supported other lives =
-    by (eqb opcode OPCODE_SEND) refl
+    by (is_send opcode) refl
   where
-    by : (b : Bool) → eqb opcode OPCODE_SEND ≡ b → (opcode ≡ OPCODE_SEND) × SendIsFine s last payload
-    by true is =
-        let same : opcode ≡ OPCODE_SEND = eqb-true opcode OPCODE_SEND is in
-        let goes : segment_end s f (Untagged last OPCODE_SEND w queue msn offset payload) ≡ None = subst (λ (o : ℕ). segment_end s f (Untagged last o w queue msn offset payload) ≡ None) same lives in
-        (same, send_fine s last msn payload (send_end_lem s f last w queue msn offset payload at (alive_message s f last OPCODE_SEND w queue msn offset payload at goes) ∙ goes))
+    by : (b : Bool) → is_send opcode ≡ b → (is_send opcode ≡ true) × SendIsFine s last payload
+    by true is = (is, alive_any_send s f last opcode w queue msn offset payload at is lives)
     by false is =
-        let different : opcode ≢ OPCODE_SEND = eqb-false opcode OPCODE_SEND is in
-        let same : opcode ≡ OPCODE_TERMINATE = is_terminate opcode supported different other in
+        let same : opcode ≡ OPCODE_TERMINATE = is_terminate opcode supported is other in
         let goes : segment_end s f (Untagged last OPCODE_TERMINATE w queue msn offset payload) ≡ None = subst (λ (o : ℕ). segment_end s f (Untagged last o w queue msn offset payload) ≡ None) same lives in
         absurd (no_terminate s last payload (terminate_end_lem s f last w queue msn offset payload at (alive_message s f last OPCODE_TERMINATE w queue msn offset payload at goes) ∙ goes))

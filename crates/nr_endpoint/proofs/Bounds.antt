@@ -1,13 +1,13 @@
 -- Every side that is reached has bounds: on its open reads, on the responses that it owes, and on its receives.
-use Rattle.std.proofs.Common.{◌≡◌, ℕ, ◌+◌, ◌-◌, ◌<◌, ◌≤◌, Bool, true, false, cond, not, ◌&&◌, List, [], ◌∷◌, ◌++◌, length, drop, Option, Some, None, Result, Ok, Err, refl, sym, subst, eqb, arith, length-append}
-use Rattle.std.specs.Prelude.{◌≢◌}
+use Rattle.std.proofs.Common.{◌≡◌, ℕ, ◌+◌, ◌-◌, ◌<◌, ◌≤◌, Bool, true, false, cond, not, ◌&&◌, List, [], ◌∷◌, ◌++◌, length, drop, Option, Some, None, Result, Ok, Err, inl, inr, refl, sym, subst, eqb, arith, length-append}
+use Rattle.std.specs.Prelude.{◌⊎◌}
 use Rattle.std.proofs.lemmas.Bool.{eqb-true}
-use Rattle.nr_wire.specs.Constants.{OPCODE_READ_RESPONSE, OPCODE_READ_REQUEST, OPCODE_SEND}
+use Rattle.nr_wire.specs.Constants.{OPCODE_READ_RESPONSE, OPCODE_READ_REQUEST, OPCODE_SEND, OPCODE_SEND_INVALIDATE}
 use Rattle.nr_wire.specs.declared.hello.Side.{Side}
 use Rattle.nr_wire.specs.declared.stream.Awaited.{Awaited}
 use Rattle.nr_wire.specs.declared.stream.Awaited.TheVariants.{Hello as HelloFrom, Fpdu}
 use Rattle.nr_wire.specs.Hello.{Hello, hello_of}
-use Rattle.nr_wire.specs.Segment.{Segment, segment_of}
+use Rattle.nr_wire.specs.Segment.{Segment}
 use Rattle.nr_wire.specs.Segment.Segment.{Tagged, Untagged}
 use Rattle.nr_regions.specs.RegisteredMemory.{after_place, bytes_at}
 use Rattle.nr_link.specs.declared.end.End.{End}
@@ -15,20 +15,21 @@ use Rattle.nr_link.specs.Frames.{Frame}
 use Rattle.nr_link.specs.KeptSends.{begun_within}
 use Rattle.nr_link.specs.Limits.{open_reads_max}
 use Rattle.nr_link.specs.Output.{read_response}
-use Rattle.nr_link.specs.ReceiveState.{is_send, begun_bytes, read_request_in, send_continued}
+use Rattle.nr_link.specs.ReceiveState.{is_send, begun_bytes, read_request_in, send_continued, stag_invalidated}
 use Rattle.nr_link.specs.SegmentFaults.{ExpectedResponse, is_begun}
 use Rattle.nr_link.specs.declared.agreement.SideTerms.{SideTerms}
 use Rattle.nr_endpoint.specs.SendQueue.{with_end, written}
 use Rattle.nr_endpoint.specs.ReceiveQueue.{DeliveredEvent, ReceiveQueue, with_segment, with_read_done, lent_for, sends_begun, messages_in, receives_kept, message_deliveries}
 use Rattle.nr_endpoint.specs.ReceiveQueue.DeliveredEvent.{MessageReceived, ReadDone}
 use Rattle.nr_endpoint.specs.LinkState.{LinkState, LinkSide, has_ended, initial_link}
-use Rattle.nr_endpoint.specs.Judging.{segment_end, next_frame, with_frame, with_segment_by, with_fpdu, with_peer_hello, with_effect, with_read_request, with_read_response, reads_after, fetch_access}
+use Rattle.nr_endpoint.specs.Judging.{segment_end, next_frame, with_frame, with_segment_by, with_fpdu, with_peer_hello, with_effect, with_read_request, with_read_response, reads_after, fetch_access, next_segment}
 use Rattle.nr_endpoint.specs.SegmentEnds.{RequestIsFine, SendIsFine}
 use Rattle.nr_endpoint.specs.Calls.{Call, after_call, after_calls}
-use Rattle.nr_endpoint.specs.Calls.Call.{Feed, FeedOne, NextEvent, Post, Stop, OutOfMemory, Send, WriteRemote, ReadRemote, Drain, Register, Release}
+use Rattle.nr_endpoint.specs.Calls.Call.{Feed, FeedOne, NextEvent, Post, Stop, OutOfMemory, Send, WriteRemote, ReadRemote, Drain, Register, Release, SendInvalidate, Invalidate}
 use Rattle.nr_endpoint.specs.OutputLaws.{IsAllowedCall, AreAllowedCalls, IsBounded, SidesStayBounded}
 use Rattle.nr_endpoint.proofs.AlongFrames.{feed_keeps, feed_one_keeps}
-use Rattle.nr_endpoint.proofs.Alive.{alive_request, alive_send}
+use Rattle.nr_endpoint.proofs.Alive.{alive_request, alive_any_send}
+use Rattle.nr_endpoint.proofs.FaultList.{which_send}
 use Rattle.nr_endpoint.proofs.SendQueues.{ends_left_fewer}
 
 -- each receive of a queue is free, in use or lent
@@ -63,6 +64,14 @@ send_receives opened q true w queue msn offset payload some has =
 send_receives opened q false w queue msn offset payload some has =
     (omega (arith, has.0, one_taken_lem q.received.begun q.free some, messages_append q.deliveries []), has.1)
 
+invalidate_receives : (opened : ℕ) (q : ReceiveQueue) (last : Bool) (w queue msn offset : ℕ) (payload : List ℕ) → (is_begun q.received.begun ≡ false → 0 < q.free) → HasReceives opened q →
+    HasReceives opened (with_segment (Untagged last OPCODE_SEND_INVALIDATE w queue msn offset payload) q)
+unfolding with_segment
+invalidate_receives opened q true w queue msn offset payload some has =
+    (omega (arith, has.0, one_taken_lem q.received.begun q.free some, messages_append q.deliveries (MessageReceived (q.received.sends + 1) (Some w) (begun_bytes q.received.begun ++ payload) ∷ [])), has.1)
+invalidate_receives opened q false w queue msn offset payload some has =
+    (omega (arith, has.0, one_taken_lem q.received.begun q.free some, messages_append q.deliveries []), has.1)
+
 request_receives : (opened : ℕ) (q : ReceiveQueue) (last : Bool) (w queue msn offset : ℕ) (payload : List ℕ) → HasReceives opened q →
     HasReceives opened (with_segment (Untagged last OPCODE_READ_REQUEST w queue msn offset payload) q)
 unfolding with_segment
@@ -85,7 +94,7 @@ other_receives opened q last opcode w queue msn offset payload no_send no_reques
       };
       free = cond (b && not (is_begun q.received.begun)) (q.free - 1) q.free;
       lent = q.lent;
-      deliveries = q.deliveries ++ message_deliveries (q.received.sends + 1) (cond (b && last) (Some (begun_bytes q.received.begun ++ payload)) None);
+      deliveries = q.deliveries ++ message_deliveries (q.received.sends + 1) (stag_invalidated (Untagged last opcode w queue msn offset payload)) (cond (b && last) (Some (begun_bytes q.received.begun ++ payload)) None);
     })
     by true r is none = absurd cc
     by false true is none = absurd cc
@@ -97,16 +106,16 @@ segment_receives : (opened : ℕ) (s : LinkState) (f : Frame) (last : Bool) (opc
 segment_receives opened s f last opcode w queue msn offset payload at lives has =
     by (is_send opcode) (eqb opcode OPCODE_READ_REQUEST) refl refl
   where
-    different : OPCODE_SEND ≢ OPCODE_READ_REQUEST
-    different e = omega (arith, e)
-
-    by : (b r : Bool) → is_send opcode ≡ b → eqb opcode OPCODE_READ_REQUEST ≡ r → HasReceives opened (with_segment (Untagged last opcode w queue msn offset payload) s.receive_queue)
-    by true r is other =
-        let same : opcode ≡ OPCODE_SEND = eqb-true opcode OPCODE_SEND is in
-        let goes : segment_end s f (Untagged last OPCODE_SEND w queue msn offset payload) ≡ None = subst (λ (o : ℕ). segment_end s f (Untagged last o w queue msn offset payload) ≡ None) same lives in
-        let fine : SendIsFine s last payload = (alive_send s f last OPCODE_SEND w queue msn offset payload at refl different goes).1 in
+    sent : (opcode ≡ OPCODE_SEND) ⊎ (opcode ≡ OPCODE_SEND_INVALIDATE) → SendIsFine s last payload → HasReceives opened (with_segment (Untagged last opcode w queue msn offset payload) s.receive_queue)
+    sent (inl same) fine =
         subst (λ (o : ℕ). HasReceives opened (with_segment (Untagged last o w queue msn offset payload) s.receive_queue)) (sym same)
         (send_receives opened s.receive_queue last w queue msn offset payload fine.receive has)
+    sent (inr same) fine =
+        subst (λ (o : ℕ). HasReceives opened (with_segment (Untagged last o w queue msn offset payload) s.receive_queue)) (sym same)
+        (invalidate_receives opened s.receive_queue last w queue msn offset payload fine.receive has)
+
+    by : (b r : Bool) → is_send opcode ≡ b → eqb opcode OPCODE_READ_REQUEST ≡ r → HasReceives opened (with_segment (Untagged last opcode w queue msn offset payload) s.receive_queue)
+    by true r is other = sent (which_send opcode is) (alive_any_send s f last opcode w queue msn offset payload at is lives)
     by false true is other =
         subst (λ (o : ℕ). HasReceives opened (with_segment (Untagged last o w queue msn offset payload) s.receive_queue)) (sym (eqb-true opcode OPCODE_READ_REQUEST other))
         (request_receives opened s.receive_queue last w queue msn offset payload has)
@@ -169,7 +178,7 @@ hello_bounded opened s f (Err reason) is = record { reads = is.reads; responses 
 
 frame_bounded : (opened : ℕ) (a : Awaited) (s : LinkState) (frame : List ℕ) → has_ended s ≡ false → IsBounded opened s → IsBounded opened (with_frame s a frame)
 frame_bounded opened (HelloFrom side) s frame live is = hello_bounded opened s (next_frame s frame) (hello_of side frame) is
-frame_bounded opened Fpdu s frame live is = fpdu_bounded opened s (next_frame s frame) (segment_of frame) refl is
+frame_bounded opened Fpdu s frame live is = fpdu_bounded opened s (next_frame s frame) (next_segment s frame) refl is
 
 -- ---- A call
 
@@ -195,6 +204,8 @@ call_bounded opened link OutOfMemory may is =
     either_bounded opened link.state _ (has_ended link.state) is (record { reads = is.reads; responses = is.responses; sum = is.sum; same = is.same })
 call_bounded opened link (Send message) may is =
     either_bounded opened link.state _ (has_ended link.state) is (record { reads = is.reads; responses = is.responses; sum = is.sum; same = is.same })
+call_bounded opened link (SendInvalidate stag message) may is =
+    either_bounded opened link.state _ (has_ended link.state) is (record { reads = is.reads; responses = is.responses; sum = is.sum; same = is.same })
 call_bounded opened link (WriteRemote stag to bytes) may is =
     either_bounded opened link.state _ (has_ended link.state) is (record { reads = is.reads; responses = is.responses; sum = is.sum; same = is.same })
 call_bounded opened link (ReadRemote sink at stag to len) may is =
@@ -205,6 +216,7 @@ call_bounded opened link (Drain count) may is =
     record { reads = is.reads; responses = omega (arith, is.responses, fewer); sum = is.sum; same = is.same }
 call_bounded opened link (Register buf right) may is = record { reads = is.reads; responses = is.responses; sum = is.sum; same = is.same }
 call_bounded opened link (Release stag) may is = record { reads = is.reads; responses = is.responses; sum = is.sum; same = is.same }
+call_bounded opened link (Invalidate stag) may is = record { reads = is.reads; responses = is.responses; sum = is.sum; same = is.same }
 
 calls_bounded : (opened : ℕ) (link : LinkSide) (calls : List Call) → AreAllowedCalls link calls → IsBounded opened link.state → IsBounded opened (after_calls link calls).state
 unfolding after_calls

@@ -4,7 +4,7 @@ use Rattle.std.specs.Prelude.{All}
 use Rattle.std.proofs.lemmas.List.Elements.{All-head, All-tail}
 use Rattle.nr_wire.specs.declared.stream.Awaited.{Awaited}
 use Rattle.nr_wire.specs.declared.stream.Awaited.TheVariants.{Hello as HelloFrom, Fpdu}
-use Rattle.nr_wire.specs.Segment.{Segment, segment_of}
+use Rattle.nr_wire.specs.Segment.{Segment}
 use Rattle.nr_wire.specs.Segment.Segment.{Tagged, Untagged}
 use Rattle.nr_regions.specs.RegisteredMemory.{RegisteredMemory, Claim, IsHeld}
 use Rattle.nr_regions.specs.Events.{MemoryEvent, after_event, after_events, IsNoReleaseOf}
@@ -12,9 +12,9 @@ use Rattle.nr_regions.proofs.Holding.{held_after_event}
 use Rattle.nr_link.specs.declared.end.End.{End}
 use Rattle.nr_link.specs.Frames.{Frame}
 use Rattle.nr_endpoint.specs.LinkState.{LinkState, LinkSide, has_ended}
-use Rattle.nr_endpoint.specs.Judging.{segment_end, next_frame, with_frame}
+use Rattle.nr_endpoint.specs.Judging.{segment_end, next_frame, with_frame, next_segment}
 use Rattle.nr_endpoint.specs.Calls.{Call, after_call}
-use Rattle.nr_endpoint.specs.Calls.Call.{Feed, FeedOne, NextEvent, Post, Stop, OutOfMemory, Send, WriteRemote, ReadRemote, Drain, Register, Release}
+use Rattle.nr_endpoint.specs.Calls.Call.{Feed, FeedOne, NextEvent, Post, Stop, OutOfMemory, Send, WriteRemote, ReadRemote, Drain, Register, Release, SendInvalidate, Invalidate}
 use Rattle.nr_endpoint.specs.Laws.{segment_arrivals, fpdu_arrivals, frame_arrivals, arrivals, frames_made_whole, call_events, memory_events, ClaimsStay}
 use Rattle.nr_endpoint.proofs.MemoryLaws.{memory_follows_events}
 
@@ -44,7 +44,7 @@ fpdu_none stag s f (Err reason) = tt
 
 frame_none : (stag : ℕ) (s : LinkState) (a : Awaited) (frame : List ℕ) → NoneReleases stag (frame_arrivals s a frame)
 frame_none stag s (HelloFrom side) frame = tt
-frame_none stag s Fpdu frame = fpdu_none stag s (next_frame s frame) (segment_of frame)
+frame_none stag s Fpdu frame = fpdu_none stag s (next_frame s frame) (next_segment s frame)
 
 unless_none : (stag : ℕ) (b : Bool) (events : List MemoryEvent) → NoneReleases stag events → NoneReleases stag (cond b [] events)
 unless_none stag true events none = tt
@@ -66,11 +66,13 @@ call_none stag link Post other = tt
 call_none stag link (Stop reason) other = tt
 call_none stag link OutOfMemory other = tt
 call_none stag link (Send message) other = tt
+call_none stag link (SendInvalidate named message) other = tt
 call_none stag link (WriteRemote to_stag to bytes) other = tt
 call_none stag link (ReadRemote sink at from_stag to len) other = tt
 call_none stag link (Drain count) other = tt
 call_none stag link (Register buf right) other = (tt, tt)
 call_none stag link (Release released) other = (λ e. other (ap (λ (n : ℕ). Release n) e), tt)
+call_none stag link (Invalidate named) other = (tt, tt)
 
 calls_none : (stag : ℕ) (link : LinkSide) (calls : List Call) → All (λ call. call ≢ Release stag) calls → NoneReleases stag (memory_events link calls)
 calls_none stag link [] others = tt

@@ -1,5 +1,5 @@
 -- A link is the same however its stream is cut, and what a link keeps of its input.
-use Rattle.std.proofs.Common.{◌≡◌, ℕ, Bool, true, false, cond, List, [], ◌∷◌, ◌++◌, refl, sym, subst, ◌∙◌, Option}
+use Rattle.std.proofs.Common.{◌≡◌, ℕ, Bool, true, false, cond, List, [], ◌∷◌, ◌++◌, refl, sym, subst, ◌∙◌}
 use Rattle.nr_wire.specs.declared.hello.Side.{Side}
 use Rattle.nr_wire.specs.declared.stream.Awaited.{Awaited}
 use Rattle.nr_wire.specs.declared.stream.Awaited.TheVariants.{Fpdu}
@@ -11,7 +11,7 @@ use Rattle.nr_link.specs.declared.agreement.SideTerms.{SideTerms}
 use Rattle.nr_endpoint.specs.LinkState.{LinkSide, LinkState, has_ended, initial_link}
 use Rattle.nr_endpoint.specs.Judging.{with_frame}
 use Rattle.nr_endpoint.specs.Calls.{Call, after_call, after_calls, unless_ended}
-use Rattle.nr_endpoint.specs.Calls.Call.{Feed, FeedOne, NextEvent, Post, Stop, OutOfMemory, Send, WriteRemote, ReadRemote, Drain, Register, Release}
+use Rattle.nr_endpoint.specs.Calls.Call.{Feed, FeedOne, NextEvent, Post, Stop, OutOfMemory, Send, WriteRemote, ReadRemote, Drain, Register, Release, SendInvalidate, Invalidate}
 use Rattle.nr_endpoint.specs.Laws.{PiecesJoin, StepsReach, EndStays, KeepsLessThanFrame, EndedKeepsNothing}
 
 pub pieces_join : PiecesJoin
@@ -40,11 +40,13 @@ partial_call link Post p = p
 partial_call link (Stop reason) p = partial_nil link.awaited
 partial_call link OutOfMemory p = partial_nil link.awaited
 partial_call link (Send message) p = p
+partial_call link (SendInvalidate stag message) p = p
 partial_call link (WriteRemote stag to bytes) p = p
 partial_call link (ReadRemote sink at stag to len) p = p
 partial_call link (Drain count) p = p
 partial_call link (Register buf right) p = p
 partial_call link (Release stag) p = p
+partial_call link (Invalidate stag) p = p
 
 partial_calls : (link : LinkSide) (calls : List Call) → IsPartialLink link → IsPartialLink (after_calls link calls)
 unfolding after_calls
@@ -107,11 +109,13 @@ empty_call link Post p = p
 empty_call link (Stop reason) p = λ ended. refl
 empty_call link OutOfMemory p = λ ended. refl
 empty_call link (Send message) p = unless_kept link.state _ link.rest refl p
+empty_call link (SendInvalidate stag message) p = unless_kept link.state _ link.rest refl p
 empty_call link (WriteRemote stag to bytes) p = unless_kept link.state _ link.rest refl p
 empty_call link (ReadRemote sink at stag to len) p = unless_kept link.state _ link.rest refl p
 empty_call link (Drain count) p = p
 empty_call link (Register buf right) p = p
 empty_call link (Release stag) p = p
+empty_call link (Invalidate stag) p = p
 
 empty_calls : (link : LinkSide) (calls : List Call) → IsEmptyIfEnded link → IsEmptyIfEnded (after_calls link calls)
 unfolding after_calls

@@ -1,5 +1,5 @@
 -- Bytes that are cut into segments, segment by segment.
-use Rattle.std.proofs.Common.{◌≡◌, ℕ, ◌+◌, ◌-◌, ◌*◌, ◌%◌, ◌^◌, ◌<◌, ◌≤◌, Bool, true, List, [], ◌∷◌, ◌++◌, length, take, drop, eqb, refl, sym, ap, subst, ◌∙◌, arith, append_assoc}
+use Rattle.std.proofs.Common.{◌≡◌, ℕ, ◌+◌, ◌-◌, ◌*◌, ◌%◌, ◌^◌, ◌<◌, ◌≤◌, Bool, true, List, [], ◌∷◌, ◌++◌, length, take, drop, eqb, refl, sym, ap, subst, ◌∙◌, arith, append_assoc, cond, Option, None, Some}
 use Rattle.std.specs.Prelude.{min}
 use Rattle.std.specs.List.{flat_map, range_with_len}
 use Rattle.std.proofs.lemmas.List.{map-id, take_min, drop_min, append-nil, length-append, length-take, length-drop, take_all}
@@ -7,10 +7,10 @@ use Rattle.std.proofs.lemmas.List.Concat.{flat_map-append}
 use Rattle.std.proofs.lemmas.List.FromFn.{map-range_with_len_more}
 use Rattle.nr_wire.specs.Segment.{IsWritable, encoding, payload_in, segment_header, segment_tail, ulpdu_size, Segment}
 use Rattle.nr_xdr.specs.Item.{word, hyper}
-use Rattle.nr_wire.specs.Constants.{OPCODE_SEND, QUEUE_SEND, UNTAGGED_LEN}
+use Rattle.nr_wire.specs.Constants.{OPCODE_SEND, QUEUE_SEND, UNTAGGED_LEN, OPCODE_SEND_INVALIDATE}
 use Rattle.nr_wire.specs.Segment.Segment.{Untagged}
-use Rattle.nr_link.specs.Output.{cut, segment_count, segment_payload, send, write, read_response}
-use Rattle.nr_endpoint.specs.OperationSegments.{operation_segment}
+use Rattle.nr_link.specs.Output.{cut, segment_count, segment_payload, send, write, read_response, send_by, send_invalidating}
+use Rattle.nr_endpoint.specs.OperationSegments.{operation_segment, sender, send_opcode, send_word, FitsOperation}
 use Rattle.nr_endpoint.specs.declared.framing.Operation.{Operation}
 use Rattle.nr_endpoint.specs.declared.framing.Operation.TheVariants as carriers
 use Rattle.nr_link.specs.Limits.{segment_max}
@@ -67,6 +67,7 @@ pieces_all operation bytes = refl
 pub carried_writable : (operation : Operation) (last : Bool) (offset : ℕ) (payload : List ℕ) → length payload ≤ segment_max →
     IsWritable (operation_segment operation last offset payload)
 carried_writable (carriers.Send msn) last offset payload h = (omega arith, omega arith)
+carried_writable (carriers.SendInvalidate msn stag) last offset payload h = (omega arith, omega arith)
 carried_writable (carriers.Write stag to) last offset payload h = (omega arith, omega arith)
 carried_writable (carriers.Response stag to) last offset payload h = (omega arith, omega arith)
 
@@ -105,6 +106,21 @@ carried_send n message =
     let same : (n + 1) % 2 ^ 32 ≡ ((n + 1) % 2 ^ 32) % 2 ^ 32 = omega arith in
     ap (λ (m : ℕ). cut (λ last offset payload. Untagged last OPCODE_SEND 0 QUEUE_SEND m offset payload) message) same
 
+carried_invalidate : (stag n : ℕ) (message : List ℕ) → cut (operation_segment (carriers.SendInvalidate ((n + 1) % 2 ^ 32) stag)) message ≡ send_invalidating ((n + 1) % 2 ^ 32) stag message
+unfolding send_invalidating
+carried_invalidate stag n message =
+    let same : (n + 1) % 2 ^ 32 ≡ ((n + 1) % 2 ^ 32) % 2 ^ 32 = omega arith in
+    ap (λ (m : ℕ). cut (λ last offset payload. Untagged last OPCODE_SEND_INVALIDATE (cond last stag 0) QUEUE_SEND m offset payload) message) same
+
+pub carried_by : (named : Option ℕ) (n : ℕ) (message : List ℕ) → cut (operation_segment (sender named ((n + 1) % 2 ^ 32))) message ≡ send_by named ((n + 1) % 2 ^ 32) message
+carried_by None n message = carried_send n message
+carried_by (Some stag) n message = carried_invalidate stag n message
+
+-- a Send of either kind can be carried
+pub fits_sender : (named : Option ℕ) (msn n : ℕ) → n < 2 ^ 32 → FitsOperation (sender named msn) n
+fits_sender None msn n small = small
+fits_sender (Some stag) msn n small = small
+
 pub carried_write : (stag to : ℕ) (bytes : List ℕ) → cut (operation_segment (carriers.Write stag to)) bytes ≡ write stag to bytes
 unfolding write
 carried_write stag to bytes = refl
@@ -135,6 +151,7 @@ segment_pushed new old header payload tail segment h p t is =
 
 pub carried_payload : (operation : Operation) (last : Bool) (offset : ℕ) (payload : List ℕ) → payload_in (operation_segment operation last offset payload) ≡ payload
 carried_payload (carriers.Send msn) last offset payload = refl
+carried_payload (carriers.SendInvalidate msn stag) last offset payload = refl
 carried_payload (carriers.Write stag to) last offset payload = refl
 carried_payload (carriers.Response stag to) last offset payload = refl
 
@@ -172,18 +189,22 @@ cut_one operation bytes le =
     ∙ (λ i. encoding (operation_segment operation (eqb 1 (count i)) 0 (all i)))
 
 -- the Send of a message in two parts
-pub send_pushed : (new old header front stream tail : List ℕ) (msn : ℕ) → length front + length stream ≤ segment_max
-    → header ≡ segment_header (Untagged true OPCODE_SEND 0 QUEUE_SEND msn 0 (front ++ stream))
+last_segment : (named : Option ℕ) (msn : ℕ) (bytes : List ℕ) → Untagged true (send_opcode named) (send_word named) QUEUE_SEND msn 0 bytes ≡ operation_segment (sender named msn) true 0 bytes
+last_segment None msn bytes = refl
+last_segment (Some stag) msn bytes = refl
+
+pub send_pushed : (new old header front stream tail : List ℕ) (named : Option ℕ) (msn : ℕ) → length front + length stream ≤ segment_max
+    → header ≡ segment_header (Untagged true (send_opcode named) (send_word named) QUEUE_SEND msn 0 (front ++ stream))
     → tail ≡ segment_tail (UNTAGGED_LEN + (length front + length stream))
     → new ≡ (((old ++ header) ++ front) ++ stream) ++ tail
-    → new ≡ old ++ cut (operation_segment (carriers.Send msn)) (front ++ stream)
-send_pushed new old header front stream tail msn le h t is =
+    → new ≡ old ++ cut (operation_segment (sender named msn)) (front ++ stream)
+send_pushed new old header front stream tail named msn le h t is =
     let len : length (front ++ stream) ≡ length front + length stream = length-append front stream in
-    let s : Segment = Untagged true OPCODE_SEND 0 QUEUE_SEND msn 0 (front ++ stream) in
+    let s : Segment = Untagged true (send_opcode named) (send_word named) QUEUE_SEND msn 0 (front ++ stream) in
     is
     ∙ (λ i. (((old ++ h i) ++ front) ++ stream) ++ t i)
     ∙ ap (λ (n : ℕ). (((old ++ segment_header s) ++ front) ++ stream) ++ segment_tail (UNTAGGED_LEN + n)) (sym len)
     ∙ ap (λ (l : List ℕ). l ++ segment_tail (UNTAGGED_LEN + length (front ++ stream))) (append_assoc (old ++ segment_header s) front stream)
     ∙ append_assoc (old ++ segment_header s) (front ++ stream) (segment_tail (UNTAGGED_LEN + length (front ++ stream)))
     ∙ append_assoc old (segment_header s) ((front ++ stream) ++ segment_tail (UNTAGGED_LEN + length (front ++ stream)))
-    ∙ ap (λ (l : List ℕ). old ++ l) (sym (encoded_parts s) ∙ sym (cut_one (carriers.Send msn) (front ++ stream) (omega (arith, len, le))))
+    ∙ ap (λ (l : List ℕ). old ++ l) (sym (encoded_parts s) ∙ ap encoding (last_segment named msn (front ++ stream)) ∙ sym (cut_one (sender named msn) (front ++ stream) (omega (arith, len, le))))

@@ -7,7 +7,7 @@ use Rattle.nr_wire.specs.Constants.{OPCODE_READ_RESPONSE}
 use Rattle.nr_wire.specs.declared.stream.Awaited.{Awaited}
 use Rattle.nr_wire.specs.declared.stream.Awaited.TheVariants.{Hello as HelloFrom, Fpdu}
 use Rattle.nr_wire.specs.Hello.{Hello, hello_of}
-use Rattle.nr_wire.specs.Segment.{Segment, segment_of}
+use Rattle.nr_wire.specs.Segment.{Segment}
 use Rattle.nr_wire.specs.Segment.Segment.{Tagged, Untagged}
 use Rattle.nr_wire.specs.Stream.{is_whole, frame_len, IsFrame, AreFrames, Split, split}
 use Rattle.nr_wire.specs.Feeding.{feeding_after, feeding_after_step, feeding_after_frames}
@@ -16,17 +16,17 @@ use Rattle.nr_wire.proofs.Feedings.{feeding_after_step-ended, feeding_after_step
 use Rattle.nr_wire.proofs.Splits.{split_whole, split_partial, split_Splits}
 use Rattle.nr_regions.specs.RegisteredMemory.{after_place}
 use Rattle.nr_regions.specs.Events.{MemoryEvent, tagged_segments}
-use Rattle.nr_regions.specs.Events.MemoryEvent.{Register as RegisterRegion, Release as ReleaseRegion, Arrive}
+use Rattle.nr_regions.specs.Events.MemoryEvent.{Register as RegisterRegion, Release as ReleaseRegion, Invalidate as InvalidateRegion, Arrive}
 use Rattle.nr_regions.specs.Access.{TaggedSegment}
 use Rattle.nr_link.specs.declared.end.End.{End}
 use Rattle.nr_link.specs.Frames.{Frame}
-use Rattle.nr_link.specs.ReceiveState.{message_completed}
+use Rattle.nr_link.specs.ReceiveState.{message_completed, stag_invalidated}
 use Rattle.nr_endpoint.specs.ReceiveQueue.{DeliveredEvent, message_deliveries, with_segment}
 use Rattle.nr_endpoint.specs.ReceiveQueue.DeliveredEvent.{ReadDone}
 use Rattle.nr_endpoint.specs.LinkState.{LinkState, LinkSide, has_ended}
-use Rattle.nr_endpoint.specs.Judging.{segment_end, next_frame, with_frame, with_segment_by, with_fpdu, with_peer_hello, with_effect, with_read_response}
+use Rattle.nr_endpoint.specs.Judging.{segment_end, next_frame, with_frame, with_segment_by, with_fpdu, with_peer_hello, with_effect, with_read_response, next_segment}
 use Rattle.nr_endpoint.specs.Calls.{Call, after_call, after_calls}
-use Rattle.nr_endpoint.specs.Calls.Call.{Feed, FeedOne, NextEvent, Post, Stop, OutOfMemory, Send, WriteRemote, ReadRemote, Drain, Register, Release}
+use Rattle.nr_endpoint.specs.Calls.Call.{Feed, FeedOne, NextEvent, Post, Stop, OutOfMemory, Send, WriteRemote, ReadRemote, Drain, Register, Release, SendInvalidate, Invalidate}
 use Rattle.nr_endpoint.specs.Laws.{frames_made_whole, memory_events, QueuedEvent, made_at, segment_deliveries, fpdu_deliveries, frame_deliveries, deliveries_of_frames, call_deliveries, deliveries_made, call_delivers, events_delivered, EventsAreDelivered, DeliveriesRise, EventsAreInOrder, EventsFollowAccesses, OneFrameDeliversAtItsEnd}
 use Rattle.nr_endpoint.proofs.MemoryLaws.{memory_follows_events, events_append}
 use Rattle.nr_endpoint.proofs.PlaceOrder.{Between, calls_between}
@@ -79,9 +79,9 @@ names_made : (n : ℕ) (deliveries : List DeliveredEvent) → names (map (made_a
 names_made n [] = refl
 names_made n (delivery ∷ deliveries) = ap (λ (ns : List DeliveredEvent). delivery ∷ ns) (names_made n deliveries)
 
-message_rise : (from n number : ℕ) (message : Option (List ℕ)) → from < n → DeliveriesRise from (map (made_at n) (message_deliveries number message)) n
-message_rise from n number None longer = omega (arith, longer)
-message_rise from n number (Some message) longer = (longer, omega arith)
+message_rise : (from n number : ℕ) (named : Option ℕ) (message : Option (List ℕ)) → from < n → DeliveriesRise from (map (made_at n) (message_deliveries number named message)) n
+message_rise from n number named None longer = omega (arith, longer)
+message_rise from n number named (Some message) longer = (longer, omega arith)
 
 read_rise : (from n : ℕ) (done : Bool) → from < n → DeliveriesRise from (map (made_at n) (cond done (ReadDone ∷ []) [])) n
 read_rise from n false longer = omega (arith, longer)
@@ -105,9 +105,10 @@ segment_makes : (s : LinkState) (f : Frame) (segment : Segment) (e : Option End)
 unfolding with_effect with_segment
 segment_makes s f segment (Some end) longer = ((sym (append-nil s.receive_queue.deliveries), (omega arith)), tt)
 segment_makes s f (Untagged last opcode w queue msn offset payload) None longer =
+    let named : Option ℕ = stag_invalidated (Untagged last opcode w queue msn offset payload) in
     let message : Option (List ℕ) = message_completed s.receive_queue.received (Untagged last opcode w queue msn offset payload) in (
-      (ap (λ (ns : List DeliveredEvent). s.receive_queue.deliveries ++ ns) (sym (names_made f.end (message_deliveries (s.receive_queue.received.sends + 1) message))), message_rise s.place f.end (s.receive_queue.received.sends + 1) message longer),
-      at_end_lem f.end (message_deliveries (s.receive_queue.received.sends + 1) message),
+      (ap (λ (ns : List DeliveredEvent). s.receive_queue.deliveries ++ ns) (sym (names_made f.end (message_deliveries (s.receive_queue.received.sends + 1) named message))), message_rise s.place f.end (s.receive_queue.received.sends + 1) named message longer),
+      at_end_lem f.end (message_deliveries (s.receive_queue.received.sends + 1) named message),
     )
 segment_makes s f (Tagged last opcode stag to payload) None longer =
     let done : Bool = eqb opcode OPCODE_READ_RESPONSE && last in (
@@ -131,7 +132,7 @@ hello_makes s f (Err reason) longer = ((sym (append-nil s.receive_queue.deliveri
 
 frame_makes : (s : LinkState) (a : Awaited) (frame : List ℕ) → IsFrame a frame → MakesAt s (frame_deliveries s a frame) (with_frame s a frame)
 frame_makes s (HelloFrom side) frame is = hello_makes s (next_frame s frame) (hello_of side frame) (omega (arith, is.fields))
-frame_makes s Fpdu frame is = fpdu_makes s (next_frame s frame) (segment_of frame) (omega (arith, is.fields))
+frame_makes s Fpdu frame is = fpdu_makes s (next_frame s frame) (next_segment s frame) (omega (arith, is.fields))
 
 -- ---- Frames
 
@@ -201,11 +202,13 @@ call_makes link Post = (sym (append-nil link.state.receive_queue.deliveries), om
 call_makes link (Stop reason) = unless_made link.state _ (has_ended link.state) refl refl
 call_makes link OutOfMemory = unless_made link.state _ (has_ended link.state) refl refl
 call_makes link (Send message) = unless_made link.state _ (has_ended link.state) refl refl
+call_makes link (SendInvalidate stag message) = unless_made link.state _ (has_ended link.state) refl refl
 call_makes link (WriteRemote stag to bytes) = unless_made link.state _ (has_ended link.state) refl refl
 call_makes link (ReadRemote sink at stag to len) = unless_made link.state _ (has_ended link.state) refl refl
 call_makes link (Drain count) = (sym (append-nil link.state.receive_queue.deliveries), omega arith)
 call_makes link (Register buf right) = (sym (append-nil link.state.receive_queue.deliveries), omega arith)
 call_makes link (Release stag) = (sym (append-nil link.state.receive_queue.deliveries), omega arith)
+call_makes link (Invalidate stag) = (sym (append-nil link.state.receive_queue.deliveries), omega arith)
 
 calls_make : (link : LinkSide) (calls : List Call) → Makes link.state (events_delivered link calls) (deliveries_made link calls) (after_calls link calls).state
 unfolding after_calls
@@ -227,6 +230,7 @@ segments_behind : (n from until : ℕ) (events : List MemoryEvent) → n ≤ fro
 segments_behind n from until [] low between = All-nil (λ (segment : TaggedSegment). n < segment.end)
 segments_behind n from until (RegisterRegion right buf ∷ events) low between = segments_behind n from until events low between
 segments_behind n from until (ReleaseRegion stag ∷ events) low between = segments_behind n from until events low between
+segments_behind n from until (InvalidateRegion stag ∷ events) low between = segments_behind n from until events low between
 segments_behind n from until (Arrive segment ∷ events) low between =
     All-cons (λ (s : TaggedSegment). n < s.end) segment (tagged_segments events) (omega (arith, low, between.0))
     (segments_behind n segment.end until events (omega (arith, low, between.0)) between.1)

@@ -19,15 +19,16 @@ use Rattle.nr_link.specs.Reasons.{REASON_MSN, REASON_OFFSET, REASON_FORM, REASON
 use Rattle.nr_link.specs.ReceiveState.{is_send, message_completed}
 use Rattle.nr_link.specs.SegmentFaults.{Readiness, SegmentReason, segment_reason, first_fault, reason_if, missing_fault, no_buffer, message_length_is, terminate_fault, next_msn, next_offset, is_begun, is_malformed, is_unexpected, is_too_many}
 use Rattle.nr_link.specs.SegmentFaults.SegmentReason.{Reason, NoBuffer, AccessDenied, PeerTerminated}
-use Rattle.nr_link.specs.Ending.{end_of_fault, denied_at, access_of}
+use Rattle.nr_link.specs.Ending.{end_of_fault, denied_at, access_of, is_not_taken, segment_taken}
 use Rattle.nr_xdr.specs.Fields.{word_at}
 use Rattle.nr_link.specs.declared.agreement.SideTerms.{SideTerms}
 use Rattle.nr_endpoint.specs.LinkState.{LinkState, LinkSide, has_ended, initial_link}
-use Rattle.nr_endpoint.specs.Judging.{readiness, missing_access, segment_end, next_frame, with_frame, with_segment_by, with_fpdu, with_peer_hello, with_effect, with_read_response}
+use Rattle.nr_endpoint.specs.Judging.{readiness, missing_access, segment_end, next_frame, with_frame, with_segment_by, with_fpdu, with_peer_hello, with_effect, with_read_response, next_segment}
 use Rattle.nr_endpoint.specs.Calls.{Call, IsStopReason, after_call, after_calls}
-use Rattle.nr_endpoint.specs.Calls.Call.{Feed, FeedOne, NextEvent, Post, Stop, OutOfMemory, Send, WriteRemote, ReadRemote, Drain, Register, Release}
+use Rattle.nr_endpoint.specs.Calls.Call.{Feed, FeedOne, NextEvent, Post, Stop, OutOfMemory, Send, WriteRemote, ReadRemote, Drain, Register, Release, SendInvalidate, Invalidate}
 use Rattle.nr_endpoint.specs.Laws.{IsFrameReason, IsFrameEnd, FramesEndForThese, NoFrameStops, OthersComeFromStop, MemoryComesFromOutOfMemory}
 use Rattle.nr_endpoint.proofs.AlongFrames.{feed_keeps, feed_one_keeps}
+use Rattle.nr_endpoint.specs.Hellos.{takes_invalidate}
 
 -- ---- Reasons of a frame alone
 
@@ -69,9 +70,17 @@ flaw_reason b1 b2 b3 b4 b5 b6 =
     (some_if P b5 REASON_TAGGED _ (inl (omega arith, omega arith))
     (some_if P b6 REASON_QUEUE None (inl (omega arith, omega arith)) tt)))))
 
-pub fpdu_reason : (frame : List ℕ) → IfErr (segment_of frame) (IsFrameReason Fpdu)
+own_reason : (frame : List ℕ) → IfErr (segment_of frame) (IsFrameReason Fpdu)
 unfolding segment_of frame_reason
-fpdu_reason frame = value_error (IsFrameReason Fpdu) _ _ (flaw_reason _ _ _ _ _ _)
+own_reason frame = value_error (IsFrameReason Fpdu) _ _ (flaw_reason _ _ _ _ _ _)
+
+taken_reason : (b : Bool) (r : Result Segment ℕ) → IfErr r (IsFrameReason Fpdu) → IfErr (cond b (Err REASON_OPCODE) r) (IsFrameReason Fpdu)
+taken_reason true r is = inl (omega arith, omega arith)
+taken_reason false r is = is
+
+pub fpdu_reason : (s : LinkState) (frame : List ℕ) → IfErr (next_segment s frame) (IsFrameReason Fpdu)
+unfolding segment_taken
+fpdu_reason s frame = taken_reason (is_not_taken (takes_invalidate s.side s.agreed) frame (segment_of frame)) (segment_of frame) (own_reason frame)
 
 -- ---- Reasons of a segment after others
 
@@ -208,7 +217,7 @@ hello_end_lem side s f (Err reason) live is = (refl, is)
 
 pub frames_end_for_these : FramesEndForThese
 frames_end_for_these s (HelloFrom side) frame live = hello_end_lem side s (next_frame s frame) (hello_of side frame) live (reason_of_hello side frame)
-frames_end_for_these s Fpdu frame live = fpdu_end s (next_frame s frame) (segment_of frame) live (fpdu_reason frame)
+frames_end_for_these s Fpdu frame live = fpdu_end s (next_frame s frame) (next_segment s frame) live (fpdu_reason s frame)
 
 -- ---- The reasons of `stop` are others
 
@@ -219,21 +228,24 @@ no_frame_stops (HelloFrom side) reason (low, high) (inr (inr (inl is))) = omega 
 no_frame_stops (HelloFrom side) reason (low, high) (inr (inr (inr (inl is)))) = omega (arith, high, is)
 no_frame_stops (HelloFrom side) reason (low, high) (inr (inr (inr (inr (inl is))))) = omega (arith, high, is)
 no_frame_stops (HelloFrom side) reason (low, high) (inr (inr (inr (inr (inr (inl is)))))) = omega (arith, high, is)
-no_frame_stops (HelloFrom side) reason (low, high) (inr (inr (inr (inr (inr (inr is)))))) = omega (arith, high, is)
+no_frame_stops (HelloFrom side) reason (low, high) (inr (inr (inr (inr (inr (inr (inl is))))))) = omega (arith, high, is)
+no_frame_stops (HelloFrom side) reason (low, high) (inr (inr (inr (inr (inr (inr (inr is))))))) = omega (arith, high, is)
 no_frame_stops Fpdu reason (inl (low, high)) (inl is) = omega (arith, high, is)
 no_frame_stops Fpdu reason (inl (low, high)) (inr (inl is)) = omega (arith, high, is)
 no_frame_stops Fpdu reason (inl (low, high)) (inr (inr (inl is))) = omega (arith, high, is)
 no_frame_stops Fpdu reason (inl (low, high)) (inr (inr (inr (inl is)))) = omega (arith, high, is)
 no_frame_stops Fpdu reason (inl (low, high)) (inr (inr (inr (inr (inl is))))) = omega (arith, high, is)
 no_frame_stops Fpdu reason (inl (low, high)) (inr (inr (inr (inr (inr (inl is)))))) = omega (arith, high, is)
-no_frame_stops Fpdu reason (inl (low, high)) (inr (inr (inr (inr (inr (inr is)))))) = omega (arith, high, is)
+no_frame_stops Fpdu reason (inl (low, high)) (inr (inr (inr (inr (inr (inr (inl is))))))) = omega (arith, high, is)
+no_frame_stops Fpdu reason (inl (low, high)) (inr (inr (inr (inr (inr (inr (inr is))))))) = omega (arith, high, is)
 no_frame_stops Fpdu reason (inr long) (inl is) = omega (arith, long, is)
 no_frame_stops Fpdu reason (inr long) (inr (inl is)) = omega (arith, long, is)
 no_frame_stops Fpdu reason (inr long) (inr (inr (inl is))) = omega (arith, long, is)
 no_frame_stops Fpdu reason (inr long) (inr (inr (inr (inl is)))) = omega (arith, long, is)
 no_frame_stops Fpdu reason (inr long) (inr (inr (inr (inr (inl is))))) = omega (arith, long, is)
 no_frame_stops Fpdu reason (inr long) (inr (inr (inr (inr (inr (inl is)))))) = omega (arith, long, is)
-no_frame_stops Fpdu reason (inr long) (inr (inr (inr (inr (inr (inr is)))))) = omega (arith, long, is)
+no_frame_stops Fpdu reason (inr long) (inr (inr (inr (inr (inr (inr (inl is))))))) = omega (arith, long, is)
+no_frame_stops Fpdu reason (inr long) (inr (inr (inr (inr (inr (inr (inr is))))))) = omega (arith, long, is)
 
 -- ---- What makes an End
 
@@ -296,12 +308,15 @@ call_caused done link Post is = caused_stays done (Post ∷ []) link.state.ended
 call_caused done link (Stop reason) is = ended_caused (done ++ Stop reason ∷ []) link.state _ (has_ended link.state) (caused_stays done (Stop reason ∷ []) link.state.ended is) (inr (Contains-push done (Stop reason)))
 call_caused done link OutOfMemory is = ended_caused (done ++ OutOfMemory ∷ []) link.state _ (has_ended link.state) (caused_stays done (OutOfMemory ∷ []) link.state.ended is) (Contains-push done OutOfMemory)
 call_caused done link (Send message) is = unless_caused (done ++ Send message ∷ []) link.state _ (has_ended link.state) refl (caused_stays done (Send message ∷ []) link.state.ended is)
+call_caused done link (SendInvalidate stag message) is =
+    unless_caused (done ++ SendInvalidate stag message ∷ []) link.state _ (has_ended link.state) refl (caused_stays done (SendInvalidate stag message ∷ []) link.state.ended is)
 call_caused done link (WriteRemote stag to bytes) is = unless_caused (done ++ WriteRemote stag to bytes ∷ []) link.state _ (has_ended link.state) refl (caused_stays done (WriteRemote stag to bytes ∷ []) link.state.ended is)
 call_caused done link (ReadRemote sink at stag to len) is =
     unless_caused (done ++ ReadRemote sink at stag to len ∷ []) link.state _ (has_ended link.state) refl (caused_stays done (ReadRemote sink at stag to len ∷ []) link.state.ended is)
 call_caused done link (Drain count) is = caused_stays done (Drain count ∷ []) link.state.ended is
 call_caused done link (Register buf right) is = caused_stays done (Register buf right ∷ []) link.state.ended is
 call_caused done link (Release stag) is = caused_stays done (Release stag ∷ []) link.state.ended is
+call_caused done link (Invalidate stag) is = caused_stays done (Invalidate stag ∷ []) link.state.ended is
 
 calls_caused : (done : List Call) (link : LinkSide) (calls : List Call) → IfSome link.state.ended (HasCause done) → IfSome (after_calls link calls).state.ended (HasCause (done ++ calls))
 unfolding after_calls

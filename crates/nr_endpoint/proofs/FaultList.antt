@@ -1,7 +1,8 @@
 -- The list of faults, one kind of segment at a time.
-use Rattle.std.proofs.Common.{◌≡◌, ℕ, ◌+◌, Bool, true, false, not, cond, ◌&&◌, ◌||◌, eqb, nat_lt, nat_le, List, [], ◌∷◌, ◌++◌, length, Option, Some, None, refl, sym, ap, ◌∙◌, length-append, arith}
-use Rattle.std.specs.Prelude.{is_some, IsTrue, ◌≢◌}
-use Rattle.nr_wire.specs.Constants.{OPCODE_READ_REQUEST, OPCODE_READ_RESPONSE, OPCODE_SEND, OPCODE_TERMINATE}
+use Rattle.std.proofs.Common.{◌≡◌, ℕ, ◌+◌, Bool, true, false, not, cond, ◌&&◌, ◌||◌, eqb, nat_lt, nat_le, List, [], ◌∷◌, ◌++◌, length, Option, Some, None, inl, inr, refl, sym, ap, ◌∙◌, length-append, arith}
+use Rattle.std.specs.Prelude.{is_some, IsTrue, ◌≢◌, ◌⊎◌}
+use Rattle.std.proofs.lemmas.Bool.{eqb-true, eqb-false}
+use Rattle.nr_wire.specs.Constants.{OPCODE_READ_REQUEST, OPCODE_READ_RESPONSE, OPCODE_SEND, OPCODE_SEND_INVALIDATE, OPCODE_TERMINATE}
 use Rattle.nr_wire.specs.Segment.{Segment, is_untagged_opcode}
 use Rattle.nr_wire.specs.Segment.Segment.{Tagged, Untagged}
 use Rattle.nr_regions.specs.declared.denied.Denied.{Denied}
@@ -11,7 +12,7 @@ use Rattle.nr_link.specs.declared.end.End.TheVariants as ends
 use Rattle.nr_link.specs.Limits.{open_reads_max}
 use Rattle.nr_link.specs.Frames.{Frame}
 use Rattle.nr_link.specs.Reasons.{REASON_MSN, REASON_OFFSET, REASON_FORM, REASON_RESPONSE, REASON_REQUESTS, REASON_SHORT, REASON_LONG}
-use Rattle.nr_link.specs.ReceiveState.{begun_bytes, read_request_in}
+use Rattle.nr_link.specs.ReceiveState.{begun_bytes, is_send, read_request_in}
 use Rattle.nr_link.specs.SegmentFaults.{SegmentReason, segment_reason, first_fault, reason_if, missing_fault, no_buffer, message_length_is, terminate_fault, next_msn, next_offset, is_begun, is_malformed, is_expected}
 use Rattle.nr_link.specs.SegmentFaults.SegmentReason.{NoBuffer, PeerTerminated}
 use Rattle.nr_link.specs.Ending.{end_of_fault, kind_of}
@@ -53,12 +54,12 @@ first_two at false false others = refl
 -- the faults after number and offset
 abbrev later_faults : LinkState → Bool → (opcode w queue msn offset : ℕ) → List ℕ → Faults
 later_faults s last opcode w queue msn offset payload =
-    no_buffer (readiness s (missing_access s.memory (Untagged last opcode w queue msn offset payload))) (eqb opcode OPCODE_SEND) msn
+    no_buffer (readiness s (missing_access s.memory (Untagged last opcode w queue msn offset payload))) (is_send opcode) msn
     ∷ reason_if REASON_FORM (is_malformed opcode last payload)
     ∷ missing_fault (missing_access s.memory (Untagged last opcode w queue msn offset payload))
     ∷ reason_if REASON_REQUESTS (eqb opcode OPCODE_READ_REQUEST && nat_le open_reads_max (length s.send_queue.response_ends))
-    ∷ reason_if REASON_LONG (message_length_is (nat_lt s.message_max) (cond (eqb opcode OPCODE_SEND && last) (Some (begun_bytes s.receive_queue.received.begun ++ payload)) None))
-    ∷ reason_if REASON_SHORT (message_length_is (λ n. nat_lt n 16) (cond (eqb opcode OPCODE_SEND && last) (Some (begun_bytes s.receive_queue.received.begun ++ payload)) None))
+    ∷ reason_if REASON_LONG (message_length_is (nat_lt s.message_max) (cond (is_send opcode && last) (Some (begun_bytes s.receive_queue.received.begun ++ payload)) None))
+    ∷ reason_if REASON_SHORT (message_length_is (λ n. nat_lt n 16) (cond (is_send opcode && last) (Some (begun_bytes s.receive_queue.received.begun ++ payload)) None))
     ∷ terminate_fault opcode payload
     ∷ []
 
@@ -100,7 +101,7 @@ send_cases f segment msn true true b2 = refl
 send_cases f segment msn true false true = refl
 send_cases f segment msn true false false = refl
 
-pub send_end_lem : (s : LinkState) (f : Frame) (last : Bool) (w queue msn offset : ℕ) (payload : List ℕ) → f.at ≡ s.place → message_end s queue msn offset ≡ None →
+send_end_lem : (s : LinkState) (f : Frame) (last : Bool) (w queue msn offset : ℕ) (payload : List ℕ) → f.at ≡ s.place → message_end s queue msn offset ≡ None →
     send_end s last msn payload ≡ segment_end s f (Untagged last OPCODE_SEND w queue msn offset payload)
 unfolding send_end
 send_end_lem s f last w queue msn offset payload at is =
@@ -111,6 +112,34 @@ send_end_lem s f last w queue msn offset payload at is =
     ∙ (λ i. no_buffer_if msn (not (is_begun s.receive_queue.received.begun || nat_lt 0 s.receive_queue.free))
     (bad_if (at i) REASON_LONG (length_is_lem (nat_lt s.message_max) last (begun_bytes s.receive_queue.received.begun) payload i)
     (bad_if (at i) REASON_SHORT (length_is_lem (λ n. nat_lt n 16) last (begun_bytes s.receive_queue.received.begun) payload i) None))))
+
+invalidate_end_lem : (s : LinkState) (f : Frame) (last : Bool) (w queue msn offset : ℕ) (payload : List ℕ) → f.at ≡ s.place → message_end s queue msn offset ≡ None →
+    send_end s last msn payload ≡ segment_end s f (Untagged last OPCODE_SEND_INVALIDATE w queue msn offset payload)
+unfolding send_end
+invalidate_end_lem s f last w queue msn offset payload at is =
+    sym (kind_end s f last OPCODE_SEND_INVALIDATE w queue msn offset payload at is
+    ∙ send_cases f (Untagged last OPCODE_SEND_INVALIDATE w queue msn offset payload) msn (is_begun s.receive_queue.received.begun || nat_lt 0 s.receive_queue.free)
+    (message_length_is (nat_lt s.message_max) (cond (true && last) (Some (begun_bytes s.receive_queue.received.begun ++ payload)) None))
+    (message_length_is (λ n. nat_lt n 16) (cond (true && last) (Some (begun_bytes s.receive_queue.received.begun ++ payload)) None))
+    ∙ (λ i. no_buffer_if msn (not (is_begun s.receive_queue.received.begun || nat_lt 0 s.receive_queue.free))
+    (bad_if (at i) REASON_LONG (length_is_lem (nat_lt s.message_max) last (begun_bytes s.receive_queue.received.begun) payload i)
+    (bad_if (at i) REASON_SHORT (length_is_lem (λ n. nat_lt n 16) last (begun_bytes s.receive_queue.received.begun) payload i) None))))
+
+-- the opcodes of a Send
+pub which_send : (opcode : ℕ) → is_send opcode ≡ true → (opcode ≡ OPCODE_SEND) ⊎ (opcode ≡ OPCODE_SEND_INVALIDATE)
+which_send opcode is = by (eqb opcode OPCODE_SEND) refl is
+  where
+    by : (b : Bool) → eqb opcode OPCODE_SEND ≡ b → (b || eqb opcode OPCODE_SEND_INVALIDATE) ≡ true → (opcode ≡ OPCODE_SEND) ⊎ (opcode ≡ OPCODE_SEND_INVALIDATE)
+    by true e h = inl (eqb-true opcode OPCODE_SEND e)
+    by false e h = inr (eqb-true opcode OPCODE_SEND_INVALIDATE h)
+
+pub any_send_end_lem : (s : LinkState) (f : Frame) (last : Bool) (opcode w queue msn offset : ℕ) (payload : List ℕ) → is_send opcode ≡ true → f.at ≡ s.place → message_end s queue msn offset ≡ None →
+    send_end s last msn payload ≡ segment_end s f (Untagged last opcode w queue msn offset payload)
+any_send_end_lem s f last opcode w queue msn offset payload is at none = by (which_send opcode is)
+  where
+    by : (opcode ≡ OPCODE_SEND) ⊎ (opcode ≡ OPCODE_SEND_INVALIDATE) → send_end s last msn payload ≡ segment_end s f (Untagged last opcode w queue msn offset payload)
+    by (inl same) = send_end_lem s f last w queue msn offset payload at none ∙ ap (λ (o : ℕ). segment_end s f (Untagged last o w queue msn offset payload)) (sym same)
+    by (inr same) = invalidate_end_lem s f last w queue msn offset payload at none ∙ ap (λ (o : ℕ). segment_end s f (Untagged last o w queue msn offset payload)) (sym same)
 
 -- ---- A Read Request
 
@@ -159,5 +188,14 @@ message_ends_lem s f last opcode w queue msn offset payload None at h is = absur
 message_ends_lem s f last opcode w queue msn offset payload (Some end) at h is = message_first s f last opcode w queue msn offset payload end at (sym is)
 
 -- a supported opcode that is neither of the two others is that of a Terminate
-pub is_terminate : (opcode : ℕ) → IsTrue (is_untagged_opcode opcode) → opcode ≢ OPCODE_SEND → opcode ≢ OPCODE_READ_REQUEST → opcode ≡ OPCODE_TERMINATE
-is_terminate opcode h a b = grind (arith, h, a, b)
+terminates : (opcode : ℕ) → IsTrue (is_untagged_opcode opcode) → opcode ≢ OPCODE_SEND → opcode ≢ OPCODE_SEND_INVALIDATE → opcode ≢ OPCODE_READ_REQUEST → opcode ≡ OPCODE_TERMINATE
+terminates opcode h a i b = grind (arith, h, a, i, b)
+
+neither_lem : (a b : Bool) → (a || b) ≡ false → (a ≡ false) × (b ≡ false)
+neither_lem true b is = absurd cc
+neither_lem false b is = (refl, is)
+
+pub is_terminate : (opcode : ℕ) → IsTrue (is_untagged_opcode opcode) → is_send opcode ≡ false → opcode ≢ OPCODE_READ_REQUEST → opcode ≡ OPCODE_TERMINATE
+is_terminate opcode h none b =
+    let parts : (eqb opcode OPCODE_SEND ≡ false) × (eqb opcode OPCODE_SEND_INVALIDATE ≡ false) = neither_lem (eqb opcode OPCODE_SEND) (eqb opcode OPCODE_SEND_INVALIDATE) none in
+    terminates opcode h (eqb-false opcode OPCODE_SEND parts.0) (eqb-false opcode OPCODE_SEND_INVALIDATE parts.1) b

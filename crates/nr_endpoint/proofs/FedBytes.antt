@@ -5,7 +5,7 @@ use Rattle.std.proofs.lemmas.List.{length-take}
 use Rattle.nr_wire.specs.declared.stream.Awaited.{Awaited}
 use Rattle.nr_wire.specs.declared.stream.Awaited.TheVariants.{Hello as HelloFrom, Fpdu}
 use Rattle.nr_wire.specs.Hello.{Hello, hello_of}
-use Rattle.nr_wire.specs.Segment.{Segment, segment_of}
+use Rattle.nr_wire.specs.Segment.{Segment}
 use Rattle.nr_wire.specs.Feeding.{feeding_after, feeding_after_frames, feeding_in, feeding_after_step}
 use Rattle.nr_wire.specs.Stream.{is_whole, frame_len, split}
 use Rattle.nr_wire.proofs.Splits.{split_Splits}
@@ -20,7 +20,7 @@ use Rattle.nr_endpoint.specs.ReceiveQueue.DeliveredEvent.{MessageReceived}
 use Rattle.nr_wire.specs.declared.hello.Side.{Side}
 use Rattle.nr_regions.specs.declared.right.Right.{Right}
 use Rattle.nr_endpoint.specs.LinkState.{initial_link, LinkState, LinkSide, has_ended}
-use Rattle.nr_endpoint.specs.Judging.{with_frame, with_fpdu, with_peer_hello, with_segment_by, segment_end, next_frame}
+use Rattle.nr_endpoint.specs.Judging.{with_frame, with_fpdu, with_peer_hello, with_segment_by, segment_end, next_frame, next_segment}
 use Rattle.nr_endpoint.specs.Calls.{StandsOn, after_call, after_calls}
 use Rattle.nr_endpoint.specs.Calls.Call.{Feed, FeedOne, NextEvent, Post, Send, WriteRemote, ReadRemote, Drain, Register}
 
@@ -42,7 +42,7 @@ hello_place f (Err reason) s le = le
 
 frame_place : (s : LinkState) (a : Awaited) (bytes : List ℕ) → (with_frame s a bytes).place ≤ s.place + length bytes
 frame_place s (HelloFrom side) bytes = hello_place (next_frame s bytes) (hello_of side bytes) s (omega arith)
-frame_place s Fpdu bytes = fpdu_place (next_frame s bytes) (segment_of bytes) s (omega arith)
+frame_place s Fpdu bytes = fpdu_place (next_frame s bytes) (next_segment s bytes) s (omega arith)
 
 -- ---- Frames
 

@@ -1,6 +1,6 @@
 -- Why an FPDU ends a side, by the grants that its memory stands for.
 use Rattle.std.proofs.Common.{◌≡◌, ℕ, List, Option, Some, None, Result, Ok, Err, refl, ap, ◌∙◌}
-use Rattle.nr_wire.specs.Segment.{Segment, segment_of}
+use Rattle.nr_wire.specs.Segment.{Segment}
 use Rattle.nr_regions.specs.declared.denied.Denied.{Denied}
 use Rattle.nr_regions.specs.RegisteredMemory.{Access, denial}
 use Rattle.nr_regions.specs.Access.{Grant, grant_denial}
@@ -8,10 +8,10 @@ use Rattle.nr_regions.proofs.Contents.{same_denial}
 use Rattle.nr_link.specs.declared.end.End.{End}
 use Rattle.nr_link.specs.Frames.{Frame}
 use Rattle.nr_link.specs.SegmentFaults.{segment_reason}
-use Rattle.nr_link.specs.Ending.{access_of, end_of_fault, frame_end, frame_end_by, frame_segment}
+use Rattle.nr_link.specs.Ending.{access_of, end_of_fault, frame_end_by}
 use Rattle.nr_link.specs.Ending as link
 use Rattle.nr_endpoint.specs.LinkState.{LinkState}
-use Rattle.nr_endpoint.specs.Judging.{readiness, missing_access, segment_end, next_frame, with_fpdu, with_segment_by}
+use Rattle.nr_endpoint.specs.Judging.{readiness, missing_access, segment_end, next_frame, with_fpdu, with_segment_by, next_segment}
 use Rattle.nr_endpoint.specs.Laws.{DeniesAlike, GrantsEndAlike, OffersDenyAlike}
 use Rattle.nr_endpoint.proofs.EndLaws.{effect_ended}
 
@@ -35,8 +35,7 @@ fpdu_ended s grants f (Ok segment) live alike =
 fpdu_ended s grants f (Err reason) live alike = refl
 
 pub grants_end_alike : GrantsEndAlike
-unfolding frame_end frame_segment
-grants_end_alike s grants frame live alike = fpdu_ended s grants (next_frame s frame) (segment_of frame) live alike
+grants_end_alike s grants frame live alike = fpdu_ended s grants (next_frame s frame) (next_segment s frame) live alike
 
 pub offers_deny_alike : OffersDenyAlike
 offers_deny_alike m grants end same access = same_denial grants m access end (same access.stag)

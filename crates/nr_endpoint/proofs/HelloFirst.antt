@@ -4,15 +4,14 @@ use Rattle.nr_wire.specs.declared.hello.Side.{Side}
 use Rattle.nr_wire.specs.declared.stream.Awaited.{Awaited}
 use Rattle.nr_wire.specs.declared.stream.Awaited.TheVariants.{Hello as HelloFrom, Fpdu}
 use Rattle.nr_wire.specs.Hello.{Hello, hello_of}
-use Rattle.nr_wire.specs.Segment.{segment_of}
 use Rattle.nr_link.specs.declared.end.End.{End}
 use Rattle.nr_link.specs.declared.end.End.TheVariants as ends
 use Rattle.nr_link.specs.Frames.{Frame}
 use Rattle.nr_link.specs.declared.agreement.SideTerms.{SideTerms}
 use Rattle.nr_endpoint.specs.LinkState.{LinkState, LinkSide, has_ended, initial_link}
-use Rattle.nr_endpoint.specs.Judging.{next_frame, with_frame, with_fpdu, with_peer_hello}
+use Rattle.nr_endpoint.specs.Judging.{next_frame, with_frame, with_fpdu, with_peer_hello, next_segment}
 use Rattle.nr_endpoint.specs.Calls.{Call, after_call, after_calls}
-use Rattle.nr_endpoint.specs.Calls.Call.{Feed, FeedOne, NextEvent, Post, Stop, OutOfMemory, Send, WriteRemote, ReadRemote, Drain, Register, Release}
+use Rattle.nr_endpoint.specs.Calls.Call.{Feed, FeedOne, NextEvent, Post, Stop, OutOfMemory, Send, WriteRemote, ReadRemote, Drain, Register, Release, SendInvalidate, Invalidate}
 use Rattle.nr_endpoint.specs.OutputLaws.{AllowedCallsJoin, FpdusFollowHello}
 use Rattle.nr_endpoint.proofs.AlongFrames.{feed_keeps, feed_one_keeps}
 use Rattle.nr_endpoint.proofs.HelloLaws.{SameSide, fpdu_side}
@@ -33,7 +32,7 @@ hello_greeted s f (Err reason) = λ live is. absurd (let h : true ≡ false = li
 frame_greeted : (a : Awaited) (s : LinkState) (frame : List ℕ) → has_ended s ≡ false → Greeted a s → Greeted Fpdu (with_frame s a frame)
 frame_greeted (HelloFrom side) s frame live greeted = hello_greeted s (next_frame s frame) (hello_of side frame)
 frame_greeted Fpdu s frame live greeted =
-    let same : SameSide s (with_fpdu (next_frame s frame) (segment_of frame) s) = fpdu_side s (next_frame s frame) (segment_of frame) in
+    let same : SameSide s (with_fpdu (next_frame s frame) (next_segment s frame) s) = fpdu_side s (next_frame s frame) (next_segment s frame) in
     λ lives is. same.1 ∙ greeted live refl
 
 -- after a frame that was judged
@@ -60,11 +59,13 @@ call_greeted link (Stop reason) greeted =
 call_greeted link OutOfMemory greeted =
     either_greeted link.awaited link.state _ (has_ended link.state) greeted (λ live is. absurd (let h : true ≡ false = live in cc))
 call_greeted link (Send message) greeted = either_greeted link.awaited link.state _ (has_ended link.state) greeted greeted
+call_greeted link (SendInvalidate stag message) greeted = either_greeted link.awaited link.state _ (has_ended link.state) greeted greeted
 call_greeted link (WriteRemote stag to bytes) greeted = either_greeted link.awaited link.state _ (has_ended link.state) greeted greeted
 call_greeted link (ReadRemote sink at stag to len) greeted = either_greeted link.awaited link.state _ (has_ended link.state) greeted greeted
 call_greeted link (Drain count) greeted = greeted
 call_greeted link (Register buf right) greeted = greeted
 call_greeted link (Release stag) greeted = greeted
+call_greeted link (Invalidate stag) greeted = greeted
 
 calls_greeted : (link : LinkSide) (calls : List Call) → Greeted link.awaited link.state → Greeted (after_calls link calls).awaited (after_calls link calls).state
 unfolding after_calls

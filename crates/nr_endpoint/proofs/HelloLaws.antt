@@ -8,7 +8,7 @@ use Rattle.nr_wire.specs.declared.hello.Side.TheVariants.{Initiator, Responder}
 use Rattle.nr_wire.specs.declared.stream.Awaited.{Awaited}
 use Rattle.nr_wire.specs.declared.stream.Awaited.TheVariants.{Hello as HelloFrom, Fpdu}
 use Rattle.nr_wire.specs.Hello.{Hello, hello_of}
-use Rattle.nr_wire.specs.Segment.{Segment, segment_of}
+use Rattle.nr_wire.specs.Segment.{Segment}
 use Rattle.nr_wire.specs.Segment.Segment.{Tagged, Untagged}
 use Rattle.nr_regions.specs.RegisteredMemory.{after_place}
 use Rattle.nr_link.specs.declared.agreement.SideTerms.{SideTerms}
@@ -19,9 +19,9 @@ use Rattle.nr_link.specs.Output.{refusing_hello}
 use Rattle.nr_endpoint.specs.SendQueue.{with_end, written, writable}
 use Rattle.nr_link.specs.Ending.{rejection}
 use Rattle.nr_endpoint.specs.LinkState.{LinkState, LinkSide, has_ended, initial_link}
-use Rattle.nr_endpoint.specs.Judging.{segment_end, next_frame, with_frame, with_segment_by, with_fpdu, with_peer_hello, with_effect, with_read_response}
+use Rattle.nr_endpoint.specs.Judging.{segment_end, next_frame, with_frame, with_segment_by, with_fpdu, with_peer_hello, with_effect, with_read_response, next_segment}
 use Rattle.nr_endpoint.specs.Calls.{Call, after_call, after_calls}
-use Rattle.nr_endpoint.specs.Calls.Call.{Feed, FeedOne, NextEvent, Post, Stop, OutOfMemory, Send, WriteRemote, ReadRemote, Drain, Register, Release}
+use Rattle.nr_endpoint.specs.Calls.Call.{Feed, FeedOne, NextEvent, Post, Stop, OutOfMemory, Send, WriteRemote, ReadRemote, Drain, Register, Release, SendInvalidate, Invalidate}
 use Rattle.nr_endpoint.specs.Laws.{MayBeCalled, MayAllBeCalled, bytes_drained, bytes_written, IsHelloAlone, NoFpduBeforeHello}
 use Rattle.nr_endpoint.proofs.AlongFrames.{feed_keeps, feed_one_keeps}
 
@@ -91,7 +91,7 @@ fpdu_side s f (Err reason) = (refl, refl)
 frame_early : (side : Side) (terms : SideTerms) (out : List ℕ) (a : Awaited) (s : LinkState) (frame : List ℕ) → has_ended s ≡ false → Early side terms out a s → Early side terms out Fpdu (with_frame s a frame)
 frame_early side terms out (HelloFrom other) s frame live early = hello_early side terms out (HelloFrom other) s (next_frame s frame) (hello_of other frame) live early
 frame_early side terms out Fpdu s frame live early =
-    let same : SameSide s (with_fpdu (next_frame s frame) (segment_of frame) s) = fpdu_side s (next_frame s frame) (segment_of frame) in
+    let same : SameSide s (with_fpdu (next_frame s frame) (next_segment s frame) s) = fpdu_side s (next_frame s frame) (next_segment s frame) in
     (same.0 ∙ early.0, λ none. absurd (let h : false ≡ true = (early.1 (sym same.1 ∙ none)).awaited live in cc))
 
 -- ---- A call
@@ -161,11 +161,13 @@ call_early side terms out link OutOfMemory may early = no_more_lem side terms ou
   },
 ))
 call_early side terms out link (Send message) may early = no_more_lem side terms out link.awaited _ (unless_early side terms out link.awaited link.state _ (has_ended link.state) refl refl refl refl refl early)
+call_early side terms out link (SendInvalidate stag message) may early = no_more_lem side terms out link.awaited _ (unless_early side terms out link.awaited link.state _ (has_ended link.state) refl refl refl refl refl early)
 call_early side terms out link (WriteRemote stag to bytes) may early = no_more_lem side terms out link.awaited _ (unless_early side terms out link.awaited link.state _ (has_ended link.state) refl refl refl refl refl early)
 call_early side terms out link (ReadRemote sink at stag to len) may early = no_more_lem side terms out link.awaited _ (unless_early side terms out link.awaited link.state _ (has_ended link.state) refl refl refl refl refl early)
 call_early side terms out link (Drain count) may early = drained_early side terms out link.awaited link.state count early
 call_early side terms out link (Register buf right) may early = no_more_lem side terms out link.awaited _ (early.0, λ none. let e = early.1 none in record { start = e.start; awaited = e.awaited; alone = e.alone })
 call_early side terms out link (Release stag) may early = no_more_lem side terms out link.awaited _ (early.0, λ none. let e = early.1 none in record { start = e.start; awaited = e.awaited; alone = e.alone })
+call_early side terms out link (Invalidate stag) may early = no_more_lem side terms out link.awaited _ (early.0, λ none. let e = early.1 none in record { start = e.start; awaited = e.awaited; alone = e.alone })
 
 calls_early : (side : Side) (terms : SideTerms) (out : List ℕ) (link : LinkSide) (calls : List Call) → MayAllBeCalled link calls → Early side terms out link.awaited link.state →
     Early side terms (out ++ bytes_written link calls) (after_calls link calls).awaited (after_calls link calls).state

@@ -10,10 +10,10 @@ use Rattle.nr_wire.specs.declared.hello.Side.{Side}
 use Rattle.nr_wire.specs.declared.stream.Awaited.{Awaited}
 use Rattle.nr_wire.specs.declared.stream.Awaited.TheVariants.{Hello as HelloFrom, Fpdu}
 use Rattle.nr_wire.specs.Hello.{Hello, hello_of}
-use Rattle.nr_wire.specs.Segment.{Segment, segment_of}
+use Rattle.nr_wire.specs.Segment.{Segment}
 use Rattle.nr_wire.specs.Segment.Segment.{Tagged, Untagged}
 use Rattle.nr_regions.specs.declared.right.Right.{Right}
-use Rattle.nr_regions.specs.RegisteredMemory.{Region, RegisteredMemory, after_place, after_place_in, after_register, after_release, bytes_after_write, bytes_at, held_region, initial_memory, live_region}
+use Rattle.nr_regions.specs.RegisteredMemory.{Region, RegisteredMemory, after_invalidate, after_invalidate_by, after_place, after_place_in, after_register, after_release, bytes_after_write, bytes_at, held_region, initial_memory, is_dead, live_region}
 use Rattle.nr_regions.proofs.Holding.{get_insert_other, get_remove_other}
 use Rattle.nr_link.specs.declared.end.End.{End}
 use Rattle.nr_link.specs.Frames.{Frame}
@@ -22,16 +22,16 @@ use Rattle.nr_link.specs.Limits.{open_reads_max}
 use Rattle.nr_link.specs.Output.{read_request, read_response, write}
 use Rattle.nr_link.specs.ReceiveState.{ReadRequest, read_request_of}
 use Rattle.nr_link.specs.declared.agreement.SideTerms.{SideTerms}
-use Rattle.nr_endpoint.specs.SendQueue.{SendQueue, ends_left, next_number, send_output, with_send, with_write, with_request, with_end, written}
+use Rattle.nr_endpoint.specs.SendQueue.{SendQueue, ends_left, next_number, send_output, with_send_by, with_write, with_request, with_end, written}
 use Rattle.nr_endpoint.specs.ReceiveQueue.{receives_kept}
 use Rattle.nr_endpoint.specs.LinkState.{LinkState, LinkSide, has_ended, initial_link}
-use Rattle.nr_endpoint.specs.Judging.{segment_end, next_frame, with_frame, with_segment_by, with_fpdu, with_peer_hello, with_effect, with_read_request, with_read_response, fetch_access}
+use Rattle.nr_endpoint.specs.Judging.{segment_end, next_frame, with_frame, with_segment_by, with_fpdu, with_peer_hello, with_effect, with_read_request, with_read_response, fetch_access, next_segment}
 use Rattle.nr_endpoint.specs.Calls.{Call, after_call, after_calls}
-use Rattle.nr_endpoint.specs.Calls.Call.{Feed, FeedOne, NextEvent, Post, Stop, OutOfMemory, Send, WriteRemote, ReadRemote, Drain, Register, Release}
+use Rattle.nr_endpoint.specs.Calls.Call.{Feed, FeedOne, NextEvent, Post, Stop, OutOfMemory, Send, WriteRemote, ReadRemote, Drain, Register, Release, SendInvalidate, Invalidate}
 use Rattle.nr_endpoint.specs.KeptLists.{ListsFit, WaitingSendsHaveBytes, registered, released, count_calls, IsHeldRelease, AreHeldReleases, HeldRegionsAreRegistered}
 use Rattle.nr_endpoint.proofs.AlongFrames.{feed_keeps, feed_one_keeps}
 use Rattle.nr_endpoint.proofs.ItemEnds.{left_gone, left_twice}
-use Rattle.nr_endpoint.proofs.Queued.{send_some}
+use Rattle.nr_endpoint.proofs.Queued.{send_by_some}
 use Rattle.nr_endpoint.proofs.SendQueues.{ends_left_append, ends_left_fewer}
 
 pub lists_fit : (s : LinkState) → receives_kept s.receive_queue + s.receive_queue.lent ≡ s.receive_queue.receives → length s.receive_queue.deliveries ≤ s.place → length s.reads ≤ open_reads_max → ListsFit s
@@ -58,10 +58,10 @@ one_more k end n ends lt fit =
       | inr after ↦ omega (arith, both, fit, lt, after, ap (λ (xs : List ℕ). length xs) (left_gone k end [] after))
     ]
 
-sent : (message : List ℕ) (q : SendQueue) → SendsFit q → SendsFit (with_send message q)
-sent message q fit =
-    let fpdus : List ℕ = q.fpdus ++ send_output q message in
-    let longer : length q.fpdus < length fpdus = omega (arith, length-append q.fpdus (send_output q message), send_some (next_number q.last_send) message) in (
+sent : (named : Option ℕ) (message : List ℕ) (q : SendQueue) → SendsFit q → SendsFit (with_send_by named message q)
+sent named message q fit =
+    let fpdus : List ℕ = q.fpdus ++ send_output q named message in
+    let longer : length q.fpdus < length fpdus = omega (arith, length-append q.fpdus (send_output q named message), send_by_some named (next_number q.last_send) message) in (
       omega (arith, fit.0, longer, length-append q.send_ends (length fpdus ∷ [])),
       λ k. one_more k (length fpdus) (length q.fpdus) q.send_ends longer (fit.1 k),
     )
@@ -100,9 +100,22 @@ placed_in (Some region) n m stag to payload there counts =
       len-insert nat_cmp_total m.held stag after ∙ ap (λ (o : Option Region). cond (is_some o) (len m.held) (len m.held + 1)) there ∙ counts.1,
     )
 
+placed_by : (b : Bool) (n : ℕ) (m : RegisteredMemory) (stag to : ℕ) (payload : List ℕ) → Counts n m → Counts n (after_place_in (cond b None (get m.held stag)) m stag to payload)
+placed_by true n m stag to payload counts = counts
+placed_by false n m stag to payload counts = placed_in (get m.held stag) n m stag to payload refl counts
+
 placed : (n : ℕ) (m : RegisteredMemory) (stag to : ℕ) (payload : List ℕ) → Counts n m → Counts n (after_place m stag to payload)
 unfolding after_place live_region held_region
-placed n m stag to payload counts = placed_in (get m.held stag) n m stag to payload refl counts
+placed n m stag to payload counts = placed_by (is_dead m stag) n m stag to payload counts
+
+died_counts : (o : Option Region) (n : ℕ) (m : RegisteredMemory) (stag : ℕ) → Counts n m → Counts n (after_invalidate_by o m stag)
+died_counts None n m stag counts = counts
+died_counts (Some region) n m stag counts = counts
+
+-- a region that dies is held
+invalidate_counts : (n : ℕ) (m : RegisteredMemory) (stag : ℕ) → Counts n m → Counts n (after_invalidate m stag)
+unfolding after_invalidate
+invalidate_counts n m stag counts = died_counts (live_region m stag) n m stag counts
 
 register_counts : (n : ℕ) (m : RegisteredMemory) (right : Right) (buf : List ℕ) → Counts n m → Counts (n + 1) (after_register m right buf)
 unfolding after_register
@@ -145,7 +158,7 @@ hello_keeps s f (Err reason) = record { sends = λ fit. ended s _ fit; regions =
 
 frame_keeps : (s : LinkState) (a : Awaited) (frame : List ℕ) → Keeps s (with_frame s a frame)
 frame_keeps s (HelloFrom side) frame = hello_keeps s (next_frame s frame) (hello_of side frame)
-frame_keeps s Fpdu frame = fpdu_keeps s (next_frame s frame) (segment_of frame)
+frame_keeps s Fpdu frame = fpdu_keeps s (next_frame s frame) (next_segment s frame)
 
 -- ---- Calls
 
@@ -161,7 +174,8 @@ call_sends link NextEvent fit = fit
 call_sends link Post fit = fit
 call_sends link (Stop reason) fit = either (λ s. SendsFit s.send_queue) link.state _ (has_ended link.state) fit (ended link.state _ fit)
 call_sends link OutOfMemory fit = either (λ s. SendsFit s.send_queue) link.state _ (has_ended link.state) fit fit
-call_sends link (Send message) fit = either (λ s. SendsFit s.send_queue) link.state _ (has_ended link.state) fit (sent message link.state.send_queue fit)
+call_sends link (Send message) fit = either (λ s. SendsFit s.send_queue) link.state _ (has_ended link.state) fit (sent None message link.state.send_queue fit)
+call_sends link (SendInvalidate stag message) fit = either (λ s. SendsFit s.send_queue) link.state _ (has_ended link.state) fit (sent (Some stag) message link.state.send_queue fit)
 call_sends link (WriteRemote stag to bytes) fit =
     either (λ s. SendsFit s.send_queue) link.state _ (has_ended link.state) fit
     (longer link.state.send_queue (with_write stag to bytes link.state.send_queue) refl (omega (arith, length-append link.state.send_queue.fpdus (write stag to bytes))) fit)
@@ -171,6 +185,7 @@ call_sends link (ReadRemote sink at stag to n) fit =
 call_sends link (Drain count) fit = drained count link.state.send_queue fit
 call_sends link (Register buf right) fit = fit
 call_sends link (Release stag) fit = fit
+call_sends link (Invalidate stag) fit = fit
 
 calls_send : (link : LinkSide) (calls : List Call) → SendsFit link.state.send_queue → SendsFit (after_calls link calls).state.send_queue
 unfolding after_calls
@@ -219,11 +234,13 @@ call_counts link Post n may counts = still link Post n counts refl refl
 call_counts link (Stop reason) n may counts = still link (Stop reason) n (either (λ s. Counts n s.memory) link.state _ (has_ended link.state) counts counts) refl refl
 call_counts link OutOfMemory n may counts = still link OutOfMemory n (either (λ s. Counts n s.memory) link.state _ (has_ended link.state) counts counts) refl refl
 call_counts link (Send message) n may counts = still link (Send message) n (either (λ s. Counts n s.memory) link.state _ (has_ended link.state) counts counts) refl refl
+call_counts link (SendInvalidate stag message) n may counts = still link (SendInvalidate stag message) n (either (λ s. Counts n s.memory) link.state _ (has_ended link.state) counts counts) refl refl
 call_counts link (WriteRemote stag to bytes) n may counts = still link (WriteRemote stag to bytes) n (either (λ s. Counts n s.memory) link.state _ (has_ended link.state) counts counts) refl refl
 call_counts link (ReadRemote sink at stag to k) n may counts = still link (ReadRemote sink at stag to k) n (either (λ s. Counts n s.memory) link.state _ (has_ended link.state) counts counts) refl refl
 call_counts link (Drain count) n may counts = still link (Drain count) n counts refl refl
 call_counts link (Register buf right) n may counts = (n + 1, register_counts n link.state.memory right buf counts, omega arith)
 call_counts link (Release stag) n may counts = (let less = release_counts n link.state.memory stag may counts in (less.0, less.1, omega (arith, less.2)))
+call_counts link (Invalidate stag) n may counts = still link (Invalidate stag) n (invalidate_counts n link.state.memory stag counts) refl refl
 
 calls_count : (link : LinkSide) (calls : List Call) (n : ℕ) → AreHeldReleases link calls → Counts n link.state.memory →
     len (after_calls link calls).state.memory.held + count_calls released calls ≡ n + count_calls registered calls

@@ -6,7 +6,7 @@ use Rattle.nr_endpoint.specs.SendQueue.{with_end, SendQueue}
 use Rattle.nr_endpoint.specs.LinkState.{LinkState, LinkSide, has_ended}
 use Rattle.nr_endpoint.specs.Judging.{with_frame}
 use Rattle.nr_endpoint.specs.Calls.{Call, after_call, after_calls}
-use Rattle.nr_endpoint.specs.Calls.Call.{Feed, FeedOne, NextEvent, Post, Stop, OutOfMemory, Send, WriteRemote, ReadRemote, Drain, Register, Release}
+use Rattle.nr_endpoint.specs.Calls.Call.{Feed, FeedOne, NextEvent, Post, Stop, OutOfMemory, Send, WriteRemote, ReadRemote, Drain, Register, Release, SendInvalidate, Invalidate}
 use Rattle.nr_endpoint.proofs.Standing.{live_state}
 use Rattle.nr_link.specs.declared.end.End.TheVariants as ends
 use Rattle.nr_endpoint.specs.Laws.{queue_drained, queue_drained_by, EndedQueuesNothing, StopQueuesLast, OutOfMemoryQueuesNothing, EndIsKept}
@@ -33,11 +33,13 @@ call_drained link Post gone = (gone, refl)
 call_drained link (Stop reason) gone = unless_unchanged link.state _ gone
 call_drained link OutOfMemory gone = unless_unchanged link.state _ gone
 call_drained link (Send message) gone = unless_unchanged link.state _ gone
+call_drained link (SendInvalidate stag message) gone = unless_unchanged link.state _ gone
 call_drained link (WriteRemote stag to bytes) gone = unless_unchanged link.state _ gone
 call_drained link (ReadRemote sink at stag to len) gone = unless_unchanged link.state _ gone
 call_drained link (Drain count) gone = (gone, refl)
 call_drained link (Register buf right) gone = (gone, refl)
 call_drained link (Release stag) gone = (gone, refl)
+call_drained link (Invalidate stag) gone = (gone, refl)
 
 pub ended_queues_nothing : EndedQueuesNothing
 unfolding after_calls
@@ -70,11 +72,13 @@ ended_kept link Post gone = refl
 ended_kept link (Stop reason) gone = kept_by_lem link.state _ gone
 ended_kept link OutOfMemory gone = kept_by_lem link.state _ gone
 ended_kept link (Send message) gone = kept_by_lem link.state _ gone
+ended_kept link (SendInvalidate stag message) gone = kept_by_lem link.state _ gone
 ended_kept link (WriteRemote stag to bytes) gone = kept_by_lem link.state _ gone
 ended_kept link (ReadRemote sink at stag to len) gone = kept_by_lem link.state _ gone
 ended_kept link (Drain count) gone = refl
 ended_kept link (Register buf right) gone = refl
 ended_kept link (Release stag) gone = refl
+ended_kept link (Invalidate stag) gone = refl
 
 pub end_is_kept : EndIsKept
 unfolding after_calls

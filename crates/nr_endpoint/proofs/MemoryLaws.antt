@@ -5,7 +5,7 @@ use Rattle.nr_wire.specs.declared.stream.Awaited.{Awaited}
 use Rattle.nr_wire.specs.declared.stream.Awaited.TheVariants.{Hello as HelloFrom, Fpdu}
 use Rattle.nr_wire.specs.Constants.{OPCODE_READ_RESPONSE}
 use Rattle.nr_wire.specs.Hello.{Hello, hello_of}
-use Rattle.nr_wire.specs.Segment.{Segment, segment_of}
+use Rattle.nr_wire.specs.Segment.{Segment}
 use Rattle.nr_wire.specs.Segment.Segment.{Tagged, Untagged}
 use Rattle.nr_wire.specs.Stream.{is_whole, frame_len, Split, split}
 use Rattle.nr_wire.specs.Feeding.{feeding_after, feeding_after_step, feeding_after_frames}
@@ -17,17 +17,17 @@ use Rattle.nr_regions.specs.RegisteredMemory.{RegisteredMemory, denial, right_fo
 use Rattle.nr_regions.specs.Access.{Grant, TaggedSegment, access_of_tagged, contents}
 use Rattle.nr_regions.specs.Events.{MemoryEvent, after_arrival, after_event, after_events, tagged_segments, IsRegisteredAt, IsReleasedAt}
 use Rattle.nr_regions.specs.Events.MemoryEvent.{Register as RegisterRegion, Release as ReleaseRegion, Arrive}
-use Rattle.nr_regions.proofs.Holding.{live_held, release_here}
+use Rattle.nr_regions.proofs.Holding.{live_release_here}
 use Rattle.nr_regions.proofs.Contents.{contents_are, stays_closed}
 use Rattle.nr_regions.proofs.Streams.{contents_of_stream}
 use Rattle.nr_link.specs.declared.end.End.{End}
 use Rattle.nr_link.specs.Frames.{Frame}
 use Rattle.nr_link.specs.Ending.{kind_of}
 use Rattle.nr_endpoint.specs.LinkState.{LinkState, LinkSide, has_ended}
-use Rattle.nr_endpoint.specs.Judging.{segment_end, next_frame, with_frame, with_segment_by, with_fpdu, with_peer_hello, with_effect, with_read_response}
+use Rattle.nr_endpoint.specs.Judging.{segment_end, next_frame, with_frame, with_segment_by, with_fpdu, with_peer_hello, with_effect, with_read_response, next_segment}
 use Rattle.nr_endpoint.specs.SegmentEnds.{denied_if, tagged_end}
 use Rattle.nr_endpoint.specs.Calls.{Call, after_call, after_calls}
-use Rattle.nr_endpoint.specs.Calls.Call.{Feed, FeedOne, NextEvent, Post, Stop, OutOfMemory, Send, WriteRemote, ReadRemote, Drain, Register, Release}
+use Rattle.nr_endpoint.specs.Calls.Call.{Feed, FeedOne, NextEvent, Post, Stop, OutOfMemory, Send, WriteRemote, ReadRemote, Drain, Register, Release, SendInvalidate, Invalidate}
 use Rattle.nr_endpoint.specs.Laws.{segment_arrivals, fpdu_arrivals, frame_arrivals, arrivals, frames_made_whole, call_events, memory_events, NoneIsDenied, MemoryFollowsEvents, PlacesAreAllowed, OpenRegionHolds, ReleasedBufferHolds, ReleasedStaysClosed}
 use Rattle.nr_endpoint.proofs.Alive.{alive_tagged}
 
@@ -97,7 +97,7 @@ hello_memory s f (Err reason) = refl
 
 frame_memory : (s : LinkState) (a : Awaited) (frame : List ℕ) → Follows s.memory (frame_arrivals s a frame) (with_frame s a frame).memory
 frame_memory s (HelloFrom side) frame = (hello_memory s (next_frame s frame) (hello_of side frame), tt)
-frame_memory s Fpdu frame = fpdu_memory s (next_frame s frame) (segment_of frame) refl
+frame_memory s Fpdu frame = fpdu_memory s (next_frame s frame) (next_segment s frame) refl
 
 -- ---- Frames
 
@@ -164,11 +164,13 @@ call_memory link Post = (refl, tt)
 call_memory link (Stop reason) = (unless_memory link.state _ (has_ended link.state) refl, tt)
 call_memory link OutOfMemory = (unless_memory link.state _ (has_ended link.state) refl, tt)
 call_memory link (Send message) = (unless_memory link.state _ (has_ended link.state) refl, tt)
+call_memory link (SendInvalidate stag message) = (unless_memory link.state _ (has_ended link.state) refl, tt)
 call_memory link (WriteRemote stag to bytes) = (unless_memory link.state _ (has_ended link.state) refl, tt)
 call_memory link (ReadRemote sink at stag to len) = (unless_memory link.state _ (has_ended link.state) refl, tt)
 call_memory link (Drain count) = (refl, tt)
 call_memory link (Register buf right) = (refl, (tt, tt))
 call_memory link (Release stag) = (refl, (tt, tt))
+call_memory link (Invalidate stag) = (refl, (tt, tt))
 
 calls_memory : (link : LinkSide) (calls : List Call) → Follows link.state.memory (memory_events link calls) (after_calls link calls).state.memory
 unfolding after_calls
@@ -200,8 +202,7 @@ events_append link (call ∷ xs) ys =
 pub open_region_holds : OpenRegionHolds
 open_region_holds grants link calls stag right buf given there stays =
     ap (λ (m : RegisteredMemory). live_region m stag) (memory_follows_events link calls)
-    ∙ live_held (after_events link.state.memory (memory_events link calls)) stag
-    ∙ contents_are grants stag right (length buf) (memory_events link calls) link.state.memory buf refl given (sym (live_held link.state.memory stag) ∙ there) stays
+    ∙ contents_are grants stag right (length buf) (memory_events link calls) link.state.memory buf refl given there stays
 
 -- the law of the complete stream, at a memory that is equal to the one after the events before
 whole_stream_lem : (grants : List Grant) (m : RegisteredMemory) (from until : ℕ) (right : Right) (buf : List ℕ) (before between after : List MemoryEvent) (now : RegisteredMemory) → after_events m before ≡ now →
@@ -248,5 +249,4 @@ released_stays_dead link stag calls given =
     let m : RegisteredMemory = after_release link.state.memory stag in
     let events : List MemoryEvent = memory_events (after_call link (Release stag)) calls in
     ap (λ (k : RegisteredMemory). live_region k stag) (memory_follows_events (after_call link (Release stag)) calls ∙ ap (λ (k : RegisteredMemory). after_events k events) (released_memory link stag))
-    ∙ live_held (after_events m events) stag
-    ∙ stays_closed events m stag (subst (λ (n : ℕ). stag < n) (sym (released_next link.state.memory stag)) given) (release_here link.state.memory stag)
+    ∙ stays_closed events m stag (subst (λ (n : ℕ). stag < n) (sym (released_next link.state.memory stag)) given) (live_release_here link.state.memory stag)

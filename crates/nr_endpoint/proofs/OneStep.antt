@@ -8,7 +8,7 @@ use Rattle.std.proofs.Math.Seq.{drop-append-add}
 use Rattle.nr_wire.specs.declared.stream.Awaited.{Awaited}
 use Rattle.nr_wire.specs.declared.stream.Awaited.TheVariants.{Hello as HelloFrom, Fpdu}
 use Rattle.nr_wire.specs.Hello.{Hello, hello_of}
-use Rattle.nr_wire.specs.Segment.{Segment, segment_of}
+use Rattle.nr_wire.specs.Segment.{Segment}
 use Rattle.nr_wire.specs.Segment.Segment.{Tagged, Untagged}
 use Rattle.nr_wire.specs.Constants.{OPCODE_READ_RESPONSE, FPDU_MAX}
 use Rattle.nr_wire.specs.Feeding.{bytes_taken, feeding_in, feeding_after_frames, feeding_after}
@@ -25,7 +25,7 @@ use Rattle.nr_link.specs.Ending.{access_of, denied_at, end_of_fault}
 use Rattle.nr_regions.specs.RegisteredMemory.{Access}
 use Rattle.nr_endpoint.specs.LinkState.{LinkState, LinkSide, has_ended}
 use Rattle.nr_endpoint.specs.SendQueue.{output_len}
-use Rattle.nr_endpoint.specs.Judging.{with_frame, with_fpdu, with_peer_hello, with_segment_by, with_effect, segment_end, next_frame}
+use Rattle.nr_endpoint.specs.Judging.{with_frame, with_fpdu, with_peer_hello, with_segment_by, with_effect, segment_end, next_frame, next_segment}
 use Rattle.nr_endpoint.specs.Calls.{after_call, IsStep, QueuesOutput, makes_whole}
 use Rattle.nr_endpoint.specs.Calls.Call.{Feed, FeedOne, OutOfMemory}
 use Rattle.std.specs.Ordering.{nat_cmp}
@@ -232,7 +232,7 @@ hello_not_memory f (Err reason) s none is = absurd cc
 
 pub frame_not_memory : (s : LinkState) (a : Awaited) (bytes : List ℕ) → s.ended ≡ None → (with_frame s a bytes).ended ≢ Some ends.Memory
 frame_not_memory s (HelloFrom side) bytes none = hello_not_memory (next_frame s bytes) (hello_of side bytes) s none
-frame_not_memory s Fpdu bytes none = fpdu_not_memory (next_frame s bytes) (segment_of bytes) s none
+frame_not_memory s Fpdu bytes none = fpdu_not_memory (next_frame s bytes) (next_segment s bytes) s none
 
 -- ---- One frame at a time
 

@@ -1,14 +1,14 @@
 -- What a side has to write is its hello and the items that were queued, less the bytes that were written.
-use Rattle.std.proofs.Common.{◌≡◌, ℕ, ◌+◌, ◌-◌, ◌^◌, ◌<◌, ◌≤◌, Bool, true, false, cond, nat_lt, List, [], ◌∷◌, ◌++◌, length, take, drop, inl, inr, refl, sym, ap, subst, ◌∙◌, append_assoc, arith, length-append}
+use Rattle.std.proofs.Common.{◌≡◌, ℕ, ◌+◌, ◌-◌, ◌^◌, ◌<◌, ◌≤◌, Bool, true, false, cond, nat_lt, List, [], ◌∷◌, ◌++◌, length, take, drop, Some, inl, inr, refl, sym, ap, subst, ◌∙◌, append_assoc, arith, length-append}
 use Rattle.std.specs.Prelude.{◌⊎◌, min}
 use Rattle.std.proofs.lemmas.List.{append-nil, take-append-drop, take-append-le, take_all, drop_all, drop-drop, take_at, drop_at, length-take, length-drop}
 use Rattle.std.proofs.lemmas.Bool.{cases_lt, lt-ltb, le-ltb}
 use Rattle.std.proofs.Math.Seq.{take-add}
 use Rattle.nr_link.specs.OutputItem.{OutputItem, item_encoding, items_encoding, is_send_item, is_response_item, item_ends, items_written, items_left}
-use Rattle.nr_link.specs.OutputItem.OutputItem.{SendItem, WriteItem, ReadRequestItem, ReadResponseItem, LastItem}
+use Rattle.nr_link.specs.OutputItem.OutputItem.{SendItem, SendInvalidateItem, WriteItem, ReadRequestItem, ReadResponseItem, LastItem}
 use Rattle.nr_endpoint.specs.SendQueue.{SendQueue, ends_left, ends_passed, written, writable}
 use Rattle.nr_endpoint.proofs.SendQueues.{ends_left_append, ends_passed_append}
-use Rattle.nr_endpoint.proofs.Queued.{send_some, response_some}
+use Rattle.nr_endpoint.proofs.Queued.{send_some, send_by_some, response_some}
 use Rattle.nr_endpoint.proofs.ItemEnds.{encoding_more, end_of_item, ends_more, left_twice, passed_twice, left_kept, EndsAlike, HasBytes, left_counts, written_counts}
 
 -- the maximum of the count of Sends
@@ -33,6 +33,7 @@ pub record QueueIs (all : List ℕ) (has_hello : Bool) (out : List ℕ) (items :
 
 pub sends_some : HasBytes is_send_item
 sends_some (SendItem number message) of_kind = send_some number message
+sends_some (SendInvalidateItem number stag message) of_kind = send_by_some (Some stag) number message
 sends_some (WriteItem stag to bytes) of_kind = absurd cc
 sends_some (ReadRequestItem number sink sink_to size stag to) of_kind = absurd cc
 sends_some (ReadResponseItem stag to bytes) of_kind = absurd cc
@@ -40,6 +41,7 @@ sends_some (LastItem end) of_kind = absurd cc
 
 pub responses_some : HasBytes is_response_item
 responses_some (SendItem number message) of_kind = absurd cc
+responses_some (SendInvalidateItem number stag message) of_kind = absurd cc
 responses_some (WriteItem stag to bytes) of_kind = absurd cc
 responses_some (ReadRequestItem number sink sink_to size stag to) of_kind = absurd cc
 responses_some (ReadResponseItem stag to bytes) of_kind = response_some stag to bytes

@@ -1,5 +1,5 @@
 -- How many bytes the output of a side has at most, by what is queued in it.
-use Rattle.std.proofs.Common.{◌≡◌, ℕ, zero, suc, ◌+◌, ◌-◌, ◌*◌, ◌<◌, ◌≤◌, Bool, true, false, cond, eqb, List, [], ◌∷◌, ◌++◌, length, drop, replicate, refl, ap, ◌∙◌, inl, inr, arith, length-append}
+use Rattle.std.proofs.Common.{◌≡◌, ℕ, zero, suc, ◌+◌, ◌-◌, ◌*◌, ◌<◌, ◌≤◌, Bool, true, false, cond, eqb, List, [], ◌∷◌, ◌++◌, length, drop, replicate, refl, ap, ◌∙◌, inl, inr, arith, length-append, Option, None, Some}
 use Rattle.std.specs.Prelude.{◌⊎◌}
 use Rattle.std.specs.List.{flat_map, range_with_len}
 use Rattle.std.proofs.lemmas.Bool.{cases_lt}
@@ -9,7 +9,7 @@ use Rattle.nr_xdr.proofs.WordBytes.{length_word, length_hyper}
 use Rattle.nr_wire.specs.Fields.{half_word}
 use Rattle.nr_wire.specs.Segment.{Segment, encoding, header, control, payload_in, tail_len, ulpdu_size}
 use Rattle.nr_wire.specs.Segment.Segment.{Tagged, Untagged}
-use Rattle.nr_wire.specs.Constants.{LENGTH_LEN, HELLO_LEN, NUMBERED_TERMS_LEN, UNITS_MAX, OPCODE_SEND, OPCODE_WRITE, OPCODE_READ_REQUEST, OPCODE_READ_RESPONSE, OPCODE_TERMINATE, QUEUE_SEND, QUEUE_READ_REQUEST, QUEUE_TERMINATE, REASON_FLAGS}
+use Rattle.nr_wire.specs.Constants.{LENGTH_LEN, HELLO_LEN, NUMBERED_TERMS_LEN, UNITS_MAX, OPCODE_SEND, OPCODE_WRITE, OPCODE_READ_REQUEST, OPCODE_READ_RESPONSE, OPCODE_TERMINATE, QUEUE_SEND, QUEUE_READ_REQUEST, QUEUE_TERMINATE, REASON_FLAGS, OPCODE_SEND_INVALIDATE}
 use Rattle.nr_wire.specs.Hello.{hello_encoding, key}
 use Rattle.nr_wire.specs.declared.hello.Side.{Side}
 use Rattle.nr_wire.specs.declared.hello.Side.TheVariants.{Initiator, Responder}
@@ -19,8 +19,8 @@ use Rattle.nr_link.specs.declared.end.End.TheVariants as ends
 use Rattle.nr_link.specs.Ending.{final_output, rejection, is_hello_reason}
 use Rattle.nr_link.specs.Reasons.{denied_word, NO_BUFFER_WORD}
 use Rattle.nr_link.specs.Limits.{segment_max, send_unit}
-use Rattle.nr_link.specs.Output.{msn_word, cut, hello_with, read_request, read_response, refusing_hello, segment_count, segment_payload, send, terminate_message, write}
-use Rattle.nr_endpoint.specs.SendQueue.{SendQueue, ends_left, fpdus_written, send_output, with_end, with_fpdus, with_response, with_send, written}
+use Rattle.nr_link.specs.Output.{msn_word, cut, hello_with, read_request, read_response, refusing_hello, segment_count, segment_payload, send, terminate_message, write, send_by, send_invalidating}
+use Rattle.nr_endpoint.specs.SendQueue.{SendQueue, ends_left, fpdus_written, send_output, with_end, with_fpdus, with_response, with_send, written, with_send_by}
 use Rattle.nr_endpoint.specs.OutputSizes.{framing_max, frame_max, send_frames_max, request_max, hello_max, QueueWithin}
 use Rattle.nr_endpoint.proofs.ItemEnds.{left_gone, left_kept, left_twice}
 
@@ -92,6 +92,13 @@ pub send_len : (msn : ℕ) (message : List ℕ) → length message ≤ send_unit
 unfolding send
 send_len msn message small =
     let len = cut_len (λ last offset payload. Untagged last OPCODE_SEND 0 QUEUE_SEND (msn_word msn) offset payload) message (λ last offset payload. refl) in
+    omega (arith, small, len)
+
+pub send_by_len : (named : Option ℕ) (msn : ℕ) (message : List ℕ) → length message ≤ send_unit * UNITS_MAX → length (send_by named msn message) ≤ send_frames_max
+unfolding send_invalidating
+send_by_len None msn message small = send_len msn message small
+send_by_len (Some stag) msn message small =
+    let len = cut_len (λ last offset payload. Untagged last OPCODE_SEND_INVALIDATE (cond last stag 0) QUEUE_SEND (msn_word msn) offset payload) message (λ last offset payload. refl) in
     omega (arith, small, len)
 
 pub write_len : (stag to : ℕ) (bytes : List ℕ) → length (write stag to bytes) ≤ frame_max * segment_count bytes
@@ -186,15 +193,19 @@ one_more : (each n y : ℕ) (ends : List ℕ) → n < y → each * length (ends_
 one_more each n y ends lt = ap (λ (k : ℕ). each * k) (count_more n y ends lt) ∙ omega arith
 
 -- a Send
-pub send_within : (for_send for_response others spare more left : ℕ) (q : SendQueue) (message : List ℕ) → length (send_output q message) + left + others ≤ for_send + spare + more → left ≤ more → QueueWithin for_send for_response others spare q →
-    QueueWithin for_send for_response more left (with_send message q)
-send_within for_send for_response others spare more left q message le fewer fits n =
-    let out : List ℕ = send_output q message in
+pub send_by_within : (for_send for_response others spare more left : ℕ) (q : SendQueue) (named : Option ℕ) (message : List ℕ) → length (send_output q named message) + left + others ≤ for_send + spare + more → left ≤ more → QueueWithin for_send for_response others spare q →
+    QueueWithin for_send for_response more left (with_send_by named message q)
+send_by_within for_send for_response others spare more left q named message le fewer fits n =
+    let out : List ℕ = send_output q named message in
     let all = length-append q.fpdus out in
     elim (cases_lt n (length (q.fpdus ++ out))) [
       | inl kept ↦ omega (arith, le, all, fits n, one_more for_send n (length (q.fpdus ++ out)) q.send_ends kept)
       | inr gone ↦ omega (arith, gone, fewer)
     ]
+
+pub send_within : (for_send for_response others spare more left : ℕ) (q : SendQueue) (message : List ℕ) → length (send_output q None message) + left + others ≤ for_send + spare + more → left ≤ more → QueueWithin for_send for_response others spare q →
+    QueueWithin for_send for_response more left (with_send message q)
+send_within for_send for_response others spare more left q message le fewer fits n = send_by_within for_send for_response others spare more left q None message le fewer fits n
 
 -- a Read Response
 pub response_within : (for_send for_response others spare more left : ℕ) (q : SendQueue) (stag to : ℕ) (bytes : List ℕ) → length (read_response stag to bytes) + left + others ≤ for_response + spare + more → left ≤ more →

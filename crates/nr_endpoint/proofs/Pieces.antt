@@ -6,7 +6,7 @@ use Rattle.std.proofs.Math.Seq.{take-add}
 use Rattle.nr_wire.specs.declared.stream.Awaited.{Awaited}
 use Rattle.nr_wire.specs.declared.stream.Awaited.TheVariants.{Hello as HelloFrom, Fpdu}
 use Rattle.nr_wire.specs.Hello.{Hello, hello_of}
-use Rattle.nr_wire.specs.Segment.{Segment, segment_of}
+use Rattle.nr_wire.specs.Segment.{Segment}
 use Rattle.nr_wire.specs.Segment.Segment.{Tagged, Untagged}
 use Rattle.nr_wire.specs.Constants.{OPCODE_READ_RESPONSE}
 use Rattle.nr_wire.specs.Feeding.{Feeding, bytes_taken, feeding_after, feeding_after_frames, feeding_in, feeding_after_step}
@@ -18,7 +18,7 @@ use Rattle.nr_link.specs.declared.end.End.{End}
 use Rattle.nr_link.specs.declared.end.End.TheVariants as ends
 use Rattle.nr_link.specs.Frames.{Frame}
 use Rattle.nr_endpoint.specs.LinkState.{LinkState, LinkSide, has_ended}
-use Rattle.nr_endpoint.specs.Judging.{with_frame, with_fpdu, with_peer_hello, with_segment_by, with_effect, segment_end, next_frame}
+use Rattle.nr_endpoint.specs.Judging.{with_frame, with_fpdu, with_peer_hello, with_segment_by, with_effect, segment_end, next_frame, next_segment}
 use Rattle.nr_endpoint.specs.EndpointState.{EndpointState, KeepsStaging, cut_frame_len}
 use Rattle.nr_endpoint.specs.Calls.{after_call, after_calls, StandsOnAll, IsStep, RanOutAt, QueuesOutput, makes_whole}
 use Rattle.nr_endpoint.specs.Calls.Call.{Feed, FeedOne, OutOfMemory}
@@ -192,7 +192,7 @@ hello_place f (Err reason) s none = absurd cc
 
 pub frame_place : (s : LinkState) (a : Awaited) (bytes : List ℕ) → (with_frame s a bytes).ended ≡ None → (with_frame s a bytes).place ≡ s.place + length bytes
 frame_place s (HelloFrom side) bytes none = hello_place (next_frame s bytes) (hello_of side bytes) s none
-frame_place s Fpdu bytes none = fpdu_place (next_frame s bytes) (segment_of bytes) s none
+frame_place s Fpdu bytes none = fpdu_place (next_frame s bytes) (next_segment s bytes) s none
 
 -- if something is left and the side goes on, the frame was complete: nothing is kept, and the offset is after it
 pub record IsBehindFrame (now after : LinkSide) (left : List ℕ) : Type 0 where

@@ -5,7 +5,7 @@ use Rattle.std.proofs.lemmas.List.Elements.{All-nil, All-cons}
 use Rattle.nr_wire.specs.declared.stream.Awaited.{Awaited}
 use Rattle.nr_wire.specs.declared.stream.Awaited.TheVariants.{Hello as HelloFrom, Fpdu}
 use Rattle.nr_wire.specs.Hello.{Hello, hello_of}
-use Rattle.nr_wire.specs.Segment.{Segment, segment_of}
+use Rattle.nr_wire.specs.Segment.{Segment}
 use Rattle.nr_wire.specs.Segment.Segment.{Tagged, Untagged}
 use Rattle.nr_wire.specs.Stream.{is_whole, frame_len, IsFrame, AreFrames, Split, split}
 use Rattle.nr_wire.specs.Feeding.{feeding_after, feeding_after_step, feeding_after_frames}
@@ -13,13 +13,13 @@ use Rattle.nr_wire.proofs.Frames.{IsFrame_take, whole_from}
 use Rattle.nr_wire.proofs.Feedings.{feeding_after_step-ended, feeding_after_step-whole, feeding_after_step-partial}
 use Rattle.nr_wire.proofs.Splits.{split_whole, split_partial, split_Splits}
 use Rattle.nr_regions.specs.Events.{MemoryEvent, tagged_segments}
-use Rattle.nr_regions.specs.Events.MemoryEvent.{Register as RegisterRegion, Release as ReleaseRegion, Arrive}
+use Rattle.nr_regions.specs.Events.MemoryEvent.{Register as RegisterRegion, Release as ReleaseRegion, Invalidate as InvalidateRegion, Arrive}
 use Rattle.nr_link.specs.declared.end.End.{End}
 use Rattle.nr_link.specs.Frames.{Frame}
 use Rattle.nr_endpoint.specs.LinkState.{LinkState, LinkSide, has_ended}
-use Rattle.nr_endpoint.specs.Judging.{segment_end, next_frame, with_frame, with_segment_by, with_fpdu, with_peer_hello}
+use Rattle.nr_endpoint.specs.Judging.{segment_end, next_frame, with_frame, with_segment_by, with_fpdu, with_peer_hello, next_segment}
 use Rattle.nr_endpoint.specs.Calls.{Call, after_call, after_calls}
-use Rattle.nr_endpoint.specs.Calls.Call.{Feed, FeedOne, NextEvent, Post, Stop, OutOfMemory, Send, WriteRemote, ReadRemote, Drain, Register, Release}
+use Rattle.nr_endpoint.specs.Calls.Call.{Feed, FeedOne, NextEvent, Post, Stop, OutOfMemory, Send, WriteRemote, ReadRemote, Drain, Register, Release, SendInvalidate, Invalidate}
 use Rattle.nr_endpoint.specs.Laws.{segment_arrivals, fpdu_arrivals, frame_arrivals, arrivals, frames_made_whole, call_events, memory_events, EndsWithin, PlacesAreInOrder, EndsRise, ArrivalsRise}
 use Rattle.nr_endpoint.proofs.MemoryLaws.{ended_arrivals, one_arrival}
 
@@ -28,18 +28,21 @@ abbrev pub Between : ℕ → ℕ → List MemoryEvent → Type 0
 Between from until [] = from ≤ until
 Between from until (RegisterRegion right buf ∷ events) = Between from until events
 Between from until (ReleaseRegion stag ∷ events) = Between from until events
+Between from until (InvalidateRegion stag ∷ events) = Between from until events
 Between from until (Arrive segment ∷ events) = (from < segment.end) × Between segment.end until events
 
 sooner : (a b c : ℕ) (events : List MemoryEvent) → a ≤ b → Between b c events → Between a c events
 sooner a b c [] low between = omega (arith, low, between)
 sooner a b c (RegisterRegion right buf ∷ events) low between = sooner a b c events low between
 sooner a b c (ReleaseRegion stag ∷ events) low between = sooner a b c events low between
+sooner a b c (InvalidateRegion stag ∷ events) low between = sooner a b c events low between
 sooner a b c (Arrive segment ∷ events) low between = (omega (arith, low, between.0), between.1)
 
 joined : (a b c : ℕ) (xs ys : List MemoryEvent) → Between a b xs → Between b c ys → Between a c (xs ++ ys)
 joined a b c [] ys first second = sooner a b c ys first second
 joined a b c (RegisterRegion right buf ∷ xs) ys first second = joined a b c xs ys first second
 joined a b c (ReleaseRegion stag ∷ xs) ys first second = joined a b c xs ys first second
+joined a b c (InvalidateRegion stag ∷ xs) ys first second = joined a b c xs ys first second
 joined a b c (Arrive segment ∷ xs) ys first second = (first.0, joined segment.end b c xs ys first.1 second)
 
 stands : (n : ℕ) → Between n n []
@@ -64,7 +67,7 @@ hello_between s f (Err reason) longer = stands s.place
 
 frame_between : (s : LinkState) (a : Awaited) (frame : List ℕ) → IsFrame a frame → Between s.place (with_frame s a frame).place (frame_arrivals s a frame)
 frame_between s (HelloFrom side) frame is = hello_between s (next_frame s frame) (hello_of side frame) (omega (arith, is.fields))
-frame_between s Fpdu frame is = fpdu_between s (next_frame s frame) (segment_of frame) (omega (arith, is.fields))
+frame_between s Fpdu frame is = fpdu_between s (next_frame s frame) (next_segment s frame) (omega (arith, is.fields))
 
 -- ---- Frames
 
@@ -128,11 +131,13 @@ call_between link Post = stands link.state.place
 call_between link (Stop reason) = no_arrival link.state.place _ [] refl (unless_place link.state _ (has_ended link.state) refl)
 call_between link OutOfMemory = no_arrival link.state.place _ [] refl (unless_place link.state _ (has_ended link.state) refl)
 call_between link (Send message) = no_arrival link.state.place _ [] refl (unless_place link.state _ (has_ended link.state) refl)
+call_between link (SendInvalidate stag message) = no_arrival link.state.place _ [] refl (unless_place link.state _ (has_ended link.state) refl)
 call_between link (WriteRemote stag to bytes) = no_arrival link.state.place _ [] refl (unless_place link.state _ (has_ended link.state) refl)
 call_between link (ReadRemote sink at stag to len) = no_arrival link.state.place _ [] refl (unless_place link.state _ (has_ended link.state) refl)
 call_between link (Drain count) = stands link.state.place
 call_between link (Register buf right) = omega arith
 call_between link (Release stag) = omega arith
+call_between link (Invalidate stag) = omega arith
 
 pub calls_between : (link : LinkSide) (calls : List Call) → Between link.state.place (after_calls link calls).state.place (memory_events link calls)
 unfolding after_calls
@@ -145,6 +150,7 @@ pub low_end : (from until : ℕ) (events : List MemoryEvent) → Between from un
 low_end from until [] between = between
 low_end from until (RegisterRegion right buf ∷ events) between = low_end from until events between
 low_end from until (ReleaseRegion stag ∷ events) between = low_end from until events between
+low_end from until (InvalidateRegion stag ∷ events) between = low_end from until events between
 low_end from until (Arrive segment ∷ events) between = omega (arith, between.0, low_end segment.end until events between.1)
 
 -- the segments end within wider offsets
@@ -152,6 +158,7 @@ pub all_within : (first from until : ℕ) (events : List MemoryEvent) → first 
 all_within first from until [] low between = All-nil (EndsWithin first until)
 all_within first from until (RegisterRegion right buf ∷ events) low between = all_within first from until events low between
 all_within first from until (ReleaseRegion stag ∷ events) low between = all_within first from until events low between
+all_within first from until (InvalidateRegion stag ∷ events) low between = all_within first from until events low between
 all_within first from until (Arrive segment ∷ events) low between =
     All-cons (EndsWithin first until) segment (tagged_segments events) (omega (arith, low, between.0), low_end segment.end until events between.1)
     (all_within first segment.end until events (omega (arith, low, between.0)) between.1)
@@ -164,6 +171,7 @@ ends_rise : (from until : ℕ) (events : List MemoryEvent) → Between from unti
 ends_rise from until [] between = tt
 ends_rise from until (RegisterRegion right buf ∷ events) between = ends_rise from until events between
 ends_rise from until (ReleaseRegion stag ∷ events) between = ends_rise from until events between
+ends_rise from until (InvalidateRegion stag ∷ events) between = ends_rise from until events between
 ends_rise from until (Arrive segment ∷ events) between = (between.0, ends_rise segment.end until events between.1)
 
 pub arrivals_rise : ArrivalsRise

@@ -1,5 +1,5 @@
 -- What is queued has bytes: a hello, a Read Response, what a side writes last.
-use Rattle.std.proofs.Common.{◌≡◌, ℕ, zero, suc, ◌+◌, ◌<◌, ◌≤◌, Bool, List, ◌∷◌, ◌++◌, length, Result, Ok, Err, replicate, ap, arith, length-append}
+use Rattle.std.proofs.Common.{◌≡◌, ℕ, zero, suc, ◌+◌, ◌<◌, ◌≤◌, Bool, List, ◌∷◌, ◌++◌, length, Option, None, Some, Result, Ok, Err, replicate, ap, arith, length-append}
 use Rattle.std.specs.Prelude.{OnErr}
 use Rattle.std.specs.List.{flat_map, range_with_len}
 use Rattle.nr_wire.specs.declared.hello.Side.{Side}
@@ -10,7 +10,7 @@ use Rattle.nr_wire.specs.Segment.Segment.{Untagged}
 use Rattle.nr_wire.specs.Constants.{OPCODE_READ_REQUEST}
 use Rattle.nr_regions.specs.RegisteredMemory.{bytes_at}
 use Rattle.nr_link.specs.ReceiveState.{read_request_in}
-use Rattle.nr_link.specs.Output.{cut, send, segment_count, read_response, terminate_message, hello_with, refusing_hello, read_request}
+use Rattle.nr_link.specs.Output.{cut, send, send_by, send_invalidating, segment_count, read_response, terminate_message, hello_with, refusing_hello, read_request}
 use Rattle.nr_link.specs.Ending.{final_output, rejection}
 use Rattle.nr_link.specs.declared.end.End.{End}
 use Rattle.nr_endpoint.specs.SendQueue.{SendQueue, output_len, with_hello, with_response, with_end}
@@ -44,6 +44,11 @@ response_some stag to bytes = cut_some_lem _ bytes
 pub send_some : (msn : ℕ) (message : List ℕ) → 1 ≤ length (send msn message)
 unfolding send
 send_some msn message = cut_some_lem _ message
+
+pub send_by_some : (named : Option ℕ) (msn : ℕ) (message : List ℕ) → 1 ≤ length (send_by named msn message)
+unfolding send_invalidating
+send_by_some None msn message = send_some msn message
+send_by_some (Some stag) msn message = cut_some_lem _ message
 
 terminate_some : (word : ℕ) → 1 ≤ length (terminate_message word)
 unfolding terminate_message

@@ -8,7 +8,7 @@ use Rattle.nr_wire.specs.declared.hello.Side.TheVariants.{Initiator, Responder}
 use Rattle.nr_wire.specs.declared.stream.Awaited.{Awaited}
 use Rattle.nr_wire.specs.declared.stream.Awaited.TheVariants.{Hello as HelloFrom, Fpdu}
 use Rattle.nr_wire.specs.Hello.{Hello, hello_of}
-use Rattle.nr_wire.specs.Segment.{Segment, segment_of}
+use Rattle.nr_wire.specs.Segment.{Segment}
 use Rattle.nr_wire.specs.Segment.Segment.{Tagged, Untagged}
 use Rattle.nr_wire.specs.Stream.{is_whole, frame_len, Split, split}
 use Rattle.nr_wire.specs.Feeding.{feeding_after, feeding_after_step, feeding_after_frames}
@@ -23,13 +23,13 @@ use Rattle.nr_link.specs.Output.{hello_with, refusing_hello}
 use Rattle.nr_link.specs.ReceiveState.{ReadRequest, read_request_of}
 use Rattle.nr_link.specs.Ending.{rejection}
 use Rattle.nr_link.specs.OutputItem.{OutputItem}
-use Rattle.nr_link.specs.OutputItem.OutputItem.{SendItem, WriteItem, ReadRequestItem, ReadResponseItem, LastItem}
-use Rattle.nr_endpoint.specs.SendQueue.{SendQueue, with_end, with_response, with_send, with_write, with_request, next_number, writable}
+use Rattle.nr_link.specs.OutputItem.OutputItem.{SendItem, SendInvalidateItem, WriteItem, ReadRequestItem, ReadResponseItem, LastItem}
+use Rattle.nr_endpoint.specs.SendQueue.{SendQueue, with_end, with_response, with_send, with_send_by, with_write, with_request, next_number, writable}
 use Rattle.nr_endpoint.specs.Hellos.{own_private, first_private}
 use Rattle.nr_endpoint.specs.LinkState.{LinkState, LinkSide, has_ended, initial_link}
-use Rattle.nr_endpoint.specs.Judging.{segment_end, next_frame, with_frame, with_segment_by, with_fpdu, with_peer_hello, with_effect, with_read_request, with_read_response, reply_hello, fetch_access}
+use Rattle.nr_endpoint.specs.Judging.{segment_end, next_frame, with_frame, with_segment_by, with_fpdu, with_peer_hello, with_effect, with_read_request, with_read_response, reply_hello, fetch_access, next_segment}
 use Rattle.nr_endpoint.specs.Calls.{Call, IsStopReason, after_call, after_calls}
-use Rattle.nr_endpoint.specs.Calls.Call.{Feed, FeedOne, NextEvent, Post, Stop, OutOfMemory, Send, WriteRemote, ReadRemote, Drain, Register, Release}
+use Rattle.nr_endpoint.specs.Calls.Call.{Feed, FeedOne, NextEvent, Post, Stop, OutOfMemory, Send, WriteRemote, ReadRemote, Drain, Register, Release, SendInvalidate, Invalidate}
 use Rattle.nr_endpoint.specs.Laws.{IsFrameReason, IsFrameEnd, frames_made_whole, bytes_drained, bytes_written}
 use Rattle.nr_endpoint.specs.OutputLaws.{response_items, segment_items, fpdu_items, hello_items, frame_items, items_of_frames, call_items, items_queued, rejection_by, hello_queued, own_output_hello, IsAllowedCall, AreAllowedCalls, OutputIsItems, SendsGoByItems, SendsWaitByItems, ResponsesGoByItems}
 use Rattle.nr_endpoint.proofs.EndLaws.{segment_end_is, fpdu_reason}
@@ -49,6 +49,9 @@ pub record OutputIs (out : List ℕ) (items : List OutputItem) (a : Awaited) (s 
 
 send_item : (q : SendQueue) (message : List ℕ) → HasItem q (SendItem (next_number q.last_send) message) (with_send message q)
 send_item q message = record { hello = refl; fpdus = refl; sends = refl; responses = sym (append-nil q.response_ends); left = refl }
+
+send_invalidate_item : (q : SendQueue) (stag : ℕ) (message : List ℕ) → HasItem q (SendInvalidateItem (next_number q.last_send) stag message) (with_send_by (Some stag) message q)
+send_invalidate_item q stag message = record { hello = refl; fpdus = refl; sends = refl; responses = sym (append-nil q.response_ends); left = refl }
 
 write_item : (q : SendQueue) (stag to : ℕ) (bytes : List ℕ) → HasItem q (WriteItem stag to bytes) (with_write stag to bytes q)
 write_item q stag to bytes = record { hello = refl; fpdus = refl; sends = sym (append-nil q.send_ends); responses = sym (append-nil q.response_ends); left = refl }
@@ -215,7 +218,7 @@ fpdu_output out items s f (Err reason) live reasons is = record {
 frame_output : (out : List ℕ) (items : List OutputItem) (a : Awaited) (s : LinkState) (frame : List ℕ) → has_ended s ≡ false → OutputIs out items a s →
     OutputIs out (items ++ frame_items s a frame) Fpdu (with_frame s a frame)
 frame_output out items (HelloFrom side) s frame live is = hello_output side out items s (next_frame s frame) (hello_of side frame) live is
-frame_output out items Fpdu s frame live is = fpdu_output out items s (next_frame s frame) (segment_of frame) live (fpdu_reason frame) is
+frame_output out items Fpdu s frame live is = fpdu_output out items s (next_frame s frame) (next_segment s frame) live (fpdu_reason s frame) is
 
 -- ---- Frames
 
@@ -299,7 +302,8 @@ stop_rejects Responder at reason (inr (inr (inl is))) = other_reason reason (ome
 stop_rejects Responder at reason (inr (inr (inr (inl is)))) = other_reason reason (omega (arith, is))
 stop_rejects Responder at reason (inr (inr (inr (inr (inl is))))) = other_reason reason (omega (arith, is))
 stop_rejects Responder at reason (inr (inr (inr (inr (inr (inl is)))))) = other_reason reason (omega (arith, is))
-stop_rejects Responder at reason (inr (inr (inr (inr (inr (inr is)))))) = other_reason reason (omega (arith, is))
+stop_rejects Responder at reason (inr (inr (inr (inr (inr (inr (inl is))))))) = other_reason reason (omega (arith, is))
+stop_rejects Responder at reason (inr (inr (inr (inr (inr (inr (inr is))))))) = other_reason reason (omega (arith, is))
 
 stop_output : (out : List ℕ) (items : List OutputItem) (a : Awaited) (s : LinkState) (end : End) → rejection s.side end ≡ [] → has_ended s ≡ false → OutputIs out items a s →
     OutputIs out (items ++ LastItem end ∷ []) a (record s { ended = Some end; send_queue = with_end s.side end s.send_queue })
@@ -356,6 +360,9 @@ call_keeps out items link OutOfMemory may is =
 call_keeps out items link (Send message) may is =
     subst (λ (xs : List ℕ). Along xs (items ++ call_items link (Send message)) (after_call link (Send message))) (sym (append-nil out))
     (unless_queues out items link.awaited link.state _ (SendItem (next_number link.state.send_queue.last_send) message) (has_ended link.state) refl refl refl (send_item link.state.send_queue message) is)
+call_keeps out items link (SendInvalidate stag message) may is =
+    subst (λ (xs : List ℕ). Along xs (items ++ call_items link (SendInvalidate stag message)) (after_call link (SendInvalidate stag message))) (sym (append-nil out))
+    (unless_queues out items link.awaited link.state _ (SendInvalidateItem (next_number link.state.send_queue.last_send) stag message) (has_ended link.state) refl refl refl (send_invalidate_item link.state.send_queue stag message) is)
 call_keeps out items link (WriteRemote stag to bytes) may is =
     subst (λ (xs : List ℕ). Along xs (items ++ call_items link (WriteRemote stag to bytes)) (after_call link (WriteRemote stag to bytes))) (sym (append-nil out))
     (unless_queues out items link.awaited link.state _ (WriteItem stag to bytes) (has_ended link.state) refl refl refl (write_item link.state.send_queue stag to bytes) is)
@@ -372,6 +379,8 @@ call_keeps out items link (Register buf right) may is =
     subst (λ (xs : List ℕ). Along xs (items ++ []) (after_call link (Register buf right))) (sym (append-nil out)) (quiet out items link.awaited link.state _ (record { awaits = is.awaits; queue = is.queue }))
 call_keeps out items link (Release stag) may is =
     subst (λ (xs : List ℕ). Along xs (items ++ []) (after_call link (Release stag))) (sym (append-nil out)) (quiet out items link.awaited link.state _ (record { awaits = is.awaits; queue = is.queue }))
+call_keeps out items link (Invalidate stag) may is =
+    subst (λ (xs : List ℕ). Along xs (items ++ []) (after_call link (Invalidate stag))) (sym (append-nil out)) (quiet out items link.awaited link.state _ (record { awaits = is.awaits; queue = is.queue }))
 
 calls_keep : (out : List ℕ) (items : List OutputItem) (link : LinkSide) (calls : List Call) → AreAllowedCalls link calls → Along out items link →
     Along (out ++ bytes_written link calls) (items ++ items_queued link calls) (after_calls link calls)

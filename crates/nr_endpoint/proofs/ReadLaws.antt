@@ -6,7 +6,7 @@ use Rattle.std.proofs.lemmas.List.{append-nil}
 use Rattle.nr_wire.specs.Constants.{OPCODE_READ_REQUEST, OPCODE_READ_RESPONSE}
 use Rattle.nr_wire.specs.declared.stream.Awaited.TheVariants.{Hello as HelloFrom, Fpdu}
 use Rattle.nr_wire.specs.Hello.{Hello, hello_of}
-use Rattle.nr_wire.specs.Segment.{Segment, segment_of}
+use Rattle.nr_wire.specs.Segment.{Segment}
 use Rattle.nr_wire.specs.Segment.Segment.{Tagged, Untagged}
 use Rattle.nr_regions.specs.RegisteredMemory.{denial, bytes_at, after_place}
 use Rattle.nr_link.specs.declared.end.End.{End}
@@ -14,12 +14,12 @@ use Rattle.nr_link.specs.Frames.{Frame}
 use Rattle.nr_link.specs.ReceiveState.{ReadRequest, read_request_of, read_request_in}
 use Rattle.nr_endpoint.specs.SendQueue.{with_response, with_end}
 use Rattle.nr_endpoint.specs.LinkState.{LinkState}
-use Rattle.nr_endpoint.specs.Judging.{segment_end, fetch_access, next_frame, with_frame, with_segment_by, with_fpdu, with_peer_hello, with_effect, with_read_response, with_read_request}
+use Rattle.nr_endpoint.specs.Judging.{segment_end, fetch_access, next_frame, with_frame, with_segment_by, with_fpdu, with_peer_hello, with_effect, with_read_response, with_read_request, next_segment}
 use Rattle.nr_endpoint.specs.Laws.{ReadsAreAllowed, IsAllowedRead, final_fpdus, NothingElseIsRead, OtherFramesQueueNothing}
 use Rattle.nr_endpoint.proofs.Alive.{alive_request}
 
 -- the frame of a segment that doesn't end the side
-taken : (s : LinkState) (frame : List ℕ) (segment : Segment) → segment_of frame ≡ Ok segment → segment_end s (next_frame s frame) segment ≡ None →
+taken : (s : LinkState) (frame : List ℕ) (segment : Segment) → next_segment s frame ≡ Ok segment → segment_end s (next_frame s frame) segment ≡ None →
     with_frame s Fpdu frame ≡ with_segment_by (next_frame s frame) segment None s
 unfolding with_fpdu
 taken s frame segment whole lives =
@@ -88,7 +88,7 @@ untagged_queues s f last opcode w queue msn offset payload live asks =
     nothing_more s.send_queue.fpdus (with_read_request (read_request_of (Untagged last opcode w queue msn offset payload)) s.memory s.send_queue).fpdus s.ended live (ap (λ (r : Option ReadRequest). (with_read_request r s.memory s.send_queue).fpdus) asks)
 
 -- what a segment asks for, or that it asks for nothing
-segment_queues : (s : LinkState) (frame : List ℕ) (segment : Segment) (e : Option End) → s.ended ≡ None → segment_of frame ≡ Ok segment → segment_end s (next_frame s frame) segment ≡ e →
+segment_queues : (s : LinkState) (frame : List ℕ) (segment : Segment) (e : Option End) → s.ended ≡ None → next_segment s frame ≡ Ok segment → segment_end s (next_frame s frame) segment ≡ e →
     IsAllowedRead s Fpdu frame ⊎ QueuesLast s (with_segment_by (next_frame s frame) segment e s)
 unfolding with_end
 segment_queues s frame segment (Some end) live whole is = inr refl
@@ -101,7 +101,7 @@ segment_queues s frame (Untagged last opcode w queue msn offset payload) None li
     by None asks = inr (untagged_queues s (next_frame s frame) last opcode w queue msn offset payload live asks)
     by (Some request) asks = inl (record { segment = Untagged last opcode w queue msn offset payload; request = request; fpdu = refl; whole = whole; asks = asks; lives = is })
 
-fpdu_queues : (s : LinkState) (frame : List ℕ) (r : Result Segment ℕ) → s.ended ≡ None → segment_of frame ≡ r →
+fpdu_queues : (s : LinkState) (frame : List ℕ) (r : Result Segment ℕ) → s.ended ≡ None → next_segment s frame ≡ r →
     IsAllowedRead s Fpdu frame ⊎ QueuesLast s (with_fpdu (next_frame s frame) r s)
 unfolding with_fpdu with_end
 fpdu_queues s frame (Ok segment) live whole = segment_queues s frame segment (segment_end s (next_frame s frame) segment) live whole refl
@@ -109,7 +109,7 @@ fpdu_queues s frame (Err reason) live whole = inr refl
 
 pub nothing_else_is_read : NothingElseIsRead
 nothing_else_is_read s (HelloFrom side) frame live = inr (hello_queues s (next_frame s frame) (hello_of side frame) live)
-nothing_else_is_read s Fpdu frame live = fpdu_queues s frame (segment_of frame) live refl
+nothing_else_is_read s Fpdu frame live = fpdu_queues s frame (next_segment s frame) live refl
 
 -- ---- A frame that asks for nothing queues nothing
 

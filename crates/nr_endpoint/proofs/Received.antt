@@ -7,22 +7,22 @@ use Rattle.std.proofs.lemmas.Bool.{cases_lt}
 use Rattle.nr_wire.specs.declared.hello.Side.{Side}
 use Rattle.nr_wire.specs.declared.stream.Awaited.{Awaited}
 use Rattle.nr_wire.specs.declared.stream.Awaited.TheVariants.{Hello as HelloFrom, Fpdu}
-use Rattle.nr_wire.specs.Segment.{Segment, segment_of}
+use Rattle.nr_wire.specs.Segment.{Segment}
 use Rattle.nr_wire.specs.Segment.Segment.{Tagged, Untagged}
 use Rattle.nr_wire.specs.Stream.{IsPartial, AreFrames, Split, fields_len, frame_len, is_whole, split}
 use Rattle.nr_wire.proofs.Frames.{fields_within, frame_len_append, whole_from}
 use Rattle.nr_wire.proofs.Splits.{split_whole, split_partial, split_Splits}
 use Rattle.nr_regions.specs.Events.{MemoryEvent, tagged_segments}
-use Rattle.nr_regions.specs.Events.MemoryEvent.{Register as RegisterRegion, Release as ReleaseRegion, Arrive}
+use Rattle.nr_regions.specs.Events.MemoryEvent.{Register as RegisterRegion, Release as ReleaseRegion, Invalidate as InvalidateRegion, Arrive}
 use Rattle.nr_regions.specs.Access.{TaggedSegment}
 use Rattle.nr_link.specs.declared.end.End.{End}
 use Rattle.nr_link.specs.Frames.{Frame}
 use Rattle.nr_link.specs.Input.{input_of}
 use Rattle.nr_link.proofs.Inputs.{input_of_count}
 use Rattle.nr_endpoint.specs.LinkState.{LinkState, LinkSide, has_ended, peer, initial_link}
-use Rattle.nr_endpoint.specs.Judging.{segment_end, next_frame, with_frame}
+use Rattle.nr_endpoint.specs.Judging.{segment_end, next_frame, with_frame, next_segment}
 use Rattle.nr_endpoint.specs.Calls.{Call, after_call, after_calls}
-use Rattle.nr_endpoint.specs.Calls.Call.{Feed, FeedOne, NextEvent, Post, Stop, OutOfMemory, Send, WriteRemote, ReadRemote, Drain, Register, Release}
+use Rattle.nr_endpoint.specs.Calls.Call.{Feed, FeedOne, NextEvent, Post, Stop, OutOfMemory, Send, WriteRemote, ReadRemote, Drain, Register, Release, SendInvalidate, Invalidate}
 use Rattle.nr_endpoint.specs.Laws.{segment_arrivals, fpdu_arrivals, frame_arrivals, arrivals, frames_made_whole, call_events, memory_events, bytes_in_call, bytes_fed, KeepsInput}
 use Rattle.nr_endpoint.specs.ReceivedLaws.{ReceivedBytes}
 use Rattle.nr_endpoint.proofs.MemoryLaws.{ended_arrivals}
@@ -35,24 +35,28 @@ abbrev Above : ℕ → List MemoryEvent → Type 0
 Above low [] = Unit {0}
 Above low (RegisterRegion right buf ∷ events) = Above low events
 Above low (ReleaseRegion stag ∷ events) = Above low events
+Above low (InvalidateRegion stag ∷ events) = Above low events
 Above low (Arrive segment ∷ events) = (low < segment.end) × Above low events
 
 above_joined : (low : ℕ) (xs ys : List MemoryEvent) → Above low xs → Above low ys → Above low (xs ++ ys)
 above_joined low [] ys first second = second
 above_joined low (RegisterRegion right buf ∷ xs) ys first second = above_joined low xs ys first second
 above_joined low (ReleaseRegion stag ∷ xs) ys first second = above_joined low xs ys first second
+above_joined low (InvalidateRegion stag ∷ xs) ys first second = above_joined low xs ys first second
 above_joined low (Arrive segment ∷ xs) ys first second = (first.0, above_joined low xs ys first.1 second)
 
 lower : (low high : ℕ) (events : List MemoryEvent) → low ≤ high → Above high events → Above low events
 lower low high [] le above = tt
 lower low high (RegisterRegion right buf ∷ events) le above = lower low high events le above
 lower low high (ReleaseRegion stag ∷ events) le above = lower low high events le above
+lower low high (InvalidateRegion stag ∷ events) le above = lower low high events le above
 lower low high (Arrive segment ∷ events) le above = (omega (arith, le, above.0), lower low high events le above.1)
 
 from_between : (low from until : ℕ) (events : List MemoryEvent) → low ≤ from → Between from until events → Above low events
 from_between low from until [] le between = tt
 from_between low from until (RegisterRegion right buf ∷ events) le between = from_between low from until events le between
 from_between low from until (ReleaseRegion stag ∷ events) le between = from_between low from until events le between
+from_between low from until (InvalidateRegion stag ∷ events) le between = from_between low from until events le between
 from_between low from until (Arrive segment ∷ events) le between =
     (omega (arith, le, between.0), from_between low segment.end until events (omega (arith, le, between.0)) between.1)
 
@@ -60,12 +64,14 @@ all_above_lem : (low : ℕ) (events : List MemoryEvent) → Above low events →
 all_above_lem low [] above = All-nil (λ (segment : TaggedSegment). low < segment.end)
 all_above_lem low (RegisterRegion right buf ∷ events) above = all_above_lem low events above
 all_above_lem low (ReleaseRegion stag ∷ events) above = all_above_lem low events above
+all_above_lem low (InvalidateRegion stag ∷ events) above = all_above_lem low events above
 all_above_lem low (Arrive segment ∷ events) above = All-cons (λ (x : TaggedSegment). low < x.end) segment (tagged_segments events) above.0 (all_above_lem low events above.1)
 
 all_below : (from until high : ℕ) (events : List MemoryEvent) → until ≤ high → Between from until events → All (λ segment. segment.end ≤ high) (tagged_segments events)
 all_below from until high [] le between = All-nil (λ (segment : TaggedSegment). segment.end ≤ high)
 all_below from until high (RegisterRegion right buf ∷ events) le between = all_below from until high events le between
 all_below from until high (ReleaseRegion stag ∷ events) le between = all_below from until high events le between
+all_below from until high (InvalidateRegion stag ∷ events) le between = all_below from until high events le between
 all_below from until high (Arrive segment ∷ events) le between =
     All-cons (λ (x : TaggedSegment). x.end ≤ high) segment (tagged_segments events) (omega (arith, le, low_end segment.end until events between.1))
     (all_below segment.end until high events le between.1)
@@ -83,7 +89,7 @@ fpdu_above low s f (Err reason) long = tt
 
 frame_above : (low : ℕ) (s : LinkState) (a : Awaited) (frame : List ℕ) → low < s.place + length frame → Above low (frame_arrivals s a frame)
 frame_above low s (HelloFrom side) frame long = tt
-frame_above low s Fpdu frame long = fpdu_above low s (next_frame s frame) (segment_of frame) long
+frame_above low s Fpdu frame long = fpdu_above low s (next_frame s frame) (next_segment s frame) long
 
 -- the first frame ends after this offset
 abbrev pub FirstAbove : ℕ → ℕ → List (List ℕ) → Type 0
@@ -166,11 +172,13 @@ call_above from link bytes Post fed = tt
 call_above from link bytes (Stop reason) fed = tt
 call_above from link bytes OutOfMemory fed = tt
 call_above from link bytes (Send message) fed = tt
+call_above from link bytes (SendInvalidate stag message) fed = tt
 call_above from link bytes (WriteRemote stag to payload) fed = tt
 call_above from link bytes (ReadRemote sink at stag to len) fed = tt
 call_above from link bytes (Drain count) fed = tt
 call_above from link bytes (Register buf right) fed = tt
 call_above from link bytes (Release stag) fed = tt
+call_above from link bytes (Invalidate stag) fed = tt
 
 calls_above : (from : Side) (link : LinkSide) (bytes : List ℕ) (calls : List Call) → IsFed from link bytes → Above (length bytes) (memory_events link calls)
 calls_above from link bytes [] fed = tt

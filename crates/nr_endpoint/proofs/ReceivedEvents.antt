@@ -5,16 +5,16 @@ use Rattle.std.proofs.lemmas.List.Elements.{All-nil, All-cons}
 use Rattle.nr_wire.specs.declared.hello.Side.{Side}
 use Rattle.nr_wire.specs.declared.stream.Awaited.{Awaited}
 use Rattle.nr_wire.specs.declared.stream.Awaited.TheVariants.{Hello as HelloFrom, Fpdu}
-use Rattle.nr_wire.specs.Segment.{Segment, segment_of}
+use Rattle.nr_wire.specs.Segment.{Segment}
 use Rattle.nr_wire.specs.Stream.{IsPartial, AreFrames}
 use Rattle.nr_wire.proofs.Splits.{split_Splits}
 use Rattle.nr_link.specs.declared.end.End.{End}
 use Rattle.nr_link.specs.Frames.{Frame}
 use Rattle.nr_endpoint.specs.ReceiveQueue.{DeliveredEvent}
 use Rattle.nr_endpoint.specs.LinkState.{LinkState, LinkSide, has_ended, peer, initial_link}
-use Rattle.nr_endpoint.specs.Judging.{segment_end, next_frame, with_frame}
+use Rattle.nr_endpoint.specs.Judging.{segment_end, next_frame, with_frame, next_segment}
 use Rattle.nr_endpoint.specs.Calls.{Call, after_call, after_calls}
-use Rattle.nr_endpoint.specs.Calls.Call.{Feed, FeedOne, NextEvent, Post, Stop, OutOfMemory, Send, WriteRemote, ReadRemote, Drain, Register, Release}
+use Rattle.nr_endpoint.specs.Calls.Call.{Feed, FeedOne, NextEvent, Post, Stop, OutOfMemory, Send, WriteRemote, ReadRemote, Drain, Register, Release, SendInvalidate, Invalidate}
 use Rattle.nr_endpoint.specs.Laws.{frames_made_whole, bytes_in_call, bytes_fed, deliveries_of, QueuedEvent, made_at, segment_deliveries, fpdu_deliveries, frame_deliveries, deliveries_of_frames, call_deliveries, deliveries_made, DeliveriesRise}
 use Rattle.nr_endpoint.specs.ReceivedLaws.{EventsOfReceivedBytes}
 use Rattle.nr_endpoint.proofs.Pieces.{frame_place}
@@ -68,7 +68,7 @@ fpdu_above low s f (Err reason) long = tt
 
 frame_above : (low : ℕ) (s : LinkState) (a : Awaited) (frame : List ℕ) → low < s.place + length frame → Above low (frame_deliveries s a frame)
 frame_above low s (HelloFrom side) frame long = tt
-frame_above low s Fpdu frame long = fpdu_above low s (next_frame s frame) (segment_of frame) long
+frame_above low s Fpdu frame long = fpdu_above low s (next_frame s frame) (next_segment s frame) long
 
 frames_above : (low : ℕ) (frames : List (List ℕ)) (a : Awaited) (s : LinkState) → has_ended s ≡ false → AreFrames a frames → FirstAbove low s.place frames → Above low (deliveries_of_frames frames a s)
 frames_above low [] a s live each first = tt
@@ -109,11 +109,13 @@ call_above from link bytes Post fed = tt
 call_above from link bytes (Stop reason) fed = tt
 call_above from link bytes OutOfMemory fed = tt
 call_above from link bytes (Send message) fed = tt
+call_above from link bytes (SendInvalidate stag message) fed = tt
 call_above from link bytes (WriteRemote stag to payload) fed = tt
 call_above from link bytes (ReadRemote sink at stag to len) fed = tt
 call_above from link bytes (Drain count) fed = tt
 call_above from link bytes (Register buf right) fed = tt
 call_above from link bytes (Release stag) fed = tt
+call_above from link bytes (Invalidate stag) fed = tt
 
 calls_above : (from : Side) (link : LinkSide) (bytes : List ℕ) (calls : List Call) → IsFed from link bytes → Above (length bytes) (deliveries_made link calls)
 calls_above from link bytes [] fed = tt

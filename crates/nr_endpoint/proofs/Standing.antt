@@ -3,9 +3,10 @@ use Rattle.std.proofs.Common.{◌≡◌, ℕ, ◌≤◌, List, [], ◌∷◌, �
 use Rattle.std.specs.Prelude.{OnOk, IsErr}
 use Rattle.nr_link.specs.declared.end.End.{End}
 use Rattle.nr_regions.specs.declared.right.Right.{Right}
-use Rattle.nr_regions.specs.RegisteredMemory.{after_register, after_release}
+use Rattle.nr_regions.specs.RegisteredMemory.{after_invalidate, after_register, after_release}
 use Rattle.nr_link.specs.declared.end.End.TheVariants as ends
-use Rattle.nr_endpoint.specs.SendQueue.{with_send, with_write, with_request, writable, written}
+use Rattle.nr_endpoint.specs.SendQueue.{with_send_by, with_write, with_request, writable, written}
+use Rattle.nr_endpoint.specs.Offering.{send_call}
 use Rattle.nr_endpoint.specs.ReceiveQueue.{delivered, posted}
 use Rattle.nr_endpoint.specs.LinkState.{LinkSide, LinkState, has_ended}
 use Rattle.nr_endpoint.specs.Judging.{with_end_of}
@@ -14,7 +15,7 @@ use Rattle.std.specs.FinMap.{FinMap}
 use Rattle.nr_regions.specs.RegisteredMemory.{Outside}
 use Rattle.nr_endpoint.specs.EndpointState.{EndpointState}
 use Rattle.nr_endpoint.specs.Calls.{Call, after_call, after_calls, StandsOn, StandsOnAll, with_state, unless_ended, ended_link}
-use Rattle.nr_endpoint.specs.Calls.Call.{NextEvent, Post, Stop, OutOfMemory, Send, WriteRemote, ReadRemote, Drain, Register, Release}
+use Rattle.nr_endpoint.specs.Calls.Call.{NextEvent, Post, Stop, OutOfMemory, WriteRemote, ReadRemote, Drain, Register, Release, Invalidate}
 
 pub after_calls_append : (link : LinkSide) (calls : List Call) (call : Call) → after_calls link (calls ++ call ∷ []) ≡ after_call (after_calls link calls) call
 unfolding after_calls
@@ -62,9 +63,10 @@ pub out_of_memory_state : (l : LinkSide) (t : LinkState) → l.state.ended ≡ N
 unfolding after_call
 out_of_memory_state l t none is = ap (λ (s : LinkState). ended_link s l) (is ∙ sym (live_state l.state _ none))
 
-pub sent_state : (l : LinkSide) (t : LinkState) (message : List ℕ) → t ≡ unless_ended l.state (record l.state { send_queue = with_send message l.state.send_queue }) → with_state t l ≡ after_call l (Send message)
+pub sent_state : (l : LinkSide) (t : LinkState) (named : Option ℕ) (message : List ℕ) → t ≡ unless_ended l.state (record l.state { send_queue = with_send_by named message l.state.send_queue }) → with_state t l ≡ after_call l (send_call named message)
 unfolding after_call
-sent_state l t message is = ap (λ (s : LinkState). with_state s l) is
+sent_state l t None message is = ap (λ (s : LinkState). with_state s l) is
+sent_state l t (Some stag) message is = ap (λ (s : LinkState). with_state s l) is
 
 pub written_state : (l : LinkSide) (t : LinkState) (stag to : ℕ) (bytes : List ℕ) → t ≡ unless_ended l.state (record l.state { send_queue = with_write stag to bytes l.state.send_queue }) →
     with_state t l ≡ after_call l (WriteRemote stag to bytes)
@@ -90,6 +92,10 @@ registered_state l t buf right is = ap (λ (s : LinkState). with_state s l) is
 pub released_state : (l : LinkSide) (t : LinkState) (stag : ℕ) → t ≡ record l.state { memory = after_release l.state.memory stag } → with_state t l ≡ after_call l (Release stag)
 unfolding after_call
 released_state l t stag is = ap (λ (s : LinkState). with_state s l) is
+
+pub invalidated_state : (l : LinkSide) (t : LinkState) (stag : ℕ) → t ≡ record l.state { memory = after_invalidate l.state.memory stag } → with_state t l ≡ after_call l (Invalidate stag)
+unfolding after_call
+invalidated_state l t stag is = ap (λ (s : LinkState). with_state s l) is
 
 -- ---- If a call does nothing, or some of it
 

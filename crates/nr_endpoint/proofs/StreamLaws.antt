@@ -5,7 +5,7 @@ use Rattle.nr_wire.specs.declared.hello.Side.{Side}
 use Rattle.nr_wire.specs.declared.stream.Awaited.{Awaited}
 use Rattle.nr_wire.specs.declared.stream.Awaited.TheVariants.{Hello as HelloFrom, Fpdu}
 use Rattle.nr_wire.specs.Hello.{Hello, hello_of}
-use Rattle.nr_wire.specs.Segment.{Segment, segment_of}
+use Rattle.nr_wire.specs.Segment.{Segment}
 use Rattle.nr_wire.specs.Stream.{IsPartial, is_whole, awaited_after, Split, split}
 use Rattle.nr_wire.specs.Feeding.{bytes_taken, feeding_after, feeding_after_step, feeding_after_frames}
 use Rattle.nr_wire.proofs.Feedings.{feeding_after_step-ended}
@@ -16,9 +16,9 @@ use Rattle.nr_link.specs.Input.{InputState, input_of, input_after}
 use Rattle.nr_link.proofs.Inputs.{input_of_append, input_of_none}
 use Rattle.nr_link.specs.declared.agreement.SideTerms.{SideTerms}
 use Rattle.nr_endpoint.specs.LinkState.{LinkState, LinkSide, has_ended, peer, initial_link}
-use Rattle.nr_endpoint.specs.Judging.{segment_end, next_frame, with_frame, with_segment_by, with_fpdu, with_peer_hello}
+use Rattle.nr_endpoint.specs.Judging.{segment_end, next_frame, with_frame, with_segment_by, with_fpdu, with_peer_hello, next_segment}
 use Rattle.nr_endpoint.specs.Calls.{Call, after_call, after_calls}
-use Rattle.nr_endpoint.specs.Calls.Call.{Feed, FeedOne, NextEvent, Post, Stop, OutOfMemory, Send, WriteRemote, ReadRemote, Drain, Register, Release}
+use Rattle.nr_endpoint.specs.Calls.Call.{Feed, FeedOne, NextEvent, Post, Stop, OutOfMemory, Send, WriteRemote, ReadRemote, Drain, Register, Release, SendInvalidate, Invalidate}
 use Rattle.nr_endpoint.specs.Laws.{bytes_in_call, bytes_fed, KeepsInput, StreamIsKept, PlaceIsFed}
 use Rattle.nr_endpoint.proofs.Pieces.{step_taken, frame_place}
 
@@ -41,7 +41,7 @@ hello_within s f (Err reason) le = le
 -- the offset goes on by the frame, or stays if the frame ends the side
 frame_within : (s : LinkState) (a : Awaited) (frame : List ℕ) → (with_frame s a frame).place ≤ s.place + length frame
 frame_within s (HelloFrom side) frame = hello_within s (next_frame s frame) (hello_of side frame) (omega arith)
-frame_within s Fpdu frame = fpdu_within s (next_frame s frame) (segment_of frame) (omega arith)
+frame_within s Fpdu frame = fpdu_within s (next_frame s frame) (next_segment s frame) (omega arith)
 
 no_end : (e : Option End) → is_some e ≡ false → e ≡ None
 no_end None is = refl
@@ -179,11 +179,13 @@ call_fed from link bytes Post fed = nothing_fed from link bytes _ refl refl fed
 call_fed from link bytes (Stop reason) fed = ended_fed_lem from link bytes _ (has_ended link.state) refl refl refl fed
 call_fed from link bytes OutOfMemory fed = ended_fed_lem from link bytes _ (has_ended link.state) refl refl refl fed
 call_fed from link bytes (Send message) fed = unless_fed from link bytes _ (has_ended link.state) refl refl fed
+call_fed from link bytes (SendInvalidate stag message) fed = unless_fed from link bytes _ (has_ended link.state) refl refl fed
 call_fed from link bytes (WriteRemote stag to payload) fed = unless_fed from link bytes _ (has_ended link.state) refl refl fed
 call_fed from link bytes (ReadRemote sink at stag to len) fed = unless_fed from link bytes _ (has_ended link.state) refl refl fed
 call_fed from link bytes (Drain count) fed = nothing_fed from link bytes _ refl refl fed
 call_fed from link bytes (Register buf right) fed = nothing_fed from link bytes _ refl refl fed
 call_fed from link bytes (Release stag) fed = nothing_fed from link bytes _ refl refl fed
+call_fed from link bytes (Invalidate stag) fed = nothing_fed from link bytes _ refl refl fed
 
 calls_fed : (from : Side) (link : LinkSide) (bytes : List ℕ) (calls : List Call) → IsFed from link bytes → IsFed from (after_calls link calls) (bytes ++ bytes_fed link calls)
 unfolding after_calls

@@ -13,7 +13,7 @@ use Rattle.nr_endpoint.specs.declared.offering.Offered.{Offered}
 use Rattle.nr_endpoint.specs.declared.offering.Claims.{Claims}
 use Rattle.nr_endpoint.specs.declared.framing.RemoteWrite.{RemoteWrite}
 use Rattle.nr_endpoint.specs.declared.sharing.SharedWrite.{SharedWrite}
-use Rattle.nr_endpoint.specs.SendQueue.{SendQueue, with_send, with_fpdus, with_write}
+use Rattle.nr_endpoint.specs.SendQueue.{SendQueue, with_send, with_send_by, with_fpdus, with_write}
 use Rattle.nr_endpoint.specs.LinkState.{LinkSide, LinkState, has_ended}
 use Rattle.std.specs.Ordering.{nat_cmp}
 use Rattle.std.specs.FinMap.{FinMap}
@@ -22,7 +22,7 @@ use Rattle.nr_endpoint.specs.OperationSegments.{cut_room, writes_room}
 use Rattle.nr_endpoint.specs.EndpointState.{EndpointState}
 use Rattle.nr_endpoint.specs.Calls.{Call, after_call, after_calls, with_state, unless_ended}
 use Rattle.nr_endpoint.specs.Calls.Call.{Send}
-use Rattle.nr_endpoint.specs.Offering.{offer_calls, register_call, with_buffer, claim_if, with_read, with_write_buffer, with_offered, claims_of, AreHeld, after_offer, write_call, answer_calls, writes_output, after_answer, shared_call, shared_calls, shared_output, after_shared}
+use Rattle.nr_endpoint.specs.Offering.{offer_calls, register_call, with_buffer, claim_if, with_read, with_write_buffer, with_offered, claims_of, AreHeld, after_offer, write_call, send_call, answer_calls, writes_output, after_answer, shared_call, shared_calls, shared_output, after_shared}
 
 -- what holds of the fields holds of the value
 pub seen_all : {room : ℕ} {outside : FinMap nat_cmp Outside} (before : LinkSide) (staging : List ℕ) (now : EndpointState) (after : LinkSide) (calls : List Call) → record { link = before; staging = staging; room = room; outside = outside } ≡ now →
@@ -111,46 +111,54 @@ held_of (Err e) m n o is same = tt
 abbrev queued : LinkState → SendQueue → LinkState
 queued s q = record s { send_queue = q }
 
-answered_live : (writes : List RemoteWrite) (l : LinkSide) (message : List ℕ) → has_ended l.state ≡ false →
-    with_state (queued l.state (with_send message (with_fpdus (writes_output writes) l.state.send_queue))) l ≡ after_calls l (answer_calls writes message)
+sent_call : (l : LinkSide) (named : Option ℕ) (message : List ℕ) →
+    after_call l (send_call named message) ≡ with_state (cond (has_ended l.state) l.state (queued l.state (with_send_by named message l.state.send_queue))) l
 unfolding after_call
-answered_live [] l message live =
+sent_call l None message = refl
+sent_call l (Some stag) message = refl
+
+answered_live : (writes : List RemoteWrite) (l : LinkSide) (named : Option ℕ) (message : List ℕ) → has_ended l.state ≡ false →
+    with_state (queued l.state (with_send_by named message (with_fpdus (writes_output writes) l.state.send_queue))) l ≡ after_calls l (answer_calls writes named message)
+unfolding after_call
+answered_live [] l named message live =
     let q : SendQueue = l.state.send_queue in
-    ap (λ (bytes : List ℕ). with_state (queued l.state (with_send message (record q { fpdus = bytes }))) l) (append-nil q.fpdus)
-    ∙ sym (ap (λ (b : Bool). with_state (cond b l.state (queued l.state (with_send message q))) l) live)
-    ∙ sym (no_calls_lem (after_call l (Send message)))
-    ∙ sym (first_call l (Send message) [])
-answered_live (w ∷ writes) l message live =
+    ap (λ (bytes : List ℕ). with_state (queued l.state (with_send_by named message (record q { fpdus = bytes }))) l) (append-nil q.fpdus)
+    ∙ sym (ap (λ (b : Bool). with_state (cond b l.state (queued l.state (with_send_by named message q))) l) live)
+    ∙ sym (sent_call l named message)
+    ∙ sym (no_calls_lem (after_call l (send_call named message)))
+    ∙ sym (first_call l (send_call named message) [])
+answered_live (w ∷ writes) l named message live =
     let q : SendQueue = l.state.send_queue in
     let one : LinkSide = with_state (queued l.state (with_write w.stag w.to w.bytes.now q)) l in
     let first : after_call l (write_call w) ≡ one = ap (λ (b : Bool). with_state (cond b l.state (queued l.state (with_write w.stag w.to w.bytes.now q))) l) live in
-    ap (λ (bytes : List ℕ). with_state (queued l.state (with_send message (record q { fpdus = bytes }))) l) (sym (append_assoc q.fpdus (write w.stag w.to w.bytes.now) (writes_output writes)))
-    ∙ answered_live writes one message live
-    ∙ ap (λ (k : LinkSide). after_calls k (answer_calls writes message)) (sym first)
-    ∙ sym (first_call l (write_call w) (answer_calls writes message))
+    ap (λ (bytes : List ℕ). with_state (queued l.state (with_send_by named message (record q { fpdus = bytes }))) l) (sym (append_assoc q.fpdus (write w.stag w.to w.bytes.now) (writes_output writes)))
+    ∙ answered_live writes one named message live
+    ∙ ap (λ (k : LinkSide). after_calls k (answer_calls writes named message)) (sym first)
+    ∙ sym (first_call l (write_call w) (answer_calls writes named message))
 
-answered_ended : (writes : List RemoteWrite) (l : LinkSide) (message : List ℕ) → has_ended l.state ≡ true → l ≡ after_calls l (answer_calls writes message)
+answered_ended : (writes : List RemoteWrite) (l : LinkSide) (named : Option ℕ) (message : List ℕ) → has_ended l.state ≡ true → l ≡ after_calls l (answer_calls writes named message)
 unfolding after_call
-answered_ended [] l message over =
-    sym (ap (λ (b : Bool). with_state (cond b l.state (queued l.state (with_send message l.state.send_queue))) l) over)
-    ∙ sym (no_calls_lem (after_call l (Send message)))
-    ∙ sym (first_call l (Send message) [])
-answered_ended (w ∷ writes) l message over =
+answered_ended [] l named message over =
+    sym (ap (λ (b : Bool). with_state (cond b l.state (queued l.state (with_send_by named message l.state.send_queue))) l) over)
+    ∙ sym (sent_call l named message)
+    ∙ sym (no_calls_lem (after_call l (send_call named message)))
+    ∙ sym (first_call l (send_call named message) [])
+answered_ended (w ∷ writes) l named message over =
     let first : after_call l (write_call w) ≡ l = ap (λ (b : Bool). with_state (cond b l.state (queued l.state (with_write w.stag w.to w.bytes.now l.state.send_queue))) l) over in
-    answered_ended writes l message over
-    ∙ ap (λ (k : LinkSide). after_calls k (answer_calls writes message)) (sym first)
-    ∙ sym (first_call l (write_call w) (answer_calls writes message))
+    answered_ended writes l named message over
+    ∙ ap (λ (k : LinkSide). after_calls k (answer_calls writes named message)) (sym first)
+    ∙ sym (first_call l (write_call w) (answer_calls writes named message))
 
-pub answered_state : (l : LinkSide) (t : LinkState) (writes : List RemoteWrite) (message : List ℕ) → t ≡ after_answer writes message l.state →
-    with_state t l ≡ after_calls l (answer_calls writes message)
-answered_state l t writes message is = ap (λ (s : LinkState). with_state s l) is ∙ by (has_ended l.state) refl
+pub answered_state : (l : LinkSide) (t : LinkState) (writes : List RemoteWrite) (named : Option ℕ) (message : List ℕ) → t ≡ after_answer writes named message l.state →
+    with_state t l ≡ after_calls l (answer_calls writes named message)
+answered_state l t writes named message is = ap (λ (s : LinkState). with_state s l) is ∙ by (has_ended l.state) refl
   where
     after : LinkState
-    after = queued l.state (with_send message (with_fpdus (writes_output writes) l.state.send_queue))
+    after = queued l.state (with_send_by named message (with_fpdus (writes_output writes) l.state.send_queue))
 
-    by : (b : Bool) → has_ended l.state ≡ b → with_state (cond (has_ended l.state) l.state after) l ≡ after_calls l (answer_calls writes message)
-    by true over = ap (λ (b : Bool). with_state (cond b l.state after) l) over ∙ answered_ended writes l message over
-    by false live = ap (λ (b : Bool). with_state (cond b l.state after) l) live ∙ answered_live writes l message live
+    by : (b : Bool) → has_ended l.state ≡ b → with_state (cond (has_ended l.state) l.state after) l ≡ after_calls l (answer_calls writes named message)
+    by true over = ap (λ (b : Bool). with_state (cond b l.state after) l) over ∙ answered_ended writes l named message over
+    by false live = ap (λ (b : Bool). with_state (cond b l.state after) l) live ∙ answered_live writes l named message live
 
 -- ---- RDMA Writes of shared bytes: those of the same bytes, wherever they are
 
@@ -161,16 +169,16 @@ plain_output : (writes : List SharedWrite) → shared_output writes ≡ writes_o
 plain_output [] = refl
 plain_output (w ∷ writes) = ap (λ (bytes : List ℕ). write w.stag w.to w.bytes ++ bytes) (plain_output writes)
 
-plain_calls : (writes : List SharedWrite) (message : List ℕ) → answer_calls (map plain writes) message ≡ shared_calls writes message
-plain_calls [] message = refl
-plain_calls (w ∷ writes) message = ap (λ (calls : List Call). shared_call w ∷ calls) (plain_calls writes message)
+plain_calls : (writes : List SharedWrite) (named : Option ℕ) (message : List ℕ) → answer_calls (map plain writes) named message ≡ shared_calls writes named message
+plain_calls [] named message = refl
+plain_calls (w ∷ writes) named message = ap (λ (calls : List Call). shared_call w ∷ calls) (plain_calls writes named message)
 
-pub shared_state : (l : LinkSide) (t : LinkState) (writes : List SharedWrite) (message : List ℕ) → t ≡ after_shared writes message l.state →
-    with_state t l ≡ after_calls l (shared_calls writes message)
-shared_state l t writes message is =
-    answered_state l t (map plain writes) message
-    (is ∙ ap (λ (bytes : List ℕ). cond (has_ended l.state) l.state (queued l.state (with_send message (with_fpdus bytes l.state.send_queue)))) (plain_output writes))
-    ∙ ap (λ (calls : List Call). after_calls l calls) (plain_calls writes message)
+pub shared_state : (l : LinkSide) (t : LinkState) (writes : List SharedWrite) (named : Option ℕ) (message : List ℕ) → t ≡ after_shared writes named message l.state →
+    with_state t l ≡ after_calls l (shared_calls writes named message)
+shared_state l t writes named message is =
+    answered_state l t (map plain writes) named message
+    (is ∙ ap (λ (bytes : List ℕ). cond (has_ended l.state) l.state (queued l.state (with_send_by named message (with_fpdus bytes l.state.send_queue)))) (plain_output writes))
+    ∙ ap (λ (calls : List Call). after_calls l calls) (plain_calls writes named message)
 
 -- ---- RDMA Writes, one at a time
 

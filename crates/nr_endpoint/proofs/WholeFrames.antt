@@ -1,5 +1,5 @@
 -- Frames that are complete, as they are read.
-use Rattle.std.proofs.Common.{◌≡◌, ℕ, ◌+◌, ◌≤◌, true, false, List, [], ◌++◌, length, take, Some, None, Result, Ok, Err, refl, sym, ap, ◌∙◌, arith, length-append}
+use Rattle.std.proofs.Common.{◌≡◌, ℕ, ◌+◌, ◌≤◌, true, false, List, [], ◌++◌, length, take, Some, None, Result, Ok, Err, refl, sym, ap, ◌∙◌, arith, length-append, Bool, cond}
 use Rattle.std.proofs.lemmas.List.{append-nil, length-take}
 use Rattle.std.specs.Result.{result_err}
 use Rattle.nr_wire.specs.declared.hello.Side.{Side}
@@ -7,12 +7,14 @@ use Rattle.nr_wire.specs.declared.stream.Awaited.TheVariants.{Hello as HelloFrom
 use Rattle.nr_wire.specs.Hello.{hello_of}
 use Rattle.nr_xdr.specs.Item.{word, hyper}
 use Rattle.nr_wire.specs.Fields.{half_word}
-use Rattle.nr_wire.specs.Segment.{Segment, segment_of, payload_in, Reads, ulpdu_size, fpdu_with, header, control}
+use Rattle.nr_wire.specs.Segment.{Segment, segment_of, payload_in, Reads, ulpdu_size, fpdu_with, header, control, fpdu_len, fpdu_size}
 use Rattle.nr_wire.specs.Segment.Segment.{Tagged, Untagged}
 use Rattle.nr_wire.specs.Stream.{IsFrame}
 use Rattle.nr_wire.specs.Next.{hello_in, segment_in, frame_answer}
 use Rattle.nr_wire.specs.Next.Next.{Whole, More, Bad}
 use Rattle.nr_wire.proofs.FrontFrame.{hello_in_frame, segment_in_frame_lem}
+use Rattle.nr_wire.specs.Constants.{REASON_OPCODE}
+use Rattle.nr_link.specs.Ending.{is_not_taken, segment_taken}
 
 pub hello_answer_lem : (side : Side) (frame : List ℕ) → IsFrame (HelloFrom side) frame → hello_in side frame ≡ frame_answer (hello_of side frame) (length frame)
 hello_answer_lem side frame is = ap (hello_in side) (sym (append-nil frame)) ∙ hello_in_frame side frame [] is
@@ -62,3 +64,16 @@ payload_within_lem frame len segment reads =
     let longer : length (payload_in segment) + 1 ≤ length (fpdu_with reads.reserved reads.spare reads.tail segment) = longer_by reads.reserved reads.spare reads.tail segment in
     let same : length (fpdu_with reads.reserved reads.spare reads.tail segment) ≡ length (take len frame) = ap (λ (bytes : List ℕ). length bytes) (sym reads.frame_is) in
     omega (arith, longer, same, length-take len frame)
+
+-- ---- A Send with Invalidate, and a side that takes none
+
+pub control_there : (frame : List ℕ) → IsFrame Fpdu frame → 4 ≤ length frame
+unfolding fpdu_len fpdu_size
+control_there frame is = omega (arith, is.len)
+
+pub taken_lem : (b invalidates : Bool) (frame : List ℕ) (read : Result Segment ℕ) → read ≡ segment_of frame → is_not_taken invalidates frame read ≡ b
+    → cond b (Err REASON_OPCODE) read ≡ segment_taken invalidates frame
+unfolding segment_taken
+taken_lem b invalidates frame read e is =
+    let not_taken : b ≡ is_not_taken invalidates frame (segment_of frame) = sym is ∙ ap (is_not_taken invalidates frame) e in
+    λ i. cond (not_taken i) (Err REASON_OPCODE) (e i)

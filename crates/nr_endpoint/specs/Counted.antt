@@ -1,6 +1,6 @@
 -- The counts of untagged messages are at most the number of bytes that they came in, and so is the number of events to deliver. Once
 -- the peer's hello was accepted, some bytes came. Each receive has the length that the side's terms ask for, and a message of the peer fits it.
-use Rattle.std.specs.Prelude.{◌≡◌, ℕ, ◌+◌, ◌<◌, ◌≤◌, Bool, true, length, Option}
+use Rattle.std.specs.Prelude.{◌≡◌, ℕ, ◌+◌, ◌<◌, ◌≤◌, Bool, true, length}
 use Rattle.nr_link.specs.declared.agreement.SideTerms.{SideTerms}
 use Rattle.nr_link.specs.ReceiveState.{begun_bytes}
 use Rattle.nr_endpoint.specs.Hellos.{receive_length_for}

@@ -1,5 +1,5 @@
 -- What the hello of a side says in its private data, and what is agreed by the hellos of both (RFC 5044 section 7.1; what they say is own).
-use Rattle.std.specs.Prelude.{ℕ, ◌*◌, min, max, List, []}
+use Rattle.std.specs.Prelude.{ℕ, ◌*◌, min, max, Bool, false, List, []}
 use Rattle.nr_wire.specs.Constants.{UNITS_MAX}
 use Rattle.nr_wire.specs.declared.hello.Side.{Side}
 use Rattle.nr_wire.specs.declared.hello.Side.TheVariants.{Initiator, Responder}
@@ -27,6 +27,11 @@ side_agreement Responder own peer_private = agreement peer_private own
 abbrev pub received_max : Side → Agreement → ℕ
 received_max Initiator agreed = agreed.down
 received_max Responder agreed = agreed.up
+
+-- An initiator takes a Send with Invalidate if that is agreed, a responder never.
+abbrev pub takes_invalidate : Side → Agreement → Bool
+takes_invalidate Initiator agreed = agreed.invalidates
+takes_invalidate Responder agreed = false
 
 -- the length of each receive in bytes: of the units of the side's terms, from 1 to UNITS_MAX
 abbrev pub receive_length_for : SideTerms → ℕ

@@ -7,7 +7,7 @@ use Rattle.nr_wire.specs.declared.hello.Side.TheVariants.{Initiator, Responder}
 use Rattle.nr_wire.specs.declared.stream.Awaited.{Awaited}
 use Rattle.nr_wire.specs.declared.stream.Awaited.TheVariants.{Hello as HelloFrom, Fpdu}
 use Rattle.nr_wire.specs.Hello.{Hello, hello_of}
-use Rattle.nr_wire.specs.Segment.{Segment, segment_of}
+use Rattle.nr_wire.specs.Segment.{Segment}
 use Rattle.nr_wire.specs.Segment.Segment.{Tagged, Untagged}
 use Rattle.nr_regions.specs.declared.denied.Denied.{Denied}
 use Rattle.nr_regions.specs.declared.right.Right.TheVariants.{Fetch}
@@ -18,10 +18,10 @@ use Rattle.nr_link.specs.Frames.{Frame}
 use Rattle.nr_link.specs.Output.{hello_with}
 use Rattle.nr_link.specs.ReceiveState.{ReadRequest, read_request_of}
 use Rattle.nr_link.specs.SegmentFaults.{ExpectedResponse, Readiness, segment_reason}
-use Rattle.nr_link.specs.Ending.{access_of, end_of_fault}
+use Rattle.nr_link.specs.Ending.{access_of, end_of_fault, frame_segment_with}
 use Rattle.nr_endpoint.specs.SendQueue.{SendQueue, with_hello, with_response, with_end}
 use Rattle.nr_endpoint.specs.ReceiveQueue.{with_segment, with_read_done}
-use Rattle.nr_endpoint.specs.Hellos.{own_private, side_agreement, received_max}
+use Rattle.nr_endpoint.specs.Hellos.{own_private, side_agreement, received_max, takes_invalidate}
 use Rattle.nr_endpoint.specs.LinkState.{LinkState}
 
 -- ---- What ends the side
@@ -120,7 +120,11 @@ unfoldable pub with_peer_hello : Frame → Result Hello ℕ → LinkState → Li
 with_peer_hello f (Ok hello) s = after_frame f (with_agreement (own_private s.terms s.side hello.private) hello.private s)
 with_peer_hello f (Err reason) s = with_end_of (ends.Bad f.at reason) s
 
+-- the segment of the next frame
+abbrev pub next_segment : LinkState → List ℕ → Result Segment ℕ
+next_segment s bytes = frame_segment_with (takes_invalidate s.side s.agreed) (next_frame s bytes)
+
 -- after the next frame
 abbrev pub with_frame : LinkState → Awaited → List ℕ → LinkState
 with_frame s (HelloFrom side) bytes = with_peer_hello (next_frame s bytes) (hello_of side bytes) s
-with_frame s Fpdu bytes = with_fpdu (next_frame s bytes) (segment_of bytes) s
+with_frame s Fpdu bytes = with_fpdu (next_frame s bytes) (next_segment s bytes) s

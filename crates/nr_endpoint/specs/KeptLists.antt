@@ -1,5 +1,5 @@
 -- How long the lists are that a side of a link keeps, beside its byte buffers. The bounds are own.
-use Rattle.std.specs.Prelude.{◌≡◌, ℕ, ◌+◌, ◌≤◌, true, List, [], ◌∷◌, length, is_some, Option}
+use Rattle.std.specs.Prelude.{◌≡◌, ℕ, ◌+◌, ◌≤◌, true, List, [], ◌∷◌, length, is_some}
 use Rattle.std.specs.FinMap.{len}
 use Rattle.nr_wire.specs.declared.hello.Side.{Side}
 use Rattle.nr_regions.specs.RegisteredMemory.{held_region}

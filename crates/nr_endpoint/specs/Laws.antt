@@ -7,20 +7,20 @@ use Rattle.nr_wire.specs.declared.stream.Awaited.{Awaited}
 use Rattle.nr_wire.specs.declared.stream.Awaited.TheVariants.{Hello as HelloFrom, Fpdu}
 use Rattle.nr_wire.specs.Stream.{IsPartial, split}
 use Rattle.nr_wire.specs.Feeding.{bytes_taken}
-use Rattle.nr_wire.specs.Segment.{Segment, segment_of}
+use Rattle.nr_wire.specs.Segment.{Segment}
 use Rattle.nr_wire.specs.Segment.Segment.{Tagged, Untagged}
 use Rattle.nr_regions.specs.declared.right.Right.{Right}
 use Rattle.nr_regions.specs.RegisteredMemory.{RegisteredMemory, Access, Claim, IsHeld, denial, live_region, region_offer, held_region, bytes_in, bytes_at}
 use Rattle.nr_regions.specs.Access.{Grant, access_of_tagged, contents, TaggedSegment, grant_at, grant_denial, grant_offer}
 use Rattle.nr_regions.specs.Events.{MemoryEvent, after_event, after_events, tagged_segments, StaysOpen, IsRegisteredAt, IsReleasedAt}
-use Rattle.nr_regions.specs.Events.MemoryEvent.{Register as RegisterRegion, Release as ReleaseRegion, Arrive}
+use Rattle.nr_regions.specs.Events.MemoryEvent.{Register as RegisterRegion, Release as ReleaseRegion, Invalidate as InvalidateRegion, Arrive}
 use Rattle.nr_link.specs.declared.end.End.{End}
 use Rattle.nr_link.specs.declared.end.End.TheVariants as ends
 use Rattle.nr_link.specs.Reasons.{REASON_SHORT, REASON_LONG}
 use Rattle.nr_link.specs.Frames.{Frame}
 use Rattle.nr_link.specs.Input.{InputState, input_of}
-use Rattle.nr_link.specs.ReceiveState.{ReceiveState, message_completed, ReadRequest, read_request_of}
-use Rattle.nr_link.specs.Ending.{tagged_access, final_output, frame_end}
+use Rattle.nr_link.specs.ReceiveState.{ReceiveState, message_completed, stag_invalidated, ReadRequest, read_request_of}
+use Rattle.nr_link.specs.Ending.{tagged_access, final_output, frame_end_by}
 use Rattle.nr_link.specs.Output.{hello_with, refusing_hello}
 use Rattle.nr_link.specs.declared.agreement.SideTerms.{SideTerms}
 use Rattle.nr_endpoint.specs.SendQueue.{SendQueue, with_response, writable, written}
@@ -28,9 +28,9 @@ use Rattle.nr_endpoint.specs.ReceiveQueue.{DeliveredEvent, message_deliveries}
 use Rattle.nr_endpoint.specs.ReceiveQueue.DeliveredEvent.{ReadDone}
 use Rattle.nr_endpoint.specs.Hellos.{first_private}
 use Rattle.nr_endpoint.specs.LinkState.{LinkState, LinkSide, has_ended, peer, initial_link}
-use Rattle.nr_endpoint.specs.Judging.{readiness, segment_end, fetch_access, next_frame, with_frame}
+use Rattle.nr_endpoint.specs.Judging.{readiness, segment_end, fetch_access, next_frame, next_segment, with_frame}
 use Rattle.nr_endpoint.specs.Calls.{Call, IsStopReason, after_call, after_calls}
-use Rattle.nr_endpoint.specs.Calls.Call.{Feed, FeedOne, NextEvent, Post, Stop, OutOfMemory, Send, WriteRemote, ReadRemote, Drain, Register, Release}
+use Rattle.nr_endpoint.specs.Calls.Call.{Feed, FeedOne, NextEvent, Post, Stop, OutOfMemory, Send, SendInvalidate, WriteRemote, ReadRemote, Drain, Register, Release, Invalidate}
 
 -- ---- However the stream is cut
 
@@ -73,11 +73,13 @@ bytes_in_call link Post = []
 bytes_in_call link (Stop reason) = []
 bytes_in_call link OutOfMemory = []
 bytes_in_call link (Send message) = []
+bytes_in_call link (SendInvalidate stag message) = []
 bytes_in_call link (WriteRemote stag to bytes) = []
 bytes_in_call link (ReadRemote sink at stag to len) = []
 bytes_in_call link (Drain count) = []
 bytes_in_call link (Register buf right) = []
 bytes_in_call link (Release stag) = []
+bytes_in_call link (Invalidate stag) = []
 
 abbrev pub bytes_fed : LinkSide → List Call → List ℕ
 bytes_fed link [] = []
@@ -88,8 +90,7 @@ pub record KeepsInput (link : LinkSide) (input : InputState) : Type 0 where
   pub rest : link.rest ≡ input.rest
   pub place : link.state.place ≡ input.place
 
--- Until a side has ended, what it keeps is the rest of the bytes that were fed after their complete frames, and its offset is the end
--- of these frames.
+-- Until a side has ended, it keeps the rest of the bytes that were fed after their complete frames; its offset is the end of these.
 abbrev pub StreamIsKept : Type 0
 StreamIsKept = (side : Side) (receives first_stag : ℕ) (terms : SideTerms) (calls : List Call) →
     let start = initial_link side receives first_stag terms in
@@ -115,7 +116,7 @@ fpdu_arrivals s f (Err reason) = []
 
 abbrev pub frame_arrivals : LinkState → Awaited → List ℕ → List MemoryEvent
 frame_arrivals s (HelloFrom side) bytes = []
-frame_arrivals s Fpdu bytes = fpdu_arrivals s (next_frame s bytes) (segment_of bytes)
+frame_arrivals s Fpdu bytes = fpdu_arrivals s (next_frame s bytes) (next_segment s bytes)
 
 -- those of frames that come one after the other, up to the one that ends the side
 abbrev pub arrivals : List (List ℕ) → Awaited → LinkState → List MemoryEvent
@@ -135,11 +136,13 @@ call_events link Post = []
 call_events link (Stop reason) = []
 call_events link OutOfMemory = []
 call_events link (Send message) = []
+call_events link (SendInvalidate stag message) = []
 call_events link (WriteRemote stag to bytes) = []
 call_events link (ReadRemote sink at stag to len) = []
 call_events link (Drain count) = []
 call_events link (Register buf right) = RegisterRegion right buf ∷ []
 call_events link (Release stag) = ReleaseRegion stag ∷ []
+call_events link (Invalidate stag) = InvalidateRegion stag ∷ []
 
 abbrev pub memory_events : LinkSide → List Call → List MemoryEvent
 memory_events link [] = []
@@ -153,6 +156,7 @@ MemoryFollowsEvents = (link : LinkSide) (calls : List Call) → (after_calls lin
 abbrev pub IsUndenied : RegisteredMemory → MemoryEvent → Type 0
 IsUndenied m (RegisterRegion right buf) = Unit {0}
 IsUndenied m (ReleaseRegion stag) = Unit {0}
+IsUndenied m (InvalidateRegion stag) = Unit {0}
 IsUndenied m (Arrive s) = denial m (access_of_tagged s) ≡ None
 
 abbrev pub NoneIsDenied : RegisteredMemory → List MemoryEvent → Type 0
@@ -183,7 +187,7 @@ ArrivalsRise = (link : LinkSide) (calls : List Call) → EndsRise link.state.pla
 -- what a segment that doesn't end the side delivers: that a read is done, by its last Read Response, or the message that it completes
 abbrev pub deliveries_of : ReceiveState → Segment → List DeliveredEvent
 deliveries_of received (Tagged last opcode stag to payload) = if (opcode == OPCODE_READ_RESPONSE) && last then ReadDone ∷ [] else []
-deliveries_of received (Untagged last opcode w queue msn offset payload) = message_deliveries (received.sends + 1) (message_completed received (Untagged last opcode w queue msn offset payload))
+deliveries_of received (Untagged last opcode w queue msn offset payload) = message_deliveries (received.sends + 1) (stag_invalidated (Untagged last opcode w queue msn offset payload)) (message_completed received (Untagged last opcode w queue msn offset payload))
 
 -- an event, with the end of the frame that made it
 pub record QueuedEvent : Type 0 where
@@ -203,7 +207,7 @@ fpdu_deliveries s f (Err reason) = []
 
 abbrev pub frame_deliveries : LinkState → Awaited → List ℕ → List QueuedEvent
 frame_deliveries s (HelloFrom side) bytes = []
-frame_deliveries s Fpdu bytes = fpdu_deliveries s (next_frame s bytes) (segment_of bytes)
+frame_deliveries s Fpdu bytes = fpdu_deliveries s (next_frame s bytes) (next_segment s bytes)
 
 -- those of frames that come one after the other, up to the one that ends the side
 abbrev pub deliveries_of_frames : List (List ℕ) → Awaited → LinkState → List QueuedEvent
@@ -218,11 +222,13 @@ call_deliveries link Post = []
 call_deliveries link (Stop reason) = []
 call_deliveries link OutOfMemory = []
 call_deliveries link (Send message) = []
+call_deliveries link (SendInvalidate stag message) = []
 call_deliveries link (WriteRemote stag to bytes) = []
 call_deliveries link (ReadRemote sink at stag to len) = []
 call_deliveries link (Drain count) = []
 call_deliveries link (Register buf right) = []
 call_deliveries link (Release stag) = []
+call_deliveries link (Invalidate stag) = []
 
 abbrev pub deliveries_made : LinkSide → List Call → List QueuedEvent
 deliveries_made link [] = []
@@ -237,11 +243,13 @@ call_delivers link Post = []
 call_delivers link (Stop reason) = []
 call_delivers link OutOfMemory = []
 call_delivers link (Send message) = []
+call_delivers link (SendInvalidate stag message) = []
 call_delivers link (WriteRemote stag to bytes) = []
 call_delivers link (ReadRemote sink at stag to len) = []
 call_delivers link (Drain count) = []
 call_delivers link (Register buf right) = []
 call_delivers link (Release stag) = []
+call_delivers link (Invalidate stag) = []
 
 abbrev pub events_delivered : LinkSide → List Call → List DeliveredEvent
 events_delivered link [] = []
@@ -271,8 +279,7 @@ EventsFollowAccesses = (link : LinkSide) (before after : List Call) →
     × ((memory_events link (before ++ after) ≡ memory_events link before ++ memory_events now after)
     × All (λ made. All (λ segment. made.end < segment.end) (tagged_segments (memory_events now after))) (deliveries_made link before))
 
--- A feed of one frame makes its event at the offset that the side has reached then, so no tagged segment of a later frame has been
--- placed.
+-- A feed of one frame makes its event at the offset that the side has then, so no tagged segment of a later frame has been placed.
 abbrev pub OneFrameDeliversAtItsEnd : Type 0
 OneFrameDeliversAtItsEnd = (link : LinkSide) (piece : List ℕ) →
     All (λ made. made.end ≡ (after_call link (FeedOne piece)).state.place) (deliveries_made link (FeedOne piece ∷ []))
@@ -284,11 +291,10 @@ OneFrameDeliversOnce = (link : LinkSide) (piece : List ℕ) →
 
 -- ---- What the peer reads of it
 
--- A Read Request that doesn't end the side makes an access that the memory doesn't deny, and is answered with the bytes of that
--- access, by their values at its frame.
+-- A Read Request that doesn't end the side makes an access that the memory doesn't deny, and is answered with its bytes at that frame.
 abbrev pub ReadsAreAllowed : Type 0
 ReadsAreAllowed = (s : LinkState) (frame : List ℕ) (segment : Segment) (request : ReadRequest) →
-    segment_of frame ≡ Ok segment → read_request_of segment ≡ Some request → segment_end s (next_frame s frame) segment ≡ None →
+    next_segment s frame ≡ Ok segment → read_request_of segment ≡ Some request → segment_end s (next_frame s frame) segment ≡ None →
     (denial s.memory (fetch_access request) ≡ None)
     × ((with_frame s Fpdu frame).send_queue ≡ with_response request.sink request.sink_to (bytes_at s.memory (fetch_access request)) s.send_queue)
 
@@ -297,7 +303,7 @@ pub record IsAllowedRead (s : LinkState) (a : Awaited) (frame : List ℕ) : Type
   pub segment : Segment
   pub request : ReadRequest
   pub fpdu : a ≡ Fpdu
-  pub whole : segment_of frame ≡ Ok segment
+  pub whole : next_segment s frame ≡ Ok segment
   pub asks : read_request_of segment ≡ Some request
   pub lives : segment_end s (next_frame s frame) segment ≡ None
 
@@ -313,7 +319,7 @@ NothingElseIsRead = (s : LinkState) (a : Awaited) (frame : List ℕ) → s.ended
 
 -- A frame that isn't a Read Request, and doesn't end the side, leaves what there is to write as it was.
 abbrev pub OtherFramesQueueNothing : Type 0
-OtherFramesQueueNothing = (s : LinkState) (frame : List ℕ) (segment : Segment) → segment_of frame ≡ Ok segment → read_request_of segment ≡ None →
+OtherFramesQueueNothing = (s : LinkState) (frame : List ℕ) (segment : Segment) → next_segment s frame ≡ Ok segment → read_request_of segment ≡ None →
     segment_end s (next_frame s frame) segment ≡ None → (with_frame s Fpdu frame).send_queue ≡ s.send_queue
 
 -- ---- A region, from its registration to its release
@@ -362,11 +368,13 @@ MayBeCalled link Post = Unit {0}
 MayBeCalled link (Stop reason) = 0 < link.state.place
 MayBeCalled link OutOfMemory = Unit {0}
 MayBeCalled link (Send message) = Unit {0}
+MayBeCalled link (SendInvalidate stag message) = Unit {0}
 MayBeCalled link (WriteRemote stag to bytes) = Unit {0}
 MayBeCalled link (ReadRemote sink at stag to len) = Unit {0}
 MayBeCalled link (Drain count) = Unit {0}
 MayBeCalled link (Register buf right) = Unit {0}
 MayBeCalled link (Release stag) = Unit {0}
+MayBeCalled link (Invalidate stag) = Unit {0}
 
 abbrev pub MayAllBeCalled : LinkSide → List Call → Type 0
 MayAllBeCalled link [] = Unit {0}
@@ -381,18 +389,19 @@ bytes_drained link Post = []
 bytes_drained link (Stop reason) = []
 bytes_drained link OutOfMemory = []
 bytes_drained link (Send message) = []
+bytes_drained link (SendInvalidate stag message) = []
 bytes_drained link (WriteRemote stag to bytes) = []
 bytes_drained link (ReadRemote sink at stag to len) = []
 bytes_drained link (Drain count) = take count (writable link.state.has_hello link.state.send_queue)
 bytes_drained link (Register buf right) = []
 bytes_drained link (Release stag) = []
+bytes_drained link (Invalidate stag) = []
 
 abbrev pub bytes_written : LinkSide → List Call → List ℕ
 bytes_written link [] = []
 bytes_written link (call ∷ calls) = bytes_drained link call ++ bytes_written (after_call link call) calls
 
--- An initiator writes its hello, and a responder nothing, but for the hello with which it rejects a connection and ends
--- (RFC 5044 section 7.1).
+-- An initiator writes its hello, and a responder nothing but the hello by which it rejects a connection and ends (RFC 5044 section 7.1).
 abbrev pub IsHelloAlone : Side → SideTerms → Bool → List ℕ → Type 0
 IsHelloAlone Initiator terms ended bytes = bytes ≡ hello_with Initiator (first_private terms Initiator)
 IsHelloAlone Responder terms ended bytes = (bytes ≡ []) ⊎ ((ended ≡ true) × (bytes ≡ refusing_hello))
@@ -439,11 +448,10 @@ MemoryComesFromOutOfMemory = (side : Side) (receives first_stag : ℕ) (terms : 
 abbrev pub DeniesAlike : RegisteredMemory → List Grant → ℕ → Type 0
 DeniesAlike m grants end = (access : Access) → denial m access ≡ grant_denial grants access end
 
--- So an FPDU ends a side if and only if it ends a side that offered these grants, and with the same reason, by the complete list of
--- nr_link.
+-- So an FPDU ends a side if and only if it ends a side that offered these grants, for the same reason, by the complete list of nr_link.
 abbrev pub GrantsEndAlike : Type 0
 GrantsEndAlike = (s : LinkState) (grants : List Grant) (frame : List ℕ) → s.ended ≡ None →
-    DeniesAlike s.memory grants (next_frame s frame).end → (with_frame s Fpdu frame).ended ≡ frame_end (readiness s) grants (next_frame s frame)
+    DeniesAlike s.memory grants (next_frame s frame).end → (with_frame s Fpdu frame).ended ≡ frame_end_by (readiness s) grants (next_frame s frame) (next_segment s frame)
 
 -- They do if memory and grants offer the same under every STag.
 abbrev pub OffersDenyAlike : Type 0
@@ -461,11 +469,13 @@ queue_drained Post q = q
 queue_drained (Stop reason) q = q
 queue_drained OutOfMemory q = q
 queue_drained (Send message) q = q
+queue_drained (SendInvalidate stag message) q = q
 queue_drained (WriteRemote stag to bytes) q = q
 queue_drained (ReadRemote sink at stag to len) q = q
 queue_drained (Drain count) q = written count q
 queue_drained (Register buf right) q = q
 queue_drained (Release stag) q = q
+queue_drained (Invalidate stag) q = q
 
 abbrev pub queue_drained_by : List Call → SendQueue → SendQueue
 queue_drained_by [] q = q

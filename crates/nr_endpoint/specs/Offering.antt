@@ -10,10 +10,10 @@ use Rattle.nr_endpoint.specs.declared.offering.Offered.{Offered}
 use Rattle.nr_endpoint.specs.declared.offering.Claims.{Claims}
 use Rattle.nr_endpoint.specs.declared.framing.RemoteWrite.{RemoteWrite}
 use Rattle.nr_endpoint.specs.declared.sharing.SharedWrite.{SharedWrite}
-use Rattle.nr_endpoint.specs.SendQueue.{with_send, with_fpdus}
+use Rattle.nr_endpoint.specs.SendQueue.{with_send, with_send_by, with_fpdus}
 use Rattle.nr_endpoint.specs.LinkState.{LinkState, has_ended}
 use Rattle.nr_endpoint.specs.Calls.{Call, unless_ended}
-use Rattle.nr_endpoint.specs.Calls.Call.{Send, WriteRemote, Register}
+use Rattle.nr_endpoint.specs.Calls.Call.{Send, SendInvalidate, WriteRemote, Register}
 
 -- ---- A Send and the buffers that it offers
 
@@ -73,7 +73,7 @@ after_offer message o s = record s {
   send_queue = if has_ended s then s.send_queue else with_send message s.send_queue;
 }
 
--- ---- RDMA Writes and a Send
+-- ---- RDMA Writes and a Send, which names an STag or none
 
 -- the offsets of a Write lie within 2^64
 abbrev pub FitsRegion : RemoteWrite → Type 0
@@ -85,27 +85,32 @@ FitsSharedRegion w = w.to + length w.bytes ≤ 2 ^ 64
 abbrev pub write_call : RemoteWrite → Call
 write_call w = WriteRemote w.stag w.to w.bytes.now
 
-abbrev pub answer_calls : List RemoteWrite → List ℕ → List Call
-answer_calls writes message = map write_call writes ++ Send message ∷ []
+-- a Send, with Invalidate if there is an STag
+abbrev pub send_call : Option ℕ → List ℕ → Call
+send_call None message = Send message
+send_call (Some stag) message = SendInvalidate stag message
+
+abbrev pub answer_calls : List RemoteWrite → (named : Option ℕ) → List ℕ → List Call
+answer_calls writes named message = map write_call writes ++ send_call named message ∷ []
 
 abbrev pub writes_output : List RemoteWrite → List ℕ
 writes_output [] = []
 writes_output (w ∷ writes) = write w.stag w.to w.bytes.now ++ writes_output writes
 
-abbrev pub after_answer : List RemoteWrite → List ℕ → LinkState → LinkState
-after_answer writes message s = unless_ended s (record s { send_queue = with_send message (with_fpdus (writes_output writes) s.send_queue) })
+abbrev pub after_answer : List RemoteWrite → (named : Option ℕ) → List ℕ → LinkState → LinkState
+after_answer writes named message s = unless_ended s (record s { send_queue = with_send_by named message (with_fpdus (writes_output writes) s.send_queue) })
 
 -- ---- RDMA Writes of shared bytes and a Send
 
 abbrev pub shared_call : SharedWrite → Call
 shared_call w = WriteRemote w.stag w.to w.bytes
 
-abbrev pub shared_calls : List SharedWrite → List ℕ → List Call
-shared_calls writes message = map shared_call writes ++ Send message ∷ []
+abbrev pub shared_calls : List SharedWrite → (named : Option ℕ) → List ℕ → List Call
+shared_calls writes named message = map shared_call writes ++ send_call named message ∷ []
 
 abbrev pub shared_output : List SharedWrite → List ℕ
 shared_output [] = []
 shared_output (w ∷ writes) = write w.stag w.to w.bytes ++ shared_output writes
 
-abbrev pub after_shared : List SharedWrite → List ℕ → LinkState → LinkState
-after_shared writes message s = unless_ended s (record s { send_queue = with_send message (with_fpdus (shared_output writes) s.send_queue) })
+abbrev pub after_shared : List SharedWrite → (named : Option ℕ) → List ℕ → LinkState → LinkState
+after_shared writes named message s = unless_ended s (record s { send_queue = with_send_by named message (with_fpdus (shared_output writes) s.send_queue) })

@@ -6,7 +6,7 @@ use Rattle.nr_wire.specs.declared.hello.Side.TheVariants.{Initiator, Responder}
 use Rattle.nr_wire.specs.declared.stream.Awaited.{Awaited}
 use Rattle.nr_wire.specs.declared.stream.Awaited.TheVariants.{Hello as HelloFrom, Fpdu}
 use Rattle.nr_wire.specs.Hello.{Hello, hello_of}
-use Rattle.nr_wire.specs.Segment.{Segment, segment_of}
+use Rattle.nr_wire.specs.Segment.{Segment}
 use Rattle.nr_regions.specs.RegisteredMemory.{RegisteredMemory, bytes_at}
 use Rattle.nr_link.specs.declared.end.End.{End}
 use Rattle.nr_link.specs.declared.end.End.TheVariants as ends
@@ -14,7 +14,7 @@ use Rattle.nr_link.specs.Limits.{open_reads_max}
 use Rattle.nr_link.specs.Frames.{Frame}
 use Rattle.nr_link.specs.Output.{hello_with}
 use Rattle.nr_link.specs.OutputItem.{OutputItem, items_encoding, is_send_item, is_response_item, items_written, items_left}
-use Rattle.nr_link.specs.OutputItem.OutputItem.{SendItem, WriteItem, ReadRequestItem, ReadResponseItem, LastItem}
+use Rattle.nr_link.specs.OutputItem.OutputItem.{SendItem, SendInvalidateItem, WriteItem, ReadRequestItem, ReadResponseItem, LastItem}
 use Rattle.nr_link.specs.ReceiveState.{ReadRequest, read_request_of}
 use Rattle.nr_link.specs.Ending.{rejection}
 use Rattle.nr_link.specs.declared.agreement.SideTerms.{SideTerms}
@@ -22,9 +22,9 @@ use Rattle.nr_endpoint.specs.SendQueue.{next_number, writable}
 use Rattle.nr_endpoint.specs.ReceiveQueue.{receives_kept}
 use Rattle.nr_endpoint.specs.Hellos.{first_private}
 use Rattle.nr_endpoint.specs.LinkState.{LinkState, LinkSide, has_ended, initial_link}
-use Rattle.nr_endpoint.specs.Judging.{segment_end, fetch_access, next_frame, with_frame}
+use Rattle.nr_endpoint.specs.Judging.{segment_end, fetch_access, next_frame, next_segment, with_frame}
 use Rattle.nr_endpoint.specs.Calls.{Call, IsStopReason, after_call, after_calls}
-use Rattle.nr_endpoint.specs.Calls.Call.{Feed, FeedOne, NextEvent, Post, Stop, OutOfMemory, Send, WriteRemote, ReadRemote, Drain, Register, Release}
+use Rattle.nr_endpoint.specs.Calls.Call.{Feed, FeedOne, NextEvent, Post, Stop, OutOfMemory, Send, SendInvalidate, WriteRemote, ReadRemote, Drain, Register, Release, Invalidate}
 use Rattle.nr_endpoint.specs.Laws.{frames_made_whole, bytes_written}
 
 -- ---- The items that are queued
@@ -48,7 +48,7 @@ hello_items f (Err reason) = LastItem (ends.Bad f.at reason) ∷ []
 
 abbrev pub frame_items : LinkState → Awaited → List ℕ → List OutputItem
 frame_items s (HelloFrom side) bytes = hello_items (next_frame s bytes) (hello_of side bytes)
-frame_items s Fpdu bytes = fpdu_items s (next_frame s bytes) (segment_of bytes)
+frame_items s Fpdu bytes = fpdu_items s (next_frame s bytes) (next_segment s bytes)
 
 -- those of frames that come one after the other, up to the one that ends the side
 abbrev pub items_of_frames : List (List ℕ) → Awaited → LinkState → List OutputItem
@@ -64,12 +64,14 @@ call_items link Post = []
 call_items link (Stop reason) = if has_ended link.state then [] else LastItem (ends.Bad link.state.last reason) ∷ []
 call_items link OutOfMemory = []
 call_items link (Send message) = if has_ended link.state then [] else SendItem (next_number link.state.send_queue.last_send) message ∷ []
+call_items link (SendInvalidate stag message) = if has_ended link.state then [] else SendInvalidateItem (next_number link.state.send_queue.last_send) stag message ∷ []
 call_items link (WriteRemote stag to bytes) = if has_ended link.state then [] else WriteItem stag to bytes ∷ []
 call_items link (ReadRemote sink at stag to len) =
     if has_ended link.state then [] else ReadRequestItem (next_number link.state.send_queue.last_request) sink at len stag to ∷ []
 call_items link (Drain count) = []
 call_items link (Register buf right) = []
 call_items link (Release stag) = []
+call_items link (Invalidate stag) = []
 
 abbrev pub items_queued : LinkSide → List Call → List OutputItem
 items_queued link [] = []
@@ -102,11 +104,13 @@ IsAllowedCall link Post = 0 < link.state.receive_queue.lent
 IsAllowedCall link (Stop reason) = IsStopReason reason
 IsAllowedCall link OutOfMemory = Unit {0}
 IsAllowedCall link (Send message) = Unit {0}
+IsAllowedCall link (SendInvalidate stag message) = Unit {0}
 IsAllowedCall link (WriteRemote stag to bytes) = Unit {0}
 IsAllowedCall link (ReadRemote sink at stag to len) = length link.state.reads < open_reads_max
 IsAllowedCall link (Drain count) = count ≤ length (writable link.state.has_hello link.state.send_queue)
 IsAllowedCall link (Register buf right) = Unit {0}
 IsAllowedCall link (Release stag) = Unit {0}
+IsAllowedCall link (Invalidate stag) = Unit {0}
 
 abbrev pub AreAllowedCalls : LinkSide → List Call → Type 0
 AreAllowedCalls link [] = Unit {0}

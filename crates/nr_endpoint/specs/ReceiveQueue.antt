@@ -1,13 +1,14 @@
 -- What came to a side in untagged messages, and its receives (RFC 5041 section 4.3).
-use Rattle.std.specs.Prelude.{ℕ, ◌+◌, ◌-◌, Bool, not, false, ◌&&◌, if◌then◌else◌, List, [], ◌∷◌, ◌++◌, drop, Option, None, Some}
+use Rattle.std.specs.Prelude.{ℕ, ◌+◌, ◌-◌, Bool, not, false, ◌&&◌, ◌==◌, if◌then◌else◌, List, [], ◌∷◌, ◌++◌, drop, Option, None, Some}
+use Rattle.nr_wire.specs.Constants.{OPCODE_SEND, OPCODE_SEND_INVALIDATE}
 use Rattle.nr_wire.specs.Segment.{Segment}
 use Rattle.nr_wire.specs.Segment.Segment.{Tagged, Untagged}
-use Rattle.nr_link.specs.ReceiveState.{ReceiveState, nothing_received, is_send, received_after, message_completed}
+use Rattle.nr_link.specs.ReceiveState.{ReceiveState, nothing_received, is_send, received_after, message_completed, stag_invalidated}
 use Rattle.nr_link.specs.KeptSends.{received_within}
 use Rattle.nr_link.specs.SegmentFaults.{is_begun}
 
--- What is delivered to the owner: the Send with a number, from 1 on, is complete, with the STag that it invalidates, if any (no Send that is
--- received here does so); the response to the Read Request that was open longest is complete.
+-- What is delivered to the owner: the Send with a number, from 1 on, is complete, with the STag that it names if it is a Send with
+-- Invalidate; the response to the Read Request that was open longest is complete.
 pub data DeliveredEvent : Type 0 where
   MessageReceived : (number : ℕ) → (invalidated : Option ℕ) → (bytes : List ℕ) → DeliveredEvent
   ReadDone : DeliveredEvent
@@ -38,9 +39,18 @@ abbrev pub takes_receive : ReceiveState → Segment → Bool
 takes_receive h (Tagged last opcode stag to payload) = false
 takes_receive h (Untagged last opcode w queue msn offset payload) = is_send opcode && not (is_begun h.begun)
 
-abbrev pub message_deliveries : ℕ → Option (List ℕ) → List DeliveredEvent
-message_deliveries number None = []
-message_deliveries number (Some message) = MessageReceived number None message ∷ []
+abbrev pub message_deliveries : ℕ → Option ℕ → Option (List ℕ) → List DeliveredEvent
+message_deliveries number named None = []
+message_deliveries number named (Some message) = MessageReceived number named message ∷ []
+
+-- the STag that a segment of a Send with this opcode and word names, if it is the last
+abbrev pub named_by : (opcode w : ℕ) → Option ℕ
+named_by opcode w = if opcode == OPCODE_SEND_INVALIDATE then Some w else None
+
+-- a segment of a Send as the receives count it: what it names, if it is the last, and its payload
+abbrev pub send_segment : Option ℕ → Bool → List ℕ → Segment
+send_segment None last payload = Untagged last OPCODE_SEND 0 0 0 0 payload
+send_segment (Some stag) last payload = Untagged last OPCODE_SEND_INVALIDATE stag 0 0 0 payload
 
 -- after one more segment
 unfoldable pub with_segment : Segment → ReceiveQueue → ReceiveQueue
@@ -50,7 +60,7 @@ with_segment segment q = record {
   received = received_within q.receive_length (received_after q.received segment);
   free = if takes_receive q.received segment then q.free - 1 else q.free;
   lent = q.lent;
-  deliveries = q.deliveries ++ message_deliveries (q.received.sends + 1) (message_completed q.received segment);
+  deliveries = q.deliveries ++ message_deliveries (q.received.sends + 1) (stag_invalidated segment) (message_completed q.received segment);
 }
 
 abbrev pub with_read_done : ReceiveQueue → ReceiveQueue

@@ -1,5 +1,5 @@
 -- The accesses of the peer and the events, by the bytes of its stream that came.
-use Rattle.std.specs.Prelude.{ℕ, ◌<◌, ◌≤◌, List, length, All, Option}
+use Rattle.std.specs.Prelude.{ℕ, ◌<◌, ◌≤◌, List, length, All}
 use Rattle.nr_wire.specs.declared.hello.Side.{Side}
 use Rattle.nr_regions.specs.Events.{tagged_segments}
 use Rattle.nr_link.specs.declared.agreement.SideTerms.{SideTerms}

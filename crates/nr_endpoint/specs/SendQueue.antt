@@ -4,7 +4,7 @@ use Rattle.std.specs.List.{filter}
 use Rattle.nr_wire.specs.declared.hello.Side.{Side}
 use Rattle.nr_wire.specs.declared.hello.Side.TheVariants.{Initiator, Responder}
 use Rattle.nr_link.specs.declared.end.End.{End}
-use Rattle.nr_link.specs.Output.{msn_word, terminate_message, send, write, read_response, read_request, hello_with}
+use Rattle.nr_link.specs.Output.{msn_word, terminate_message, send_by, write, read_response, read_request, hello_with}
 use Rattle.nr_link.specs.Ending.{final_output, rejection}
 
 -- The bytes of the hello and of the FPDUs that weren't written yet. For each Send and for each Read Response among the FPDUs, in
@@ -43,15 +43,19 @@ with_hello bytes q = record q { hello = q.hello ++ bytes }
 abbrev pub with_fpdus : List ℕ → SendQueue → SendQueue
 with_fpdus bytes q = record q { fpdus = q.fpdus ++ bytes }
 
-abbrev pub send_output : SendQueue → List ℕ → List ℕ
-send_output q message = send (next_number q.last_send) message
+-- a Send, with Invalidate if there is an STag
+abbrev pub send_output : SendQueue → Option ℕ → List ℕ → List ℕ
+send_output q named message = send_by named (next_number q.last_send) message
 
-abbrev pub with_send : List ℕ → SendQueue → SendQueue
-with_send message q = record q {
-  fpdus = q.fpdus ++ send_output q message;
-  send_ends = q.send_ends ++ length (q.fpdus ++ send_output q message) ∷ [];
+abbrev pub with_send_by : Option ℕ → List ℕ → SendQueue → SendQueue
+with_send_by named message q = record q {
+  fpdus = q.fpdus ++ send_output q named message;
+  send_ends = q.send_ends ++ length (q.fpdus ++ send_output q named message) ∷ [];
   last_send = next_number q.last_send;
 }
+
+abbrev pub with_send : List ℕ → SendQueue → SendQueue
+with_send message q = with_send_by None message q
 
 -- an RDMA Write of some bytes into the peer's region, from `to` on
 abbrev pub with_write : (stag to : ℕ) → List ℕ → SendQueue → SendQueue

@@ -19,7 +19,7 @@ delivery events.ReadDone = ReadDone
 -- each message comes after the reads that were done before it, and after the last message come those that were done since
 abbrev pub deliveries : List ReceivedMessage → ℕ → List DeliveredEvent
 deliveries [] reads_done = replicate reads_done ReadDone
-deliveries (m ∷ messages) reads_done = replicate m.reads_done ReadDone ++ MessageReceived m.number None (take m.len m.buf) ∷ deliveries messages reads_done
+deliveries (m ∷ messages) reads_done = replicate m.reads_done ReadDone ++ MessageReceived m.number m.invalidated (take m.len m.buf) ∷ deliveries messages reads_done
 
 -- how many reads were done before the first message, and the messages once one of those was delivered to the owner
 abbrev pub reads_first : List ReceivedMessage → ℕ
@@ -28,7 +28,7 @@ reads_first (m ∷ messages) = m.reads_done
 
 abbrev pub without_first_read : List ReceivedMessage → List ReceivedMessage
 without_first_read [] = []
-without_first_read (m ∷ messages) = record { reads_done = m.reads_done - 1; number = m.number; buf = m.buf; len = m.len } ∷ messages
+without_first_read (m ∷ messages) = record { reads_done = m.reads_done - 1; number = m.number; invalidated = m.invalidated; buf = m.buf; len = m.len } ∷ messages
 
 abbrev pub expected : OpenRead → ExpectedResponse
 expected r = record { sink = r.sink; at = r.at; left = r.end - r.at }

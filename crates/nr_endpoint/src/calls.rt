@@ -5,7 +5,8 @@ ghost use Rattle.std.specs.Prelude.{false, ◌≡◌, ◌≢◌, ℕ, ◌+◌, �
 ghost use Rattle.std.specs.Io.KnownBytes.{Appends};
 ghost use Rattle.nr_outside.specs.Faults.{Rises};
 ghost use Rattle.std.specs.FinMap.{get, insert, remove};
-ghost use Rattle.nr_regions.specs.RegisteredMemory.{Claim, IsHeld, buffer_around, bytes_in, bytes_held, claim_of, held_region, nothing_outside, outside_held, outside_window, window_bytes};
+ghost use Rattle.std.specs.Result.{result_err};
+ghost use Rattle.nr_regions.specs.RegisteredMemory.{Claim, IsHeld, buffer_around, bytes_in, bytes_held, claim_of, held_region, invalidate_denial, live_region, nothing_outside, outside_held, outside_window, window_bytes};
 ghost use Rattle.nr_link.specs.declared.end.End.{End};
 ghost use Rattle.nr_link.specs.declared.end.End.TheVariants as ends;
 ghost use Rattle.nr_link.specs.Agreement.{IsSendLimit};
@@ -15,7 +16,7 @@ ghost use Rattle.nr_endpoint.specs.declared.fault.ReadRefused.TheVariants as ref
 ghost use Rattle.nr_endpoint.specs.declared.fault.DrainFault.TheVariants as drains;
 ghost use Rattle.nr_endpoint.specs.SendQueue.{writable, output_len};
 ghost use Rattle.nr_endpoint.specs.Calls.{after_call, IsStopReason, StandsOn};
-ghost use Rattle.nr_endpoint.specs.Calls.Call.{NextEvent, Post, Stop, OutOfMemory, Send, WriteRemote, ReadRemote, Drain, Register, Release};
+ghost use Rattle.nr_endpoint.specs.Calls.Call.{NextEvent, Post, Stop, OutOfMemory, Send, SendInvalidate, WriteRemote, ReadRemote, Drain, Register, Release, Invalidate};
 ghost use Rattle.nr_endpoint.specs.EndpointState.{bytes_kept};
 ghost use Rattle.nr_wire.specs.Constants.{FPDU_MAX};
 ghost use Rattle.nr_endpoint.specs.Receives.{HasBuffer};
@@ -27,7 +28,7 @@ use crate::event::Event;
 use crate::fault::{DrainFault, ReadRefused};
 use nr_link::End;
 use nr_outside::Sink;
-use nr_regions::{Regions, Registration, Right, Why};
+use nr_regions::{Denied, Regions, Registration, Right, Why};
 use nr_xdr::{Memory, Octets};
 
 impl Endpoint {
@@ -38,6 +39,13 @@ impl Endpoint {
         ensures down { result.1 ≡ self.now.link.state.agreed.down }
     {
         (self.link.agreed.up, self.link.agreed.down)
+    }
+
+    /// Whether the hellos of both sides agree on Sends with Invalidate: a responder's replies are such, and an initiator takes them. Takes no memory.
+    pub fn invalidates(&self) -> bool
+        ensures { result ≡ self.now.link.state.agreed.invalidates }
+    {
+        self.link.agreed.invalidates
     }
 
     /// Takes the next event; `None` if and only if none waits. It comes after all tagged segments that arrived before it. Takes no memory.
@@ -137,7 +145,22 @@ impl Endpoint {
         ensures live { OnErr result (has_ended self.old.link.state ≡ false) }
         ensures staging { self.new.staging ≡ self.old.staging }
     {
-        self.link.send(message)
+        self.link.send(None, message)
+    }
+
+    /// Queues a Send with Invalidate (RFC 5040 section 5.1), which asks the peer to let the region under its own STag `stag` die. If the side has
+    /// ended, it queues nothing. An `Err` changes nothing.
+    pub fn send_invalidate(&mut self, message: &[u8], stag: u32) -> Result<(), Memory>
+        requires { length message.now < 2 ^ 32 }
+        ensures state { OnOk result (self.new.link ≡ after_call self.old.link (SendInvalidate stag message.now)) }
+        ensures stands { OnOk result (StandsOn self.old.link (SendInvalidate stag message.now) self.new.link) }
+        ensures room { self.new.room ≡ self.old.room }
+        ensures outside { self.new.outside ≡ self.old.outside }
+        ensures err { OnErr result (self.new.link ≡ self.old.link) }
+        ensures live { OnErr result (has_ended self.old.link.state ≡ false) }
+        ensures staging { self.new.staging ≡ self.old.staging }
+    {
+        self.link.send(Some(stag), message)
     }
 
     /// Queues the Send of a message in two parts, as [`Endpoint::send`] does a message: they are not joined before, so that a header and a
@@ -152,7 +175,7 @@ impl Endpoint {
         ensures live { OnErr result (has_ended self.old.link.state ≡ false) }
         ensures staging { self.new.staging ≡ self.old.staging }
     {
-        self.link.send_parts(front, stream)
+        self.link.send_parts(None, front, stream)
     }
 
     /// Queues an RDMA Write of some bytes into the peer's region, from byte `to` on. If the side has ended, it queues nothing. An `Err` changes
@@ -273,6 +296,27 @@ impl Endpoint {
         ensures staging { self.new.staging ≡ self.old.staging }
     {
         self.link.register_window(buf, start, len, right)
+    }
+
+    /// Lets the region under an STag die, as a Send with Invalidate of the peer asks (RFC 5040 section 5.1): from then on no peer reaches it, and it
+    /// is held, with its bytes, until it is released. `NoStag` if and only if no live region has the STag; then nothing changes. Takes no memory.
+    pub fn invalidate(&mut self, stag: u32) -> Result<(), Denied>
+        ensures exact { result_err result ≡ invalidate_denial self.old.link.state.memory stag }
+        ensures state { OnOk result (self.new.link ≡ after_call self.old.link (Invalidate stag)) }
+        ensures stands { OnOk result (StandsOn self.old.link (Invalidate stag) self.new.link) }
+        ensures err { OnErr result (self.new.link ≡ self.old.link) }
+        ensures room { self.new.room ≡ self.old.room }
+        ensures outside { self.new.outside ≡ self.old.outside }
+        ensures staging { self.new.staging ≡ self.old.staging }
+    {
+        self.link.invalidate(stag)
+    }
+
+    /// Whether the peer reaches a region by this STag. Takes no memory.
+    pub fn is_live(&self, stag: u32) -> bool
+        ensures { result ≡ is_some (live_region self.now.link.state.memory stag) }
+    {
+        self.link.is_live(stag)
     }
 
     /// Returns the region's bytes as they are. From then on its STag is invalid. Takes no memory.

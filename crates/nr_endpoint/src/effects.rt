@@ -3,16 +3,17 @@
 ghost use Rattle.std.specs.Prelude.{◌≡◌, ◌+◌, ◌^◌, ◌<◌, ◌≤◌, ◌==◌, if◌then◌else◌, length, true, None, OnOk, OnErr};
 ghost use Rattle.nr_wire.specs.Segment.{IsSupported, payload_in};
 ghost use Rattle.nr_wire.specs.Segment.Segment.{Tagged, Untagged};
-ghost use Rattle.nr_wire.specs.Constants.{OPCODE_SEND};
 ghost use Rattle.nr_wire.specs.View.{segment as plain};
 ghost use Rattle.nr_link.specs.SegmentFaults.{is_expected};
 ghost use Rattle.nr_endpoint.specs.Judging.{expected_response, segment_end, with_effect, with_read_response, with_segment_by, next_frame, after_frame};
 ghost use Rattle.nr_endpoint.specs.SegmentEnds.{IsUntagged, tagged_end, RequestIsFine, SendIsFine};
+ghost use Rattle.nr_endpoint.specs.ReceiveQueue.{send_segment};
 ghost use Rattle.nr_endpoint.specs.SendQueue.{output_len};
 
 use crate::faults::{kind_of, read_request};
 use crate::link::LinkSide;
 use crate::reads::{advance, is_expected};
+use crate::receive_queue::named_by;
 use nr_link::End;
 use nr_wire::Segment;
 use nr_wire::constants::{OPCODE_READ_REQUEST, OPCODE_READ_RESPONSE};
@@ -37,13 +38,14 @@ impl LinkSide {
             Segment::Untagged {
                 last,
                 opcode,
+                word,
                 payload,
                 ..
             } => {
                 if opcode == OPCODE_READ_REQUEST {
                     return self.apply_request(payload, frame);
                 }
-                self.apply_send(last, payload, frame);
+                self.apply_send(named_by(opcode, word), last, payload, frame);
                 Ok(())
             }
         }
@@ -132,16 +134,16 @@ impl LinkSide {
         Ok(())
     }
 
-    /// One more segment of a Send. Takes no memory.
-    fn apply_send(&mut self, last: bool, payload: &[u8], frame: &[u8])
+    /// One more segment of a Send, which names this STag, or none, if it is the last. Takes no memory.
+    fn apply_send(&mut self, named: Option<u32>, last: bool, payload: &[u8], frame: &[u8])
         requires fine { SendIsFine self.old.state last payload.now }
         requires size { length payload.now + 1 ≤ length frame.now }
         requires within { self.old.state.place + length frame.now ≤ 2 ^ 62 }
-        ensures state { self.new.state ≡ after_frame (next_frame self.old.state frame.now) (with_effect (Untagged last OPCODE_SEND 0 0 0 0 payload.now) self.old.state) }
+        ensures state { self.new.state ≡ after_frame (next_frame self.old.state frame.now) (with_effect (send_segment named last payload.now) self.old.state) }
         ensures room { self.new.room ≡ self.old.room }
         ensures outside { self.new.outside ≡ self.old.outside }
     {
-        self.receive_queue.receive(last, payload);
+        self.receive_queue.receive(named, last, payload);
         self.last = self.place;
         self.place += frame.len() as u64;
     }

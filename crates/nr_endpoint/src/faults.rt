@@ -22,7 +22,8 @@ use nr_link::constants::{
 };
 use nr_regions::Kind;
 use nr_wire::constants::{
-    OPCODE_READ_REQUEST, OPCODE_READ_RESPONSE, OPCODE_SEND, QUEUE_READ_REQUEST, QUEUE_SEND,
+    OPCODE_READ_REQUEST, OPCODE_READ_RESPONSE, OPCODE_SEND, OPCODE_SEND_INVALIDATE,
+    QUEUE_READ_REQUEST, QUEUE_SEND,
 };
 use nr_wire::{Segment, hyper_at};
 use nr_xdr::word_at;
@@ -61,7 +62,7 @@ pub fn read_request(payload: &[u8]) -> ReadRequest
 pub fn is_send(opcode: u8) -> bool
     ensures { result ≡ is_send opcode }
 {
-    opcode == OPCODE_SEND
+    opcode == OPCODE_SEND || opcode == OPCODE_SEND_INVALIDATE
 }
 
 /// The kind of a tagged segment.

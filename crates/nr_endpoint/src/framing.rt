@@ -1,17 +1,18 @@
 //! FPDUs at the end of some bytes: segments, and messages and accesses cut into segments.
 
-ghost use Rattle.std.specs.Prelude.{◌≡◌, ℕ, ◌+◌, ◌*◌, ◌^◌, ◌<◌, ◌≤◌, ◌++◌, length, All, IfOk, OnOk, OnErr};
+ghost use Rattle.std.specs.Prelude.{◌≡◌, ℕ, ◌+◌, ◌*◌, ◌^◌, ◌<◌, ◌≤◌, ◌++◌, if◌then◌else◌, length, All, IfOk, OnOk, OnErr};
 ghost use Rattle.nr_wire.specs.Segment.{IsWritable, encoding, payload_in};
+ghost use Rattle.nr_wire.specs.Segment.Segment.{Untagged};
 ghost use Rattle.nr_wire.specs.View.{segment as plain};
 ghost use Rattle.nr_link.specs.Output.{cut, segment_count, segment_payload, terminate_message};
-ghost use Rattle.nr_endpoint.specs.OperationSegments.{operation_segment, cut_room, writes_room, FitsAt, FitsOperation};
+ghost use Rattle.nr_endpoint.specs.OperationSegments.{operation_segment, cut_room, send_opcode, send_word, sender, writes_room, FitsAt, FitsOperation};
 ghost use Rattle.nr_endpoint.specs.Offering.{FitsRegion, writes_output};
 
 use crate::constants::{FRAMING_MAX, SEGMENT_MAX};
 use crate::output::Output;
 use nr_wire::constants::{
-    OPCODE_READ_RESPONSE, OPCODE_SEND, OPCODE_TERMINATE, OPCODE_WRITE, QUEUE_SEND, QUEUE_TERMINATE,
-    UNTAGGED_LEN,
+    OPCODE_READ_RESPONSE, OPCODE_SEND, OPCODE_SEND_INVALIDATE, OPCODE_TERMINATE, OPCODE_WRITE,
+    QUEUE_SEND, QUEUE_TERMINATE, UNTAGGED_LEN,
 };
 use nr_wire::{Segment, payload_in, segment_header, segment_tail, ulpdu_size, untagged_header};
 use nr_xdr::{Memory, Octets};
@@ -23,6 +24,8 @@ use std::alloc::Global;
 pub enum Operation {
     /// The Send with this message sequence number, from 1 on (RFC 5041 section 5.2).
     Send { msn: u32 },
+    /// The Send with Invalidate with this message sequence number, whose last segment names the STag (RFC 5040 section 4).
+    SendInvalidate { msn: u32, stag: u32 },
     /// An RDMA Write into the peer's region `stag`, from byte `to` on (RFC 5040 section 4).
     Write { stag: u32, to: u64 },
     /// A Read Response into the peer's region `stag`, from byte `to` on (RFC 5040 section 4).
@@ -40,12 +43,55 @@ pub struct RemoteWrite<'a> {
     pub bytes: &'a [u8],
 }
 
-/// The opcode of a Send, and the word that its header has before the queue, as a plain Send has them (RFC 5040 section 4.6).
-fn send_opening() -> (u8, u32)
-    ensures opcode { result.0 ≡ OPCODE_SEND }
-    ensures word { result.1 ≡ 0 }
+/// The Send with a number, with Invalidate if it names an STag.
+pub fn sender(named: Option<u32>, msn: u32) -> Operation
+    ensures { result ≡ sender named msn }
 {
-    (OPCODE_SEND, 0)
+    match named {
+        None => Operation::Send { msn },
+        Some(stag) => Operation::SendInvalidate { msn, stag },
+    }
+}
+
+/// The opcode of a Send, and the word that the header of its last segment has before the queue (RFC 5040 sections 4.6 and 5.1).
+fn send_opening(named: Option<u32>) -> (u8, u32)
+    ensures opcode { result.0 ≡ send_opcode named }
+    ensures word { result.1 ≡ send_word named }
+{
+    match named {
+        None => (OPCODE_SEND, 0),
+        Some(stag) => (OPCODE_SEND_INVALIDATE, stag),
+    }
+}
+
+/// The word of a segment of a Send with Invalidate: the last one has the STag (RFC 5040 section 5.1).
+fn last_word(last: bool, stag: u32) -> u32
+    ensures { result ≡ (if last then stag else 0) }
+{
+    if last { stag } else { 0 }
+}
+
+/// A segment of a Send with this opcode.
+fn send_segment(
+    last: bool,
+    opcode: u8,
+    word: u32,
+    msn: u32,
+    offset: usize,
+    payload: &[u8],
+) -> Segment<'_>
+    requires { offset < 2 ^ 32 }
+    ensures { plain result ≡ Untagged last opcode word QUEUE_SEND msn offset payload.now }
+{
+    Segment::Untagged {
+        last,
+        opcode,
+        word,
+        queue: QUEUE_SEND,
+        msn,
+        offset: offset as u32,
+        payload,
+    }
 }
 
 /// The segment with these bytes, which lie at `offset` of all.
@@ -54,17 +100,10 @@ pub fn segment(operation: Operation, last: bool, offset: usize, payload: &[u8]) 
     ensures { plain result ≡ operation_segment operation last offset payload.now }
 {
     match operation {
-        Operation::Send { msn } => {
-            let (opcode, word) = send_opening();
-            Segment::Untagged {
-                last,
-                opcode,
-                word,
-                queue: QUEUE_SEND,
-                msn,
-                offset: offset as u32,
-                payload,
-            }
+        Operation::Send { msn } => send_segment(last, OPCODE_SEND, 0, msn, offset, payload),
+        Operation::SendInvalidate { msn, stag } => {
+            let word = last_word(last, stag);
+            send_segment(last, OPCODE_SEND_INVALIDATE, word, msn, offset, payload)
         }
         Operation::Write { stag, to } => Segment::Tagged {
             last,
@@ -159,13 +198,13 @@ pub fn push_cut(out: &mut Output, operation: Operation, bytes: &[u8]) -> Result<
 }
 
 /// Puts the Send of a message in two parts at the end, which is one segment, and for which there is room.
-fn append_send(out: &mut Output, msn: u32, front: &[u8], stream: &[u8])
+fn append_send(out: &mut Output, named: Option<u32>, msn: u32, front: &[u8], stream: &[u8])
     requires size { length front.now + length stream.now ≤ SEGMENT_MAX }
     requires room { length front.now + length stream.now + FRAMING_MAX ≤ out.old.spare }
-    ensures { out.new.items ≡ out.old.items ++ cut (operation_segment (Operation.Send msn)) (front.now ++ stream.now) }
+    ensures { out.new.items ≡ out.old.items ++ cut (operation_segment (sender named msn)) (front.now ++ stream.now) }
 {
     let len = front.len() + stream.len();
-    let (opcode, word) = send_opening();
+    let (opcode, word) = send_opening(named);
     let header = untagged_header(true, opcode, (word, QUEUE_SEND), (msn, 0), len);
     out.append(header.as_slice());
     out.append(front);
@@ -174,13 +213,19 @@ fn append_send(out: &mut Output, msn: u32, front: &[u8], stream: &[u8])
 }
 
 /// Puts the Send of a message in two parts at the end, which is one segment. An `Err` leaves the bytes as they were.
-pub fn push_send(out: &mut Output, msn: u32, front: &[u8], stream: &[u8]) -> Result<(), Memory>
+pub fn push_send(
+    out: &mut Output,
+    named: Option<u32>,
+    msn: u32,
+    front: &[u8],
+    stream: &[u8],
+) -> Result<(), Memory>
     requires { length front.now + length stream.now ≤ SEGMENT_MAX }
-    ensures ok { OnOk result (out.new.items ≡ out.old.items ++ cut (operation_segment (Operation.Send msn)) (front.now ++ stream.now)) }
+    ensures ok { OnOk result (out.new.items ≡ out.old.items ++ cut (operation_segment (sender named msn)) (front.now ++ stream.now)) }
     ensures err { OnErr result (out.new.items ≡ out.old.items) }
 {
     out.reserve(front.len() + stream.len() + FRAMING_MAX)?;
-    append_send(out, msn, front, stream);
+    append_send(out, named, msn, front, stream);
     Ok(())
 }
 
@@ -223,19 +268,20 @@ fn append_writes(out: &mut Output, writes: &[RemoteWrite<'_>])
 pub fn push_answer(
     out: &mut Output,
     writes: &[RemoteWrite<'_>],
+    named: Option<u32>,
     msn: u32,
     front: &[u8],
     stream: &[u8],
 ) -> Result<(), Memory>
     requires fits { All FitsRegion writes.now }
     requires size { length front.now + length stream.now ≤ SEGMENT_MAX }
-    ensures ok { OnOk result (out.new.items ≡ (out.old.items ++ writes_output writes.now) ++ cut (operation_segment (Operation.Send msn)) (front.now ++ stream.now)) }
+    ensures ok { OnOk result (out.new.items ≡ (out.old.items ++ writes_output writes.now) ++ cut (operation_segment (sender named msn)) (front.now ++ stream.now)) }
     ensures err { OnErr result (out.new.items ≡ out.old.items) }
 {
     let room = writes_room(writes, front.len() + stream.len() + FRAMING_MAX)?;
     out.reserve(room)?;
     append_writes(out, writes);
-    append_send(out, msn, front, stream);
+    append_send(out, named, msn, front, stream);
     Ok(())
 }
 
@@ -243,18 +289,19 @@ pub fn push_answer(
 pub fn push_long_answer(
     out: &mut Output,
     writes: &[RemoteWrite<'_>],
+    named: Option<u32>,
     msn: u32,
     message: &[u8],
 ) -> Result<(), Memory>
     requires fits { All FitsRegion writes.now }
     requires size { length message.now < 2 ^ 32 }
-    ensures ok { OnOk result (out.new.items ≡ (out.old.items ++ writes_output writes.now) ++ cut (operation_segment (Operation.Send msn)) message.now) }
+    ensures ok { OnOk result (out.new.items ≡ (out.old.items ++ writes_output writes.now) ++ cut (operation_segment (sender named msn)) message.now) }
     ensures err { OnErr result (out.new.items ≡ out.old.items) }
 {
     let room = writes_room(writes, cut_room(message))?;
     out.reserve(room)?;
     append_writes(out, writes);
-    append_segments(out, Operation::Send { msn }, message);
+    append_segments(out, sender(named, msn), message);
     Ok(())
 }
 

@@ -3,7 +3,7 @@
 ghost use Rattle.std.specs.Prelude.{◌≡◌, ◌≤◌};
 ghost use Rattle.arrayvec.specs.ArrayVec.{array_vec_len};
 ghost use Rattle.nr_wire.specs.Constants.{NUMBERED_TERMS_LEN};
-ghost use Rattle.nr_endpoint.specs.Hellos.{own_private, first_private, side_agreement, received_max, receive_length_for};
+ghost use Rattle.nr_endpoint.specs.Hellos.{own_private, first_private, side_agreement, received_max, receive_length_for, takes_invalidate};
 
 use crate::constants::SEND_UNIT;
 use arrayvec::ArrayVec;
@@ -53,6 +53,16 @@ pub fn received_max(side: Side, agreed: Agreement) -> u32
     match side {
         Side::Initiator => agreed.down,
         Side::Responder => agreed.up,
+    }
+}
+
+/// Whether a side takes a Send with Invalidate: an initiator if that is agreed, a responder never.
+pub fn takes_invalidate(side: Side, agreed: Agreement) -> bool
+    ensures { result ≡ takes_invalidate side agreed }
+{
+    match side {
+        Side::Initiator => agreed.invalidates,
+        Side::Responder => false,
     }
 }
 

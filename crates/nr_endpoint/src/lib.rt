@@ -16,6 +16,7 @@
 mod calls;
 mod constants;
 mod effects;
+mod ending;
 mod endpoint;
 mod event;
 mod fault;

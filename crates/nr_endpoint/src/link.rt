@@ -4,7 +4,7 @@ ghost use Rattle.std.specs.Prelude.{◌≡◌, ◌≢◌, ◌+◌, ◌^◌, ◌<
 ghost use Rattle.std.specs.Bool.{OnFalse};
 ghost use Rattle.std.specs.FinMap.{empty};
 ghost use Rattle.nr_wire.specs.Stream.{IsFrame};
-ghost use Rattle.nr_wire.specs.Segment.{IsSupported, payload_in, segment_of};
+ghost use Rattle.nr_wire.specs.Segment.{IsSupported, payload_in};
 ghost use Rattle.arrayvec.specs.ArrayVec.{array_vec_len};
 ghost use Rattle.nr_wire.specs.View.{segment as plain};
 ghost use Rattle.nr_wire.specs.Hello.{hello_of};
@@ -12,12 +12,13 @@ ghost use Rattle.nr_link.specs.declared.end.End.TheVariants as ends;
 ghost use Rattle.nr_endpoint.specs.LinkState.{initial_state};
 ghost use Rattle.nr_endpoint.specs.SendQueue.{output_len};
 ghost use Rattle.nr_endpoint.specs.SegmentEnds.{IsUntagged};
-ghost use Rattle.nr_endpoint.specs.Judging.{segment_end, with_end_of, with_segment_by, with_fpdu, with_peer_hello, with_agreement, with_frame, after_frame, next_frame};
+ghost use Rattle.nr_endpoint.specs.Judging.{segment_end, with_end_of, with_segment_by, with_fpdu, with_peer_hello, with_agreement, with_frame, after_frame, next_frame, next_segment};
 ghost use Rattle.nr_endpoint.specs.Hellos.{own_private};
 
 use crate::frames::{hello_in_frame, segment_in_frame};
 use crate::hellos::{
     Private, first_private, own_private, receive_length, received_max, side_agreement,
+    takes_invalidate,
 };
 use crate::reads::Reads;
 use crate::receive_queue::ReceiveQueue;
@@ -194,13 +195,13 @@ impl LinkSide {
     fn receive_fpdu(&mut self, frame: &[u8]) -> Result<(), Memory>
         requires frame { IsFrame Awaited.Fpdu frame.now }
         requires within { self.old.state.place + length frame.now ≤ 2 ^ 62 }
-        ensures ok { OnOk result (self.new.state ≡ with_fpdu (next_frame self.old.state frame.now) (segment_of frame.now) self.old.state) }
+        ensures ok { OnOk result (self.new.state ≡ with_fpdu (next_frame self.old.state frame.now) (next_segment self.old.state frame.now) self.old.state) }
         ensures err { OnErr result (self.new.state ≡ self.old.state) }
-        ensures queued { OnErr result (output_len self.old.state.send_queue < output_len (with_fpdu (next_frame self.old.state frame.now) (segment_of frame.now) self.old.state).send_queue) }
+        ensures queued { OnErr result (output_len self.old.state.send_queue < output_len (with_fpdu (next_frame self.old.state frame.now) (next_segment self.old.state frame.now) self.old.state).send_queue) }
         ensures room { self.new.room ≡ self.old.room }
         ensures outside { self.new.outside ≡ self.old.outside }
     {
-        match segment_in_frame(frame) {
+        match segment_in_frame(takes_invalidate(self.side, self.agreed), frame) {
             Ok(segment) => self.receive(&segment, frame),
             Err(reason) => self.end_with(End::Bad {
                 at: self.place,

@@ -86,7 +86,7 @@ fn send_unless(
     if ended {
         return Ok(());
     }
-    queue.send_parts(front, stream)
+    queue.send_parts(None, front, stream)
 }
 
 impl LinkSide {
@@ -122,12 +122,13 @@ impl LinkSide {
     pub fn answer(
         &mut self,
         writes: &[RemoteWrite<'_>],
+        named: Option<u32>,
         front: &[u8],
         stream: &[u8],
     ) -> Result<(), Memory>
         requires size { length front.now + length stream.now < 2 ^ 32 }
         requires fits { All FitsRegion writes.now }
-        ensures ok { OnOk result (self.new.state ≡ after_answer writes.now (front.now ++ stream.now) self.old.state) }
+        ensures ok { OnOk result (self.new.state ≡ after_answer writes.now named (front.now ++ stream.now) self.old.state) }
         ensures err { OnErr result (self.new.state ≡ self.old.state) }
         ensures live { OnErr result (has_ended self.old.state ≡ false) }
         ensures room { self.new.room ≡ self.old.room }
@@ -136,19 +137,20 @@ impl LinkSide {
         if self.ended.is_some() {
             return Ok(());
         }
-        self.send_queue.answer(writes, front, stream)
+        self.send_queue.answer(writes, named, front, stream)
     }
 
     /// Queues RDMA Writes of shared bytes and then the Send of a message in two parts. `Err` changes nothing.
     pub fn answer_shared(
         &mut self,
         writes: &[SharedWrite],
+        named: Option<u32>,
         front: &[u8],
         stream: &[u8],
     ) -> Result<(), Memory>
         requires size { length front.now + length stream.now < 2 ^ 32 }
         requires fits { All FitsSharedRegion writes.now }
-        ensures ok { OnOk result (self.new.state ≡ after_shared writes.now (front.now ++ stream.now) self.old.state) }
+        ensures ok { OnOk result (self.new.state ≡ after_shared writes.now named (front.now ++ stream.now) self.old.state) }
         ensures err { OnErr result (self.new.state ≡ self.old.state) }
         ensures live { OnErr result (has_ended self.old.state ≡ false) }
         ensures room { self.new.room ≡ self.old.room }
@@ -157,7 +159,7 @@ impl LinkSide {
         if self.ended.is_some() {
             return Ok(());
         }
-        self.send_queue.answer_shared(writes, front, stream)
+        self.send_queue.answer_shared(writes, named, front, stream)
     }
 }
 
@@ -207,20 +209,25 @@ impl Endpoint {
         self.link.offer(front, stream, offered)
     }
 
-    /// Queues RDMA Writes into the peer's regions, in their order, and then a Send: all of them or, if memory runs out, nothing. A side that
-    /// has ended queues nothing.
-    pub fn answer(&mut self, writes: &[RemoteWrite<'_>], message: &[u8]) -> Result<(), Memory>
+    /// Queues RDMA Writes into the peer's regions, in their order, and then a Send, with Invalidate of the peer's STag that
+    /// is named, if one is (RFC 5040 section 5.1): all of them or, if memory runs out, nothing. A side that has ended queues nothing.
+    pub fn answer(
+        &mut self,
+        writes: &[RemoteWrite<'_>],
+        named: Option<u32>,
+        message: &[u8],
+    ) -> Result<(), Memory>
         requires size { length message.now < 2 ^ 32 }
         requires fits { All FitsRegion writes.now }
-        ensures state { OnOk result (self.new.link ≡ after_calls self.old.link (answer_calls writes.now message.now)) }
-        ensures stands { OnOk result (StandsOnAll self.old.link (answer_calls writes.now message.now) self.new.link) }
+        ensures state { OnOk result (self.new.link ≡ after_calls self.old.link (answer_calls writes.now named message.now)) }
+        ensures stands { OnOk result (StandsOnAll self.old.link (answer_calls writes.now named message.now) self.new.link) }
         ensures err { OnErr result (self.new.link ≡ self.old.link) }
         ensures live { OnErr result (has_ended self.old.link.state ≡ false) }
         ensures room { self.new.room ≡ self.old.room }
         ensures outside { self.new.outside ≡ self.old.outside }
         ensures staging { self.new.staging ≡ self.old.staging }
     {
-        self.answer_parts(writes, message, &[])
+        self.answer_parts(writes, named, message, &[])
     }
 
     /// Queues RDMA Writes and then the Send of a message in two parts, as [`Endpoint::answer`] does with a message in one. The room for all
@@ -228,20 +235,21 @@ impl Endpoint {
     pub fn answer_parts(
         &mut self,
         writes: &[RemoteWrite<'_>],
+        named: Option<u32>,
         front: &[u8],
         stream: &[u8],
     ) -> Result<(), Memory>
         requires size { length front.now + length stream.now < 2 ^ 32 }
         requires fits { All FitsRegion writes.now }
-        ensures state { OnOk result (self.new.link ≡ after_calls self.old.link (answer_calls writes.now (front.now ++ stream.now))) }
-        ensures stands { OnOk result (StandsOnAll self.old.link (answer_calls writes.now (front.now ++ stream.now)) self.new.link) }
+        ensures state { OnOk result (self.new.link ≡ after_calls self.old.link (answer_calls writes.now named (front.now ++ stream.now))) }
+        ensures stands { OnOk result (StandsOnAll self.old.link (answer_calls writes.now named (front.now ++ stream.now)) self.new.link) }
         ensures err { OnErr result (self.new.link ≡ self.old.link) }
         ensures live { OnErr result (has_ended self.old.link.state ≡ false) }
         ensures room { self.new.room ≡ self.old.room }
         ensures outside { self.new.outside ≡ self.old.outside }
         ensures staging { self.new.staging ≡ self.old.staging }
     {
-        self.link.answer(writes, front, stream)
+        self.link.answer(writes, named, front, stream)
     }
 
     /// Queues RDMA Writes of shared bytes and then the Send of a message in two parts, as [`Endpoint::answer_parts`] does with bytes that are
@@ -249,19 +257,20 @@ impl Endpoint {
     pub fn answer_shared(
         &mut self,
         writes: &[SharedWrite],
+        named: Option<u32>,
         front: &[u8],
         stream: &[u8],
     ) -> Result<(), Memory>
         requires size { length front.now + length stream.now < 2 ^ 32 }
         requires fits { All FitsSharedRegion writes.now }
-        ensures state { OnOk result (self.new.link ≡ after_calls self.old.link (shared_calls writes.now (front.now ++ stream.now))) }
-        ensures stands { OnOk result (StandsOnAll self.old.link (shared_calls writes.now (front.now ++ stream.now)) self.new.link) }
+        ensures state { OnOk result (self.new.link ≡ after_calls self.old.link (shared_calls writes.now named (front.now ++ stream.now))) }
+        ensures stands { OnOk result (StandsOnAll self.old.link (shared_calls writes.now named (front.now ++ stream.now)) self.new.link) }
         ensures err { OnErr result (self.new.link ≡ self.old.link) }
         ensures live { OnErr result (has_ended self.old.link.state ≡ false) }
         ensures room { self.new.room ≡ self.old.room }
         ensures outside { self.new.outside ≡ self.old.outside }
         ensures staging { self.new.staging ≡ self.old.staging }
     {
-        self.link.answer_shared(writes, front, stream)
+        self.link.answer_shared(writes, named, front, stream)
     }
 }

@@ -5,13 +5,14 @@ ghost use Rattle.std.specs.Prelude.{false, true, Some, ◌≡◌, ◌≢◌, ◌
 ghost use Rattle.std.specs.Io.KnownBytes.{Appends};
 ghost use Rattle.nr_outside.specs.Faults.{Rises};
 ghost use Rattle.std.specs.FinMap.{get, insert, remove};
-ghost use Rattle.nr_regions.specs.RegisteredMemory.{IsHeld, after_register, after_release, buffer_around, bytes_held, bytes_in, claim_of, held_region, nothing_outside, outside_held, outside_window, window_bytes};
+ghost use Rattle.nr_regions.specs.RegisteredMemory.{IsHeld, after_invalidate, after_register, after_release, buffer_around, bytes_held, bytes_in, claim_of, held_region, invalidate_denial, live_region, nothing_outside, outside_held, outside_window, window_bytes};
 ghost use Rattle.nr_link.specs.Agreement.{IsSendLimit};
 ghost use Rattle.nr_link.specs.Limits.{open_reads_max};
 ghost use Rattle.nr_endpoint.specs.Hellos.{receive_length_for};
 ghost use Rattle.nr_link.specs.declared.end.End.TheVariants as ends;
 ghost use Rattle.nr_endpoint.specs.declared.fault.ReadRefused.TheVariants as refusals;
-ghost use Rattle.nr_endpoint.specs.SendQueue.{with_send, with_write, with_request, writable, written};
+ghost use Rattle.std.specs.Result.{result_err};
+ghost use Rattle.nr_endpoint.specs.SendQueue.{with_send_by, with_write, with_request, writable, written};
 ghost use Rattle.nr_endpoint.specs.ReceiveQueue.{delivered, posted, receives_kept};
 ghost use Rattle.nr_endpoint.specs.EndpointState.{bytes_of};
 ghost use Rattle.nr_endpoint.specs.Calls.{unless_ended};
@@ -26,7 +27,7 @@ use crate::reads::OpenRead;
 use crate::requests::RemoteRead;
 use nr_link::End;
 use nr_outside::{Failed, Sink};
-use nr_regions::{Registration, Right, Why};
+use nr_regions::{Denied, Registration, Right, Why};
 use nr_xdr::{Memory, Octets};
 
 impl LinkSide {
@@ -84,10 +85,10 @@ impl LinkSide {
         self.receive_queue.post(buf);
     }
 
-    /// Queues a Send (RFC 5040 section 4). If the side has ended, it queues nothing. An `Err` changes nothing.
-    pub fn send(&mut self, message: &[u8]) -> Result<(), Memory>
+    /// Queues a Send (RFC 5040 section 4), with Invalidate of the peer's STag that is named, if one is. If the side has ended, it queues nothing. An `Err` changes nothing.
+    pub fn send(&mut self, named: Option<u32>, message: &[u8]) -> Result<(), Memory>
         requires { length message.now < 2 ^ 32 }
-        ensures ok { OnOk result (self.new.state ≡ unless_ended self.old.state (record self.old.state { send_queue = with_send message.now self.old.state.send_queue })) }
+        ensures ok { OnOk result (self.new.state ≡ unless_ended self.old.state (record self.old.state { send_queue = with_send_by named message.now self.old.state.send_queue })) }
         ensures err { OnErr result (self.new.state ≡ self.old.state) }
         ensures live { OnErr result (has_ended self.old.state ≡ false) }
         ensures room { self.new.room ≡ self.old.room }
@@ -96,14 +97,19 @@ impl LinkSide {
         if self.ended.is_some() {
             return Ok(());
         }
-        self.send_queue.send(message)
+        self.send_queue.send(named, message)
     }
 
-    /// Queues the Send of a message in two parts (RFC 5040 section 4). If the side has ended, it queues nothing. An `Err` changes
+    /// Queues the Send of a message in two parts (RFC 5040 section 4), with Invalidate if an STag is named. If the side has ended, it queues nothing. An `Err` changes
     /// nothing.
-    pub fn send_parts(&mut self, front: &[u8], stream: &[u8]) -> Result<(), Memory>
+    pub fn send_parts(
+        &mut self,
+        named: Option<u32>,
+        front: &[u8],
+        stream: &[u8],
+    ) -> Result<(), Memory>
         requires { length front.now + length stream.now < 2 ^ 32 }
-        ensures ok { OnOk result (self.new.state ≡ unless_ended self.old.state (record self.old.state { send_queue = with_send (front.now ++ stream.now) self.old.state.send_queue })) }
+        ensures ok { OnOk result (self.new.state ≡ unless_ended self.old.state (record self.old.state { send_queue = with_send_by named (front.now ++ stream.now) self.old.state.send_queue })) }
         ensures err { OnErr result (self.new.state ≡ self.old.state) }
         ensures live { OnErr result (has_ended self.old.state ≡ false) }
         ensures room { self.new.room ≡ self.old.room }
@@ -112,7 +118,7 @@ impl LinkSide {
         if self.ended.is_some() {
             return Ok(());
         }
-        self.send_queue.send_parts(front, stream)
+        self.send_queue.send_parts(named, front, stream)
     }
 
     /// Queues an RDMA Write of some bytes into the peer's region `stag`, from byte `to` on (RFC 5040 section 4.3). If
@@ -246,6 +252,24 @@ impl LinkSide {
         ensures outside_err { OnErr result (self.new.outside ≡ self.old.outside) }
     {
         self.regions.register_window(buf, start, len, right)
+    }
+
+    /// Lets the region under an STag die, as the peer's Send with Invalidate asks: no peer reaches it any more, and it is held.
+    pub fn invalidate(&mut self, stag: u32) -> Result<(), Denied>
+        ensures exact { result_err result ≡ invalidate_denial self.old.state.memory stag }
+        ensures ok { OnOk result (self.new.state ≡ record self.old.state { memory = after_invalidate self.old.state.memory stag }) }
+        ensures err { OnErr result (self.new.state ≡ self.old.state) }
+        ensures room { self.new.room ≡ self.old.room }
+        ensures outside { self.new.outside ≡ self.old.outside }
+    {
+        self.regions.invalidate(stag)
+    }
+
+    /// Whether the peer reaches a region by this STag.
+    pub fn is_live(&self, stag: u32) -> bool
+        ensures { result ≡ is_some (live_region self.now.state.memory stag) }
+    {
+        self.regions.is_live(stag)
     }
 
     /// Returns a region's buffer with its present content. From then on its STag is invalid. Takes no memory.

@@ -3,15 +3,16 @@
 ghost use Rattle.std.specs.Prelude.{◌≡◌, ℕ, ◌+◌, ◌-◌, ◌*◌, ◌^◌, ◌<◌, ◌≤◌, [], ◌∷◌, length, take, drop, nat_lt, None, Some, IfOk, OnOk, OnErr, IfSome, is_some, All, not, vec_len, vec_capacity, option_map, option_to_list, true, false, if◌then◌else◌, ◌++◌};
 ghost use Rattle.std.specs.VecDeque.{deque_len, deque_capacity};
 ghost use Rattle.nr_wire.specs.Segment.Segment.{Untagged};
-ghost use Rattle.nr_wire.specs.Constants.{OPCODE_SEND, OPCODE_READ_REQUEST};
+ghost use Rattle.nr_wire.specs.Constants.{OPCODE_SEND, OPCODE_SEND_INVALIDATE, OPCODE_READ_REQUEST};
 ghost use Rattle.nr_link.specs.KeptSends.{kept_within};
 ghost use Rattle.nr_link.specs.ReceiveState.{begun_bytes};
 ghost use Rattle.nr_link.specs.SegmentFaults.{is_begun};
-ghost use Rattle.nr_endpoint.specs.ReceiveQueue.{initial_receives, with_segment, with_read_done, delivered, posted, receives_kept};
+ghost use Rattle.nr_endpoint.specs.ReceiveQueue.{initial_receives, named_by, send_segment, with_segment, with_read_done, delivered, posted, receives_kept};
 ghost use Rattle.nr_endpoint.specs.Views.{delivery, reads_first, without_first_read, begun_send, begun as begun_bytes_of};
 ghost use Rattle.nr_endpoint.specs.Receives.{IsReceive, HasBuffer};
 
 use crate::event::Event;
+use nr_wire::constants::OPCODE_SEND_INVALIDATE;
 use nr_xdr::{Memory, Octets};
 use std::alloc::Global;
 use std::collections::VecDeque;
@@ -34,6 +35,8 @@ pub struct ReceivedMessage {
     pub reads_done: u64,
     /// Its message sequence number, from 1 on (RFC 5041 section 5.2).
     pub number: u64,
+    /// The STag that it names, if it is a Send with Invalidate (RFC 5040 section 5.1).
+    pub invalidated: Option<u32>,
     /// The receive buffer, whose first `len` bytes are the message.
     pub buf: Octets,
     /// The length of the message in bytes.
@@ -72,6 +75,17 @@ impl Model for ReceiveQueue {
     ghost view = { λ q. record { receives = q.receives; receive_length = q.receive_length; received = record { sends = q.sends; begun = begun_bytes_of q.receive_length q.begun; requests = q.requests }; free = length q.free.items; lent = q.lent; deliveries = deliveries q.messages.items q.reads_done } };
 
     ghost invariant = { λ q. AreReceives q.receive_length q.free.items q.begun q.messages.items q.lent q.receives (vec_capacity q.free) (deque_capacity q.messages) };
+}
+
+/// What a Send names whose last segment has this opcode and this word: an STag, if it is a Send with Invalidate (RFC 5040 section 5.1).
+pub fn named_by(opcode: u8, word: u32) -> Option<u32>
+    ensures { result ≡ named_by opcode word }
+{
+    if opcode == OPCODE_SEND_INVALIDATE {
+        Some(word)
+    } else {
+        None
+    }
 }
 
 /// A receive buffer of `receive_length` zeros.
@@ -249,36 +263,38 @@ impl ReceiveQueue {
         }
     }
 
-    /// One more segment of a Send, which is begun or finds a receive, and fits it if it becomes complete. Takes no memory.
-    #[tactic(auto, unfolding(crate::specs::ReceiveQueue::with_segment))]
-    pub fn receive(&mut self, last: bool, payload: &[u8])
+    /// One more segment of a Send, which is begun or finds a receive, and fits it if it becomes complete. If it is the last, the Send names this
+    /// STag, or none. Takes no memory.
+    #[tactic(auto, using(crate::proofs::ReceiveQueueSteps::not_last_alike))]
+    pub fn receive(&mut self, named: Option<u32>, last: bool, payload: &[u8])
         requires receive { is_begun self.old.received.begun ≡ false → 0 < self.old.free }
         requires fits { last ≡ true → length (begun_bytes self.old.received.begun) + length payload.now ≤ self.old.receive_length }
         requires enough { last ≡ true → 16 ≤ length (begun_bytes self.old.received.begun) + length payload.now }
         requires count { self.old.received.sends < 2 ^ 63 }
         requires bytes { length (begun_bytes self.old.received.begun) + length payload.now < 2 ^ 63 }
-        ensures { self.new ≡ with_segment (Untagged last OPCODE_SEND 0 0 0 0 payload.now) self.old }
+        ensures { self.new ≡ with_segment (send_segment named last payload.now) self.old }
     {
         if last {
-            self.complete(payload);
+            self.complete(named, payload);
             return;
         }
         self.continue_send(payload);
     }
 
     /// The last segment of a Send. Its message has room, since its receive is neither free nor lent.
-    fn complete(&mut self, payload: &[u8])
+    fn complete(&mut self, named: Option<u32>, payload: &[u8])
         requires receive { is_begun self.old.received.begun ≡ false → 0 < self.old.free }
         requires fits { length (begun_bytes self.old.received.begun) + length payload.now ≤ self.old.receive_length }
         requires enough { 16 ≤ length (begun_bytes self.old.received.begun) + length payload.now }
         requires count { self.old.received.sends < 2 ^ 63 }
-        ensures { self.new ≡ with_segment (Untagged true OPCODE_SEND 0 0 0 0 payload.now) self.old }
+        ensures { self.new ≡ with_segment (send_segment named true payload.now) self.old }
     {
         let mut begun = take_receive(&mut self.begun, &mut self.free, self.receive_length);
         extend(&mut begun, self.receive_length, payload);
         self.messages.push_back_reserved(ReceivedMessage {
             reads_done: self.reads_done,
             number: self.sends + 1,
+            invalidated: named,
             buf: begun.buf,
             len: begun.len as usize,
         });
@@ -328,7 +344,7 @@ impl ReceiveQueue {
             self.lent += 1;
             return Some(Event::Message {
                 number: message.number,
-                invalidated: None,
+                invalidated: message.invalidated,
                 buf: message.buf,
                 len: message.len,
             });

@@ -1,32 +1,29 @@
 //! What a side has to write.
 
 ghost use Rattle.std.specs.Prelude.{◌≡◌, ℕ, ◌+◌, ◌-◌, ◌^◌, ◌<◌, ◌≤◌, [], ◌++◌, if◌then◌else◌, length, take, drop, All, IfOk, OnOk, OnErr, MatchResult, min};
-ghost use Rattle.std.specs.Bool.{OnTrue};
 ghost use Rattle.std.specs.Io.KnownBytes.{Appends};
 ghost use Rattle.nr_wire.specs.Constants.{PRIVATE_MAX};
 ghost use Rattle.nr_wire.specs.Hello.{hello_encoding};
 ghost use Rattle.nr_link.specs.Output.{refusing_hello};
-ghost use Rattle.nr_link.specs.Ending.{final_output, rejection};
 ghost use Rattle.nr_endpoint.specs.Judging.{reply_hello};
 ghost use Rattle.nr_outside.specs.Faults.{Rises};
 ghost use Rattle.nr_endpoint.specs.Requesting.{with_read_requests};
 ghost use Rattle.nr_endpoint.specs.Offering.{FitsRegion, FitsSharedRegion, shared_output, writes_output};
-ghost use Rattle.nr_endpoint.specs.SendQueue.{initial_queue, output_len, with_hello, with_fpdus, with_send, with_write, with_request, with_response, with_end, terminate_by, writable, written, ends_left, ends_passed};
+ghost use Rattle.nr_endpoint.specs.SendQueue.{initial_queue, output_len, with_hello, with_fpdus, with_send, with_send_by, with_write, with_request, with_response, with_end, writable, written, ends_left, ends_passed};
 
 use crate::constants::{OPEN_READS_MAX, SEGMENT_MAX};
+use crate::ending::{is_rejection, terminate_word};
 use crate::framing::{
     Operation, RemoteWrite, append_segments, cut_room, joined, push_answer, push_cut,
-    push_long_answer, push_send, push_terminate,
+    push_long_answer, push_send, push_terminate, sender,
 };
 use crate::output::{Output, write_run};
 use crate::requests::{REQUEST_ROOM, RemoteRead, append_request, append_requests};
 use crate::sharing::{SharedWrite, push_shared_answer};
 use bytes::BytesMut;
 use nr_link::End;
-use nr_link::constants::{WORD_BOUNDS, WORD_NO_BUFFER, WORD_NO_STAG, WORD_RIGHT};
 use nr_outside::{Failed, Sink};
-use nr_regions::Denied;
-use nr_wire::constants::{FLAG_REJECT, REASON_FLAGS, REASON_PRIVATE};
+use nr_wire::constants::FLAG_REJECT;
 use nr_wire::{Hello, Side, write_hello};
 use nr_xdr::Memory;
 use std::alloc::Global;
@@ -79,43 +76,6 @@ fn push_hello(
     )?;
     out.extend_from_slice(hello.as_slice())?;
     Ok(())
-}
-
-/// The word of the Terminate that a side writes last, if it writes one (RFC 5040 section 4.8; the words are own).
-#[tactic(auto, unfolding(nr_link::specs::Ending::final_output))]
-fn terminate_word(end: End) -> Option<u32>
-    ensures { final_output end ≡ terminate_by result }
-{
-    match end {
-        End::Bad { at: _, reason } => {
-            if reason <= REASON_PRIVATE {
-                None
-            } else {
-                Some(reason)
-            }
-        }
-        End::Denied { why, .. } => Some(match why {
-            Denied::NoStag => WORD_NO_STAG,
-            Denied::Bounds => WORD_BOUNDS,
-            Denied::Right => WORD_RIGHT,
-        }),
-        End::NoBuffer { msn: _ } => Some(WORD_NO_BUFFER),
-        End::Terminated { reason: _ } => None,
-        End::Memory => None,
-    }
-}
-
-/// Whether a side answers this end by a hello that rejects the connection (RFC 5044 section 7.1).
-/// Such an end has no Terminate.
-#[tactic(auto, unfolding(nr_link::specs::Ending::final_output))]
-fn is_rejection(side: Side, end: End) -> bool
-    ensures is { rejection side end ≡ (if result then refusing_hello else []) }
-    ensures alone { OnTrue result (final_output end ≡ []) }
-{
-    match (side, end) {
-        (Side::Responder, End::Bad { at: _, reason }) => reason == REASON_FLAGS,
-        _ => false,
-    }
 }
 
 /// Drops the first end if `n` more written bytes reach it, and answers 1. Else it goes to the back, counted from there on.
@@ -210,44 +170,49 @@ impl SendQueue {
         }
     }
 
-    /// A Send. An `Err` changes nothing.
-    #[tactic(auto, using(crate::proofs::Cuts::carried_send))]
-    pub fn send(&mut self, message: &[u8]) -> Result<(), Memory>
+    /// A Send, with Invalidate if it names an STag. An `Err` changes nothing.
+    #[tactic(auto, using(crate::proofs::Cuts::carried_by))]
+    pub fn send(&mut self, named: Option<u32>, message: &[u8]) -> Result<(), Memory>
         requires { length message.now < 2 ^ 32 }
-        ensures ok { OnOk result (self.new ≡ with_send message.now self.old) }
+        ensures ok { OnOk result (self.new ≡ with_send_by named message.now self.old) }
         ensures err { OnErr result (self.new ≡ self.old) }
     {
         let msn = self.last_send.wrapping_add(1);
         self.send_ends.reserve(1)?;
-        push_cut(&mut self.fpdus, Operation::Send { msn }, message)?;
+        push_cut(&mut self.fpdus, sender(named, msn), message)?;
         self.send_ends.push_back_reserved(self.fpdus.len());
         self.last_send = msn;
         Ok(())
     }
 
     /// The Send of a message in two parts, which are not joined before if they take one segment. An `Err` changes nothing.
-    pub fn send_parts(&mut self, front: &[u8], stream: &[u8]) -> Result<(), Memory>
+    pub fn send_parts(
+        &mut self,
+        named: Option<u32>,
+        front: &[u8],
+        stream: &[u8],
+    ) -> Result<(), Memory>
         requires { length front.now + length stream.now < 2 ^ 32 }
-        ensures ok { OnOk result (self.new ≡ with_send (front.now ++ stream.now) self.old) }
+        ensures ok { OnOk result (self.new ≡ with_send_by named (front.now ++ stream.now) self.old) }
         ensures err { OnErr result (self.new ≡ self.old) }
     {
         if front.len() + stream.len() <= SEGMENT_MAX {
-            return self.send_short(front, stream);
+            return self.send_short(named, front, stream);
         }
         let message = joined(self.alloc, front, stream)?;
-        self.send(message.as_slice())
+        self.send(named, message.as_slice())
     }
 
     /// The Send of a message in two parts, which is one segment. An `Err` changes nothing.
-    #[tactic(auto, using(crate::proofs::Cuts::carried_send))]
-    fn send_short(&mut self, front: &[u8], stream: &[u8]) -> Result<(), Memory>
+    #[tactic(auto, using(crate::proofs::Cuts::carried_by))]
+    fn send_short(&mut self, named: Option<u32>, front: &[u8], stream: &[u8]) -> Result<(), Memory>
         requires { length front.now + length stream.now ≤ SEGMENT_MAX }
-        ensures ok { OnOk result (self.new ≡ with_send (front.now ++ stream.now) self.old) }
+        ensures ok { OnOk result (self.new ≡ with_send_by named (front.now ++ stream.now) self.old) }
         ensures err { OnErr result (self.new ≡ self.old) }
     {
         let msn = self.last_send.wrapping_add(1);
         self.send_ends.reserve(1)?;
-        push_send(&mut self.fpdus, msn, front, stream)?;
+        push_send(&mut self.fpdus, named, msn, front, stream)?;
         self.send_ends.push_back_reserved(self.fpdus.len());
         self.last_send = msn;
         Ok(())
@@ -267,74 +232,90 @@ impl SendQueue {
     pub fn answer(
         &mut self,
         writes: &[RemoteWrite<'_>],
+        named: Option<u32>,
         front: &[u8],
         stream: &[u8],
     ) -> Result<(), Memory>
         requires size { length front.now + length stream.now < 2 ^ 32 }
         requires fits { All FitsRegion writes.now }
-        ensures ok { OnOk result (self.new ≡ with_send (front.now ++ stream.now) (with_fpdus (writes_output writes.now) self.old)) }
+        ensures ok { OnOk result (self.new ≡ with_send_by named (front.now ++ stream.now) (with_fpdus (writes_output writes.now) self.old)) }
         ensures err { OnErr result (self.new ≡ self.old) }
     {
         if front.len() + stream.len() <= SEGMENT_MAX {
-            return self.answer_short(writes, front, stream);
+            return self.answer_short(writes, named, front, stream);
         }
         let message = joined(self.alloc, front, stream)?;
-        self.answer_long(writes, message.as_slice())
+        self.answer_long(writes, named, message.as_slice())
     }
 
     /// RDMA Writes and then the Send of a message in two parts, which is one segment. An `Err` changes nothing.
-    #[tactic(auto, using(crate::proofs::Cuts::carried_send))]
+    #[tactic(auto, using(crate::proofs::Cuts::carried_by))]
     fn answer_short(
         &mut self,
         writes: &[RemoteWrite<'_>],
+        named: Option<u32>,
         front: &[u8],
         stream: &[u8],
     ) -> Result<(), Memory>
         requires size { length front.now + length stream.now ≤ SEGMENT_MAX }
         requires fits { All FitsRegion writes.now }
-        ensures ok { OnOk result (self.new ≡ with_send (front.now ++ stream.now) (with_fpdus (writes_output writes.now) self.old)) }
+        ensures ok { OnOk result (self.new ≡ with_send_by named (front.now ++ stream.now) (with_fpdus (writes_output writes.now) self.old)) }
         ensures err { OnErr result (self.new ≡ self.old) }
     {
         let msn = self.last_send.wrapping_add(1);
         self.send_ends.reserve(1)?;
-        push_answer(&mut self.fpdus, writes, msn, front, stream)?;
+        push_answer(&mut self.fpdus, writes, named, msn, front, stream)?;
         self.send_ends.push_back_reserved(self.fpdus.len());
         self.last_send = msn;
         Ok(())
     }
 
     /// RDMA Writes and then a Send. An `Err` changes nothing.
-    #[tactic(auto, using(crate::proofs::Cuts::carried_send))]
-    fn answer_long(&mut self, writes: &[RemoteWrite<'_>], message: &[u8]) -> Result<(), Memory>
+    #[tactic(auto, using(crate::proofs::Cuts::carried_by))]
+    fn answer_long(
+        &mut self,
+        writes: &[RemoteWrite<'_>],
+        named: Option<u32>,
+        message: &[u8],
+    ) -> Result<(), Memory>
         requires size { length message.now < 2 ^ 32 }
         requires fits { All FitsRegion writes.now }
-        ensures ok { OnOk result (self.new ≡ with_send message.now (with_fpdus (writes_output writes.now) self.old)) }
+        ensures ok { OnOk result (self.new ≡ with_send_by named message.now (with_fpdus (writes_output writes.now) self.old)) }
         ensures err { OnErr result (self.new ≡ self.old) }
     {
         let msn = self.last_send.wrapping_add(1);
         self.send_ends.reserve(1)?;
-        push_long_answer(&mut self.fpdus, writes, msn, message)?;
+        push_long_answer(&mut self.fpdus, writes, named, msn, message)?;
         self.send_ends.push_back_reserved(self.fpdus.len());
         self.last_send = msn;
         Ok(())
     }
 
     /// RDMA Writes of shared bytes and then the Send of a message in two parts. An `Err` changes nothing.
-    #[tactic(auto, using(crate::proofs::Cuts::carried_send))]
+    #[tactic(auto, using(crate::proofs::Cuts::carried_by))]
     pub fn answer_shared(
         &mut self,
         writes: &[SharedWrite],
+        named: Option<u32>,
         front: &[u8],
         stream: &[u8],
     ) -> Result<(), Memory>
         requires size { length front.now + length stream.now < 2 ^ 32 }
         requires fits { All FitsSharedRegion writes.now }
-        ensures ok { OnOk result (self.new ≡ with_send (front.now ++ stream.now) (with_fpdus (shared_output writes.now) self.old)) }
+        ensures ok { OnOk result (self.new ≡ with_send_by named (front.now ++ stream.now) (with_fpdus (shared_output writes.now) self.old)) }
         ensures err { OnErr result (self.new ≡ self.old) }
     {
         let msn = self.last_send.wrapping_add(1);
         self.send_ends.reserve(1)?;
-        push_shared_answer(&mut self.fpdus, self.alloc, writes, msn, front, stream)?;
+        push_shared_answer(
+            &mut self.fpdus,
+            self.alloc,
+            writes,
+            named,
+            msn,
+            front,
+            stream,
+        )?;
         self.send_ends.push_back_reserved(self.fpdus.len());
         self.last_send = msn;
         Ok(())

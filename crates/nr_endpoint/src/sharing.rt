@@ -3,11 +3,11 @@
 ghost use Rattle.std.specs.Prelude.{◌≡◌, ◌+◌, ◌^◌, ◌<◌, ◌≤◌, ◌++◌, length, All, IfOk, OnOk, OnErr};
 ghost use Rattle.nr_wire.specs.Segment.{encoding};
 ghost use Rattle.nr_link.specs.Output.{cut, segment_payload};
-ghost use Rattle.nr_endpoint.specs.OperationSegments.{operation_segment, FitsAt, FitsOperation};
+ghost use Rattle.nr_endpoint.specs.OperationSegments.{operation_segment, sender, FitsAt, FitsOperation};
 ghost use Rattle.nr_endpoint.specs.Offering.{FitsSharedRegion, shared_output};
 
 use crate::constants::{FRAMING_MAX, SEGMENT_MAX, SHARED_MIN};
-use crate::framing::{Operation, joined, push_cut, push_send, segment, segment_count};
+use crate::framing::{Operation, joined, push_cut, push_send, segment, segment_count, sender};
 use crate::output::Output;
 use bytes::Bytes;
 use nr_wire::{segment_header, segment_tail, ulpdu_size};
@@ -103,35 +103,37 @@ fn push_shared_writes(out: &mut Output, writes: &[SharedWrite]) -> Result<(), Me
 fn push_message(
     out: &mut Output,
     alloc: Global,
+    named: Option<u32>,
     msn: u32,
     front: &[u8],
     stream: &[u8],
 ) -> Result<(), Memory>
     requires { length front.now + length stream.now < 2 ^ 32 }
-    ensures { OnOk result (out.new.items ≡ out.old.items ++ cut (operation_segment (Operation.Send msn)) (front.now ++ stream.now)) }
+    ensures { OnOk result (out.new.items ≡ out.old.items ++ cut (operation_segment (sender named msn)) (front.now ++ stream.now)) }
 {
     if front.len() + stream.len() <= SEGMENT_MAX {
-        return push_send(out, msn, front, stream);
+        return push_send(out, named, msn, front, stream);
     }
     let message = joined(alloc, front, stream)?;
-    push_cut(out, Operation::Send { msn }, message.as_slice())
+    push_cut(out, sender(named, msn), message.as_slice())
 }
 
 /// RDMA Writes and then the Send of a message in two parts, apart from other output.
 fn shared_answer(
     alloc: Global,
     writes: &[SharedWrite],
+    named: Option<u32>,
     msn: u32,
     front: &[u8],
     stream: &[u8],
 ) -> Result<Output, Memory>
     requires size { length front.now + length stream.now < 2 ^ 32 }
     requires fits { All FitsSharedRegion writes.now }
-    ensures { IfOk result (λ output. output.items ≡ shared_output writes.now ++ cut (operation_segment (Operation.Send msn)) (front.now ++ stream.now)) }
+    ensures { IfOk result (λ output. output.items ≡ shared_output writes.now ++ cut (operation_segment (sender named msn)) (front.now ++ stream.now)) }
 {
     let mut output = Output::new(alloc);
     push_shared_writes(&mut output, writes)?;
-    push_message(&mut output, alloc, msn, front, stream)?;
+    push_message(&mut output, alloc, named, msn, front, stream)?;
     Ok(output)
 }
 
@@ -140,15 +142,16 @@ pub fn push_shared_answer(
     out: &mut Output,
     alloc: Global,
     writes: &[SharedWrite],
+    named: Option<u32>,
     msn: u32,
     front: &[u8],
     stream: &[u8],
 ) -> Result<(), Memory>
     requires size { length front.now + length stream.now < 2 ^ 32 }
     requires fits { All FitsSharedRegion writes.now }
-    ensures ok { OnOk result (out.new.items ≡ (out.old.items ++ shared_output writes.now) ++ cut (operation_segment (Operation.Send msn)) (front.now ++ stream.now)) }
+    ensures ok { OnOk result (out.new.items ≡ (out.old.items ++ shared_output writes.now) ++ cut (operation_segment (sender named msn)) (front.now ++ stream.now)) }
     ensures err { OnErr result (out.new.items ≡ out.old.items) }
 {
-    let mut more = shared_answer(alloc, writes, msn, front, stream)?;
+    let mut more = shared_answer(alloc, writes, named, msn, front, stream)?;
     out.absorb(&mut more)
 }

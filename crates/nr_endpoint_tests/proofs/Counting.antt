@@ -18,7 +18,7 @@ use Rattle.nr_link.specs.declared.end.End.TheVariants as ends
 use Rattle.nr_endpoint.specs.LinkState.{LinkState, LinkSide, has_ended, initial_link}
 use Rattle.nr_endpoint.specs.Judging.{with_frame, with_end_of}
 use Rattle.nr_endpoint.specs.Calls.{Call, after_call, after_calls}
-use Rattle.nr_endpoint.specs.Calls.Call.{Feed, FeedOne, NextEvent, Post, Stop, OutOfMemory, Send, WriteRemote, ReadRemote, Drain, Register, Release}
+use Rattle.nr_endpoint.specs.Calls.Call.{Feed, FeedOne, NextEvent, Post, Stop, OutOfMemory, Send, SendInvalidate, WriteRemote, ReadRemote, Drain, Register, Release, Invalidate}
 use Rattle.nr_endpoint.specs.FedBytes.{fed_bytes}
 use Rattle.nr_endpoint.proofs.Pieces.{frame_place}
 use Rattle.nr_endpoint.proofs.FedBytes.{fed_within, fed_one_within, send_fed, write_fed_lem, read_fed, register_fed, open_fed}
@@ -219,6 +219,21 @@ unfolding after_call
 after_send l after message most least region is c =
     quiet l after (Send message) most least region is (send_fed l message) (end_stays_lem l.state _ (has_ended l.state) refl) (λ stag e. cc) c
 
+invalidate_fed : (l : LinkSide) (stag : ℕ) (message : List ℕ) → fed_bytes (after_call l (SendInvalidate stag message)) ≡ fed_bytes l
+unfolding after_call
+invalidate_fed l stag message = ap (λ (n : ℕ). n + length l.rest) (place_stays l.state _ (has_ended l.state) refl)
+
+after_send_invalidate : (l after : LinkSide) (stag : ℕ) (message : List ℕ) (most least : ℕ) (region : Option Claim) → after ≡ after_call l (SendInvalidate stag message) →
+    IsCounted l most least region → IsCounted after most least region
+unfolding after_call
+after_send_invalidate l after stag message most least region is c =
+    quiet l after (SendInvalidate stag message) most least region is (invalidate_fed l stag message) (end_stays_lem l.state _ (has_ended l.state) refl) (λ released e. cc) c
+
+after_invalidated : (l after : LinkSide) (stag : ℕ) (most least : ℕ) (region : Option Claim) → after ≡ after_call l (Invalidate stag) →
+    IsCounted l most least region → IsCounted after most least region
+unfolding after_call
+after_invalidated l after stag most least region is c = quiet l after (Invalidate stag) most least region is refl refl (λ released e. cc) c
+
 after_write : (l after : LinkSide) (stag to : ℕ) (bytes : List ℕ) (most least : ℕ) (region : Option Claim) → after ≡ after_call l (WriteRemote stag to bytes) →
     IsCounted l most least region → IsCounted after most least region
 unfolding after_call
@@ -238,6 +253,16 @@ pub send_counted : {A E : Type 0} (l after : LinkSide) (message : List ℕ) (r :
     OnErr r (after ≡ l) → IsCounted l most least region → IsCounted after most least region
 send_counted l after message (Ok u) most least region fine none c = after_send l after message most least region fine c
 send_counted l after message (Err e) most least region fine none c = same_link l after most least region none c
+
+pub invalidate_counted : {A E : Type 0} (l after : LinkSide) (stag : ℕ) (message : List ℕ) (r : Result A E) (most least : ℕ) (region : Option Claim) →
+    OnOk r (after ≡ after_call l (SendInvalidate stag message)) → OnErr r (after ≡ l) → IsCounted l most least region → IsCounted after most least region
+invalidate_counted l after stag message (Ok u) most least region fine none c = after_send_invalidate l after stag message most least region fine c
+invalidate_counted l after stag message (Err e) most least region fine none c = same_link l after most least region none c
+
+pub died_counted : {A E : Type 0} (l after : LinkSide) (stag : ℕ) (r : Result A E) (most least : ℕ) (region : Option Claim) →
+    OnOk r (after ≡ after_call l (Invalidate stag)) → OnErr r (after ≡ l) → IsCounted l most least region → IsCounted after most least region
+died_counted l after stag (Ok u) most least region fine none c = after_invalidated l after stag most least region fine c
+died_counted l after stag (Err e) most least region fine none c = same_link l after most least region none c
 
 pub write_counted : {A E : Type 0} (l after : LinkSide) (stag to : ℕ) (bytes : List ℕ) (r : Result A E) (most least : ℕ) (region : Option Claim) →
     OnOk r (after ≡ after_call l (WriteRemote stag to bytes)) → OnErr r (after ≡ l) → IsCounted l most least region → IsCounted after most least region

@@ -20,5 +20,8 @@ stop_21 = inr (inr (inr (inr (inl refl))))
 pub stop_23 : IsStopReason 23
 stop_23 = inr (inr (inr (inr (inr (inl refl)))))
 
+pub stop_29 : IsStopReason 29
+stop_29 = inr (inr (inr (inr (inr (inr (inl refl))))))
+
 pub stop_30 : IsStopReason 30
-stop_30 = inr (inr (inr (inr (inr (inr refl)))))
+stop_30 = inr (inr (inr (inr (inr (inr (inr refl))))))

@@ -7,7 +7,7 @@ use crate::short_sink::ShortSink;
 use nr_endpoint::{DrainFault, Endpoint, Event, ReadRefused};
 use nr_link::{End, SideTerms};
 use nr_outside::MemSink;
-use nr_regions::{Registration, Right};
+use nr_regions::{Denied, Registration, Right};
 use nr_wire::Side;
 use nr_xdr::{Memory, Octets};
 use std::alloc::Global;
@@ -58,7 +58,7 @@ fn with_piece(rt: &impl Abort, fed: u64, piece: &[u8]) -> u64
 }
 
 /// A reason for which the layer above may end a side.
-#[tactic(auto, using(crate::proofs::StopReasons::stop_17, crate::proofs::StopReasons::stop_18, crate::proofs::StopReasons::stop_19, crate::proofs::StopReasons::stop_20, crate::proofs::StopReasons::stop_21, crate::proofs::StopReasons::stop_23, crate::proofs::StopReasons::stop_30))]
+#[tactic(auto, using(crate::proofs::StopReasons::stop_17, crate::proofs::StopReasons::stop_18, crate::proofs::StopReasons::stop_19, crate::proofs::StopReasons::stop_20, crate::proofs::StopReasons::stop_21, crate::proofs::StopReasons::stop_23, crate::proofs::StopReasons::stop_29, crate::proofs::StopReasons::stop_30))]
 fn stop_reason(rt: &impl Abort, reason: u32) -> u32
     ensures same { result ≡ reason }
     ensures reason { IsStopReason result }
@@ -80,6 +80,9 @@ fn stop_reason(rt: &impl Abort, reason: u32) -> u32
     }
     if reason == 23 {
         return 23;
+    }
+    if reason == 29 {
+        return 29;
     }
     check(rt, reason == 30);
     30
@@ -161,6 +164,22 @@ impl TestEndpoint {
     ) -> Result<(), Memory> {
         check(rt, front.len() + stream.len() < MANY);
         self.endpoint.send_parts(front, stream)
+    }
+
+    /// Queues a Send with Invalidate of the peer's region.
+    pub fn send_invalidate(
+        &mut self,
+        rt: &impl Abort,
+        message: &[u8],
+        stag: u32,
+    ) -> Result<(), Memory> {
+        check(rt, message.len() < MANY);
+        self.endpoint.send_invalidate(message, stag)
+    }
+
+    /// Lets the region under an STag die.
+    pub fn invalidate(&mut self, stag: u32) -> Result<(), Denied> {
+        self.endpoint.invalidate(stag)
     }
 
     /// Queues an RDMA Write of some bytes into the peer's region, from byte `to` on.

@@ -15,19 +15,25 @@ static FRAMES: &str = "\
 54143 0 0 | Some(Bad { at: 20, reason: 5 }) | 164147 0 2 1 0 5 0\n\
 114143 0 0 1 0 0 | Some(Bad { at: 20, reason: 5 }) | 164147 0 2 1 0 5 0\n\
 dc140 1 0*3 | Some(Bad { at: 20, reason: 5 }) | 164147 0 2 1 0 5 0\n\
+114144 0 0 1 0 0 | Some(Bad { at: 20, reason: 5 }) | 164147 0 2 1 0 5 0\n\
 11424f 0 9*3 0 | Some(Bad { at: 20, reason: 5 }) | 164147 0 2 1 0 5 0\n\
 # The versions of DDP: 0, 2, 3, and with another fault after it.\n\
 124043 0 0 1 0 0 | Some(Bad { at: 20, reason: 6 }) | 164147 0 2 1 0 6 0\n\
 124243 0 0 1 0 0 | Some(Bad { at: 20, reason: 6 }) | 164147 0 2 1 0 6 0\n\
 ec340 2 0*3 | Some(Bad { at: 20, reason: 6 }) | 164147 0 2 1 0 6 0\n\
+124044 0 0 1 0 0 | Some(Bad { at: 20, reason: 6 }) | 164147 0 2 1 0 6 0\n\
 12400f 0 9*3 0 | Some(Bad { at: 20, reason: 6 }) | 164147 0 2 1 0 6 0\n\
 # Those of RDMAP.\n\
 124103 0 0 1 0 0 | Some(Bad { at: 20, reason: 7 }) | 164147 0 2 1 0 7 0\n\
 124183 0 0 1 0 0 | Some(Bad { at: 20, reason: 7 }) | 164147 0 2 1 0 7 0\n\
 ec1c0 2 0*3 | Some(Bad { at: 20, reason: 7 }) | 164147 0 2 1 0 7 0\n\
+124104 0 0 1 0 0 | Some(Bad { at: 20, reason: 7 }) | 164147 0 2 1 0 7 0\n\
 12410f 0 9*3 0 | Some(Bad { at: 20, reason: 7 }) | 164147 0 2 1 0 7 0\n\
-# Opcodes: 4, 5, 6, 8 and 15.\n\
+# Opcodes: 5, 6, 8 and 15; and 4, which isn't agreed, also of another form and in another queue, with another number and offset.\n\
 124144 0 0 1 0 0 | Some(Bad { at: 20, reason: 8 }) | 164147 0 2 1 0 8 0\n\
+ec144 2 0*3 | Some(Bad { at: 20, reason: 8 }) | 164147 0 2 1 0 8 0\n\
+124144 0 1 1 0 0 | Some(Bad { at: 20, reason: 8 }) | 164147 0 2 1 0 8 0\n\
+124144 0 0 2 8 0 | Some(Bad { at: 20, reason: 8 }) | 164147 0 2 1 0 8 0\n\
 124145 0 0 1 0 0 | Some(Bad { at: 20, reason: 8 }) | 164147 0 2 1 0 8 0\n\
 124146 0 0 1 0 0 | Some(Bad { at: 20, reason: 8 }) | 164147 0 2 1 0 8 0\n\
 124148 0 9*3 0 | Some(Bad { at: 20, reason: 8 }) | 164147 0 2 1 0 8 0\n\

@@ -16,6 +16,8 @@ mod given;
 #[cfg(test)]
 mod hellos;
 #[cfg(test)]
+mod invalidates;
+#[cfg(test)]
 mod messages;
 #[cfg(test)]
 mod output;

@@ -163,9 +163,9 @@ fn answer(rt: &impl Abort, alloc: Global, in_parts: bool) {
         },
     ];
     let queued = if in_parts {
-        endpoint.answer_parts(&writes, &[3; 4], &[3; 12])
+        endpoint.answer_parts(&writes, None, &[3; 4], &[3; 12])
     } else {
-        endpoint.answer(&writes, &[3; 16])
+        endpoint.answer(&writes, None, &[3; 16])
     };
     same(rt, 1, queued, Ok(()));
     let mut sink = MemSink::new(alloc, Vec::new(alloc));
@@ -261,7 +261,7 @@ fn shared_answer(rt: &impl Abort, alloc: Global) {
         to: 0,
         bytes,
     }];
-    let queued = endpoint.answer_shared(&writes, &[3; 4], &[3; 12]);
+    let queued = endpoint.answer_shared(&writes, None, &[3; 4], &[3; 12]);
     same(rt, 1, queued, Ok(()));
     let mut sink = MemSink::new(alloc, Vec::new(alloc));
     same(rt, 2, endpoint.drain_into(&mut sink), Ok(()));

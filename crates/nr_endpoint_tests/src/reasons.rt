@@ -4,7 +4,7 @@ use crate::compare::same;
 use nr_link::constants::*;
 use nr_wire::constants::*;
 
-static REASONS: [(u32, u32); 28] = [
+static REASONS: [(u32, u32); 29] = [
     (REASON_KEY, 1),
     (REASON_FLAGS, 2),
     (REASON_REVISION, 3),
@@ -28,6 +28,7 @@ static REASONS: [(u32, u32); 28] = [
     (REASON_CHUNKS, 21),
     (REASON_LONG, 22),
     (REASON_VERSION, 23),
+    (REASON_INVALIDATED, 29),
     (REASON_STAGS, 30),
     (WORD_NO_STAG, 101),
     (WORD_BOUNDS, 102),

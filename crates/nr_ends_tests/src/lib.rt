@@ -21,6 +21,8 @@ mod given_up;
 #[cfg(test)]
 mod hellos;
 #[cfg(test)]
+mod invalidates;
+#[cfg(test)]
 mod items;
 #[cfg(test)]
 mod link;

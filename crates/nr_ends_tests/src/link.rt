@@ -108,8 +108,24 @@ impl TestLink {
     /// Two ends with these units, of the client and of the server.
     pub fn open_sized(rt: &impl Abort, alloc: Global, credits: u32, units: (u8, u8)) -> TestLink {
         TestLink {
-            client: Requester::open_sized(alloc, credits, units.0).expect(rt, "memory"),
-            server: Responder::open_sized(alloc, credits, units.1).expect(rt, "memory"),
+            client: Requester::open_sized(alloc, credits, units.0, false).expect(rt, "memory"),
+            server: Responder::open_sized(alloc, credits, credits, units.1, false).expect(
+                rt, "memory",
+            ),
+            fed_up: 0,
+            fed_down: 0,
+        }
+    }
+
+    /// Two ends with 16 credits. The client end takes, and the server end makes Sends with Invalidate, if these say so.
+    pub fn open_invalidating(
+        rt: &impl Abort,
+        alloc: Global,
+        invalidates: (bool, bool),
+    ) -> TestLink {
+        TestLink {
+            client: Requester::open_sized(alloc, 16, 1, invalidates.0).expect(rt, "memory"),
+            server: Responder::open_sized(alloc, 16, 16, 1, invalidates.1).expect(rt, "memory"),
             fed_up: 0,
             fed_down: 0,
         }
@@ -119,7 +135,7 @@ impl TestLink {
     pub fn open_low(rt: &impl Abort, alloc: Global, credits: u32, low: u32) -> TestLink {
         TestLink {
             client: Requester::open(alloc, credits).expect(rt, "memory"),
-            server: Responder::open_low(alloc, credits, low, 1).expect(rt, "memory"),
+            server: Responder::open_sized(alloc, credits, low, 1, false).expect(rt, "memory"),
             fed_up: 0,
             fed_down: 0,
         }
@@ -142,6 +158,16 @@ impl TestLink {
     /// The same of the server end.
     pub fn server_agreed(&self) -> (u32, u32) {
         self.server.agreed()
+    }
+
+    /// Whether the client end and the server end know of Sends with Invalidate that both agreed on.
+    pub fn invalidates(&self) -> (bool, bool) {
+        (self.client.invalidates(), self.server.invalidates())
+    }
+
+    /// How many regions the client end released that the server could reach.
+    pub fn releases(&self) -> u64 {
+        self.client.local_releases()
     }
 
     /// Why the client and the server have ended, if they have.

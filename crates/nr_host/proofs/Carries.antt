@@ -8,7 +8,7 @@ use Rattle.nr_outside.proofs.Moves.{HandsOut_nil}
 use Rattle.nr_outside.specs.declared.moment.Moment.{Moment}
 use Rattle.nr_endpoint.specs.LinkState.{initial_link}
 use Rattle.nr_wire.specs.declared.hello.Side.TheVariants.{Responder}
-use Rattle.nr_link.specs.Agreement.{sized_terms}
+use Rattle.nr_link.specs.Agreement.{terms_with}
 use Rattle.nr_reduce.specs.declared.mark.Mark.{Mark}
 use Rattle.nr_reduce.specs.declared.mark.LinkParameters.{LinkParameters}
 use Rattle.nr_reduce.specs.History.{bytes_received, bytes_sent}
@@ -160,7 +160,7 @@ module _ (left given taken : Option (List ℕ)) (faults : ℕ) (gave : Option (L
     count = ap (λ (bytes : List ℕ). length bytes + 0) (received_none link);
   }
 
-  pub opened : (limits : ConnectionLimits) (v : ResponderSide) → v ≡ opened_side limits.credits limits.low (sized_terms limits.units) → end_of v ≡ None
+  pub opened : (limits : ConnectionLimits) (v : ResponderSide) → v ≡ opened_side limits.credits limits.low (terms_with limits.units limits.invalidates) → end_of v ≡ None
       → ((opened : LinkParameters) (link : ℕ) → IsOpenedWith limits opened → ResponderRepresents opened link [] v) → CarriesTo limits first first v 0
   unfolding initial_link
   opened limits v is live stands link = (

@@ -8,7 +8,7 @@ use Rattle.nr_reduce.specs.declared.mark.Mark.TheVariants as marks
 use Rattle.nr_reduce.specs.declared.mark.LinkParameters.{LinkParameters}
 use Rattle.nr_reduce.specs.Served.{IsExecuted}
 use Rattle.nr_responder.specs.declared.call.Sent.{Sent}
-use Rattle.nr_responder.specs.Answering.{Answers, answer_to, message_for}
+use Rattle.nr_responder.specs.Answering.{Answers, answer_to, message_for, name_for}
 use Rattle.nr_responder.specs.ResponderState.{ResponderSide, end_of, present_word}
 use Rattle.nr_responder.specs.Standing.{ResponderRepresents}
 use Rattle.nr_responder.proofs.Answered.{answer_link}
@@ -22,7 +22,8 @@ use Rattle.nr_host.specs.declared.connection_limits.ConnectionLimits.{Connection
 pub live_answered : (v v' : ResponderSide) (xid : ℕ) (reply : List ℕ) (sent : Sent) → Answers v v' xid reply sent → end_of v ≡ None → end_of v' ≡ None
 live_answered v v' xid reply sent a live =
     ap end_of a.state
-    ∙ ap (λ (l : LinkSide). l.state.ended) (answer_link v.link a.writes (message_for xid (present_word v) a.call.lists (answer_to v.link.state.agreed.down a.call a.stream reply)) live)
+    ∙ ap (λ (l : LinkSide). l.state.ended) (answer_link v.link a.writes (name_for v.link.state.agreed.invalidates a.call.lists (answer_to v.link.state.agreed.down a.call a.stream reply))
+    (message_for xid (present_word v) a.call.lists (answer_to v.link.state.agreed.down a.call a.stream reply)) live)
     ∙ live
 
 -- what an executed call makes of the marks, if its reply is handed on as it is

@@ -24,7 +24,7 @@ use Rattle.nr_host.specs.declared.conn_end.ConnEnd.TheVariants as ends
 use Rattle.nr_host.specs.declared.link_end.LinkEnd.{LinkEnd}
 use Rattle.nr_host.specs.declared.link_end.LinkEnd.TheVariants as link_ends
 use Rattle.nr_host.proofs.Carries.{first_outside, nothing_read, opened, read_ends, read_fails}
-use Rattle.nr_link.specs.Agreement.{sized_terms}
+use Rattle.nr_link.specs.Agreement.{terms_with}
 use Rattle.nr_host.proofs.Idle.{ends_closed}
 
 -- ---- bytes that are kept
@@ -122,16 +122,16 @@ looked {S} left given source source' p p' new same kept told = (
 -- ---- nothing was read
 
 module _ (limits : ConnectionLimits) (left given left' given' taken : Option (List ℕ)) (faults : ℕ) (gave : Option (List Moment)) (view : PassView) (kept : Keeps left left') (told : Keeps given given') where
-  lives : end_of (opened_side limits.credits limits.low (sized_terms limits.units)) ≡ None
-  lives = opened_lives (initial_link Responder limits.credits 1 (sized_terms limits.units)) limits.credits (sized_terms limits.units) refl
+  lives : end_of (opened_side limits.credits limits.low (terms_with limits.units limits.invalidates)) ≡ None
+  lives = opened_lives (initial_link Responder limits.credits 1 (terms_with limits.units limits.invalidates)) limits.credits (terms_with limits.units limits.invalidates) refl
 
   now : Outside
   now = first_outside left' given' taken faults gave view
 
-  begun : CarriesTo limits (first_outside left given taken faults gave view) (first_outside left' given' taken faults gave view) (opened_side limits.credits limits.low (sized_terms limits.units)) (0 + 0)
+  begun : CarriesTo limits (first_outside left given taken faults gave view) (first_outside left' given' taken faults gave view) (opened_side limits.credits limits.low (terms_with limits.units limits.invalidates)) (0 + 0)
   begun =
-      nothing_read limits (first_outside left given taken faults gave view) left given left' given' (sink_state taken faults false) gave view (opened_side limits.credits limits.low (sized_terms limits.units)) 0
-      (opened left given taken faults gave view limits (opened_side limits.credits limits.low (sized_terms limits.units)) refl lives (λ o link same. opened_stands_lem o link limits.credits limits.low (sized_terms limits.units) (initial_link Responder limits.credits 1 (sized_terms limits.units)) same refl))
+      nothing_read limits (first_outside left given taken faults gave view) left given left' given' (sink_state taken faults false) gave view (opened_side limits.credits limits.low (terms_with limits.units limits.invalidates)) 0
+      (opened left given taken faults gave view limits (opened_side limits.credits limits.low (terms_with limits.units limits.invalidates)) refl lives (λ o link same. opened_stands_lem o link limits.credits limits.low (terms_with limits.units limits.invalidates) (initial_link Responder limits.credits 1 (terms_with limits.units limits.invalidates)) same refl))
       (hands_none left given left' given' kept told)
 
   less : 0 + 0 < read_max
@@ -139,14 +139,14 @@ module _ (limits : ConnectionLimits) (left given left' given' taken : Option (Li
 
   -- the read failed
   pub fails_at_once : IsServed limits (first_outside left given taken faults gave view) (first_outside left' given' taken faults gave view) ends.LinkRead
-  fails_at_once = read_fails limits (first_outside left given taken faults gave view) (first_outside left' given' taken faults gave view) (opened_side limits.credits limits.low (sized_terms limits.units)) (0 + 0) begun lives less refl
+  fails_at_once = read_fails limits (first_outside left given taken faults gave view) (first_outside left' given' taken faults gave view) (opened_side limits.credits limits.low (terms_with limits.units limits.invalidates)) (0 + 0) begun lives less refl
 
   -- the client ended its stream
   pub closes_at_once : IsAtEnd left' → IsServed limits (first_outside left given taken faults gave view) (first_outside left' given' taken faults gave view) ends.Closed
   unfolding initial_link
   closes_at_once over =
-      read_ends limits (first_outside left given taken faults gave view) (first_outside left' given' taken faults gave view) (opened_side limits.credits limits.low (sized_terms limits.units)) 0 ends.Closed begun over
-      (ends_closed 0 (opened_side limits.credits limits.low (sized_terms limits.units)) lives refl refl) refl refl less refl
+      read_ends limits (first_outside left given taken faults gave view) (first_outside left' given' taken faults gave view) (opened_side limits.credits limits.low (terms_with limits.units limits.invalidates)) 0 ends.Closed begun over
+      (ends_closed 0 (opened_side limits.credits limits.low (terms_with limits.units limits.invalidates)) lives refl refl) refl refl less refl
 
 -- the first read failed, or handed out nothing
 pub kind_failed : (left left' : Option (List ℕ)) → Keeps left left' → IsKindFor left left' (link_ends.Rdma ends.LinkRead)

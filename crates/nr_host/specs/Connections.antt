@@ -8,7 +8,7 @@ use Rattle.nr_outside.specs.declared.moment.Moment.{Moment}
 use Rattle.nr_wire.specs.declared.hello.Side.TheVariants.{Initiator, Responder}
 use Rattle.nr_link.specs.Frames.{frames_completed}
 use Rattle.nr_link.specs.Input.{input_of}
-use Rattle.nr_link.specs.Agreement.{sized_terms}
+use Rattle.nr_link.specs.Agreement.{terms_with}
 use Rattle.nr_reduce.specs.Opening.{ServerOpened}
 use Rattle.nr_reduce.specs.declared.mark.Mark.{Mark}
 use Rattle.nr_reduce.specs.declared.mark.Mark.TheVariants as marks
@@ -23,7 +23,7 @@ use Rattle.nr_host.specs.declared.connection_limits.ConnectionLimits.{Connection
 
 -- a link's server was opened with these limits
 abbrev pub IsOpenedWith : ConnectionLimits → LinkParameters → Type 0
-IsOpenedWith limits opened = ServerOpened opened limits.credits limits.low (sized_terms limits.units)
+IsOpenedWith limits opened = ServerOpened opened limits.credits limits.low (terms_with limits.units limits.invalidates)
 
 -- the moments at which calls were executed, in order
 abbrev pub moment_of : Mark → List Moment

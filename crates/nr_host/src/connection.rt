@@ -143,8 +143,13 @@ pub fn serve_connection<I: Source, O: Sink, C: Clock, R: Wait>(
     let Ok(mut buf) = vec![in alloc; 0u8; PIECE_MAX] else {
         return ConnEnd::Memory;
     };
-    let Ok(mut responder) = Responder::open_low(alloc, limits.credits, limits.low, limits.units)
-    else {
+    let Ok(mut responder) = Responder::open_sized(
+        alloc,
+        limits.credits,
+        limits.low,
+        limits.units,
+        limits.invalidates,
+    ) else {
         return ConnEnd::Memory;
     };
     let end = carry(

@@ -13,10 +13,11 @@ use crate::job::{Carried, ServeJob};
 use crate::link_end::LinkEnd;
 use nr_jobs::{Job, Spawner};
 use nr_links::{Acceptor, Clock};
+use nr_outside::raise_trim_threshold;
 use nr_plain::Server;
 use nr_reduce::Sequence;
 use nr_turnstile::{Machine, Pass, Turnstile};
-use std::alloc::{AllocError, Global};
+use std::alloc::Global;
 use std::sync::{Arc, Wait};
 use std::thread::Threads;
 
@@ -41,16 +42,8 @@ pub enum ServeFault {
     Memory,
 }
 
-/// The size of the block that `raise_trim_threshold` allocates, in bytes.
+/// The size of the block by which the allocator is made to keep free memory from one call to the next, in bytes.
 const TRIM_BLOCK_LEN: usize = 1 << 21;
-
-/// Allocates a block and frees it, if there is memory for it. It is never written, so no page is mapped. The allocator
-/// of the GNU C library then keeps up to twice that size of free memory. Before, it returned all but 128 KiB of it to
-/// the system after each call, and had to map it again for the next one.
-fn raise_trim_threshold(alloc: Global) {
-    let block: Result<Vec<u8>, AllocError> = Vec::with_capacity(alloc, TRIM_BLOCK_LEN);
-    drop(block);
-}
 
 /// Accepts a link and starts its job. If the job is handed back, runs it, takes in its pass, and hangs the link up.
 fn serve_next<
@@ -296,7 +289,7 @@ where
     ensures asked { A.asked acceptor.new ≡ A.asked acceptor.old }
     ensures listens { A.listens acceptor.new ≡ A.listens acceptor.old }
 {
-    raise_trim_threshold(alloc);
+    raise_trim_threshold(alloc, TRIM_BLOCK_LEN);
     let mut ends = Vec::new(alloc);
     let taken = take_links(
         rt,

@@ -8,7 +8,7 @@ use Rattle.nr_xdr.proofs.Chains.{IsBytes_left, IsBytes_right}
 use Rattle.nr_wire.specs.declared.hello.Side.TheVariants.{Initiator, Responder}
 use Rattle.nr_link.specs.declared.end.End.{End}
 use Rattle.nr_outside.specs.declared.moment.Moment.{Moment}
-use Rattle.nr_link.specs.Agreement.{default_terms, sized_terms}
+use Rattle.nr_link.specs.Agreement.{default_terms, terms_with}
 use Rattle.nr_reduce.specs.AtEachMark.{AtEachMark}
 use Rattle.nr_reduce.specs.declared.call.Submission.TheVariants as submissions
 use Rattle.nr_reduce.specs.History.{bytes_received, fed_at}
@@ -152,7 +152,7 @@ pub connections_are_typed_lem : ConnectionsAreTyped
 unfolding bytes_received answers_of
 connections_are_typed_lem limits read link before after end first J left ended is =
     let over = ended.runs.over first J is.history in
-    let opened : LinkParameters = record { first_xid = 1; first_stag = 1; wished = 1; granted = limits.credits; low = limits.low; receives = limits.credits; client = default_terms; server = sized_terms limits.units } in
+    let opened : LinkParameters = record { first_xid = 1; first_stag = 1; wished = 1; granted = limits.credits; low = limits.low; receives = limits.credits; client = default_terms; server = terms_with limits.units limits.invalidates } in
     let all : IsBytes (flat_map (fed_at link Responder) ended.run ++ ended.ahead) =
     given_bytes left after.left (flat_map (fed_at link Responder) ended.run ++ ended.ahead)
     (subst (λ (o : Option (List ℕ)). Consumes o after.left (flat_map (fed_at link Responder) ended.run ++ ended.ahead)) is.known ended.runs.handed.from_left) is.bytes in

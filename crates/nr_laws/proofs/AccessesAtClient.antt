@@ -10,7 +10,6 @@ use Rattle.nr_wire.specs.Segment.Segment.{Tagged, Untagged}
 use Rattle.nr_link.specs.Frames.{Frame, is_hello}
 use Rattle.nr_link.specs.Output.{msn_word, segment_count}
 use Rattle.nr_link.specs.ReceiveState.{begun_bytes, ReadRequest}
-use Rattle.nr_link.specs.Ending.{frame_segment}
 use Rattle.nr_reduce.proofs.OwnLimits.{ClientLimits}
 use Rattle.nr_reduce.specs.declared.mark.LinkParameters.{LinkParameters}
 use Rattle.nr_reduce.specs.declared.outline.Plan.{Plan}
@@ -26,7 +25,6 @@ use Rattle.nr_laws.specs.Typed.{IsTypedForm}
 use Rattle.nr_laws.proofs.PlannedSizes.{plan_up, plan_down, planned_for}
 use Rattle.nr_laws.proofs.FrameContents.{FrameContent, client_frames, response_frames, tagged_frame, tagged_frames, Carries, SentMessage, CompletesMessage, last_segment, part_segment, send_frames, calls_frames}
 use Rattle.nr_laws.proofs.FrameContents.FrameContent.{HelloFrame, PartFrame, SendFrame, RequestFrame, TaggedFrame}
-use Rattle.nr_laws.proofs.TotalsAtServer.{segment_is}
 use Rattle.nr_laws.proofs.TotalsAtClient.{after_is_lem, says_is, request_payload}
 use Rattle.nr_laws.proofs.ClientFrame.{says_hello, after_hello}
 use Rattle.nr_laws.proofs.OwnEvents.{planned}
@@ -37,6 +35,8 @@ use Rattle.nr_laws.proofs.Basics.{each_append, each_all, each_kept}
 use Rattle.nr_laws.proofs.SendFrames.{each_send, each_sends}
 use Rattle.nr_laws.proofs.Outputs.{message_of_call}
 use Rattle.nr_laws.proofs.LinkInvariants.{AreSends}
+use Rattle.nr_laws.proofs.ReadContents.{plain_is}
+use Rattle.nr_laws.proofs.PlainSegments.{plain_segment}
 
 -- ---- More regions, and more that is received
 
@@ -87,8 +87,8 @@ accessed_submit opened k s d all_up all_down place a plan h is small stags bytes
     (by t.regions o one k.has_hello)
     (each_append (CallAsked opened t.regions) k.outstanding (o ∷ []) (each_all (CallAsked opened k.regions) (CallAsked opened t.regions) k.outstanding (λ x. send_more k.regions t.regions (offers_left k.regions new) (message_of_call opened x)) h.asked) (one, tt))
   where
-    by : (regions : List Region) (o : OutstandingCall) → CallAsked opened regions o → (b : Bool) → AllByRecursion (MessageOffered regions) (cond b (send_frames (message_of_call opened o)) [])
-    by regions o one true = each_send (MessageOffered regions) (λ offset payload. tt) (message_of_call opened o) one
+    by : (regions : List Region) (o : OutstandingCall) → CallAsked opened regions o → (b : Bool) → AllByRecursion (MessageOffered regions) (cond b (send_frames None (message_of_call opened o)) [])
+    by regions o one true = each_send (MessageOffered regions) None (λ offset payload. tt) (message_of_call opened o) one
     by regions o one false = tt
 
 -- ---- A queue is written
@@ -123,7 +123,7 @@ response_said regions k place (Some q) = cuts OPCODE_READ_RESPONSE q.sink q.sink
     cuts opcode stag to bytes (i ∷ is) = (tt, cuts opcode stag to bytes is)
 
 -- a frame that closes no region
-other_frame : (opened : LinkParameters) (k : ClientState) (s : ServerState) (d all_up all_down : List FrameContent) (place : ℕ) (p : FrameContent) (f : Frame) (segment : Segment) → AccessesAgree opened k s d all_up all_down place → is_hello f ≡ false → frame_segment f ≡ Ok segment
+other_frame : (opened : LinkParameters) (k : ClientState) (s : ServerState) (d all_up all_down : List FrameContent) (place : ℕ) (p : FrameContent) (f : Frame) (segment : Segment) → AccessesAgree opened k s d all_up all_down place → is_hello f ≡ false → plain_segment k f ≡ Ok segment
     → (with_segment k f (Ok segment)).regions ≡ k.regions → (with_segment k f (Ok segment)).outstanding ≡ k.outstanding
     → AccessesAgree opened (client_state_after opened k (FrameReceived f)) s (d ++ p ∷ []) (all_up ++ client_frames opened k (FrameReceived f)) all_down place
 other_frame opened k s d all_up all_down place p f segment h behind is same outs =
@@ -163,11 +163,11 @@ closed_live end d message (g ∷ regions) h = (by (eqb g.call (word_at 0 message
     by false e = more_live d (SendFrame message ∷ []) g h.0
 
 message_frame : (opened : LinkParameters) (k : ClientState) (s : ServerState) (d all_up all_down : List FrameContent) (place : ℕ) (message : SentMessage) (f : Frame) → AccessesAgree opened k s d all_up all_down place → CompletesMessage k.received message
-    → Carries k.received.sends k.received.requests f (SendFrame message)
+    → Carries k.invalidates k.received.sends k.received.requests f (SendFrame message)
     → AccessesAgree opened (client_state_after opened k (FrameReceived f)) s (d ++ SendFrame message ∷ []) (all_up ++ client_frames opened k (FrameReceived f)) all_down place
 message_frame opened k s d all_up all_down place message f h completes piece =
     let segment : Segment = last_segment k.received.sends message in
-    let is : frame_segment f ≡ Ok segment = segment_is k.received.sends k.received.requests f (SendFrame message) segment piece refl in
+    let is : plain_segment k f ≡ Ok segment = plain_is k f (SendFrame message) segment piece refl in
     let t = with_segment k f (Ok segment) in
     let whole : List ℕ = begun_bytes k.received.begun ++ message.payload in
     let same : message.bytes ≡ whole = sym completes in
@@ -182,18 +182,18 @@ message_frame opened k s d all_up all_down place message f h completes piece =
     (each_kept (CallAsked opened regions) (λ o. not (eqb o.xid (word_at 0 whole))) k.outstanding (each_all (CallAsked opened k.regions) (CallAsked opened regions) k.outstanding (λ o. send_more k.regions regions more (message_of_call opened o)) h.asked))))
 
 pub accessed_piece_down : (opened : LinkParameters) (k : ClientState) (s : ServerState) (d all_up all_down : List FrameContent) (place : ℕ) (p : FrameContent) (ps : List FrameContent) (f : Frame) → AccessesAgree opened k s d all_up all_down place → AreSends k.received.begun (p ∷ ps)
-    → Carries k.received.sends k.received.requests f p → AccessesAgree opened (client_state_after opened k (FrameReceived f)) s (d ++ p ∷ []) (all_up ++ client_frames opened k (FrameReceived f)) all_down place
+    → Carries k.invalidates k.received.sends k.received.requests f p → AccessesAgree opened (client_state_after opened k (FrameReceived f)) s (d ++ p ∷ []) (all_up ++ client_frames opened k (FrameReceived f)) all_down place
 accessed_piece_down opened k s d all_up all_down place HelloFrame ps f h sends piece = absurd (let wrong = piece.is_segment in cc)
-accessed_piece_down opened k s d all_up all_down place (PartFrame offset payload) ps f h sends piece =
+accessed_piece_down opened k s d all_up all_down place (PartFrame named offset payload) ps f h sends piece =
     let segment : Segment = part_segment k.received.sends offset payload in
-    let is : frame_segment f ≡ Ok segment = segment_is k.received.sends k.received.requests f (PartFrame offset payload) segment piece refl in
-    other_frame opened k s d all_up all_down place (PartFrame offset payload) f segment h piece.behind is refl refl
+    let is : plain_segment k f ≡ Ok segment = plain_is k f (PartFrame named offset payload) segment piece refl in
+    other_frame opened k s d all_up all_down place (PartFrame named offset payload) f segment h piece.behind is refl refl
 accessed_piece_down opened k s d all_up all_down place (SendFrame message) ps f h sends piece = message_frame opened k s d all_up all_down place message f h sends.1 piece
 accessed_piece_down opened k s d all_up all_down place (RequestFrame sink at size stag to) ps f h sends piece =
     let segment : Segment = Untagged true OPCODE_READ_REQUEST 0 QUEUE_READ_REQUEST (msn_word (k.received.requests + 1)) 0 (request_payload sink at size stag to) in
-    let is : frame_segment f ≡ Ok segment = segment_is k.received.sends k.received.requests f (RequestFrame sink at size stag to) segment piece refl in
+    let is : plain_segment k f ≡ Ok segment = plain_is k f (RequestFrame sink at size stag to) segment piece refl in
     other_frame opened k s d all_up all_down place (RequestFrame sink at size stag to) f segment h piece.behind is refl refl
 accessed_piece_down opened k s d all_up all_down place (TaggedFrame last opcode stag to payload) ps f h sends piece =
     let segment : Segment = Tagged last opcode stag to payload in
-    let is : frame_segment f ≡ Ok segment = segment_is k.received.sends k.received.requests f (TaggedFrame last opcode stag to payload) segment piece refl in
+    let is : plain_segment k f ≡ Ok segment = plain_is k f (TaggedFrame last opcode stag to payload) segment piece refl in
     other_frame opened k s d all_up all_down place (TaggedFrame last opcode stag to payload) f segment h piece.behind is refl refl

@@ -21,7 +21,7 @@ use Rattle.nr_reduce.specs.ClientState.{ClientState}
 use Rattle.nr_reduce.specs.ServerState.{ServerState, PendingCall, PendingRead, ReadyCall, credit_word}
 use Rattle.nr_reduce.specs.ServerReads.{is_read}
 use Rattle.nr_reduce.specs.ServerFrames.{FrameEffect, frame_effect}
-use Rattle.nr_reduce.specs.Server.{server_state_after, with_effect, newly_open_reads, offer_by, offer_of, answer_of_target, with_own_hello}
+use Rattle.nr_reduce.specs.Server.{server_state_after, with_effect, newly_open_reads, offer_by, offer_of, answer_of_target, with_own_hello, stag_named}
 use Rattle.nr_laws.proofs.FrameContents.{FrameContent, tagged_frames, write_frames, answer_frames, request_frame, effect_frames, server_frames, send_frames, errors_frames}
 use Rattle.nr_laws.proofs.FrameContents.FrameContent.{HelloFrame, PartFrame, SendFrame, RequestFrame, TaggedFrame}
 use Rattle.nr_laws.proofs.LinkInvariants.{AreWhole}
@@ -111,7 +111,7 @@ accessed_hello_up opened k s d all_up all_down place f h is =
 -- the frames of RDMA Writes into what a call offers
 abbrev WriteOffered : List Region → ℕ → FrameContent → Type 0
 WriteOffered regions xid HelloFrame = ⊥
-WriteOffered regions xid (PartFrame offset payload) = ⊥
+WriteOffered regions xid (PartFrame named offset payload) = ⊥
 WriteOffered regions xid (SendFrame message) = ⊥
 WriteOffered regions xid (RequestFrame sink at size stag to) = ⊥
 WriteOffered regions xid (TaggedFrame last opcode stag to payload) = IsOffered xid stag Fill (to + length payload) regions
@@ -150,7 +150,7 @@ writes_offered regions xid (p ∷ chunk) bytes h =
 writes_access : (regions : List Region) (xid : ℕ) (before ps : List FrameContent) → times xid (message_xids before) ≡ 0 → AllByRecursion (WriteOffered regions xid) ps → AreAccesses regions before ps × (times xid (message_xids (before ++ ps)) ≡ 0)
 writes_access regions xid before [] none h = (tt, ap (λ (xs : List ℕ). times xid xs) (xids_append before []) ∙ omega (arith, none, times_append xid (message_xids before) []))
 writes_access regions xid before (HelloFrame ∷ ps) none h = absurd h.0
-writes_access regions xid before (PartFrame offset payload ∷ ps) none h = absurd h.0
+writes_access regions xid before (PartFrame named offset payload ∷ ps) none h = absurd h.0
 writes_access regions xid before (SendFrame message ∷ ps) none h = absurd h.0
 writes_access regions xid before (RequestFrame sink at size stag to ∷ ps) none h = absurd h.0
 writes_access regions xid before (TaggedFrame last opcode stag to payload ∷ ps) none h =
@@ -160,15 +160,16 @@ writes_access regions xid before (TaggedFrame last opcode stag to payload ∷ ps
     (((xid, none, h.0), rest.0), ap (λ (qs : List FrameContent). times xid (message_xids qs)) (sym (append_assoc before (p ∷ []) ps)) ∙ rest.1)
 
 answer_access : (regions : List Region) (all_down : List FrameContent) (s : ServerState) (xid : ℕ) (offer : ChunkLists) (o : Option Answer) → times xid (message_xids all_down) ≡ 0 → ListsOffered regions xid offer → AreAccesses regions all_down (answer_frames s xid offer o)
-answer_access regions all_down s xid offer None none h = accesses_message regions all_down (chunk_error xid (credit_word s))
+answer_access regions all_down s xid offer None none h = accesses_message regions all_down None (chunk_error xid (credit_word s))
 answer_access regions all_down s xid offer (Some a) none h =
     let moved = write_frames (first_chunk offer.write) a.moved in
     let long = cond a.long (write_frames (no_segments offer.reply) a.stream) [] in
+    let named = stag_named s.invalidates offer in
     let message = answer_message xid (credit_word s) offer a in
     let first = writes_access regions xid all_down moved none (writes_offered regions xid (first_chunk offer.write) a.moved h.write) in
     let second = writes_access regions xid (all_down ++ moved) long first.1 (by a.long) in
-    accesses_append regions all_down moved (long ++ send_frames message) first.0
-    (accesses_append regions (all_down ++ moved) long (send_frames message) second.0 (accesses_message regions ((all_down ++ moved) ++ long) message))
+    accesses_append regions all_down moved (long ++ send_frames named message) first.0
+    (accesses_append regions (all_down ++ moved) long (send_frames named message) second.0 (accesses_message regions ((all_down ++ moved) ++ long) named message))
   where
     by : (b : Bool) → AllByRecursion (WriteOffered regions xid) (cond b (write_frames (no_segments offer.reply) a.stream) [])
     by true = writes_offered regions xid (no_segments offer.reply) a.stream h.reply

@@ -14,7 +14,6 @@ use Rattle.nr_rpc.specs.Reading.{reply_of}
 use Rattle.nr_xdr.specs.Fields.{word_at}
 use Rattle.nr_wire.specs.Segment.{Segment}
 use Rattle.nr_link.specs.Frames.{Frame, is_hello}
-use Rattle.nr_link.specs.Ending.{frame_segment}
 use Rattle.nr_link.specs.ReceiveState.{ReadRequest, message_completed, read_request_of}
 use Rattle.nr_reduce.specs.declared.call.Outcome.{Outcome}
 use Rattle.nr_reduce.specs.declared.call.Outcome.TheVariants as outcomes
@@ -26,11 +25,12 @@ use Rattle.nr_reduce.specs.Chunks.{answers_offer, reply_conveyed}
 use Rattle.nr_reduce.specs.ClientState.{ClientState, OutstandingCall, client_memory_at, is_sent}
 use Rattle.nr_reduce.specs.ClientMessages.{ReplyVerdict, reply_verdict, reply_by_head, reply_by_payload, by_lists, reply_by_body, by_call, answered_call, reply_by_header, reply_xid}
 use Rattle.nr_reduce.specs.ClientMessages.ReplyVerdict.{EndsLink, GivesOutcome}
-use Rattle.nr_reduce.specs.Client.{client_end, client_state_after, end_of_verdict, outstanding_of, outcomes_of, revoked_call, with_message, with_request, with_segment, segment_message, client_message_end, with_hello, due_with_response}
+use Rattle.nr_reduce.specs.Client.{client_segment, client_end, client_state_after, end_of_verdict, outstanding_of, outcomes_of, revoked_call, with_message, with_request, with_segment, segment_message, client_message_end, with_hello, due_with_response, segment_names}
 use Rattle.nr_laws.proofs.DistinctKeys.{any_append, or_left_lem, or_right_lem}
 use Rattle.nr_laws.proofs.TotalsAtClient.{taken}
 use Rattle.nr_laws.proofs.Basics.{some_not, each_all, each_kept}
 use Rattle.nr_laws.proofs.HeaderXid.{header_xid}
+use Rattle.nr_laws.proofs.NamedReplies.{stays_as_plain}
 
 -- ---- A message that doesn't end the client gives an outcome of the call of its xid, or that call's memory was revoked
 
@@ -200,12 +200,12 @@ pub frame_accounts : (opened : LinkParameters) (gone : ℕ → Bool) (xids : Lis
 unfolding client_state_after
 frame_accounts opened gone xids k f e h = by (is_hello f) refl
   where
-    by : (b : Bool) → is_hello f ≡ b → CallsAccounted gone xids (cond b (with_hello opened k f) (with_segment k f (frame_segment f)))
+    by : (b : Bool) → is_hello f ≡ b → CallsAccounted gone xids (cond b (with_hello opened k f) (with_segment k f (client_segment k f)))
     by true is = record { each = h.each; revoked = h.revoked }
     by false is =
         let unended = taken k f is e in
-        segment_accounts gone xids k f (frame_segment f)
-        (λ message m. ap (λ (o : Option (List ℕ)). client_message_end k f o) (sym m) ∙ unended) h
+        segment_accounts gone xids k f (client_segment k f)
+        (λ message m. stays_as_plain k f (segment_names (client_segment k f)) message (ap (λ (o : Option (List ℕ)). client_message_end k f (segment_names (client_segment k f)) o) (sym m) ∙ unended)) h
 
 -- ---- Other events
 

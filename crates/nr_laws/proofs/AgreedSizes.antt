@@ -1,5 +1,5 @@
 -- What both sides of a matched link agree on, by their hellos, and how long their messages are by that.
-use Rattle.std.proofs.Common.{◌≡◌, ℕ, ◌≤◌, ◌<◌, true, List, [], ◌∷◌, ◌++◌, drop, length, Option, None, Some, Result, Ok, Err, refl, sym, ap, subst, ◌∙◌, arith}
+use Rattle.std.proofs.Common.{◌≡◌, ℕ, ◌≤◌, ◌<◌, Bool, true, List, [], ◌∷◌, ◌++◌, drop, length, Option, None, Some, Result, Ok, Err, refl, sym, ap, subst, ◌∙◌, arith}
 use Rattle.nr_wire.specs.Constants.{HELLO_LEN}
 use Rattle.nr_wire.specs.Segment.{Segment}
 use Rattle.nr_wire.specs.declared.hello.Side.TheVariants.{Initiator, Responder}
@@ -28,6 +28,10 @@ matched_up opened = (matched_agreement opened).up
 abbrev pub matched_down : LinkParameters → ℕ
 matched_down opened = (matched_agreement opened).down
 
+-- whether a reply may be a Send with Invalidate
+abbrev pub matched_invalidates : LinkParameters → Bool
+matched_invalidates opened = (matched_agreement opened).invalidates
+
 pub up_limited : (opened : LinkParameters) → IsSendLimit (matched_up opened)
 up_limited opened = (agreements_bounded (first_private opened Initiator) (first_private opened Responder)).0
 
@@ -46,39 +50,54 @@ server_agrees opened f is =
     let says : private_of f ≡ client_private opened = ap (λ (bytes : List ℕ). drop HELLO_LEN bytes) is ∙ client_says opened in
     ap (λ (private : List ℕ). agreement private (responder_private opened.server private)) says
 
--- The sizes of both sides are by it: what a side sends is no longer, and what it takes after the other's hello is no shorter.
+-- Both sides go by it: what a side sends is no longer, and what it takes after the other's hello is no shorter; a server names STags only if
+-- that is agreed, and then a client takes them.
 pub record SizesAgree (opened : LinkParameters) (k : ClientState) (s : ServerState) (received_up : List FrameContent) : Type 0 where
   pub client_up : k.up_max ≤ matched_up opened
   pub client_down : k.has_hello ≡ true → matched_down opened ≤ k.down_max
   pub server_up : 0 < length received_up → matched_up opened ≤ s.up_max
   pub server_down : s.down_max ≤ matched_down opened
+  pub client_takes : k.has_hello ≡ true → k.invalidates ≡ matched_invalidates opened
+  pub server_names : s.invalidates ≡ true → matched_invalidates opened ≡ true
 
--- ---- A frame later than the hello changes no size
+-- ---- A frame later than the hello changes none of it
 
-request_sizes : (m : ClientState) (due : ℕ) (o : Option ReadRequest) → ((with_request m due o).up_max ≡ m.up_max) × ((with_request m due o).down_max ≡ m.down_max)
-request_sizes m due None = (refl, refl)
-request_sizes m due (Some q) = (refl, refl)
+request_sizes : (m : ClientState) (due : ℕ) (o : Option ReadRequest) → ((with_request m due o).up_max ≡ m.up_max) × ((with_request m due o).down_max ≡ m.down_max) × ((with_request m due o).invalidates ≡ m.invalidates)
+request_sizes m due None = (refl, refl, refl)
+request_sizes m due (Some q) = (refl, refl, refl)
 
-message_sizes : (k : ClientState) (place : ℕ) (o : Option (List ℕ)) → ((with_message k place o).up_max ≡ k.up_max) × ((with_message k place o).down_max ≡ k.down_max)
-message_sizes k place None = (refl, refl)
-message_sizes k place (Some message) = (refl, refl)
+message_sizes : (k : ClientState) (place : ℕ) (o : Option (List ℕ)) → ((with_message k place o).up_max ≡ k.up_max) × ((with_message k place o).down_max ≡ k.down_max) × ((with_message k place o).invalidates ≡ k.invalidates)
+message_sizes k place None = (refl, refl, refl)
+message_sizes k place (Some message) = (refl, refl, refl)
 
-pub segment_sizes : (k : ClientState) (f : Frame) (r : Result Segment ℕ) → ((with_segment k f r).up_max ≡ k.up_max) × ((with_segment k f r).down_max ≡ k.down_max)
-segment_sizes k f (Err reason) = (refl, refl)
+pub segment_sizes : (k : ClientState) (f : Frame) (r : Result Segment ℕ) → ((with_segment k f r).up_max ≡ k.up_max) × ((with_segment k f r).down_max ≡ k.down_max) × ((with_segment k f r).invalidates ≡ k.invalidates)
+segment_sizes k f (Err reason) = (refl, refl, refl)
 segment_sizes k f (Ok s) =
     let m = message_sizes k f.end (message_completed k.received s) in
     let q = request_sizes (with_message k f.end (message_completed k.received s)) (due_with_response k f s) (read_request_of s) in
-    (q.0 ∙ m.0, q.1 ∙ m.1)
+    (q.0 ∙ m.0, q.1 ∙ m.1, q.2 ∙ m.2)
 
 pub client_keeps_sizes : (opened : LinkParameters) (k t : ClientState) (s : ServerState) (u : List FrameContent) (f : Frame) (r : Result Segment ℕ) → t ≡ with_segment k f r → k.has_hello ≡ true → SizesAgree opened k s u → SizesAgree opened t s u
 client_keeps_sizes opened k t s u f r is hello z =
     let same = segment_sizes k f r in
-    subst (λ (x : ClientState). SizesAgree opened x s u) (sym is)
-    (record { client_up = omega (arith, same.0, z.client_up); client_down = λ e. omega (arith, same.1, z.client_down hello); server_up = z.server_up; server_down = z.server_down })
+    subst (λ (x : ClientState). SizesAgree opened x s u) (sym is) (record {
+      client_up = omega (arith, same.0, z.client_up);
+      client_down = λ e. omega (arith, same.1, z.client_down hello);
+      server_up = z.server_up;
+      server_down = z.server_down;
+      client_takes = λ e. same.2 ∙ z.client_takes hello;
+      server_names = z.server_names;
+    })
 
-pub server_keeps_sizes : (opened : LinkParameters) (k : ClientState) (s t : ServerState) (u : List FrameContent) (p : FrameContent) → 0 < length u → t.up_max ≡ s.up_max → t.down_max ≡ s.down_max → SizesAgree opened k s u → SizesAgree opened k t (u ++ p ∷ [])
-server_keeps_sizes opened k s t u p received up down z =
-    record { client_up = z.client_up; client_down = z.client_down; server_up = λ some. omega (arith, up, z.server_up received); server_down = omega (arith, down, z.server_down) }
+pub server_keeps_sizes : (opened : LinkParameters) (k : ClientState) (s t : ServerState) (u : List FrameContent) (p : FrameContent) → 0 < length u → t.up_max ≡ s.up_max → t.down_max ≡ s.down_max → t.invalidates ≡ s.invalidates → SizesAgree opened k s u → SizesAgree opened k t (u ++ p ∷ [])
+server_keeps_sizes opened k s t u p received up down names z = record {
+  client_up = z.client_up;
+  client_down = z.client_down;
+  server_up = λ some. omega (arith, up, z.server_up received);
+  server_down = omega (arith, down, z.server_down);
+  client_takes = z.client_takes;
+  server_names = λ e. z.server_names (sym names ∙ e);
+}
 
 -- ---- The hellos
 
@@ -90,6 +109,8 @@ client_takes_sizes opened k s u f is z =
       client_down = λ e. omega (arith, ap (λ (a : Agreement). a.down) agreed);
       server_up = z.server_up;
       server_down = z.server_down;
+      client_takes = λ e. ap (λ (a : Agreement). a.invalidates) agreed;
+      server_names = z.server_names;
     }
 
 pub server_takes_sizes : (opened : LinkParameters) (k : ClientState) (s : ServerState) (u : List FrameContent) (p : FrameContent) (f : Frame) → f.bytes ≡ first_hello opened Initiator → SizesAgree opened k s u → SizesAgree opened k (with_own_hello opened s f) (u ++ p ∷ [])
@@ -100,4 +121,6 @@ server_takes_sizes opened k s u p f is z =
       client_down = z.client_down;
       server_up = λ some. omega (arith, ap (λ (a : Agreement). a.up) agreed);
       server_down = omega (arith, ap (λ (a : Agreement). a.down) agreed);
+      client_takes = z.client_takes;
+      server_names = λ e. sym (ap (λ (a : Agreement). a.invalidates) agreed) ∙ e;
     }

@@ -19,12 +19,12 @@ use Rattle.nr_reduce.specs.ServerState.{ServerState}
 use Rattle.nr_reduce.specs.ServerFrames.{FrameEffect, effect_in, frame_effect}
 use Rattle.nr_reduce.specs.Server.{server_end, server_state_after, server_output, server_readiness, or_refusal, refusal_end, newly_open_reads, effect_output, with_effect, with_own_hello, received_by}
 use Rattle.nr_laws.proofs.FirstHellos.{first_hello, first_of_server}
-use Rattle.nr_laws.proofs.FrameContents.{FrameContent, numbered_segment, frame_bytes, output_bytes, total_of, sends_in, requests_in, hellos_in, effect_frames, server_frames, Carries, SentMessage, CompletesMessage, part_segment, last_segment}
+use Rattle.nr_laws.proofs.FrameContents.{FrameContent, frame_bytes, output_bytes, total_of, sends_in, requests_in, hellos_in, effect_frames, server_frames, Carries, SentMessage, CompletesMessage, part_segment, last_segment, written_segment, IsSent, written_last, written_part}
 use Rattle.nr_laws.proofs.FrameContents.FrameContent.{HelloFrame, PartFrame, SendFrame, RequestFrame, TaggedFrame}
 use Rattle.nr_laws.proofs.LinkInvariants.{Transit, TotalsAgree, PendingAgree}
 use Rattle.nr_laws.proofs.Totals.{total_append}
 use Rattle.nr_laws.proofs.CompletedFrames.{is_piece}
-use Rattle.nr_laws.proofs.TotalsAtServer.{totals_hello_up, totals_send_up, totals_tagged_up, after_is_lem, step_is, segment_is, with_by, reads_said, hello_said, totals_part_up}
+use Rattle.nr_laws.proofs.TotalsAtServer.{totals_hello_up, totals_send_up, totals_tagged_up, after_is_lem, step_is, with_by, reads_said, hello_said, totals_part_up}
 use Rattle.nr_laws.proofs.PendingFrames.{pending_agree_send_up, pending_agree_tagged_up, pending_agree_part_up}
 use Rattle.nr_laws.proofs.OwnXids.{OwnXids}
 use Rattle.nr_laws.proofs.OutputFrames.{step_said}
@@ -35,6 +35,7 @@ use Rattle.nr_laws.proofs.Outputs.{CallsShort}
 use Rattle.nr_laws.proofs.SendFrames.{at_front}
 use Rattle.nr_laws.proofs.Bytes.{bytes_both}
 use Rattle.nr_link.specs.ReceiveState.{ReceiveState, begun_bytes}
+use Rattle.nr_laws.proofs.ReadContents.{segment_is, carries_at_server}
 
 -- `u` and `d` are what the server and the client received, `all_up` and `all_down` what the client and the server sent or queued
 pub record EndsAgree (opened : LinkParameters) (k : ClientState) (s : ServerState) (u d all_up all_down : List FrameContent) (w : Transit) : Type 0 where
@@ -209,22 +210,22 @@ message_bytes h message completes front rest = subst IsBytes completes (bytes_bo
 
 -- a frame after the hello
 took_piece : (opened : LinkParameters) (k : ClientState) (s : ServerState) (u d all_up all_down : List FrameContent) (w : Transit) (p : FrameContent) (rest : List FrameContent) (f : Frame) → EndsAgree opened k s u d all_up all_down w → w.up ≡ p ∷ rest
-    → IsWritable p → 0 < total_of hellos_in all_down → Carries s.received.sends s.received.requests f p → IsBytes f.bytes → f.bytes ≡ frame_bytes opened Initiator (numbered_segment s.received.sends s.received.requests p)
+    → IsWritable p → 0 < total_of hellos_in all_down → Carries false s.received.sends s.received.requests f p → IsBytes f.bytes → f.bytes ≡ frame_bytes opened Initiator (written_segment s.received.sends s.received.requests p)
     → server_end opened s (FrameReceived f) ≡ None → ServerTook opened k s u d all_up all_down w p rest f
 took_piece opened k s u d all_up all_down w HelloFrame rest f l first proper some piece bytes is stays = absurd proper
-took_piece opened k s u d all_up all_down w (PartFrame offset payload) rest f l first proper some piece bytes is stays =
+took_piece opened k s u d all_up all_down w (PartFrame named offset payload) rest f l first proper some piece bytes is stays =
     let segment : Segment = part_segment s.received.sends offset payload in
-    let reads : frame_segment f ≡ Ok segment = segment_is s.received.sends s.received.requests f (PartFrame offset payload) segment piece refl in
-    took_frame opened k s u d all_up all_down w (PartFrame offset payload) rest f (Ok segment) l first piece.behind reads some refl (fine_part s f offset payload l.fits reads)
-    (totals_part_up opened k s w f offset payload rest l.counts first piece)
-    (pending_agree_part_up opened s f offset payload l.waits piece) (omega arith) (omega arith)
-    (bytes_both (begun_bytes s.received.begun) payload l.bytes_up (payload_bytes segment (subst IsBytes is bytes)))
+    let reads : frame_segment f ≡ Ok segment = segment_is s.received.sends s.received.requests f (PartFrame named offset payload) segment piece refl in
+    took_frame opened k s u d all_up all_down w (PartFrame named offset payload) rest f (Ok segment) l first piece.behind reads some refl (fine_part s f offset payload l.fits reads)
+    (totals_part_up opened k s w f named offset payload rest l.counts first piece)
+    (pending_agree_part_up opened s f named offset payload l.waits piece) (omega arith) (omega arith)
+    (bytes_both (begun_bytes s.received.begun) payload l.bytes_up (payload_bytes (written_part s.received.sends named offset payload) (subst IsBytes is bytes)))
 took_piece opened k s u d all_up all_down w (SendFrame message) rest f l first proper some piece bytes is stays =
     let segment : Segment = last_segment s.received.sends message in
     let reads : frame_segment f ≡ Ok segment = segment_is s.received.sends s.received.requests f (SendFrame message) segment piece refl in
     let goes_on = not_refused_lem opened s f piece.behind stays in
     let front = at_front s.received.begun w.up w.queued_up (SendFrame message) rest first l.counts.whole_up in
-    let fine = fine_send s f message front.1 (message_bytes s.received message front.1 l.bytes_up (payload_bytes segment (subst IsBytes is bytes))) l.fits reads in
+    let fine = fine_send s f message front.1 (message_bytes s.received message front.1 l.bytes_up (payload_bytes (written_last s.received.sends message) (subst IsBytes is bytes))) l.fits reads in
     took_frame opened k s u d all_up all_down w (SendFrame message) rest f (Ok segment) l first piece.behind reads some refl fine
     (totals_send_up opened k s w f message rest l.counts first piece goes_on)
     (pending_agree_send_up opened s f message l.waits piece goes_on) refl (omega arith) no_bytes
@@ -239,29 +240,29 @@ took_piece opened k s u d all_up all_down w (TaggedFrame last opcode stag to pay
     (pending_agree_tagged_up opened s f last opcode stag to payload l.waits piece goes_on) (omega arith) (omega arith) l.bytes_up
 
 pub server_took : (opened : LinkParameters) (k : ClientState) (s : ServerState) (u d all_up all_down : List FrameContent) (w : Transit) (p : FrameContent) (rest : List FrameContent) (n r place : ℕ) → EndsAgree opened k s u d all_up all_down w → w.up ≡ p ∷ rest
-    → n ≡ total_of sends_in u → r ≡ total_of requests_in u → IsPlace u place → IsBytes (frame_bytes opened Initiator (numbered_segment n r p))
-    → server_end opened s (FrameReceived (frame_of (frame_bytes opened Initiator (numbered_segment n r p)) place)) ≡ None
-    → ServerTook opened k s u d all_up all_down w p rest (frame_of (frame_bytes opened Initiator (numbered_segment n r p)) place)
+    → n ≡ total_of sends_in u → r ≡ total_of requests_in u → IsPlace u place → IsBytes (frame_bytes opened Initiator (written_segment n r p))
+    → server_end opened s (FrameReceived (frame_of (frame_bytes opened Initiator (written_segment n r p)) place)) ≡ None
+    → ServerTook opened k s u d all_up all_down w p rest (frame_of (frame_bytes opened Initiator (written_segment n r p)) place)
 server_took opened k s [] d all_up all_down w p rest n r place l first sends requests at bytes stays =
     let stream : IsOutput (p ∷ (rest ++ w.queued_up)) = subst IsOutput (sym l.parts_up ∙ ap (λ (ps : List FrameContent). ps ++ w.queued_up) first) l.stream_up in
     let hello : p ≡ HelloFrame = stream_first p (rest ++ w.queued_up) stream in
-    let f = frame_of (frame_bytes opened Initiator (numbered_segment n r p)) place in
+    let f = frame_of (frame_bytes opened Initiator (written_segment n r p)) place in
     subst (λ (q : FrameContent). ServerTook opened k s [] d all_up all_down w q rest f) (sym hello)
-    (took_hello opened k s [] d all_up all_down w rest f l (first ∙ ap (λ (q : FrameContent). q ∷ rest) hello) refl (ap (λ (x : ℕ). eqb x 0) at) (ap (λ (q : FrameContent). frame_bytes opened Initiator (numbered_segment n r q)) hello))
+    (took_hello opened k s [] d all_up all_down w rest f l (first ∙ ap (λ (q : FrameContent). q ∷ rest) hello) refl (ap (λ (x : ℕ). eqb x 0) at) (ap (λ (q : FrameContent). frame_bytes opened Initiator (written_segment n r q)) hello))
 server_took opened k s (q ∷ u) d all_up all_down w p rest n r place l first sends requests at bytes stays =
     let stream : IsOutput (q ∷ u ++ p ∷ (rest ++ w.queued_up)) = subst IsOutput (sym l.parts_up ∙ ap (λ (ps : List FrameContent). q ∷ u ++ (ps ++ w.queued_up)) first) l.stream_up in
     let proper = stream_at_lem q u p (rest ++ w.queued_up) stream in
-    let f = frame_of (frame_bytes opened Initiator (numbered_segment n r p)) place in
+    let f = frame_of (frame_bytes opened Initiator (written_segment n r p)) place in
     let n_is : n ≡ s.received.sends = sends ∙ sym l.sends_up in
     let r_is : r ≡ s.received.requests = requests ∙ sym l.requests_up in
     let begun : 0 < total_of hellos_in (q ∷ u) = hello_there q u (p ∷ (rest ++ w.queued_up)) stream in
     took_piece opened k s (q ∷ u) d all_up all_down w p rest f l first proper (omega (arith, begun, l.hellos_down))
-    (subst (λ (x : ℕ). Carries x s.received.requests f p) n_is (subst (λ (x : ℕ). Carries n x f p) r_is (is_piece opened Initiator n r place p (proper_one n r p proper) at)))
-    bytes (λ i. frame_bytes opened Initiator (numbered_segment (n_is i) (r_is i) p)) stays
+    (carries_at_server opened s s.received.sends s.received.requests f p stays (subst (λ (x : ℕ). IsSent x s.received.requests f p) n_is (subst (λ (x : ℕ). IsSent n x f p) r_is (is_piece opened Initiator n r place p (proper_one n r p proper) at))))
+    bytes (λ i. frame_bytes opened Initiator (written_segment (n_is i) (r_is i) p)) stays
   where
     hello_there : (q : FrameContent) (ps qs : List FrameContent) → IsOutput (q ∷ ps ++ qs) → 0 < total_of hellos_in (q ∷ ps)
     hello_there HelloFrame ps qs h = omega arith
-    hello_there (PartFrame offset payload) ps qs h = absurd h
+    hello_there (PartFrame named offset payload) ps qs h = absurd h
     hello_there (SendFrame message) ps qs h = absurd h
     hello_there (RequestFrame sink at size stag to) ps qs h = absurd h
     hello_there (TaggedFrame last opcode stag to payload) ps qs h = absurd h

@@ -251,7 +251,7 @@ first_is (x ∷ rest) r e = (rest, (let same : x ≡ r = cc in ap (λ (y : Ready
 begun : (ps : List FrameContent) → IsOutput ps → 0 < total_of sends_in ps → 0 < total_of hellos_in ps
 begun [] h some = absurd (omega (arith, some))
 begun (HelloFrame ∷ ps) h some = omega arith
-begun (PartFrame offset payload ∷ ps) h some = absurd h
+begun (PartFrame named offset payload ∷ ps) h some = absurd h
 begun (SendFrame message ∷ ps) h some = absurd h
 begun (RequestFrame sink at size stag to ∷ ps) h some = absurd h
 begun (TaggedFrame last opcode stag to payload ∷ ps) h some = absurd h

@@ -30,7 +30,7 @@ use Rattle.nr_reduce.specs.Matched.{IsPrefixOf}
 use Rattle.nr_reduce.proofs.Steps.{client_one, server_one, output_due_up_one, output_due_down_one}
 use Rattle.nr_reduce.proofs.Standing.{itself, received_one, sent_one}
 use Rattle.nr_laws.proofs.Bytes.{bytes_both}
-use Rattle.nr_laws.proofs.FrameContents.{FrameContent, numbered_segment, frame_bytes, output_bytes, total_of, sends_in, requests_in}
+use Rattle.nr_laws.proofs.FrameContents.{FrameContent, written_segment, frame_bytes, output_bytes, total_of, sends_in, requests_in}
 use Rattle.nr_laws.proofs.LinkInvariants.{Transit}
 use Rattle.nr_laws.proofs.StreamFrames.{AreWritableFrom, proper_frame, IsOf, frames_at, frames_append, spelled_append}
 use Rattle.nr_laws.proofs.CompletedFrames.{fed}
@@ -193,7 +193,7 @@ none_preserve opened link run mark j own theirs fed_i fed_r wrote_i wrote_r = re
 some_frames : (opened : LinkParameters) (side : Side) (a : Awaited) (n r : ℕ) (ps : List FrameContent) → IsOf side a → AreWritableFrom a n r ps → AreSome (frames_at opened side n r ps)
 some_frames opened side a n r [] of h = tt
 some_frames opened side a n r (p ∷ ps) of h =
-    let f = proper_frame opened side a (numbered_segment n r p) of h.0 in
+    let f = proper_frame opened side a (written_segment n r p) of h.0 in
     (omega (arith, f.fields, fields_some a), some_frames opened side Fpdu (n + sends_in p) (r + requests_in p) ps tt h.1)
 
 some_right : (xs ys : List (List ℕ)) → AreSome (xs ++ ys) → AreSome ys
@@ -203,7 +203,7 @@ some_right (x ∷ xs) ys h = some_right xs ys h.1
 at_place_lem : (opened : LinkParameters) (side : Side) (ps : List FrameContent) → AreSome (frames_at opened side 0 0 ps) → IsPlace ps (length (concat (frames_at opened side 0 0 ps)))
 at_place_lem opened side [] h = refl
 at_place_lem opened side (p ∷ ps) h =
-    omega (arith, h.0, length-append (frame_bytes opened side (numbered_segment 0 0 p)) (concat (frames_at opened side (0 + sends_in p) (0 + requests_in p) ps)))
+    omega (arith, h.0, length-append (frame_bytes opened side (written_segment 0 0 p)) (concat (frames_at opened side (0 + sends_in p) (0 + requests_in p) ps)))
 
 -- the new frames of some more bytes, with what the loops over their frames ask
 pub record ArrivedFrames (opened : LinkParameters) (side : Side) (got bytes : List ℕ) (came way : List FrameContent) : Type 0 where

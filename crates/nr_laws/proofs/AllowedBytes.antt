@@ -14,16 +14,14 @@ use Rattle.nr_regions.specs.Access.{Allowed, Grant, TaggedSegment, access_of_tag
 use Rattle.nr_regions.proofs.Contents.{allowed_iff}
 use Rattle.nr_link.specs.declared.end.End.{End as Stop}
 use Rattle.nr_link.specs.ReceiveState.{ReadRequest, read_request_of, read_request_in}
-use Rattle.nr_link.specs.Ending.{frame_segment, tagged_access}
 use Rattle.nr_link.specs.Ending as ending
 use Rattle.nr_reduce.specs.Events.{RunEvent, events}
 use Rattle.nr_reduce.specs.Events.RunEvent.{FrameReceived, CallSubmitted, MemoryRevoked, CallExecuted, QueueWritten, ServerTold}
 use Rattle.nr_link.specs.Frames.{Frame, is_hello}
-use Rattle.nr_link.specs.Ending.{final_output}
 use Rattle.nr_reduce.specs.declared.mark.LinkParameters.{LinkParameters}
 use Rattle.nr_reduce.specs.EndRules.{EndMachine, EndState, output_for_by, output_for_in, next_end_state, next_end_state_by, next_end_state_in, end_state_after}
 use Rattle.nr_reduce.specs.OfferedRegions.{Region, region_grants, region_bytes, region_bytes_by}
-use Rattle.nr_reduce.specs.Client.{client_rules, client_output, initial_client, calls_output, call_output, outstanding_of, client_end, response_output, segment_request}
+use Rattle.nr_reduce.specs.Client.{client_segment, client_rules, client_output, initial_client, calls_output, call_output, outstanding_of, client_end, response_output, segment_request}
 use Rattle.nr_reduce.specs.Server.{server_rules, initial_server}
 use Rattle.nr_reduce.specs.ClientState.{ClientState, client_memory_at}
 use Rattle.nr_reduce.specs.ServerState.{ServerState}
@@ -186,7 +184,7 @@ reads_are_allowed opened link run earlier later f segment request is behind own 
       bytes = take request.size (drop request.to (client_memory_at k f.end request.stag));
       output = ap (λ (o : Option Stop). output_for_in (client_rules opened) k (FrameReceived f) o) g.live
           ∙ ap (λ (o : Option Stop). output_for_by (client_rules opened) k (FrameReceived f) o) g.none
-          ∙ ap (λ (b : Bool). cond b (calls_output opened 1 k.outstanding) (response_output k f.end (segment_request (frame_segment f)))) behind
+          ∙ ap (λ (b : Bool). cond b (calls_output opened 1 k.outstanding) (response_output k f.end (segment_request (client_segment k f)))) behind
           ∙ ap (λ (r : Result Segment ℕ). response_output k f.end (segment_request r)) own
           ∙ ap (λ (o : Option ReadRequest). response_output k f.end o) asks;
       stand = refl;
@@ -234,7 +232,7 @@ nothing_else_is_disclosed opened link run earlier later event is = by_ended befo
         stays : (next_end_state (client_rules opened) before (FrameReceived f)).ended ≡ None
         stays = ap (λ (o : Option Stop). (next_end_state_in (client_rules opened) k (FrameReceived f) o).ended) live ∙ ap (λ (o : Option Stop). (next_end_state_by (client_rules opened) k (FrameReceived f) o).ended) quiet
 
-        by_request : (s : Segment) → frame_segment f ≡ Ok s → is_hello f ≡ false → (o : Option ReadRequest) → read_request_of s ≡ o → IsOwnOutput opened here after (response_output k f.end o) ⊎ AnswersRequest opened before event
+        by_request : (s : Segment) → client_segment k f ≡ Ok s → is_hello f ≡ false → (o : Option ReadRequest) → read_request_of s ≡ o → IsOwnOutput opened here after (response_output k f.end o) ⊎ AnswersRequest opened before event
         by_request s own behind None asks = inl none
         by_request s own behind (Some q) asks = inr (record {
           frame = f;
@@ -247,13 +245,13 @@ nothing_else_is_disclosed opened link run earlier later event is = by_ended befo
           disclosed = reads_are_allowed opened link run earlier later f s q (is ∙ ap (λ (e : RunEvent). earlier ++ e ∷ later) same) behind own asks stays;
         })
 
-        by_segment : (r : Result Segment ℕ) → frame_segment f ≡ r → is_hello f ≡ false → IsOwnOutput opened here after (response_output k f.end (segment_request r)) ⊎ AnswersRequest opened before event
+        by_segment : (r : Result Segment ℕ) → client_segment k f ≡ r → is_hello f ≡ false → IsOwnOutput opened here after (response_output k f.end (segment_request r)) ⊎ AnswersRequest opened before event
         by_segment (Err reason) own behind = inl none
         by_segment (Ok s) own behind = by_request s own behind (read_request_of s) refl
 
-        by_hello : (b : Bool) → is_hello f ≡ b → IsOwnOutput opened here after (cond b (calls_output opened 1 k.outstanding) (response_output k f.end (segment_request (frame_segment f)))) ⊎ AnswersRequest opened before event
+        by_hello : (b : Bool) → is_hello f ≡ b → IsOwnOutput opened here after (cond b (calls_output opened 1 k.outstanding) (response_output k f.end (segment_request (client_segment k f)))) ⊎ AnswersRequest opened before event
         by_hello true e = inl (inl (1, k.outstanding, ((λ o c. submitted_more opened earlier (event ∷ []) o (outstanding_are_submitted opened earlier o c)), refl)))
-        by_hello false e = by_segment (frame_segment f) refl e
+        by_hello false e = by_segment (client_segment k f) refl e
 
     by_event : (e : RunEvent) → event ≡ e → before.ended ≡ None → client_end k e ≡ None → IsOwnOutput opened here after (client_output opened k e) ⊎ AnswersRequest opened before event
     by_event (FrameReceived f) same live quiet = frame f same live quiet

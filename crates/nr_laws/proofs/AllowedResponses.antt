@@ -21,7 +21,7 @@ continues_within true came n r rs Later h = omega (arith, h.0)
 continues_within false came n r rs Later h = omega (arith, h.0)
 
 pub server_response_taken : (opened : LinkParameters) (s : ServerState) (w : Transit) (f : Frame) (place : ℕ) (last : Bool) (opcode stag to : ℕ) (payload : List ℕ) (rest : List FrameContent) → ReadsAgree s w → HaveSinks place s.regions s.reads → place < f.end
-    → w.up ≡ TaggedFrame last opcode stag to payload ∷ rest → Carries s.received.sends s.received.requests f (TaggedFrame last opcode stag to payload)
+    → w.up ≡ TaggedFrame last opcode stag to payload ∷ rest → Carries false s.received.sends s.received.requests f (TaggedFrame last opcode stag to payload)
     → server_end opened s (FrameReceived f) ≡ refusal_end f (frame_effect s f).refusal
 server_response_taken opened s w f place last opcode stag to payload rest c sinks lt head p =
     by c.answered c.parts (subst (λ (ps : List FrameContent). AreResponses s.response_bytes c.answered (ps ++ w.queued_up)) head c.answers) (subst (λ (rs : List PendingRead). HaveSinks place s.regions rs) c.parts (sinks_taken place 8 s.regions s.reads sinks))
@@ -36,5 +36,5 @@ server_response_taken opened s w f place last opcode stag to payload rest c sink
         (sink_allowed place f.end r s.regions to (length payload) have.0 lt (omega (arith, answers.2, within))) in
         server_response opened s w f last stag to payload rest c
         (head ∙ ap (λ (o : ℕ). TaggedFrame last o stag to payload ∷ rest) answers.0)
-        (subst (λ (o : ℕ). Carries s.received.sends s.received.requests f (TaggedFrame last o stag to payload)) answers.0 p)
+        (subst (λ (o : ℕ). Carries false s.received.sends s.received.requests f (TaggedFrame last o stag to payload)) answers.0 p)
         allowed

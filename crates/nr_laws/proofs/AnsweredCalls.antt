@@ -20,7 +20,7 @@ use Rattle.nr_reduce.specs.ServerMessages.{CallVerdict, by_payload, pending_payl
 use Rattle.nr_reduce.specs.ServerMessages.CallVerdict.{Refuses, IsReady}
 use Rattle.nr_reduce.specs.ServerMessages.Verdict.{MakesPending}
 use Rattle.nr_reduce.specs.ServerFrames.{FrameEffect, no_effect, with_verdict, frame_effect}
-use Rattle.nr_reduce.specs.Server.{newly_open_reads}
+use Rattle.nr_reduce.specs.Server.{newly_open_reads, stag_named}
 use Rattle.nr_laws.proofs.FrameContents.{FrameContent, effect_frames, request_frame, write_frames, answer_frames, tagged_frames, SentMessage, CompletesMessage, last_segment, send_frames, errors_frames, part_frame, last_part, last_index}
 use Rattle.nr_laws.proofs.FrameContents.FrameContent.{HelloFrame, PartFrame, SendFrame, RequestFrame, TaggedFrame}
 use Rattle.nr_laws.proofs.PendingSends.{verdict_new}
@@ -31,7 +31,7 @@ use Rattle.nr_laws.proofs.EachEffect.{send_effect, tagged_effect_lem}
 abbrev pub message_xids : List FrameContent → List ℕ
 message_xids [] = []
 message_xids (HelloFrame ∷ ps) = message_xids ps
-message_xids (PartFrame offset payload ∷ ps) = message_xids ps
+message_xids (PartFrame named offset payload ∷ ps) = message_xids ps
 message_xids (SendFrame message ∷ ps) = word_at 0 message.bytes ∷ message_xids ps
 message_xids (RequestFrame sink at size stag to ∷ ps) = message_xids ps
 message_xids (TaggedFrame last opcode stag to payload ∷ ps) = message_xids ps
@@ -49,7 +49,7 @@ outstanding_xids calls = map (λ (o : OutstandingCall). o.xid) calls
 pub xids_append : (ps qs : List FrameContent) → message_xids (ps ++ qs) ≡ message_xids ps ++ message_xids qs
 xids_append [] qs = refl
 xids_append (HelloFrame ∷ ps) qs = xids_append ps qs
-xids_append (PartFrame offset payload ∷ ps) qs = xids_append ps qs
+xids_append (PartFrame named offset payload ∷ ps) qs = xids_append ps qs
 xids_append (SendFrame message ∷ ps) qs = ap (λ (xs : List ℕ). word_at 0 message.bytes ∷ xs) (xids_append ps qs)
 xids_append (RequestFrame sink at size stag to ∷ ps) qs = xids_append ps qs
 xids_append (TaggedFrame last opcode stag to payload ∷ ps) qs = xids_append ps qs
@@ -60,17 +60,17 @@ times_append x (y ∷ xs) ys = omega (arith, times_append x xs ys)
 
 -- ---- What is sent
 
-pub send_xids : (message : List ℕ) → message_xids (send_frames message) ≡ word_at 0 message ∷ []
+pub send_xids : (named : Option ℕ) (message : List ℕ) → message_xids (send_frames named message) ≡ word_at 0 message ∷ []
 unfolding send_frames
-send_xids message = by (range_with_len 0 (last_index message))
+send_xids named message = by (range_with_len 0 (last_index message))
   where
-    by : (is : List ℕ) → message_xids (map (part_frame message) is ++ SendFrame (last_part message) ∷ []) ≡ word_at 0 message ∷ []
+    by : (is : List ℕ) → message_xids (map (part_frame named message) is ++ SendFrame (last_part named message) ∷ []) ≡ word_at 0 message ∷ []
     by [] = refl
     by (i ∷ is) = by is
 
 errors_xids : (messages : List (List ℕ)) → message_xids (errors_frames messages) ≡ map (λ (m : List ℕ). word_at 0 m) messages
 errors_xids [] = refl
-errors_xids (m ∷ messages) = xids_append (send_frames m) (errors_frames messages) ∙ (λ i. send_xids m i ++ errors_xids messages i)
+errors_xids (m ∷ messages) = xids_append (send_frames None m) (errors_frames messages) ∙ (λ i. send_xids None m i ++ errors_xids messages i)
 
 requests_xids : (reads : List PendingRead) → message_xids (map request_frame reads) ≡ []
 requests_xids [] = refl
@@ -99,12 +99,12 @@ writes_none (p ∷ chunk) bytes =
 
 -- of an executed call: one message, of its xid
 pub answer_xids : (k : ServerState) (xid : ℕ) (offer : ChunkLists) (o : Option Answer) → xid < 2 ^ 32 → message_xids (answer_frames k xid offer o) ≡ xid ∷ []
-answer_xids k xid offer None lt = send_xids (chunk_error xid (credit_word k)) ∙ ap (λ (x : ℕ). x ∷ []) (chunk_error_xid xid (credit_word k) lt)
+answer_xids k xid offer None lt = send_xids None (chunk_error xid (credit_word k)) ∙ ap (λ (x : ℕ). x ∷ []) (chunk_error_xid xid (credit_word k) lt)
 answer_xids k xid offer (Some a) lt =
     let long = cond a.long (write_frames (no_segments offer.reply) a.stream) [] in
-    let last = send_frames (answer_message xid (credit_word k) offer a) in
+    let last = send_frames (stag_named k.invalidates offer) (answer_message xid (credit_word k) offer a) in
     xids_append (write_frames (first_chunk offer.write) a.moved) (long ++ last)
-    ∙ (λ i. writes_none (first_chunk offer.write) a.moved i ++ (xids_append long last ∙ (λ j. by a.long j ++ send_xids (answer_message xid (credit_word k) offer a) j)) i)
+    ∙ (λ i. writes_none (first_chunk offer.write) a.moved i ++ (xids_append long last ∙ (λ j. by a.long j ++ send_xids (stag_named k.invalidates offer) (answer_message xid (credit_word k) offer a) j)) i)
     ∙ ap (λ (x : ℕ). x ∷ []) (answer_xid xid (credit_word k) offer a lt)
   where
     by : (b : Bool) → message_xids (cond b (write_frames (no_segments offer.reply) a.stream) []) ≡ []

@@ -29,7 +29,7 @@ use Rattle.nr_reduce.specs.Events.RunEvent.{FrameReceived, CallSubmitted, Memory
 use Rattle.nr_reduce.specs.EndRules.{EndState, next_end_state, next_end_state_by, next_end_state_in, end_state_after}
 use Rattle.nr_reduce.specs.OfferedRegions.{Region, region_grants}
 use Rattle.nr_reduce.specs.ClientState.{ClientState, responses_owed}
-use Rattle.nr_reduce.specs.Client.{client_rules, client_end, client_state_after, initial_client, with_hello, with_message, with_request, with_segment, due_with_response}
+use Rattle.nr_reduce.specs.Client.{client_segment, client_rules, client_end, client_state_after, initial_client, with_hello, with_message, with_request, with_segment, due_with_response}
 use Rattle.nr_reduce.specs.ServerState.{ServerState, PendingCall, receives_in_use}
 use Rattle.nr_reduce.specs.ServerReads.{is_read, reads_of, regions_of}
 use Rattle.nr_reduce.specs.ServerMessages.{CallVerdict, Verdict, by_payload, pending_payload, verdict}
@@ -110,7 +110,7 @@ message_owes : (k : ClientState) (place : ℕ) (o : Option (List ℕ)) → respo
 message_owes k place None = refl
 message_owes k place (Some message) = refl
 
-few_owed : (k : ClientState) (f : Frame) (s : Segment) → is_hello f ≡ false → frame_segment f ≡ Ok s → client_end k (FrameReceived f) ≡ None → (q : ReadRequest) → read_request_of s ≡ Some q → responses_owed k < open_reads_max
+few_owed : (k : ClientState) (f : Frame) (s : Segment) → is_hello f ≡ false → client_segment k f ≡ Ok s → client_end k (FrameReceived f) ≡ None → (q : ReadRequest) → read_request_of s ≡ Some q → responses_owed k < open_reads_max
 few_owed k f (Tagged last opcode stag to payload) behind is stays q asks = absurd (let wrong : None ≡ Some q = asks in cc)
 few_owed k f (Untagged last opcode w queue msn offset payload) behind is stays q asks =
     by (eqb opcode OPCODE_READ_REQUEST) refl asks (passes _ last opcode w queue msn offset payload (client_has_no_fault k f (Untagged last opcode w queue msn offset payload) behind is stays)).requests
@@ -127,16 +127,16 @@ owes_event : (opened : LinkParameters) (k : ClientState) (e : RunEvent) → clie
 unfolding client_state_after
 owes_event opened k (FrameReceived f) stays h = by (is_hello f) refl
   where
-    by_segment : is_hello f ≡ false → (r : Result Segment ℕ) → frame_segment f ≡ r → responses_owed (with_segment k f r) ≤ open_reads_max
+    by_segment : is_hello f ≡ false → (r : Result Segment ℕ) → client_segment k f ≡ r → responses_owed (with_segment k f r) ≤ open_reads_max
     by_segment behind (Err reason) is = h
     by_segment behind (Ok s) is =
         let m : ClientState = with_message k f.end (message_completed k.received s) in
         let same = message_owes k f.end (message_completed k.received s) in
         owes_request m (due_with_response k f s) (read_request_of s) (λ none. omega (arith, same, h)) (λ q asks. (let few = few_owed k f s behind is stays q asks in omega (arith, same, few)))
 
-    by : (b : Bool) → is_hello f ≡ b → responses_owed (cond b (with_hello opened k f) (with_segment k f (frame_segment f))) ≤ open_reads_max
+    by : (b : Bool) → is_hello f ≡ b → responses_owed (cond b (with_hello opened k f) (with_segment k f (client_segment k f))) ≤ open_reads_max
     by true behind = h
-    by false behind = by_segment behind (frame_segment f) refl
+    by false behind = by_segment behind (client_segment k f) refl
 owes_event opened k (CallSubmitted p a) stays h = h
 owes_event opened k (MemoryRevoked p xid) stays h = h
 owes_event opened k (CallExecuted e) stays h = h

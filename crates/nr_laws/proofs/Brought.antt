@@ -20,7 +20,6 @@ use Rattle.nr_wire.specs.Constants.{HELLO_LEN, HELLO_REVISION, PRIVATE_MAX, ULPD
 use Rattle.nr_wire.specs.Fields.{half_word}
 use Rattle.nr_link.specs.Output.{hello_with}
 use Rattle.nr_link.specs.Frames.{Frame, frames_from, frames_completed, is_hello}
-use Rattle.nr_link.specs.Ending.{frame_segment}
 use Rattle.nr_link.proofs.Streams.{frames_from_append, frames_completed_split}
 use Rattle.nr_reduce.specs.declared.call.Submission.TheVariants as submissions
 use Rattle.nr_reduce.specs.declared.mark.Mark.{Mark}
@@ -167,7 +166,7 @@ first_of_lem a stream outs from p =
 
 abbrev pub Brought : Output → Frame → Type 0
 Brought (AHello bytes) f = (is_hello f ≡ true) × (f.bytes ≡ bytes)
-Brought (ASegment s) f = (is_hello f ≡ false) × (frame_segment f ≡ Ok s)
+Brought (ASegment s) f = (is_hello f ≡ false) × (segment_of f.bytes ≡ Ok s)
 
 -- the frames among some events bring these, in order
 abbrev pub Brings : List RunEvent → List Output → Type 0
@@ -285,7 +284,6 @@ brings_each (QueueWritten taken ∷ es) outs h = brings_each es outs h
 brings_each (ServerTold what ∷ es) outs h = brings_each es outs h
 
 later_brought : (place : ℕ) (outs : List Output) → 0 < place → AreFrom Fpdu outs → EachBrought (frames_from place (map bytes_of outs)) outs
-unfolding frame_segment
 later_brought place [] some h = tt
 later_brought place (AHello bytes ∷ outs) some h = absurd h
 later_brought place (ASegment s ∷ outs) some h =

@@ -1,7 +1,7 @@
 -- Each byte of a region is the one that was registered, or that of an allowed tagged segment of a frame that was received.
 use Rattle.std.proofs.Common.{◌≡◌, ℕ, zero, suc, ◌+◌, ◌-◌, ◌≤◌, Bool, true, false, cond, ◌&&◌, eqb, List, [], ◌∷◌, ◌++◌, length, take, drop, Option, None, Some, is_none, Result, Ok, Err, refl, sym, ap, subst, ◌∙◌, arith, append_assoc, inl, inr, ◌⊎◌, eqb-true}
 use Rattle.std.specs.Prelude.{slice_get}
-use Rattle.nr_wire.specs.Segment.{Segment}
+use Rattle.nr_wire.specs.Segment.{Segment, segment_of}
 use Rattle.nr_wire.specs.Segment.Segment.{Tagged, Untagged}
 use Rattle.nr_regions.specs.declared.denied.Denied.{Denied}
 use Rattle.nr_regions.specs.RegisteredMemory.{bytes_after_write}
@@ -10,6 +10,7 @@ use Rattle.nr_regions.proofs.Holding.{length_bytes_after_write}
 use Rattle.nr_link.specs.declared.end.End.{End as Stop}
 use Rattle.nr_link.specs.Frames.{Frame, is_hello}
 use Rattle.nr_link.specs.Ending.{frame_segment, tagged_access}
+use Rattle.nr_link.proofs.TakenSegments.{tagged_taken}
 use Rattle.nr_reduce.specs.Events.{RunEvent}
 use Rattle.nr_reduce.specs.Events.RunEvent.{FrameReceived, CallSubmitted, MemoryRevoked, CallExecuted, QueueWritten, ServerTold}
 use Rattle.nr_reduce.specs.EndRules.{EndMachine, EndState, next_end_state, next_end_state_by, next_end_state_in, end_state_after}
@@ -148,9 +149,13 @@ record NewAccess (f : Frame) (s : TaggedSegment) : Type 0 where
   is_tagged : tagged_access f segment ≡ s ∷ []
   end_is : s.end ≡ f.end
 
-new_access : (f : Frame) (s : TaggedSegment) → is_hello f ≡ false → (r : Result Segment ℕ) → frame_segment f ≡ r → Has (tagged_accesses f r) s → NewAccess f s
+tagged_frame : (f : Frame) (last : Bool) (opcode stag to : ℕ) (payload : List ℕ) → segment_of f.bytes ≡ Ok (Tagged last opcode stag to payload) → frame_segment f ≡ Ok (Tagged last opcode stag to payload)
+unfolding frame_segment
+tagged_frame f last opcode stag to payload is = tagged_taken false f.bytes last opcode stag to payload is
+
+new_access : (f : Frame) (s : TaggedSegment) → is_hello f ≡ false → (r : Result Segment ℕ) → segment_of f.bytes ≡ r → Has (tagged_accesses f r) s → NewAccess f s
 new_access f s behind (Ok (Tagged last opcode stag to payload)) is (inl same) =
-    record { behind = behind; segment = Tagged last opcode stag to payload; is_segment = is; is_tagged = ap (λ (x : TaggedSegment). x ∷ []) same; end_is = ap (λ (x : TaggedSegment). x.end) (sym same) }
+    record { behind = behind; segment = Tagged last opcode stag to payload; is_segment = tagged_frame f last opcode stag to payload is; is_tagged = ap (λ (x : TaggedSegment). x ∷ []) same; end_is = ap (λ (x : TaggedSegment). x.end) (sym same) }
 new_access f s behind (Ok (Tagged last opcode stag to payload)) is (inr none) = absurd none
 new_access f s behind (Ok (Untagged last opcode w queue msn offset payload)) is none = absurd none
 new_access f s behind (Err reason) is none = absurd none
@@ -169,13 +174,13 @@ from_event {S} rules accesses goes r e s h = by_end r.ended refl h
     by_event : (x : RunEvent) → e ≡ x → (next_end_state rules r e).ended ≡ None → Has (accesses_event (accesses r.state) x) s → FromEvent rules accesses r e s
     by_event (FrameReceived f) is stays h = by_hello (is_hello f) refl h
       where
-        by_new : is_hello f ≡ false → Has (accesses r.state) s ⊎ Has (tagged_accesses f (frame_segment f)) s → FromEvent rules accesses r e s
+        by_new : is_hello f ≡ false → Has (accesses r.state) s ⊎ Has (tagged_accesses f (segment_of f.bytes)) s → FromEvent rules accesses r e s
         by_new behind (inl old) = Old old
-        by_new behind (inr new) = New f is (ap (λ (y : RunEvent). (next_end_state rules r y).ended) (sym is) ∙ stays) (new_access f s behind (frame_segment f) refl new)
+        by_new behind (inr new) = New f is (ap (λ (y : RunEvent). (next_end_state rules r y).ended) (sym is) ∙ stays) (new_access f s behind (segment_of f.bytes) refl new)
 
-        by_hello : (b : Bool) → is_hello f ≡ b → Has (cond b (accesses r.state) (accesses r.state ++ tagged_accesses f (frame_segment f))) s → FromEvent rules accesses r e s
+        by_hello : (b : Bool) → is_hello f ≡ b → Has (cond b (accesses r.state) (accesses r.state ++ tagged_accesses f (segment_of f.bytes))) s → FromEvent rules accesses r e s
         by_hello true own h = Old h
-        by_hello false own h = by_new own (has_append (accesses r.state) (tagged_accesses f (frame_segment f)) s h)
+        by_hello false own h = by_new own (has_append (accesses r.state) (tagged_accesses f (segment_of f.bytes)) s h)
     by_event (CallSubmitted p a) is stays h = Old h
     by_event (MemoryRevoked p xid) is stays h = Old h
     by_event (CallExecuted x) is stays h = Old h
@@ -183,7 +188,7 @@ from_event {S} rules accesses goes r e s h = by_end r.ended refl h
     by_event (ServerTold what) is stays h = Old h
 
     by_why : (o : Option Stop) → r.ended ≡ None → rules.end_at r.state e ≡ o → Has (accesses (next_end_state_by rules r.state e o).state) s → FromEvent rules accesses r e s
-    by_why None is none h = by_event e refl (live is none) (subst (λ (xs : List TaggedSegment). Has xs s) (goes r.state e) h)
+    by_why None is none h = by_event e refl (live is none) (subst (λ (xs : List TaggedSegment). Has xs s) (goes r.state e none) h)
     by_why (Some end) is why h = Old h
 
     by_end : (o : Option Stop) → r.ended ≡ o → Has (accesses (next_end_state_in rules r.state e o).state) s → FromEvent rules accesses r e s

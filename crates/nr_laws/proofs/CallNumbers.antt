@@ -1,6 +1,6 @@
 -- The Sends of a client have the xids of its calls, one after the other; so no call that is pending at the server has the xid of a Send
 -- that is received.
-use Rattle.std.proofs.Common.{◌≡◌, ℕ, ◌+◌, Bool, false, not, ◌||◌, eqb, List, [], ◌∷◌, ◌++◌, length, map, Ok, refl, subst, ◌∙◌, arith}
+use Rattle.std.proofs.Common.{◌≡◌, ℕ, ◌+◌, Bool, false, not, ◌||◌, eqb, List, [], ◌∷◌, ◌++◌, length, map, Ok, refl, subst, ◌∙◌, arith, None}
 use Rattle.std.specs.List.{AllByRecursion, list_any, range_with_len}
 use Rattle.std.proofs.lemmas.Bool.{ne_eqb}
 use Rattle.nr_xdr.specs.Fields.{word_at}
@@ -26,7 +26,7 @@ use Rattle.nr_laws.proofs.SendFrames.{send_counts}
 abbrev pub XidsFrom : ℕ → List FrameContent → Type 0
 XidsFrom x [] = Unit {0}
 XidsFrom x (HelloFrame ∷ ps) = XidsFrom x ps
-XidsFrom x (PartFrame offset payload ∷ ps) = XidsFrom x ps
+XidsFrom x (PartFrame named offset payload ∷ ps) = XidsFrom x ps
 XidsFrom x (SendFrame message ∷ ps) = (word_at 0 message.bytes ≡ x) × XidsFrom (x + 1) ps
 XidsFrom x (RequestFrame sink at size stag to ∷ ps) = XidsFrom x ps
 XidsFrom x (TaggedFrame last opcode stag to payload ∷ ps) = XidsFrom x ps
@@ -34,7 +34,7 @@ XidsFrom x (TaggedFrame last opcode stag to payload ∷ ps) = XidsFrom x ps
 pub xids_append : (x : ℕ) (ps qs : List FrameContent) → XidsFrom x ps → XidsFrom (x + total_of sends_in ps) qs → XidsFrom x (ps ++ qs)
 xids_append x [] qs h k = subst (λ (n : ℕ). XidsFrom n qs) (omega arith) k
 xids_append x (HelloFrame ∷ ps) qs h k = xids_append x ps qs h (subst (λ (n : ℕ). XidsFrom n qs) (omega arith) k)
-xids_append x (PartFrame offset payload ∷ ps) qs h k = xids_append x ps qs h (subst (λ (n : ℕ). XidsFrom n qs) (omega arith) k)
+xids_append x (PartFrame named offset payload ∷ ps) qs h k = xids_append x ps qs h (subst (λ (n : ℕ). XidsFrom n qs) (omega arith) k)
 xids_append x (SendFrame message ∷ ps) qs h k = (h.0, xids_append (x + 1) ps qs h.1 (subst (λ (n : ℕ). XidsFrom n qs) (omega arith) k))
 xids_append x (RequestFrame sink at size stag to ∷ ps) qs h k = xids_append x ps qs h (subst (λ (n : ℕ). XidsFrom n qs) (omega arith) k)
 xids_append x (TaggedFrame last opcode stag to payload ∷ ps) qs h k = xids_append x ps qs h (subst (λ (n : ℕ). XidsFrom n qs) (omega arith) k)
@@ -42,7 +42,7 @@ xids_append x (TaggedFrame last opcode stag to payload ∷ ps) qs h k = xids_app
 pub xids_at : (x : ℕ) (ps : List FrameContent) (message : SentMessage) (qs : List FrameContent) → XidsFrom x (ps ++ SendFrame message ∷ qs) → word_at 0 message.bytes ≡ x + total_of sends_in ps
 xids_at x [] message qs h = omega (arith, h.0)
 xids_at x (HelloFrame ∷ ps) message qs h = omega (arith, xids_at x ps message qs h)
-xids_at x (PartFrame offset payload ∷ ps) message qs h = omega (arith, xids_at x ps message qs h)
+xids_at x (PartFrame named offset payload ∷ ps) message qs h = omega (arith, xids_at x ps message qs h)
 xids_at x (SendFrame m ∷ ps) message qs h = omega (arith, xids_at (x + 1) ps message qs h.1)
 xids_at x (RequestFrame sink at size stag to ∷ ps) message qs h = omega (arith, xids_at x ps message qs h)
 xids_at x (TaggedFrame last opcode stag to payload ∷ ps) message qs h = omega (arith, xids_at x ps message qs h)
@@ -66,19 +66,19 @@ numbered_map number f x (o ∷ os) same h = (same o ∙ h.0, numbered_map number
 abbrev pub HasOwnXid : LinkParameters → OutstandingCall → Type 0
 HasOwnXid opened o = word_at 0 (message_of_call opened o) ≡ o.xid
 
-pub send_xids_from : (x : ℕ) (message : List ℕ) → word_at 0 message ≡ x → XidsFrom x (send_frames message)
+pub send_xids_from : (x : ℕ) (message : List ℕ) → word_at 0 message ≡ x → XidsFrom x (send_frames None message)
 unfolding send_frames
 send_xids_from x message own = by (range_with_len 0 (last_index message))
   where
-    by : (is : List ℕ) → XidsFrom x (map (part_frame message) is ++ SendFrame (last_part message) ∷ [])
+    by : (is : List ℕ) → XidsFrom x (map (part_frame None message) is ++ SendFrame (last_part None message) ∷ [])
     by [] = (own, tt)
     by (i ∷ is) = by is
 
 pub xids_asked : (opened : LinkParameters) (x : ℕ) (os : List OutstandingCall) → NumberedCalls x os → AllByRecursion (HasOwnXid opened) os → XidsFrom x (calls_frames opened os)
 xids_asked opened x [] h own = tt
 xids_asked opened x (o ∷ os) h own =
-    xids_append x (send_frames (message_of_call opened o)) (calls_frames opened os) (send_xids_from x (message_of_call opened o) (own.0 ∙ h.0))
-    (subst (λ (n : ℕ). XidsFrom n (calls_frames opened os)) (omega (arith, send_counts sends_in 1 (λ offset payload. refl) (λ m. refl) (message_of_call opened o))) (xids_asked opened (x + 1) os h.1 own.1))
+    xids_append x (send_frames None (message_of_call opened o)) (calls_frames opened os) (send_xids_from x (message_of_call opened o) (own.0 ∙ h.0))
+    (subst (λ (n : ℕ). XidsFrom n (calls_frames opened os)) (omega (arith, send_counts sends_in 1 (λ named offset payload. refl) (λ m. refl) None (message_of_call opened o))) (xids_asked opened (x + 1) os h.1 own.1))
 
 -- ---- Calls at the server
 

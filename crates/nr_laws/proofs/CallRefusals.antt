@@ -34,7 +34,7 @@ other reason h own = apart reason h (inr own)
 pub frame_other : (ready : Option Denied → Readiness Denied) (grants : List Grant) (f : Frame) (s : Segment) (at reason : ℕ) → frame_segment f ≡ Ok s → IsCallReason reason → frame_end ready grants f ≡ Some (ends.Bad at reason) → ⊥
 unfolding frame_end
 frame_other ready grants f s at reason is own e =
-    by_fault_lem f s (segment_reason (ready (missing_access grants f s)) s) (fault_other (ready (missing_access grants f s)) s) at reason (inr own)
+    by_fault_lem f s (segment_reason (ready (missing_access grants f s)) s) (fault_other (ready (missing_access grants f s)) s) at reason (inl (inr own))
     (ap (λ (r : Result Segment ℕ). frame_end_by ready grants f r) (sym is) ∙ e)
 
 -- ---- The verdict on a message gives no such reason

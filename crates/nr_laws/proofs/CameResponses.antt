@@ -2,10 +2,11 @@
 use Rattle.std.proofs.Common.{◌≡◌, ℕ, zero, suc, ◌+◌, ◌≤◌, Bool, true, false, cond, List, [], ◌∷◌, ◌++◌, length, take, drop, map, None, Ok, refl, sym, ap, subst, ◌∙◌, arith, append_assoc, append-nil, length-append}
 use Rattle.std.proofs.lemmas.List.{length-map, map-append}
 use Rattle.nr_wire.specs.declared.hello.Side.TheVariants.{Initiator, Responder}
-use Rattle.nr_wire.specs.Segment.{Segment}
+use Rattle.nr_wire.specs.Segment.{Segment, segment_of}
 use Rattle.nr_wire.specs.Segment.Segment.{Tagged, Untagged}
 use Rattle.nr_link.specs.Frames.{Frame, is_hello}
 use Rattle.nr_link.specs.Ending.{frame_segment, tagged_access}
+use Rattle.nr_link.proofs.TakenSegments.{frame_read}
 use Rattle.nr_reduce.specs.declared.mark.Mark.{Mark}
 use Rattle.nr_reduce.specs.declared.mark.LinkParameters.{LinkParameters}
 use Rattle.nr_reduce.specs.OfferedRegions.{Region}
@@ -56,7 +57,7 @@ lasts_one (Untagged last opcode w queue msn offset payload) = refl
 lasts_brought : (es : List RunEvent) (came : List Output) → Brings es came → lasts_in es ≡ lasts_of (tagged_in came)
 lasts_brought [] came b = ap (λ (xs : List Output). lasts_of (tagged_in xs)) (sym b)
 lasts_brought (FrameReceived f ∷ es) [] b = absurd b
-lasts_brought (FrameReceived f ∷ es) (AHello bytes ∷ came) b = (λ i. cond (b.0.0 i) 0 (last_of (frame_segment f)) + lasts_brought es came b.1 i) ∙ (omega arith)
+lasts_brought (FrameReceived f ∷ es) (AHello bytes ∷ came) b = (λ i. cond (b.0.0 i) 0 (last_of (segment_of f.bytes)) + lasts_brought es came b.1 i) ∙ (omega arith)
 lasts_brought (FrameReceived f ∷ es) (ASegment s ∷ came) b =
     (λ i. cond (b.0.0 i) 0 (last_of (b.0.1 i)) + lasts_brought es came b.1 i) ∙ (let a = lasts_append (tagged_one s) (tagged_in came) in let c = lasts_one s in omega (arith, a, c))
 lasts_brought (CallSubmitted p a ∷ es) came b = lasts_brought es came b
@@ -113,7 +114,7 @@ came_responses opened link run typed asked served matched es f more segment q re
     let at_es : ReadsAt opened es k (outs_of opened es) = (reads_along opened es (first_preserve (server_rules opened) ServerFine 0 (initial_server opened) es (FrameReceived f ∷ more) fine)).reads live in
     let rc = server_receives_of opened link run typed asked matched in
     let at = brings_at es f more rc.came (subst (λ (xs : List RunEvent). Brings xs rc.came) all rc.brings) in
-    let own_is : at.own ≡ ASegment segment = own_segment at.own f segment at.brought behind is in
+    let own_is : at.own ≡ ASegment segment = own_segment at.own f segment at.brought behind (frame_read f segment is) in
     let one = ends_segment segment ends in
     let outs : List Output = at.earlier ++ ASegment segment ∷ [] in
     let came : tagged_in outs ≡ tagged_in at.earlier ++ segment ∷ [] =

@@ -8,7 +8,8 @@ use Rattle.nr_link.specs.declared.end.End.TheVariants as ends
 use Rattle.nr_link.specs.Frames.{Frame, is_hello}
 use Rattle.nr_link.specs.ReceiveState.{ReadRequest, read_request_of, message_completed}
 use Rattle.nr_link.specs.SegmentFaults.{segment_reason}
-use Rattle.nr_link.specs.Ending.{frame_segment, missing_access, is_hello_reason}
+use Rattle.nr_link.specs.Ending.{missing_access, is_hello_reason}
+use Rattle.nr_link.proofs.TakenSegments.{taken_read}
 use Rattle.nr_reduce.proofs.OwnLimits.{ClientLimits}
 use Rattle.nr_reduce.specs.declared.mark.LinkParameters.{LinkParameters}
 use Rattle.nr_reduce.specs.declared.outline.Plan.{Plan}
@@ -19,7 +20,7 @@ use Rattle.nr_reduce.specs.Events.RunEvent.{FrameReceived, CallSubmitted, Memory
 use Rattle.nr_reduce.specs.EndRules.{next_end_state_by, next_end_state_in}
 use Rattle.nr_reduce.specs.OfferedRegions.{region_grants}
 use Rattle.nr_reduce.specs.ClientState.{ClientState, OutstandingCall, plan_for, client_memory_at}
-use Rattle.nr_reduce.specs.Client.{client_rules, client_end, client_state_after, client_readiness, segment_request, outstanding_of, with_message, with_request, with_segment, with_hello, due_with_response}
+use Rattle.nr_reduce.specs.Client.{client_segment, client_rules, client_end, client_state_after, client_readiness, segment_request, outstanding_of, with_message, with_request, with_segment, with_hello, due_with_response}
 use Rattle.nr_reduce.specs.RunLaws.{as_submitted}
 use Rattle.nr_laws.proofs.PlannedSizes.{short_call}
 use Rattle.nr_laws.proofs.EventOutputs.{IsNext, place_after, outputs_by, outputs_in}
@@ -69,15 +70,14 @@ quiet_response k place (Some q) h =
     let tagged = tagged_response q.sink q.sink_to held in
     record { words = h q refl; completes = completes_tagged (response_segments q.sink q.sink_to held) tagged }
 
-segment_quiet : (k : ClientState) (f : Frame) → IsBytes f.bytes → is_hello f ≡ false → client_end k (FrameReceived f) ≡ None → IsQuiet (response_outputs k f.end (segment_request (frame_segment f)))
-unfolding frame_segment
-segment_quiet k f bytes behind stays = by (frame_segment f) refl
+segment_quiet : (k : ClientState) (f : Frame) → IsBytes f.bytes → is_hello f ≡ false → client_end k (FrameReceived f) ≡ None → IsQuiet (response_outputs k f.end (segment_request (client_segment k f)))
+segment_quiet k f bytes behind stays = by (client_segment k f) refl
   where
-    by : (r : Result Segment ℕ) → frame_segment f ≡ r → IsQuiet (response_outputs k f.end (segment_request r))
+    by : (r : Result Segment ℕ) → client_segment k f ≡ r → IsQuiet (response_outputs k f.end (segment_request r))
     by (Err reason) is = quiet_none
     by (Ok segment) is =
         quiet_response k f.end (read_request_of segment)
-        (λ q own. response_words k f.end segment (payload_bytes_lem f.bytes segment bytes is) q own
+        (λ q own. response_words k f.end segment (payload_bytes_lem f.bytes segment bytes (taken_read k.invalidates f.bytes segment is)) q own
         (λ last opcode w queue msn offset payload same.
         formed (client_readiness k (missing_access (region_grants f.end k.regions) f segment)) last opcode w queue msn offset payload
         (subst (λ (s : Segment). segment_reason (client_readiness k (missing_access (region_grants f.end k.regions) f segment)) s ≡ None) same (client_has_no_fault k f segment behind is stays))))
@@ -138,9 +138,9 @@ first_greeted : (place : ℕ) (b : Bool) → place ≡ 0 → HasHello place b �
 first_greeted place b none (inl h) = h.1
 first_greeted place b none (inr h) = absurd (let z = h.0 in omega (arith, z, none))
 
-segment_step : (opened : LinkParameters) (place : ℕ) (k : ClientState) (f : Frame) → 0 < f.at → f.at ≡ place → place < f.end → HasHello place k.has_hello → Step opened f.end k (with_segment k f (frame_segment f)) None
+segment_step : (opened : LinkParameters) (place : ℕ) (k : ClientState) (f : Frame) → 0 < f.at → f.at ≡ place → place < f.end → HasHello place k.has_hello → Step opened f.end k (with_segment k f (client_segment k f)) None
 segment_step opened place k f behind at goes greeted =
-    let h = segment_fields opened k f (frame_segment f) in
+    let h = segment_fields opened k f (client_segment k f) in
     let has : k.has_hello ≡ true = behind_greeted place k.has_hello (omega (arith, behind, at)) greeted in
     record {
       short = h.0;
@@ -219,11 +219,11 @@ unfolding client_state_after client_says
 frame_says opened es place k outs f next p = by_end (client_end k (FrameReceived f)) refl
   where
     by_hello : (b : Bool) → is_hello f ≡ b → client_end k (FrameReceived f) ≡ None
-        → ClientSays opened (es ++ FrameReceived f ∷ []) f.end (cond b (with_hello opened k f) (with_segment k f (frame_segment f))) None
-        (outs ++ cond b (call_sends opened 1 k.outstanding) (response_outputs k f.end (segment_request (frame_segment f))))
+        → ClientSays opened (es ++ FrameReceived f ∷ []) f.end (cond b (with_hello opened k f) (with_segment k f (client_segment k f))) None
+        (outs ++ cond b (call_sends opened 1 k.outstanding) (response_outputs k f.end (segment_request (client_segment k f))))
     by_hello true is stays = hello_step opened es place k outs f (eqb-true f.at 0 is) next.0 next.1 p
     by_hello false is stays =
-        quiet_step opened es (FrameReceived f) place f.end k (with_segment k f (frame_segment f)) None None outs _ refl
+        quiet_step opened es (FrameReceived f) place f.end k (with_segment k f (client_segment k f)) None None outs _ refl
         (segment_step opened place k f (above_zero f.at is) next.0 next.1 (p.greeted refl)) (segment_quiet k f next.2 is stays) p
 
     by_end : (o : Option Stop) → client_end k (FrameReceived f) ≡ o

@@ -12,21 +12,20 @@ use Rattle.nr_link.specs.declared.end.End.{End}
 use Rattle.nr_link.specs.Frames.{Frame, is_hello}
 use Rattle.nr_link.specs.Output.{msn_word}
 use Rattle.nr_link.specs.Reasons.{REASON_MSN, REASON_OFFSET, REASON_FORM, REASON_REQUESTS, REASON_LONG, REASON_SHORT}
-use Rattle.nr_link.specs.ReceiveState.{read_request_in, message_completed, is_send}
+use Rattle.nr_link.specs.ReceiveState.{read_request_in, message_completed, is_send, ReadRequest}
 use Rattle.nr_link.specs.SegmentFaults.{Readiness, SegmentReason, segment_reason, first_fault, reason_if, missing_fault, is_malformed, is_too_many, no_buffer, next_msn, next_offset, message_length_is, terminate_fault}
-use Rattle.nr_link.specs.Ending.{frame_segment, frame_end, frame_end_by, end_of_fault, hello_end, missing_access}
+use Rattle.nr_link.specs.Ending.{frame_end_by, end_of_fault, hello_end, missing_access}
 use Rattle.nr_reduce.specs.declared.mark.LinkParameters.{LinkParameters}
 use Rattle.nr_reduce.specs.Events.RunEvent.{FrameReceived}
 use Rattle.nr_reduce.specs.OfferedRegions.{region_grants}
 use Rattle.nr_reduce.specs.ClientState.{ClientState, OutstandingCall, client_memory_at}
 use Rattle.nr_reduce.specs.ServerState.{ServerState}
-use Rattle.nr_reduce.specs.Client.{client_end, client_state_after, client_output, client_readiness, or_message_end, segment_request, calls_output, response_output, with_segment, with_hello}
-use Rattle.nr_laws.proofs.FrameContents.{FrameContent, numbered_segment, frame_bytes, output_bytes, total_of, sends_in, requests_in, hellos_in, client_frames, response_frames, tagged_frames, Carries, part_segment, last_segment, send_frames, calls_frames}
+use Rattle.nr_reduce.specs.Client.{client_segment, client_end, client_state_after, client_output, client_readiness, or_message_end, segment_request, calls_output, response_output, with_segment, with_hello}
+use Rattle.nr_laws.proofs.FrameContents.{FrameContent, frame_bytes, output_bytes, total_of, sends_in, requests_in, hellos_in, client_frames, response_frames, tagged_frames, Carries, part_segment, last_segment, send_frames, calls_frames, written_segment, IsSent}
 use Rattle.nr_laws.proofs.FrameContents.FrameContent.{HelloFrame, PartFrame, SendFrame, RequestFrame, TaggedFrame}
 use Rattle.nr_laws.proofs.LinkInvariants.{Transit, TotalsAgree, calls_sent, hello_bit}
 use Rattle.nr_laws.proofs.Totals.{total_append}
 use Rattle.nr_laws.proofs.CompletedFrames.{is_piece}
-use Rattle.nr_laws.proofs.TotalsAtServer.{segment_is}
 use Rattle.nr_laws.proofs.TotalsAtClient.{totals_hello_down, totals_send_down, totals_read_down, totals_tagged_down, down_one, after_is_lem, says_is, request_payload, tagged_none, bit_of, totals_part_down}
 use Rattle.nr_laws.proofs.OwnXids.{OwnXids, own_xids_came, segment_out}
 use Rattle.nr_laws.proofs.OutputFrames.{outs_said, response_said}
@@ -38,6 +37,8 @@ use Rattle.nr_reduce.proofs.Touches.{no_flaw}
 use Rattle.nr_laws.proofs.Basics.{each_kept}
 use Rattle.nr_laws.proofs.SendFrames.{sends_zero}
 use Rattle.nr_laws.proofs.ServerOutput.{short_proper}
+use Rattle.nr_laws.proofs.ReadContents.{plain_is, own_is, carries_at_client}
+use Rattle.nr_laws.proofs.PlainSegments.{plain_segment, plain_asks}
 
 -- ---- A Read Request that doesn't end a client ends within 2 ^ 64 bytes of its sink
 
@@ -71,14 +72,14 @@ pub by_end : (k : ClientState) (f : Frame) (o : Option End) → or_message_end k
 by_end k f None e = refl
 by_end k f (Some end) e = absurd cc
 
-pub request_ends : (k : ClientState) (f : Frame) (n : ℕ) (payload : List ℕ) → is_hello f ≡ false → frame_segment f ≡ Ok (Untagged true OPCODE_READ_REQUEST 0 QUEUE_READ_REQUEST n 0 payload) → client_end k (FrameReceived f) ≡ None
+pub request_ends : (k : ClientState) (f : Frame) (n : ℕ) (payload : List ℕ) → is_hello f ≡ false → client_segment k f ≡ Ok (Untagged true OPCODE_READ_REQUEST 0 QUEUE_READ_REQUEST n 0 payload) → client_end k (FrameReceived f) ≡ None
     → (read_request_in payload).sink_to + (read_request_in payload).size ≤ 2 ^ 64
-unfolding client_end frame_end
+unfolding client_end
 request_ends k f n payload behind is e =
     let segment : Segment = Untagged true OPCODE_READ_REQUEST 0 QUEUE_READ_REQUEST n 0 payload in
     let grants = region_grants f.end k.regions in
-    let found : frame_end (client_readiness k) grants f ≡ None =
-    by_end k f (frame_end (client_readiness k) grants f) ((λ i. cond (sym behind i) (hello_end (hello_of Responder f.bytes)) (or_message_end k f (frame_end (client_readiness k) grants f))) ∙ e) in
+    let found : frame_end_by (client_readiness k) grants f (client_segment k f) ≡ None =
+    by_end k f (frame_end_by (client_readiness k) grants f (client_segment k f)) ((λ i. cond (sym behind i) (hello_end (hello_of Responder f.bytes)) (or_message_end k f (frame_end_by (client_readiness k) grants f (client_segment k f)))) ∙ e) in
     let none : end_of_fault f segment (segment_reason (client_readiness k (missing_access grants f segment)) segment) ≡ None =
     ap (λ (r : Result Segment ℕ). frame_end_by (client_readiness k) grants f r) (sym is) ∙ found in
     let malformed = not_malformed (client_readiness k (missing_access grants f segment)) n payload (no_flaw f segment _ none) in
@@ -128,23 +129,25 @@ pub record ClientTook (opened : LinkParameters) (k : ClientState) (s : ServerSta
 
 output_hello : (opened : LinkParameters) (k : ClientState) (f : Frame) → is_hello f ≡ true → client_output opened k (FrameReceived f) ≡ calls_output opened 1 k.outstanding
 unfolding client_output
-output_hello opened k f is = λ i. cond (is i) (calls_output opened 1 k.outstanding) (response_output k f.end (segment_request (frame_segment f)))
+output_hello opened k f is = λ i. cond (is i) (calls_output opened 1 k.outstanding) (response_output k f.end (segment_request (client_segment k f)))
 
-output_frame : (opened : LinkParameters) (k : ClientState) (f : Frame) (r : Result Segment ℕ) → is_hello f ≡ false → frame_segment f ≡ r → client_output opened k (FrameReceived f) ≡ response_output k f.end (segment_request r)
+output_frame : (opened : LinkParameters) (k : ClientState) (f : Frame) (r : Result Segment ℕ) → is_hello f ≡ false → plain_segment k f ≡ r → client_output opened k (FrameReceived f) ≡ response_output k f.end (segment_request r)
 unfolding client_output
-output_frame opened k f r behind is = λ i. cond (behind i) (calls_output opened 1 k.outstanding) (response_output k f.end (segment_request (is i)))
+output_frame opened k f r behind is =
+    (λ i. cond (behind i) (calls_output opened 1 k.outstanding) (response_output k f.end (segment_request (client_segment k f))))
+    ∙ ap (λ (q : Option ReadRequest). response_output k f.end q) (sym (plain_asks (client_segment k f)) ∙ ap (λ (x : Result Segment ℕ). segment_request x) is)
 
 pub says_hello : (opened : LinkParameters) (k : ClientState) (f : Frame) → is_hello f ≡ true → client_frames opened k (FrameReceived f) ≡ calls_frames opened k.outstanding
 unfolding client_frames
-says_hello opened k f is = λ i. cond (is i) (calls_frames opened k.outstanding) (response_frames k f.end (segment_request (frame_segment f)))
+says_hello opened k f is = λ i. cond (is i) (calls_frames opened k.outstanding) (response_frames k f.end (segment_request (client_segment k f)))
 
 pub after_hello : (opened : LinkParameters) (k : ClientState) (f : Frame) → is_hello f ≡ true → client_state_after opened k (FrameReceived f) ≡ with_hello opened k f
 unfolding client_state_after
-after_hello opened k f is = λ i. cond (is i) (with_hello opened k f) (with_segment k f (frame_segment f))
+after_hello opened k f is = λ i. cond (is i) (with_hello opened k f) (with_segment k f (client_segment k f))
 
 asks_proper : (opened : LinkParameters) (os : List OutstandingCall) → CallsShort opened os → AreWritable (calls_frames opened os)
 asks_proper opened [] h = tt
-asks_proper opened (o ∷ os) h = all_proper_append (send_frames (message_of_call opened o)) (calls_frames opened os) (short_proper (message_of_call opened o) h.0) (asks_proper opened os h.1)
+asks_proper opened (o ∷ os) h = all_proper_append (send_frames None (message_of_call opened o)) (calls_frames opened os) (short_proper None (message_of_call opened o) tt h.0) (asks_proper opened os h.1)
 
 -- the calls of a client so far
 pub calls_said : (opened : LinkParameters) (k : ClientState) (s : ServerState) (u d all_up all_down : List FrameContent) (w : Transit) → EndsAgree opened k s u d all_up all_down w → total_of sends_in all_up ≡ calls_sent k
@@ -169,13 +172,13 @@ took_hello opened k s u d all_up all_down w rest f l first is =
       linked =
           client_linked opened k (client_state_after opened k (FrameReceived f)) s u d all_up all_down w HelloFrame rest said l first counts (own_xids_came opened k f l.outs)
           (subst (λ (t : ClientState). CallsShort opened t.outstanding) (sym after) l.short) (asks_proper opened k.outstanding l.short)
-          (sends_zero hellos_in (message_of_call opened) k.outstanding (λ offset payload. refl) (λ m. refl)) (sends_zero requests_in (message_of_call opened) k.outstanding (λ offset payload. refl) (λ m. refl))
+          (sends_zero hellos_in (message_of_call opened) k.outstanding (λ named offset payload. refl) (λ m. refl)) (sends_zero requests_in (message_of_call opened) k.outstanding (λ named offset payload. refl) (λ m. refl))
           (omega (arith, ap (λ (t : ClientState). t.received.sends) after)) (omega (arith, ap (λ (t : ClientState). t.received.requests) after));
     }
 
 -- another frame, by what the client sends of it
 took_frame : (opened : LinkParameters) (k : ClientState) (s : ServerState) (u d all_up all_down : List FrameContent) (w : Transit) (p : FrameContent) (rest said : List FrameContent) (f : Frame) (r : Result Segment ℕ) → EndsAgree opened k s u d all_up all_down w → w.down ≡ p ∷ rest
-    → is_hello f ≡ false → frame_segment f ≡ r → response_frames k f.end (segment_request r) ≡ said → response_output k f.end (segment_request r) ≡ output_bytes opened Initiator (total_of sends_in all_up) (total_of requests_in all_up) said
+    → is_hello f ≡ false → plain_segment k f ≡ r → response_frames k f.end (segment_request r) ≡ said → response_output k f.end (segment_request r) ≡ output_bytes opened Initiator (total_of sends_in all_up) (total_of requests_in all_up) said
     → AreWritable said → total_of hellos_in said ≡ 0 → total_of requests_in said ≡ 0
     → TotalsAgree (client_state_after opened k (FrameReceived f)) s (down_one w (client_frames opened k (FrameReceived f)) rest)
     → (with_segment k f r).received.sends ≡ k.received.sends + sends_in p → (with_segment k f r).received.requests ≡ k.received.requests + requests_in p
@@ -194,28 +197,28 @@ took_frame opened k s u d all_up all_down w p rest said f r l first behind is sa
     }
 
 took_piece : (opened : LinkParameters) (k : ClientState) (s : ServerState) (u d all_up all_down : List FrameContent) (w : Transit) (p : FrameContent) (rest : List FrameContent) (f : Frame) → EndsAgree opened k s u d all_up all_down w → w.down ≡ p ∷ rest
-    → IsWritable p → Carries k.received.sends k.received.requests f p → IsBytes f.bytes → f.bytes ≡ frame_bytes opened Responder (numbered_segment k.received.sends k.received.requests p)
+    → IsWritable p → Carries k.invalidates k.received.sends k.received.requests f p → IsBytes f.bytes → f.bytes ≡ frame_bytes opened Responder (written_segment k.received.sends k.received.requests p)
     → client_end k (FrameReceived f) ≡ None → ClientTook opened k s u d all_up all_down w p rest f
 took_piece opened k s u d all_up all_down w HelloFrame rest f l first proper piece bytes is stays = absurd proper
-took_piece opened k s u d all_up all_down w (PartFrame offset payload) rest f l first proper piece bytes is stays =
+took_piece opened k s u d all_up all_down w (PartFrame named offset payload) rest f l first proper piece bytes is stays =
     let segment : Segment = part_segment k.received.sends offset payload in
-    let reads : frame_segment f ≡ Ok segment = segment_is k.received.sends k.received.requests f (PartFrame offset payload) segment piece refl in
-    took_frame opened k s u d all_up all_down w (PartFrame offset payload) rest [] f (Ok segment) l first piece.behind reads refl refl tt refl refl
-    (totals_part_down opened k s w f offset payload rest l.counts first piece) (omega arith) (omega arith)
+    let reads : plain_segment k f ≡ Ok segment = plain_is k f (PartFrame named offset payload) segment piece refl in
+    took_frame opened k s u d all_up all_down w (PartFrame named offset payload) rest [] f (Ok segment) l first piece.behind reads refl refl tt refl refl
+    (totals_part_down opened k s w f named offset payload rest l.counts first piece) (omega arith) (omega arith)
 took_piece opened k s u d all_up all_down w (SendFrame message) rest f l first proper piece bytes is stays =
     let segment : Segment = last_segment k.received.sends message in
-    let reads : frame_segment f ≡ Ok segment = segment_is k.received.sends k.received.requests f (SendFrame message) segment piece refl in
+    let reads : plain_segment k f ≡ Ok segment = plain_is k f (SendFrame message) segment piece refl in
     took_frame opened k s u d all_up all_down w (SendFrame message) rest [] f (Ok segment) l first piece.behind reads refl refl tt refl refl
     (totals_send_down opened k s w f message rest l.counts first piece stays l.outs.apart) refl (omega arith)
 took_piece opened k s u d all_up all_down w (RequestFrame sink at size stag to) rest f l first proper piece bytes is stays =
     let payload = request_payload sink at size stag to in
     let segment : Segment = Untagged true OPCODE_READ_REQUEST 0 QUEUE_READ_REQUEST (msn_word (k.received.requests + 1)) 0 payload in
-    let reads : frame_segment f ≡ Ok segment = segment_is k.received.sends k.received.requests f (RequestFrame sink at size stag to) segment piece refl in
+    let reads : plain_segment k f ≡ Ok segment = plain_is k f (RequestFrame sink at size stag to) segment piece refl in
     let payload_is = payload_bytes segment (subst IsBytes is bytes) in
     let r = read_request_in payload in
     let answer = take r.size (drop r.to (client_memory_at k f.end r.stag)) in
     let said = tagged_frames OPCODE_READ_RESPONSE r.sink r.sink_to answer in
-    let ends = request_ends k f (msn_word (k.received.requests + 1)) payload piece.behind reads stays in
+    let ends = request_ends k f (msn_word (k.received.requests + 1)) payload piece.behind (own_is k f (RequestFrame sink at size stag to) segment piece refl refl) stays in
     took_frame opened k s u d all_up all_down w (RequestFrame sink at size stag to) rest said f (Ok segment) l first piece.behind reads refl
     (response_said opened Initiator (total_of sends_in all_up) (total_of requests_in all_up) r.sink r.sink_to answer)
     (tagged_proper OPCODE_READ_RESPONSE r.sink r.sink_to answer refl (lit< tt) (word_below_lem 0 payload payload_is) (hyper_below_lem 4 payload payload_is) (omega (arith, ends, length-take r.size (drop r.to (client_memory_at k f.end r.stag)))))
@@ -223,26 +226,26 @@ took_piece opened k s u d all_up all_down w (RequestFrame sink at size stag to) 
     (totals_read_down opened k s w f sink at size stag to rest l.counts first piece) (omega arith) refl
 took_piece opened k s u d all_up all_down w (TaggedFrame last opcode stag to payload) rest f l first proper piece bytes is stays =
     let segment : Segment = Tagged last opcode stag to payload in
-    let reads : frame_segment f ≡ Ok segment = segment_is k.received.sends k.received.requests f (TaggedFrame last opcode stag to payload) segment piece refl in
+    let reads : plain_segment k f ≡ Ok segment = plain_is k f (TaggedFrame last opcode stag to payload) segment piece refl in
     took_frame opened k s u d all_up all_down w (TaggedFrame last opcode stag to payload) rest [] f (Ok segment) l first piece.behind reads refl refl tt refl refl
     (totals_tagged_down opened k s w f last opcode stag to payload rest l.counts first piece) (omega arith) (omega arith)
 
 pub client_took : (opened : LinkParameters) (k : ClientState) (s : ServerState) (u d all_up all_down : List FrameContent) (w : Transit) (p : FrameContent) (rest : List FrameContent) (n r place : ℕ) → EndsAgree opened k s u d all_up all_down w → w.down ≡ p ∷ rest
-    → n ≡ total_of sends_in d → r ≡ total_of requests_in d → IsPlace d place → IsBytes (frame_bytes opened Responder (numbered_segment n r p))
-    → client_end k (FrameReceived (frame_of (frame_bytes opened Responder (numbered_segment n r p)) place)) ≡ None
-    → ClientTook opened k s u d all_up all_down w p rest (frame_of (frame_bytes opened Responder (numbered_segment n r p)) place)
+    → n ≡ total_of sends_in d → r ≡ total_of requests_in d → IsPlace d place → IsBytes (frame_bytes opened Responder (written_segment n r p))
+    → client_end k (FrameReceived (frame_of (frame_bytes opened Responder (written_segment n r p)) place)) ≡ None
+    → ClientTook opened k s u d all_up all_down w p rest (frame_of (frame_bytes opened Responder (written_segment n r p)) place)
 client_took opened k s u [] all_up all_down w p rest n r place l first sends requests at bytes stays =
     let stream : IsOutput (p ∷ (rest ++ w.queued_down)) = subst IsOutput (sym l.parts_down ∙ ap (λ (ps : List FrameContent). ps ++ w.queued_down) first) l.stream_down in
     let hello : p ≡ HelloFrame = stream_first p (rest ++ w.queued_down) stream in
-    let f = frame_of (frame_bytes opened Responder (numbered_segment n r p)) place in
+    let f = frame_of (frame_bytes opened Responder (written_segment n r p)) place in
     subst (λ (q : FrameContent). ClientTook opened k s u [] all_up all_down w q rest f) (sym hello)
     (took_hello opened k s u [] all_up all_down w rest f l (first ∙ ap (λ (q : FrameContent). q ∷ rest) hello) (ap (λ (x : ℕ). eqb x 0) at))
 client_took opened k s u (q ∷ d) all_up all_down w p rest n r place l first sends requests at bytes stays =
     let stream : IsOutput (q ∷ d ++ p ∷ (rest ++ w.queued_down)) = subst IsOutput (sym l.parts_down ∙ ap (λ (ps : List FrameContent). q ∷ d ++ (ps ++ w.queued_down)) first) l.stream_down in
     let proper = stream_at_lem q d p (rest ++ w.queued_down) stream in
-    let f = frame_of (frame_bytes opened Responder (numbered_segment n r p)) place in
+    let f = frame_of (frame_bytes opened Responder (written_segment n r p)) place in
     let n_is : n ≡ k.received.sends = sends ∙ sym l.sends_down in
     let r_is : r ≡ k.received.requests = requests ∙ sym l.requests_down in
     took_piece opened k s u (q ∷ d) all_up all_down w p rest f l first proper
-    (subst (λ (x : ℕ). Carries x k.received.requests f p) n_is (subst (λ (x : ℕ). Carries n x f p) r_is (is_piece opened Responder n r place p (proper_one n r p proper) at)))
-    bytes (λ i. frame_bytes opened Responder (numbered_segment (n_is i) (r_is i) p)) stays
+    (carries_at_client k k.received.sends k.received.requests f p stays (subst (λ (x : ℕ). IsSent x k.received.requests f p) n_is (subst (λ (x : ℕ). IsSent n x f p) r_is (is_piece opened Responder n r place p (proper_one n r p proper) at))))
+    bytes (λ i. frame_bytes opened Responder (written_segment (n_is i) (r_is i) p)) stays

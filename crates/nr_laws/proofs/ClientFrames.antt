@@ -14,7 +14,7 @@ use Rattle.nr_reduce.specs.EndRules.{EndState, live, end_state_after, output_for
 use Rattle.nr_reduce.specs.ClientState.{ClientState}
 use Rattle.nr_reduce.specs.ServerState.{ServerState}
 use Rattle.nr_reduce.specs.Client.{client_rules, client_state_after}
-use Rattle.nr_laws.proofs.FrameContents.{FrameContent, numbered_segment, frame_bytes, output_bytes, total_of, sends_in, requests_in}
+use Rattle.nr_laws.proofs.FrameContents.{FrameContent, frame_bytes, output_bytes, total_of, sends_in, requests_in, written_segment}
 use Rattle.nr_laws.proofs.LinkInvariants.{Transit}
 use Rattle.nr_laws.proofs.Totals.{total_append}
 use Rattle.nr_laws.proofs.StreamFrames.{frames_at, spelled_append}
@@ -61,7 +61,7 @@ client_runs opened s u all_down left [] k d all_up w n r place l first sends req
     record { after = k; said = []; state = refl; output = refl; linked = same; guarded = guarded; accessed = accessed }
 client_runs opened s u all_down left (p ∷ new) k d all_up w n r place l first sends requests at bytes some e =
     let rules = client_rules opened in
-    let frame = frame_bytes opened Responder (numbered_segment n r p) in
+    let frame = frame_bytes opened Responder (written_segment n r p) in
     let later = frames_at opened Responder (n + sends_in p) (r + requests_in p) new in
     let event = FrameReceived (frame_of frame place) in
     let es = events_of (place + length frame) later in
@@ -82,7 +82,7 @@ client_runs opened s u all_down left (p ∷ new) k d all_up w n r place l first 
           (m.guarded o up one)));
       accessed = λ reached h.
           let one = subst (λ (ps : List FrameContent). AccessesAgree opened after s (d ++ p ∷ []) (all_up ++ ps) all_down reached) (sym t.said_is)
-          (accessed_down opened k s u d all_up all_down w p (new ++ left) n r place reached l first sends requests at h) in
+          (accessed_down opened k s u d all_up all_down w p (new ++ left) n r place reached l first sends requests at a.stays h) in
           subst (λ (ps : List FrameContent). AccessesAgree opened m.after s ps (all_up ++ (t.said ++ m.said)) all_down reached) (append_assoc d (p ∷ []) new)
           (subst (λ (ps : List FrameContent). AccessesAgree opened m.after s ((d ++ p ∷ []) ++ new) ps all_down reached) (append_assoc all_up t.said m.said) (m.accessed reached one));
       after = m.after;
@@ -106,7 +106,7 @@ pub client_ends : (opened : LinkParameters) (s : ServerState) (u all_down left :
 client_ends opened s u all_down left o end up [] k d all_up w n r place l g first sends requests at bytes some e = absurd (let wrong : None ≡ Some end = e in cc)
 client_ends opened s u all_down left o end up (p ∷ new) k d all_up w n r place l g first sends requests at bytes some e =
     let rules = client_rules opened in
-    let frame = frame_bytes opened Responder (numbered_segment n r p) in
+    let frame = frame_bytes opened Responder (written_segment n r p) in
     let later = frames_at opened Responder (n + sends_in p) (r + requests_in p) new in
     let event = FrameReceived (frame_of frame place) in
     let es = events_of (place + length frame) later in

@@ -2,13 +2,13 @@
 -- allowed.
 use Rattle.std.proofs.Common.{◌≡◌, ℕ, ◌+◌, ◌≤◌, Bool, true, false, cond, not, eqb, List, [], ◌∷◌, ◌++◌, length, map, Option, None, Some, Result, Ok, Err, refl, sym, ap, subst, ◌∙◌, arith, append_assoc, append-nil, eq-eqb, ne_eqb}
 use Rattle.std.specs.List.{filter, find}
-use Rattle.nr_wire.specs.Segment.{Segment}
+use Rattle.nr_wire.specs.Segment.{Segment, segment_of}
 use Rattle.nr_wire.specs.Segment.Segment.{Tagged, Untagged}
 use Rattle.nr_regions.specs.Access.{TaggedSegment}
 use Rattle.nr_link.specs.declared.end.End.{End as Stop}
 use Rattle.nr_link.specs.Frames.{Frame, is_hello}
 use Rattle.nr_link.specs.ReceiveState.{ReadRequest, message_completed, read_request_of}
-use Rattle.nr_link.specs.Ending.{frame_segment, tagged_access, missing_access}
+use Rattle.nr_link.specs.Ending.{tagged_access, missing_access}
 use Rattle.nr_reduce.specs.declared.mark.LinkParameters.{LinkParameters}
 use Rattle.nr_reduce.specs.History.{AcceptedCall}
 use Rattle.nr_reduce.specs.Events.{RunEvent}
@@ -17,13 +17,14 @@ use Rattle.nr_reduce.specs.EndRules.{EndState, next_end_state, next_end_state_by
 use Rattle.nr_reduce.specs.OfferedRegions.{Region, region_grants, closed_if, regions_closed}
 use Rattle.nr_reduce.specs.Plans.{Buffer, buffers}
 use Rattle.nr_reduce.specs.ClientState.{ClientState, OutstandingCall, plan_for}
-use Rattle.nr_reduce.specs.Client.{client_rules, client_end, client_state_after, outstanding_of, region_of, with_message, with_request, with_segment, revoked_call, initial_client, with_hello, due_with_response}
+use Rattle.nr_reduce.specs.Client.{client_segment, client_rules, client_end, client_state_after, outstanding_of, region_of, with_message, with_request, with_segment, revoked_call, initial_client, with_hello, due_with_response}
 use Rattle.nr_reduce.specs.Server.{tagged_accesses}
 use Rattle.nr_reduce.proofs.Touches.{client_touched}
 use Rattle.nr_reduce.proofs.OwnStags.{AreNumbered, numbered_buffers, ClientNumbers, client_numbers}
 use Rattle.nr_laws.proofs.EventOutputs.{IsNext, GoesOn, along, place_after, places_after}
 use Rattle.nr_reduce.proofs.Steps.{end_state_after_append}
 use Rattle.nr_laws.proofs.ClientSays.{ClientGood, accepted_in, asked, asked_quiet, asked_submit, client_after}
+use Rattle.nr_laws.proofs.ReadFrames.{client_read}
 use Rattle.nr_laws.proofs.Memory.{Gathering, Settled, settled_later, settled_closed, settled_append, settled_more, revoked_settled}
 
 -- ---- Regions
@@ -227,13 +228,13 @@ message_keeps opened es k place (Some message) = record {
 }
 
 -- the access of a frame that doesn't end the client
-access_settled : (k : ClientState) (f : Frame) (s : Segment) → is_hello f ≡ false → frame_segment f ≡ Ok s → client_end k (FrameReceived f) ≡ None → Settled f.end k.regions (tagged_access f s)
+access_settled : (k : ClientState) (f : Frame) (s : Segment) → is_hello f ≡ false → client_segment k f ≡ Ok s → client_end k (FrameReceived f) ≡ None → Settled f.end k.regions (tagged_access f s)
 access_settled k f (Tagged last opcode stag to payload) behind is stays =
     let none : missing_access (region_grants f.end k.regions) f (Tagged last opcode stag to payload) ≡ None = client_touched k f (Tagged last opcode stag to payload) behind is stays in
     (omega arith, none, tt)
 access_settled k f (Untagged last opcode w queue msn offset payload) behind is stays = tt
 
-segment_keeps : (opened : LinkParameters) (es : List RunEvent) (place : ℕ) (k : ClientState) (f : Frame) → IsNext place (FrameReceived f) → is_hello f ≡ false → client_end k (FrameReceived f) ≡ None → (r : Result Segment ℕ) → frame_segment f ≡ r
+segment_keeps : (opened : LinkParameters) (es : List RunEvent) (place : ℕ) (k : ClientState) (f : Frame) → IsNext place (FrameReceived f) → is_hello f ≡ false → client_end k (FrameReceived f) ≡ None → (r : Result Segment ℕ) → client_segment k f ≡ r
     → ClientKeeps opened es place k → ClientKeeps opened (es ++ FrameReceived f ∷ []) f.end (with_segment k f r)
 segment_keeps opened es place k f next behind stays (Err reason) is p =
     quiet_keeps opened es (FrameReceived f) place f.end k k refl (settled_later place f.end k.regions k.accesses_received (let l = next.1 in omega (arith, l)) p.settled) (λ h. h) (λ h. h) p
@@ -279,9 +280,9 @@ unfolding client_state_after
 frame_keeps opened es place k f next p (Some end) is = keeps_same_lem opened es (FrameReceived f) place f.end k refl (let l = next.1 in omega (arith, l)) p
 frame_keeps opened es place k f next p None is = by (is_hello f) refl
   where
-    by : (b : Bool) → is_hello f ≡ b → ClientKeeps opened (es ++ FrameReceived f ∷ []) f.end (cond b (with_hello opened k f) (with_segment k f (frame_segment f)))
+    by : (b : Bool) → is_hello f ≡ b → ClientKeeps opened (es ++ FrameReceived f ∷ []) f.end (cond b (with_hello opened k f) (with_segment k f (client_segment k f)))
     by true first = quiet_keeps opened es (FrameReceived f) place f.end k (with_hello opened k f) refl (settled_later place f.end k.regions k.accesses_received (let l = next.1 in omega (arith, l)) p.settled) (λ h. h) (λ h. h) p
-    by false behind = segment_keeps opened es place k f next behind is (frame_segment f) refl p
+    by false behind = segment_keeps opened es place k f next behind is (client_segment k f) refl p
 
 pub keeps_step : (opened : LinkParameters) (es : List RunEvent) (place : ℕ) (k : ClientState) (ended : Option Stop) (e : RunEvent) → IsNext place e → ClientGood opened (record { state = k; ended = ended }) e
     → AreNumbered opened.first_stag k.regions → k.stag ≡ opened.first_stag + length k.regions → k ≡ (client_after opened es).state → ClientKeeps opened es place k
@@ -306,17 +307,20 @@ keeps_step opened es place k (Some end) (ServerTold what) next good numbers afte
 
 pub client_gathers : (opened : LinkParameters) → Gathering (client_rules opened) (λ (k : ClientState). k.accesses_received)
 unfolding client_state_after
-client_gathers opened k (FrameReceived f) = by (is_hello f) (frame_segment f)
+client_gathers opened k (FrameReceived f) lives = by (is_hello f) refl
   where
-    by : (b : Bool) (r : Result Segment ℕ) → (cond b (with_hello opened k f) (with_segment k f r)).accesses_received ≡ cond b k.accesses_received (k.accesses_received ++ tagged_accesses f r)
-    by true r = refl
-    by false (Ok s) = refl
-    by false (Err reason) = sym (append-nil k.accesses_received)
-client_gathers opened k (CallSubmitted p a) = refl
-client_gathers opened k (MemoryRevoked p xid) = refl
-client_gathers opened k (CallExecuted e) = refl
-client_gathers opened k (QueueWritten taken) = refl
-client_gathers opened k (ServerTold what) = refl
+    one : (r : Result Segment ℕ) → (with_segment k f r).accesses_received ≡ k.accesses_received ++ tagged_accesses f r
+    one (Ok s) = refl
+    one (Err reason) = sym (append-nil k.accesses_received)
+
+    by : (b : Bool) → is_hello f ≡ b → (cond b (with_hello opened k f) (with_segment k f (client_segment k f))).accesses_received ≡ cond b k.accesses_received (k.accesses_received ++ tagged_accesses f (segment_of f.bytes))
+    by true first = refl
+    by false behind = one (client_segment k f) ∙ ap (λ (r : Result Segment ℕ). k.accesses_received ++ tagged_accesses f r) (client_read k f behind lives)
+client_gathers opened k (CallSubmitted p a) lives = refl
+client_gathers opened k (MemoryRevoked p xid) lives = refl
+client_gathers opened k (CallExecuted e) lives = refl
+client_gathers opened k (QueueWritten taken) lives = refl
+client_gathers opened k (ServerTold what) lives = refl
 
 pub keeps_nothing : (opened : LinkParameters) → ClientKeeps opened [] 0 (initial_client opened).state
 keeps_nothing opened = record { settled = tt; owns = tt; backed = tt }

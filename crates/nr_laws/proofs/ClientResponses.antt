@@ -6,13 +6,13 @@ use Rattle.nr_xdr.specs.Fields.{word_at}
 use Rattle.nr_link.specs.Output.{segment_count}
 use Rattle.nr_laws.specs.MessageSegments.{message_segment}
 use Rattle.nr_wire.specs.Constants.{OPCODE_READ_REQUEST}
-use Rattle.nr_wire.specs.Segment.{Segment}
+use Rattle.nr_wire.specs.Segment.{Segment, segment_of}
 use Rattle.nr_wire.specs.Segment.Segment.{Tagged, Untagged}
 use Rattle.nr_link.specs.declared.end.End.{End as Stop}
 use Rattle.nr_link.specs.declared.end.End.TheVariants as ends
 use Rattle.nr_link.specs.Ending.{is_hello_reason}
 use Rattle.nr_link.specs.Frames.{Frame, is_hello}
-use Rattle.nr_link.specs.Ending.{frame_segment, missing_access}
+use Rattle.nr_link.specs.Ending.{missing_access}
 use Rattle.nr_link.specs.ReceiveState.{read_request_in, read_request_of, message_completed}
 use Rattle.nr_regions.specs.declared.right.Right.TheVariants.{Fetch}
 use Rattle.nr_regions.specs.RegisteredMemory.{Access}
@@ -23,12 +23,13 @@ use Rattle.nr_reduce.specs.Events.{RunEvent}
 use Rattle.nr_reduce.specs.Events.RunEvent.{FrameReceived, CallSubmitted, MemoryRevoked, CallExecuted, QueueWritten, ServerTold}
 use Rattle.nr_reduce.specs.EndRules.{EndState, next_end_state, next_end_state_by, next_end_state_in, end_state_after}
 use Rattle.nr_reduce.specs.ClientState.{ClientState, OutstandingCall, client_memory_at}
-use Rattle.nr_reduce.specs.Client.{client_rules, client_end, client_state_after, initial_client, with_message, with_segment, outstanding_of, region_of, segment_request, with_hello, due_with_response}
+use Rattle.nr_reduce.specs.Client.{client_segment, client_rules, client_end, client_state_after, initial_client, with_message, with_segment, outstanding_of, region_of, segment_request, with_hello, due_with_response}
 use Rattle.nr_reduce.specs.Plans.{buffers}
 use Rattle.nr_reduce.proofs.OwnStags.{ClientNumbers, own_stags, client_numbers}
 use Rattle.nr_reduce.proofs.Steps.{end_state_after_append}
 use Rattle.nr_reduce.proofs.Touches.{client_touched}
 use Rattle.nr_laws.proofs.EventOutputs.{GoesOn, along, outputs_by, outputs_in, outputs_all}
+use Rattle.nr_laws.proofs.ReadFrames.{client_read}
 use Rattle.nr_laws.proofs.Brought.{Brings}
 use Rattle.nr_laws.proofs.ClientMemory.{find_left, find_closed}
 use Rattle.nr_laws.proofs.ClientSays.{ClientGood}
@@ -60,7 +61,7 @@ heard_by (Err reason) = []
 
 abbrev pub heard_in : List RunEvent → List (List ℕ)
 heard_in [] = []
-heard_in (FrameReceived f ∷ es) = cond (is_hello f) [] (heard_by (frame_segment f)) ++ heard_in es
+heard_in (FrameReceived f ∷ es) = cond (is_hello f) [] (heard_by (segment_of f.bytes)) ++ heard_in es
 heard_in (CallSubmitted p a ∷ es) = heard_in es
 heard_in (MemoryRevoked p xid ∷ es) = heard_in es
 heard_in (CallExecuted e ∷ es) = heard_in es
@@ -70,7 +71,7 @@ heard_in (ServerTold what ∷ es) = heard_in es
 heard_append : (es more : List RunEvent) → heard_in (es ++ more) ≡ heard_in es ++ heard_in more
 heard_append [] more = refl
 heard_append (FrameReceived f ∷ es) more =
-    let own : List (List ℕ) = cond (is_hello f) [] (heard_by (frame_segment f)) in
+    let own : List (List ℕ) = cond (is_hello f) [] (heard_by (segment_of f.bytes)) in
     ap (λ (ps : List (List ℕ)). own ++ ps) (heard_append es more) ∙ sym (append_assoc own (heard_in es) (heard_in more))
 heard_append (CallSubmitted p a ∷ es) more = heard_append es more
 heard_append (MemoryRevoked p xid ∷ es) more = heard_append es more
@@ -81,7 +82,7 @@ heard_append (ServerTold what ∷ es) more = heard_append es more
 pub heard_brought : (es : List RunEvent) (came : List Output) → Brings es came → heard_in es ≡ requests_in came
 heard_brought [] came b = ap requests_in (sym b)
 heard_brought (FrameReceived f ∷ es) [] b = absurd b
-heard_brought (FrameReceived f ∷ es) (AHello bytes ∷ came) b = (λ i. cond (b.0.0 i) [] (heard_by (frame_segment f)) ++ heard_brought es came b.1 i)
+heard_brought (FrameReceived f ∷ es) (AHello bytes ∷ came) b = (λ i. cond (b.0.0 i) [] (heard_by (segment_of f.bytes)) ++ heard_brought es came b.1 i)
 heard_brought (FrameReceived f ∷ es) (ASegment s ∷ came) b = (λ i. cond (b.0.0 i) [] (heard_by (b.0.1 i)) ++ heard_brought es came b.1 i)
 heard_brought (CallSubmitted p a ∷ es) came b = heard_brought es came b
 heard_brought (MemoryRevoked p xid ∷ es) came b = heard_brought es came b
@@ -207,7 +208,7 @@ segment_regions : (k : ClientState) (f : Frame) (r : Result Segment ℕ) (a : An
 segment_regions k f (Err reason) a h = h
 segment_regions k f (Ok s) a h = subst (λ (rs : List Region). IsData rs a) (sym (request_regions (with_message k f.end (message_completed k.received s)) (due_with_response k f s) (read_request_of s))) (message_regions k f.end (message_completed k.received s) a h)
 
-fetched_request : (opened : LinkParameters) (k : ClientState) (f : Frame) (opcode w queue msn offset : ℕ) (last : Bool) (payload : List ℕ) → HaveOwnStags (region_grants f.end k.regions) → is_hello f ≡ false → frame_segment f ≡ Ok (Untagged last opcode w queue msn offset payload)
+fetched_request : (opened : LinkParameters) (k : ClientState) (f : Frame) (opcode w queue msn offset : ℕ) (last : Bool) (payload : List ℕ) → HaveOwnStags (region_grants f.end k.regions) → is_hello f ≡ false → client_segment k f ≡ Ok (Untagged last opcode w queue msn offset payload)
     → client_end k (FrameReceived f) ≡ None → eqb opcode OPCODE_READ_REQUEST ≡ true → IsData k.regions (record { request = payload; bytes = take (read_request_in payload).size (drop (read_request_in payload).to (client_memory_at k f.end (read_request_in payload).stag)) })
 fetched_request opened k f opcode w queue msn offset last payload own behind is stays asks =
     let q = read_request_in payload in
@@ -222,12 +223,12 @@ fetched_request opened k f opcode w queue msn offset last payload own behind is 
 
 -- a frame that doesn't end the client, after the hello
 heard_answers : (opened : LinkParameters) (es : List RunEvent) (k : ClientState) (outs : List Output) (f : Frame) → HaveOwnStags (region_grants f.end k.regions) → is_hello f ≡ false → client_end k (FrameReceived f) ≡ None → ClientAnswers opened es k None outs
-    → (r : Result Segment ℕ) → frame_segment f ≡ r → ClientAnswers opened (es ++ FrameReceived f ∷ []) (with_segment k f r) None (outs ++ response_outputs k f.end (segment_request r))
+    → (r : Result Segment ℕ) → client_segment k f ≡ r → ClientAnswers opened (es ++ FrameReceived f ∷ []) (with_segment k f r) None (outs ++ response_outputs k f.end (segment_request r))
 heard_answers opened es k outs f own behind stays h (Err reason) is =
-    quiet_answers opened es (FrameReceived f) k k None None outs [] refl (λ n. (refl, (λ i. cond (behind i) [] (heard_by (is i)) ++ []))) (λ a d. d) h
+    quiet_answers opened es (FrameReceived f) k k None None outs [] refl (λ n. (refl, (λ i. cond (behind i) [] (heard_by ((sym (client_read k f behind stays) ∙ is) i)) ++ []))) (λ a d. d) h
 heard_answers opened es k outs f own behind stays h (Ok (Tagged last opcode stag to payload)) is =
     let s : Segment = Tagged last opcode stag to payload in
-    quiet_answers opened es (FrameReceived f) k (with_segment k f (Ok s)) None None outs [] refl (λ n. (refl, (λ i. cond (behind i) [] (heard_by (is i)) ++ []))) (segment_regions k f (Ok s)) h
+    quiet_answers opened es (FrameReceived f) k (with_segment k f (Ok s)) None None outs [] refl (λ n. (refl, (λ i. cond (behind i) [] (heard_by ((sym (client_read k f behind stays) ∙ is) i)) ++ []))) (segment_regions k f (Ok s)) h
 heard_answers opened es k outs f own behind stays h (Ok (Untagged last opcode w queue msn offset payload)) is = by (eqb opcode OPCODE_READ_REQUEST) refl
   where
     s : Segment
@@ -240,7 +241,7 @@ heard_answers opened es k outs f own behind stays h (Ok (Untagged last opcode w 
     one = record { request = payload; bytes = take (read_request_in payload).size (drop (read_request_in payload).to (client_memory_at k f.end (read_request_in payload).stag)) }
 
     heard : heard_in (FrameReceived f ∷ []) ≡ cond (eqb opcode OPCODE_READ_REQUEST) (payload ∷ []) [] ++ []
-    heard = (λ i. cond (behind i) [] (heard_by (is i)) ++ [])
+    heard = (λ i. cond (behind i) [] (heard_by ((sym (client_read k f behind stays) ∙ is) i)) ++ [])
 
     by : (b : Bool) → eqb opcode OPCODE_READ_REQUEST ≡ b → ClientAnswers opened (es ++ FrameReceived f ∷ []) after None (outs ++ response_outputs k f.end (cond b (Some (read_request_in payload)) None))
     by false asks = quiet_answers opened es (FrameReceived f) k after None None outs [] refl (λ n. (refl, heard ∙ ap (λ (b : Bool). cond b (payload ∷ []) [] ++ []) asks)) (segment_regions k f (Ok s)) h
@@ -265,12 +266,12 @@ frame_answers : (opened : LinkParameters) (es : List RunEvent) (k : ClientState)
 unfolding client_state_after client_says
 frame_answers opened es k outs f own stays h = by (is_hello f) refl
   where
-    by : (b : Bool) → is_hello f ≡ b → ClientAnswers opened (es ++ FrameReceived f ∷ []) (cond b (with_hello opened k f) (with_segment k f (frame_segment f))) None
-        (outs ++ cond b (call_sends opened 1 k.outstanding) (response_outputs k f.end (segment_request (frame_segment f))))
+    by : (b : Bool) → is_hello f ≡ b → ClientAnswers opened (es ++ FrameReceived f ∷ []) (cond b (with_hello opened k f) (with_segment k f (client_segment k f))) None
+        (outs ++ cond b (call_sends opened 1 k.outstanding) (response_outputs k f.end (segment_request (client_segment k f))))
     by true first =
         quiet_answers opened es (FrameReceived f) k (with_hello opened k f) None None outs (call_sends opened 1 k.outstanding) (tagged_sends opened 1 k.outstanding)
-        (λ n. (refl, (λ i. cond (first i) [] (heard_by (frame_segment f)) ++ []))) (λ a d. d) h
-    by false behind = heard_answers opened es k outs f own behind stays h (frame_segment f) refl
+        (λ n. (refl, (λ i. cond (first i) [] (heard_by (segment_of f.bytes)) ++ []))) (λ a d. d) h
+    by false behind = heard_answers opened es k outs f own behind stays h (client_segment k f) refl
 
 ended_answers : (opened : LinkParameters) (es : List RunEvent) (k : ClientState) (ended : Option Stop) (end : Stop) (outs more : List Output) (e : RunEvent) → tagged_in more ≡ [] → ClientAnswers opened es k ended outs → ClientAnswers opened (es ++ e ∷ []) k (Some end) (outs ++ more)
 ended_answers opened es k ended end outs more e none h = quiet_answers opened es e k k ended (Some end) outs more none (λ n. absurd cc) (λ a d. d) h

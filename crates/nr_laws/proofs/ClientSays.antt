@@ -17,7 +17,7 @@ use Rattle.nr_link.specs.Frames.{Frame, is_hello}
 use Rattle.nr_link.specs.Reasons.{REASON_MSN, REASON_OFFSET, REASON_FORM, REASON_REQUESTS, REASON_SHORT, REASON_LONG}
 use Rattle.nr_link.specs.SegmentFaults.{Readiness, SegmentReason, segment_reason, reason_if, next_msn, next_offset, no_buffer, is_malformed, missing_fault, is_too_many, message_length_is, terminate_fault}
 use Rattle.nr_link.specs.ReceiveState.{ReadRequest, read_request_in, read_request_of, message_completed, is_send}
-use Rattle.nr_link.specs.Ending.{frame_segment, frame_end, frame_end_by, end_of_fault, hello_end, missing_access}
+use Rattle.nr_link.specs.Ending.{frame_end_by, end_of_fault, hello_end, missing_access}
 use Rattle.nr_reduce.proofs.OwnLimits.{ClientLimits}
 use Rattle.nr_reduce.specs.declared.mark.LinkParameters.{LinkParameters}
 use Rattle.nr_reduce.specs.declared.outline.Plan.{Plan}
@@ -29,7 +29,7 @@ use Rattle.nr_reduce.specs.EndRules.{EndState, next_end_state, end_state_after}
 use Rattle.nr_reduce.specs.OfferedRegions.{region_grants}
 use Rattle.nr_reduce.specs.Plans.{regions_needed}
 use Rattle.nr_reduce.specs.ClientState.{ClientState, OutstandingCall, call_payload, plan_for, client_memory_at}
-use Rattle.nr_reduce.specs.Client.{client_rules, client_end, client_readiness, initial_client, or_message_end, outstanding_of, revoked_call}
+use Rattle.nr_reduce.specs.Client.{client_segment, client_rules, client_end, client_readiness, initial_client, or_message_end, outstanding_of, revoked_call}
 use Rattle.nr_reduce.specs.RunLaws.{as_submitted}
 use Rattle.nr_laws.specs.Typed.{IsTypedForm}
 use Rattle.nr_laws.proofs.Outputs.{Output, IsShort, CallsShort, message_of_call, response_outputs}
@@ -210,13 +210,13 @@ request_ends last payload bytes e =
     (hyper_below_lem 4 payload bytes, c)
 
 -- why a frame that isn't the hello doesn't end a client: no fault of its segment
-pub client_has_no_fault : (k : ClientState) (f : Frame) (segment : Segment) → is_hello f ≡ false → frame_segment f ≡ Ok segment → client_end k (FrameReceived f) ≡ None
+pub client_has_no_fault : (k : ClientState) (f : Frame) (segment : Segment) → is_hello f ≡ false → client_segment k f ≡ Ok segment → client_end k (FrameReceived f) ≡ None
     → segment_reason (client_readiness k (missing_access (region_grants f.end k.regions) f segment)) segment ≡ None
-unfolding client_end frame_end
+unfolding client_end
 client_has_no_fault k f segment behind is e =
-    let others : or_message_end k f (frame_end (client_readiness k) (region_grants f.end k.regions) f) ≡ None =
-    ap (λ (b : Bool). cond b (hello_end (hello_of Responder f.bytes)) (or_message_end k f (frame_end (client_readiness k) (region_grants f.end k.regions) f))) (sym behind) ∙ e in
-    let none : frame_end (client_readiness k) (region_grants f.end k.regions) f ≡ None = by_end (frame_end (client_readiness k) (region_grants f.end k.regions) f) others in
+    let others : or_message_end k f (frame_end_by (client_readiness k) (region_grants f.end k.regions) f (client_segment k f)) ≡ None =
+    ap (λ (b : Bool). cond b (hello_end (hello_of Responder f.bytes)) (or_message_end k f (frame_end_by (client_readiness k) (region_grants f.end k.regions) f (client_segment k f)))) (sym behind) ∙ e in
+    let none : frame_end_by (client_readiness k) (region_grants f.end k.regions) f (client_segment k f) ≡ None = by_end (frame_end_by (client_readiness k) (region_grants f.end k.regions) f (client_segment k f)) others in
     let by_segment : end_of_fault f segment (segment_reason (client_readiness k (missing_access (region_grants f.end k.regions) f segment)) segment) ≡ None =
     ap (λ (r : Result Segment ℕ). frame_end_by (client_readiness k) (region_grants f.end k.regions) f r) (sym is) ∙ none in
     no_flaw f segment _ by_segment

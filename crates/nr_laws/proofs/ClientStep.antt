@@ -20,9 +20,10 @@ use Rattle.nr_regions.specs.RegisteredMemory.{Access}
 use Rattle.nr_link.specs.declared.end.End.{End}
 use Rattle.nr_link.specs.Frames.{Frame, is_hello}
 use Rattle.nr_link.specs.Output.{msn_word}
+use Rattle.nr_link.specs.Reasons.{REASON_INVALIDATED}
 use Rattle.nr_link.specs.ReceiveState.{ReadRequest, read_request_in, begun_bytes}
 use Rattle.nr_link.specs.SegmentFaults.{SegmentReason, first_fault, missing_fault}
-use Rattle.nr_link.specs.Ending.{frame_segment, frame_end, frame_end_by, end_of_fault, denied_at, access_of, hello_end, missing_access}
+use Rattle.nr_link.specs.Ending.{frame_end, frame_end_by, end_of_fault, denied_at, access_of, hello_end, missing_access}
 use Rattle.nr_reduce.specs.declared.mark.LinkParameters.{LinkParameters}
 use Rattle.nr_reduce.specs.Opening.{IsOpened}
 use Rattle.nr_reduce.specs.declared.call.Outcome.TheVariants as outcomes
@@ -31,22 +32,23 @@ use Rattle.nr_reduce.specs.OfferedRegions.{region_grants}
 use Rattle.nr_reduce.specs.Plans.{lists_of}
 use Rattle.nr_reduce.specs.Chunks.{answers_offer, reply_conveyed}
 use Rattle.nr_reduce.specs.ClientState.{ClientState, OutstandingCall, client_memory_at}
-use Rattle.nr_reduce.specs.ClientMessages.{ReplyVerdict, reply_verdict, reply_by_head, reply_by_payload, by_lists, reply_by_body, by_call, answered_call, reply_by_header, reply_xid}
+use Rattle.nr_reduce.specs.ClientMessages.{ReplyVerdict, reply_verdict, reply_by_head, reply_by_payload, by_lists, reply_by_body, by_call, answered_call, reply_by_header, reply_xid, invalidates_another, message_verdict}
 use Rattle.nr_reduce.specs.ClientMessages.ReplyVerdict.{EndsLink, GivesOutcome}
-use Rattle.nr_reduce.specs.Client.{client_end, client_state_after, client_readiness, or_message_end, client_message_end, end_of_verdict, segment_message}
+use Rattle.nr_reduce.specs.Client.{client_segment, client_end, client_state_after, client_readiness, or_message_end, end_of_verdict, segment_names}
 use Rattle.nr_reduce.specs.ServerState.{ServerState}
 use Rattle.nr_laws.proofs.FirstHellos.{first_hello_is}
 use Rattle.nr_laws.specs.EndCauses.{IsDenied}
-use Rattle.nr_laws.proofs.EndReasons.{IsMessageReason, EndsForMessage}
-use Rattle.nr_laws.proofs.FrameContents.{FrameContent, numbered_segment, frame_bytes, total_of, sends_in, requests_in, hellos_in, client_frames, Carries, last_segment}
+use Rattle.nr_laws.proofs.EndReasons.{IsMessageReason, IsVerdictReason, EndsForMessage}
+use Rattle.nr_laws.proofs.FrameContents.{FrameContent, written_segment, frame_bytes, total_of, sends_in, requests_in, hellos_in, client_frames, IsSent, Carries, last_segment}
 use Rattle.nr_laws.proofs.FrameContents.FrameContent.{HelloFrame, PartFrame, SendFrame, RequestFrame, TaggedFrame}
 use Rattle.nr_laws.proofs.LinkInvariants.{Transit, hello_bit}
 use Rattle.nr_laws.proofs.Totals.{total_append}
 use Rattle.nr_laws.proofs.CompletedFrames.{is_piece}
 use Rattle.nr_laws.proofs.FaultlessSegments.{request_flaw, write_flaw}
 use Rattle.nr_laws.proofs.FreeReceives.{requests}
-use Rattle.nr_laws.proofs.EndsOfFrames.{client_by_lem, client_send, client_part}
-use Rattle.nr_laws.proofs.TotalsAtServer.{segment_is}
+use Rattle.nr_laws.proofs.EndsOfFrames.{client_by_lem, client_send, client_part, plain_end_by}
+use Rattle.nr_laws.proofs.PlainSegments.{plain_segment}
+use Rattle.nr_laws.proofs.ReadContents.{plain_is, message_end_is, carries_taken}
 use Rattle.nr_laws.proofs.TotalsAtClient.{down_one, request_payload}
 use Rattle.nr_laws.proofs.AnswerLists.{IsRead}
 use Rattle.nr_laws.proofs.Replies.{IsReply}
@@ -58,15 +60,16 @@ use Rattle.nr_laws.proofs.AnsweredSteps.{answers_one}
 use Rattle.nr_laws.proofs.GuardsAtServer.{sent_most}
 use Rattle.nr_laws.proofs.AgreedSizes.{matched_down}
 use Rattle.nr_laws.proofs.Guards.{Guards}
-use Rattle.nr_laws.proofs.GuardsAtClient.{front_down, asked_of, guards_hello_down, guards_send_down, guards_read_down, guards_tagged_down, guards_part_down}
+use Rattle.nr_laws.proofs.GuardsAtClient.{front_down, front_taken, asked_of, guards_hello_down, guards_send_down, guards_read_down, guards_tagged_down, guards_part_down}
 use Rattle.nr_laws.proofs.Basics.{some_not}
 use Rattle.nr_laws.proofs.HeaderXid.{header_xid}
 use Rattle.nr_laws.proofs.EndsWaiting.{left_waiting}
 use Rattle.nr_laws.proofs.SendFrames.{at_front}
+use Rattle.nr_laws.proofs.NamedReplies.{message_end_in}
 
 -- ---- A message
 
-abbrev VerdictReason : ReplyVerdict → Type 0
+abbrev pub VerdictReason : ReplyVerdict → Type 0
 VerdictReason (EndsLink reason) = IsMessageReason reason
 VerdictReason (GivesOutcome xid outcome) = Unit {0}
 
@@ -99,7 +102,7 @@ reason_lists k place o inline lists true = by o.is_revoked
     by true = tt
     by false = reason_payload o.xid (reply_conveyed o.call.prog o.call.vers o.call.proc inline lists (client_memory_at k place))
 
-reason_body : (k : ClientState) (place : ℕ) (o : OutstandingCall) (message : List ℕ) (body : Body) → VerdictReason (reply_by_body k place o message body)
+pub reason_body : (k : ClientState) (place : ℕ) (o : OutstandingCall) (message : List ℕ) (body : Body) → VerdictReason (reply_by_body k place o message body)
 reason_body k place o message (Msg lists at) = reason_lists k place o (Some (drop at message)) lists (answers_offer false (lists_of o.stag o.plan) lists)
 reason_body k place o message (Nomsg lists) = reason_lists k place o None lists (answers_offer true (lists_of o.stag o.plan) lists)
 reason_body k place o message (ErrVers version low high) = tt
@@ -117,7 +120,24 @@ reason_verdict : (k : ClientState) (place : ℕ) (message : List ℕ) → IsRead
 unfolding reply_verdict
 reason_verdict k place message read call found = reason_header k place message read.0 read.1 call found
 
-reply_end : (f : Frame) (v : ReplyVerdict) (end : End) → VerdictReason v → end_of_verdict f v ≡ Some end → EndsForMessage end
+-- a message that names an STag has one reason more
+abbrev NamedReason : ReplyVerdict → Type 0
+NamedReason (EndsLink reason) = IsVerdictReason reason
+NamedReason (GivesOutcome xid outcome) = Unit {0}
+
+plain_reason : (v : ReplyVerdict) → VerdictReason v → NamedReason v
+plain_reason (EndsLink reason) h = inl h
+plain_reason (GivesOutcome xid outcome) h = tt
+
+reason_named : (k : ClientState) (place : ℕ) (named : Option ℕ) (message : List ℕ) → VerdictReason (reply_verdict k place message) → NamedReason (message_verdict k place named message)
+unfolding message_verdict
+reason_named k place named message h = by (invalidates_another k named message)
+  where
+    by : (b : Bool) → NamedReason (cond b (EndsLink REASON_INVALIDATED) (reply_verdict k place message))
+    by true = inr refl
+    by false = plain_reason (reply_verdict k place message) h
+
+reply_end : (f : Frame) (v : ReplyVerdict) (end : End) → NamedReason v → end_of_verdict f v ≡ Some end → EndsForMessage end
 reply_end f (EndsLink reason) end h e = (f.at, reason, cc, h)
 reply_end f (GivesOutcome xid outcome) end h e = absurd cc
 
@@ -131,12 +151,12 @@ denied_end (Some access) why = (access.stag, access.to, why, refl)
 pub record LacksAccess (k : ClientState) (f : Frame) (end : End) : Type 0 where
   pub behind : is_hello f ≡ false
   pub segment : Segment
-  pub is_segment : frame_segment f ≡ Ok segment
+  pub is_segment : plain_segment k f ≡ Ok segment
   pub why : Denied
   pub lacks : missing_access (region_grants f.end k.regions) f segment ≡ Some why
   pub denied : IsDenied end
 
-lacks_end : (k : ClientState) (f : Frame) (segment : Segment) (lack : Option Denied) (end : End) → is_hello f ≡ false → frame_segment f ≡ Ok segment → missing_access (region_grants f.end k.regions) f segment ≡ lack → end_of_fault f segment (first_fault (missing_fault lack ∷ [])) ≡ Some end → LacksAccess k f end
+lacks_end : (k : ClientState) (f : Frame) (segment : Segment) (lack : Option Denied) (end : End) → is_hello f ≡ false → plain_segment k f ≡ Ok segment → missing_access (region_grants f.end k.regions) f segment ≡ lack → end_of_fault f segment (first_fault (missing_fault lack ∷ [])) ≡ Some end → LacksAccess k f end
 lacks_end k f segment None end behind is lacks e = absurd cc
 lacks_end k f segment (Some why) end behind is lacks e = record {
   behind = behind;
@@ -147,7 +167,7 @@ lacks_end k f segment (Some why) end behind is lacks e = record {
   denied = subst IsDenied (let same : denied_at (access_of segment) why ≡ end = cc in same) (denied_end (access_of segment) why);
 }
 
-or_message_some : (k : ClientState) (f : Frame) (o : Option End) (end : End) → client_message_end k f (segment_message k (frame_segment f)) ≡ None → or_message_end k f o ≡ Some end → o ≡ Some end
+or_message_some : (k : ClientState) (f : Frame) (o : Option End) (end : End) → message_end_in k f (client_segment k f) ≡ None → or_message_end k f o ≡ Some end → o ≡ Some end
 or_message_some k f None end none e = absurd (let wrong : None ≡ Some end = sym none ∙ e in cc)
 or_message_some k f (Some x) end none e = e
 
@@ -159,21 +179,21 @@ pub record ClientStep (opened : LinkParameters) (k : ClientState) (s : ServerSta
 
 hello_none : (k : ClientState) (f : Frame) (private : List ℕ) → is_hello f ≡ true → hello_of Responder f.bytes ≡ Ok (record { side = Responder; flags = 0; private = private }) → client_end k (FrameReceived f) ≡ None
 unfolding client_end
-hello_none k f private is says = (λ i. cond (is i) (hello_end (says i)) (or_message_end k f (frame_end (client_readiness k) (region_grants f.end k.regions) f)))
+hello_none k f private is says = (λ i. cond (is i) (hello_end (says i)) (or_message_end k f (frame_end_by (client_readiness k) (region_grants f.end k.regions) f (client_segment k f))))
 
 step_piece : (opened : LinkParameters) (k : ClientState) (s : ServerState) (u d all_up all_down : List FrameContent) (w : Transit) (place : ℕ) (p : FrameContent) (rest : List FrameContent) (f : Frame) → IsOpened opened → EndsAgree opened k s u d all_up all_down w → Guards opened k s u d all_up all_down w place → w.down ≡ p ∷ rest
-    → IsWritable p → Carries k.received.sends k.received.requests f p → k.has_hello ≡ true → ClientStep opened k s u d all_up all_down w place p rest f
+    → IsWritable p → Carries k.invalidates k.received.sends k.received.requests f p → k.has_hello ≡ true → ClientStep opened k s u d all_up all_down w place p rest f
 unfolding frame_end
 step_piece opened k s u d all_up all_down w place HelloFrame rest f o l g first proper piece hello = absurd proper
-step_piece opened k s u d all_up all_down w place (PartFrame offset payload) rest f o l g first proper piece hello =
-    let none = client_part k s w f offset payload rest l.counts first piece in
+step_piece opened k s u d all_up all_down w place (PartFrame named offset payload) rest f o l g first proper piece hello =
+    let none = client_part k s w f named offset payload rest l.counts first piece in
     record {
       only = λ end e. absurd (some_not end (sym e ∙ none));
-      kept = λ stays. guards_part_down opened k s u d all_up all_down w place offset payload rest f g first piece hello stays;
+      kept = λ stays. guards_part_down opened k s u d all_up all_down w place named offset payload rest f g first piece hello stays;
     }
 step_piece opened k s u d all_up all_down w place (SendFrame message) rest f o l g first proper piece hello =
     let segment : Segment = last_segment k.received.sends message in
-    let reads : frame_segment f ≡ Ok segment = segment_is k.received.sends k.received.requests f (SendFrame message) segment piece refl in
+    let reads : plain_segment k f ≡ Ok segment = plain_is k f (SendFrame message) segment piece refl in
     let reply : IsReply (matched_down opened) opened.granted message.bytes = front_down opened k s u d all_up all_down w place (SendFrame message) rest l g first in
     let whole : List ℕ = begun_bytes k.received.begun ++ message.payload in
     let same : whole ≡ message.bytes = (at_front k.received.begun w.down w.queued_down (SendFrame message) rest first l.counts.whole_down).1 in
@@ -182,26 +202,28 @@ step_piece opened k s u d all_up all_down w place (SendFrame message) rest f o l
     (omega (arith, sent, sent_most k, l.sends_up, ap (total_of sends_in) l.parts_up, total_append sends_in u (w.up ++ w.queued_up)))
     l.outs.follow.1
     (omega (arith, l.counts.calls_up, l.counts.sends, l.counts.all_sends, left_waiting k.written k.send_ends)) g.answered in
-    let ends : client_end k (FrameReceived f) ≡ end_of_verdict f (reply_verdict k f.end whole) =
-    client_send opened k s w f message rest l.counts first piece reply.least (omega (arith, reply.size, g.sizes.client_down hello)) ∙ ap (λ (r : Result Segment ℕ). client_message_end k f (segment_message k r)) reads in
+    let named : Option ℕ = segment_names (client_segment k f) in
+    let ends : client_end k (FrameReceived f) ≡ end_of_verdict f (message_verdict k f.end named whole) =
+    client_send opened k s w f message rest l.counts first piece reply.least (omega (arith, reply.size, g.sizes.client_down hello)) ∙ message_end_is k f segment reads in
     record {
-      only = λ end e. inl (reply_end f (reply_verdict k f.end whole) end (reason_verdict k f.end whole (subst IsRead (sym same) reply.read) answers.0 (ap (λ (xs : List ℕ). answered_call k (word_at 0 xs)) same ∙ answers.1)) (sym ends ∙ e));
+      only = λ end e. inl (reply_end f (message_verdict k f.end named whole) end
+          (reason_named k f.end named whole (reason_verdict k f.end whole (subst IsRead (sym same) reply.read) answers.0 (ap (λ (xs : List ℕ). answered_call k (word_at 0 xs)) same ∙ answers.1))) (sym ends ∙ e));
       kept = λ stays. guards_send_down opened k s u d all_up all_down w place message rest f o l g first piece hello stays;
     }
 step_piece opened k s u d all_up all_down w place (RequestFrame sink at size stag to) rest f o l g first proper piece hello =
     let payload = request_payload sink at size stag to in
     let segment : Segment = Untagged true OPCODE_READ_REQUEST 0 QUEUE_READ_REQUEST (msn_word (k.received.requests + 1)) 0 payload in
     let grants = region_grants f.end k.regions in
-    let reads : frame_segment f ≡ Ok segment = segment_is k.received.sends k.received.requests f (RequestFrame sink at size stag to) segment piece refl in
+    let reads : plain_segment k f ≡ Ok segment = plain_is k f (RequestFrame sink at size stag to) segment piece refl in
     let a = asked_of s w place sink at size stag to rest g.server.reads first g.server.sinks g.server.regions.stags g.within in
     let again = request_again sink at size stag to a.sink_word a.at_word a.size_word a.stag_word a.to_word in
     let fits : (read_request_in payload).sink_to + (read_request_in payload).size ≤ 2 ^ 64 = omega (arith, ap (λ (r : ReadRequest). r.sink_to + r.size) again, a.room) in
     let some : 0 < total_of requests_in w.down = omega (arith, ap (total_of requests_in) first) in
     let flaw = request_flaw (client_readiness k (missing_access grants f segment)) payload (len_request sink at size stag to) fits (requests opened k s w l.counts some) in
-    let found : frame_end (client_readiness k) grants f ≡ end_of_fault f segment (first_fault (missing_fault (missing_access grants f segment) ∷ [])) =
-    ap (λ (r : Result Segment ℕ). frame_end_by (client_readiness k) grants f r) reads ∙ ap (λ (x : Option (SegmentReason Denied)). end_of_fault f segment x) flaw in
+    let found : frame_end_by (client_readiness k) grants f (client_segment k f) ≡ end_of_fault f segment (first_fault (missing_fault (missing_access grants f segment) ∷ [])) =
+    plain_end_by k f segment reads ∙ ap (λ (x : Option (SegmentReason Denied)). end_of_fault f segment x) flaw in
     let ends = client_by_lem k f (end_of_fault f segment (first_fault (missing_fault (missing_access grants f segment) ∷ []))) piece.behind found in
-    let none : client_message_end k f (segment_message k (frame_segment f)) ≡ None = ap (λ (r : Result Segment ℕ). client_message_end k f (segment_message k r)) reads in
+    let none : message_end_in k f (client_segment k f) ≡ None = message_end_is k f segment reads in
     record {
       only = λ end e. inr (lacks_end k f segment (missing_access grants f segment) end piece.behind reads refl (or_message_some k f (end_of_fault f segment (first_fault (missing_fault (missing_access grants f segment) ∷ []))) end none (sym ends ∙ e)));
       kept = λ stays. guards_read_down opened k s u d all_up all_down w place sink at size stag to rest f l g first piece hello stays;
@@ -210,12 +232,12 @@ step_piece opened k s u d all_up all_down w place (TaggedFrame last opcode stag 
     let write : opcode ≡ OPCODE_WRITE = front_down opened k s u d all_up all_down w place (TaggedFrame last opcode stag to payload) rest l g first in
     let segment : Segment = Tagged last OPCODE_WRITE stag to payload in
     let grants = region_grants f.end k.regions in
-    let reads : frame_segment f ≡ Ok segment =
-    segment_is k.received.sends k.received.requests f (TaggedFrame last opcode stag to payload) (Tagged last opcode stag to payload) piece refl ∙ ap (λ (c : ℕ). Ok (Tagged last c stag to payload)) write in
-    let found : frame_end (client_readiness k) grants f ≡ end_of_fault f segment (first_fault (missing_fault (missing_access grants f segment) ∷ [])) =
-    ap (λ (r : Result Segment ℕ). frame_end_by (client_readiness k) grants f r) reads ∙ ap (λ (x : Option (SegmentReason Denied)). end_of_fault f segment x) (write_flaw (client_readiness k (missing_access grants f segment)) last stag to payload) in
+    let reads : plain_segment k f ≡ Ok segment =
+    plain_is k f (TaggedFrame last opcode stag to payload) (Tagged last opcode stag to payload) piece refl ∙ ap (λ (c : ℕ). Ok (Tagged last c stag to payload)) write in
+    let found : frame_end_by (client_readiness k) grants f (client_segment k f) ≡ end_of_fault f segment (first_fault (missing_fault (missing_access grants f segment) ∷ [])) =
+    plain_end_by k f segment reads ∙ ap (λ (x : Option (SegmentReason Denied)). end_of_fault f segment x) (write_flaw (client_readiness k (missing_access grants f segment)) last stag to payload) in
     let ends = client_by_lem k f (end_of_fault f segment (first_fault (missing_fault (missing_access grants f segment) ∷ []))) piece.behind found in
-    let none : client_message_end k f (segment_message k (frame_segment f)) ≡ None = ap (λ (r : Result Segment ℕ). client_message_end k f (segment_message k r)) reads in
+    let none : message_end_in k f (client_segment k f) ≡ None = message_end_is k f segment reads in
     record {
       only = λ end e. inr (lacks_end k f segment (missing_access grants f segment) end piece.behind reads refl (or_message_some k f (end_of_fault f segment (first_fault (missing_fault (missing_access grants f segment) ∷ []))) end none (sym ends ∙ e)));
       kept = λ stays. guards_tagged_down opened k s u d all_up all_down w place last opcode stag to payload rest f g first piece hello stays;
@@ -228,11 +250,11 @@ stream_one (HelloFrame ∷ ps) h = omega (arith, none_more ps h)
     none_more : (ps : List FrameContent) → AreWritable ps → total_of hellos_in ps ≡ 0
     none_more [] h = refl
     none_more (HelloFrame ∷ ps) h = absurd h.0
-    none_more (PartFrame offset payload ∷ ps) h = omega (arith, none_more ps h.1)
+    none_more (PartFrame named offset payload ∷ ps) h = omega (arith, none_more ps h.1)
     none_more (SendFrame message ∷ ps) h = omega (arith, none_more ps h.1)
     none_more (RequestFrame sink at size stag to ∷ ps) h = omega (arith, none_more ps h.1)
     none_more (TaggedFrame last opcode stag to payload ∷ ps) h = omega (arith, none_more ps h.1)
-stream_one (PartFrame offset payload ∷ ps) h = absurd h
+stream_one (PartFrame named offset payload ∷ ps) h = absurd h
 stream_one (SendFrame message ∷ ps) h = absurd h
 stream_one (RequestFrame sink at size stag to ∷ ps) h = absurd h
 stream_one (TaggedFrame last opcode stag to payload ∷ ps) h = absurd h
@@ -242,7 +264,7 @@ greeted_true true e = refl
 greeted_true false e = absurd (omega (arith, e))
 
 -- a client that received a frame has the hello
-has_hello_lem : (opened : LinkParameters) (k : ClientState) (s : ServerState) (u : List FrameContent) (q : FrameContent) (d all_up all_down : List FrameContent) (w : Transit) → EndsAgree opened k s u (q ∷ d) all_up all_down w → k.has_hello ≡ true
+pub has_hello_lem : (opened : LinkParameters) (k : ClientState) (s : ServerState) (u : List FrameContent) (q : FrameContent) (d all_up all_down : List FrameContent) (w : Transit) → EndsAgree opened k s u (q ∷ d) all_up all_down w → k.has_hello ≡ true
 has_hello_lem opened k s u q d all_up all_down w l =
     let stream : IsOutput (q ∷ (d ++ (w.down ++ w.queued_down))) = subst IsOutput (sym l.parts_down) l.stream_down in
     let first : hellos_in q ≡ 1 = ap hellos_in (stream_first q (d ++ (w.down ++ w.queued_down)) stream) in
@@ -262,24 +284,26 @@ has_hello_lem opened k s u q d all_up all_down w l =
     ))
 
 pub step_down : (opened : LinkParameters) (k : ClientState) (s : ServerState) (u d all_up all_down : List FrameContent) (w : Transit) (up : ℕ) (p : FrameContent) (rest : List FrameContent) (n r place : ℕ) → IsOpened opened → EndsAgree opened k s u d all_up all_down w → Guards opened k s u d all_up all_down w up → w.down ≡ p ∷ rest
-    → n ≡ total_of sends_in d → r ≡ total_of requests_in d → IsPlace d place → ClientStep opened k s u d all_up all_down w up p rest (frame_of (frame_bytes opened Responder (numbered_segment n r p)) place)
+    → n ≡ total_of sends_in d → r ≡ total_of requests_in d → IsPlace d place → ClientStep opened k s u d all_up all_down w up p rest (frame_of (frame_bytes opened Responder (written_segment n r p)) place)
 step_down opened k s u [] all_up all_down w up p rest n r place o l g first sends requests at =
     let stream : IsOutput (p ∷ (rest ++ w.queued_down)) = subst IsOutput (sym l.parts_down ∙ ap (λ (ps : List FrameContent). ps ++ w.queued_down) first) l.stream_down in
     let hello : p ≡ HelloFrame = stream_first p (rest ++ w.queued_down) stream in
-    let f = frame_of (frame_bytes opened Responder (numbered_segment n r p)) place in
+    let f = frame_of (frame_bytes opened Responder (written_segment n r p)) place in
     let is : is_hello f ≡ true = ap (λ (x : ℕ). eqb x 0) at in
-    let says = ap (λ (q : FrameContent). hello_of Responder (frame_bytes opened Responder (numbered_segment n r q))) hello ∙ (first_hello_is opened Responder).says in
+    let says = ap (λ (q : FrameContent). hello_of Responder (frame_bytes opened Responder (written_segment n r q))) hello ∙ (first_hello_is opened Responder).says in
     let none = hello_none k f (first_hello_is opened Responder).private is says in
     subst (λ (q : FrameContent). ClientStep opened k s u [] all_up all_down w up q rest f) (sym hello) (record {
       only = λ end e. absurd (some_not end (sym e ∙ none));
-      kept = λ stays. guards_hello_down opened k s u [] all_up all_down w up rest f l g (first ∙ ap (λ (q : FrameContent). q ∷ rest) hello) is (ap (λ (q : FrameContent). frame_bytes opened Responder (numbered_segment n r q)) hello) stays;
+      kept = λ stays. guards_hello_down opened k s u [] all_up all_down w up rest f l g (first ∙ ap (λ (q : FrameContent). q ∷ rest) hello) is (ap (λ (q : FrameContent). frame_bytes opened Responder (written_segment n r q)) hello) stays;
     })
 step_down opened k s u (q ∷ d) all_up all_down w up p rest n r place o l g first sends requests at =
     let stream : IsOutput (q ∷ d ++ p ∷ (rest ++ w.queued_down)) = subst IsOutput (sym l.parts_down ∙ ap (λ (ps : List FrameContent). q ∷ d ++ (ps ++ w.queued_down)) first) l.stream_down in
     let proper = stream_at_lem q d p (rest ++ w.queued_down) stream in
-    let f = frame_of (frame_bytes opened Responder (numbered_segment n r p)) place in
+    let f = frame_of (frame_bytes opened Responder (written_segment n r p)) place in
     let n_is : n ≡ k.received.sends = sends ∙ sym l.sends_down in
     let r_is : r ≡ k.received.requests = requests ∙ sym l.requests_down in
+    let greeted = has_hello_lem opened k s u q d all_up all_down w l in
+    let sent : IsSent k.received.sends k.received.requests f p =
+    subst (λ (x : ℕ). IsSent x k.received.requests f p) n_is (subst (λ (x : ℕ). IsSent n x f p) r_is (is_piece opened Responder n r place p (proper_one n r p proper) at)) in
     step_piece opened k s u (q ∷ d) all_up all_down w up p rest f o l g first proper
-    (subst (λ (x : ℕ). Carries x k.received.requests f p) n_is (subst (λ (x : ℕ). Carries n x f p) r_is (is_piece opened Responder n r place p (proper_one n r p proper) at)))
-    (has_hello_lem opened k s u q d all_up all_down w l)
+    (carries_taken k.invalidates k.received.sends k.received.requests f p (front_taken opened k s u (q ∷ d) all_up all_down w up p rest l g first greeted) sent) greeted

@@ -8,7 +8,6 @@ use Rattle.nr_wire.specs.declared.hello.Side.TheVariants.{Initiator}
 use Rattle.nr_wire.specs.Segment.{Segment}
 use Rattle.nr_link.specs.declared.end.End.{End as Stop}
 use Rattle.nr_link.specs.Frames.{is_hello}
-use Rattle.nr_link.specs.Ending.{frame_segment}
 use Rattle.nr_link.specs.ReceiveState.{message_completed, read_request_of}
 use Rattle.nr_reduce.specs.declared.mark.LinkParameters.{LinkParameters}
 use Rattle.nr_reduce.specs.Plans.{Buffer, buffers}
@@ -17,7 +16,7 @@ use Rattle.nr_reduce.specs.Events.RunEvent.{FrameReceived, CallSubmitted, Memory
 use Rattle.nr_reduce.specs.EndRules.{EndState, next_end_state, next_end_state_by, next_end_state_in}
 use Rattle.nr_reduce.specs.OfferedRegions.{Region, until_at, closed_if, regions_closed}
 use Rattle.nr_reduce.specs.ClientState.{ClientState}
-use Rattle.nr_reduce.specs.Client.{client_rules, client_end, client_state_after, initial_client, outstanding_of, region_of, with_message, with_segment, with_hello, due_with_response}
+use Rattle.nr_reduce.specs.Client.{client_segment, client_rules, client_end, client_state_after, initial_client, outstanding_of, region_of, with_message, with_segment, with_hello, due_with_response}
 use Rattle.nr_reduce.specs.Run.{client}
 use Rattle.nr_reduce.proofs.Steps.{end_state_after_append}
 use Rattle.nr_laws.proofs.Outcomes.{client_by}
@@ -98,19 +97,19 @@ one_event opened es e h = by_ended (client_by opened es).ended refl
     by_event : Stays opened es e → (x : RunEvent) → e ≡ x → AllByRecursion P (client_state_after opened k x).regions
     by_event stays (FrameReceived f) is = by_hello (is_hello f) refl
       where
-        by_message : (s : Segment) → frame_segment f ≡ Ok s → is_hello f ≡ false → (o : Option (List ℕ)) → message_completed k.received s ≡ o → AllByRecursion P (with_message k f.end o).regions
+        by_message : (s : Segment) → client_segment k f ≡ Ok s → is_hello f ≡ false → (o : Option (List ℕ)) → message_completed k.received s ≡ o → AllByRecursion P (with_message k f.end o).regions
         by_message s own behind None whole = same
         by_message s own behind (Some m) whole =
             close_all opened es e f.end (word_at 0 m) stays (inl (record { frame = f; segment = s; message = m; is = is; behind_hello = behind; is_segment = own; whole = whole; own = refl; ends_there = refl })) k.regions same all
 
-        by_segment : (r : Result Segment ℕ) → frame_segment f ≡ r → is_hello f ≡ false → AllByRecursion P (with_segment k f r).regions
+        by_segment : (r : Result Segment ℕ) → client_segment k f ≡ r → is_hello f ≡ false → AllByRecursion P (with_segment k f r).regions
         by_segment (Err reason) own behind = same
         by_segment (Ok s) own behind =
             subst (AllByRecursion P) (sym (request_regions (with_message k f.end (message_completed k.received s)) (due_with_response k f s) (read_request_of s))) (by_message s own behind (message_completed k.received s) refl)
 
-        by_hello : (b : Bool) → is_hello f ≡ b → AllByRecursion P (cond b (with_hello opened k f) (with_segment k f (frame_segment f))).regions
+        by_hello : (b : Bool) → is_hello f ≡ b → AllByRecursion P (cond b (with_hello opened k f) (with_segment k f (client_segment k f))).regions
         by_hello true behind = same
-        by_hello false behind = by_segment (frame_segment f) refl behind
+        by_hello false behind = by_segment (client_segment k f) refl behind
     by_event stays (CallSubmitted place a) is = each_append P k.regions (map (region_of a.xid place) (buffers k.stag (outstanding_of k a).plan)) same (new_open opened (es ++ e ∷ []) a.xid place (buffers k.stag (outstanding_of k a).plan))
     by_event stays (MemoryRevoked place xid) is = close_all opened es e place xid stays (inr is) k.regions same all
     by_event stays (CallExecuted call) is = same

@@ -8,9 +8,8 @@ use Rattle.nr_wire.specs.Segment.{Segment, segment_of}
 use Rattle.nr_wire.specs.Stream.{Split, split, awaited_after}
 use Rattle.nr_wire.proofs.Splits.{split_append}
 use Rattle.nr_link.specs.Frames.{Frame, frames_from, frames_of, frames_completed}
-use Rattle.nr_link.specs.Ending.{frame_segment}
 use Rattle.nr_reduce.specs.declared.mark.LinkParameters.{LinkParameters}
-use Rattle.nr_laws.proofs.FrameContents.{FrameContent, numbered_segment, frame_bytes, output_bytes, total_of, sends_in, requests_in, Carries}
+use Rattle.nr_laws.proofs.FrameContents.{FrameContent, written_segment, frame_bytes, output_bytes, total_of, sends_in, requests_in, IsSent}
 use Rattle.nr_laws.proofs.StreamFrames.{AreWritableFrom, IsWritableAs, frames_at, frames_append, length_frames, front}
 use Rattle.nr_laws.proofs.Brought.{encoding_is}
 use Rattle.nr_link.proofs.Streams.{frames_from_append}
@@ -66,16 +65,15 @@ fed opened side got bytes rest came way proper before sent =
     }
 
 -- after the hello each of them is a frame as it was sent
-pub is_piece : (opened : LinkParameters) (side : Side) (n r place : ℕ) (p : FrameContent) → IsWritableAs Fpdu (numbered_segment n r p) → 0 < place
-    → Carries n r (record { at = place; end = place + length (frame_bytes opened side (numbered_segment n r p)); bytes = frame_bytes opened side (numbered_segment n r p) }) p
-unfolding frame_segment
-is_piece opened side n r place p proper some = by (numbered_segment n r p) refl proper
+pub is_piece : (opened : LinkParameters) (side : Side) (n r place : ℕ) (p : FrameContent) → IsWritableAs Fpdu (written_segment n r p) → 0 < place
+    → IsSent n r (record { at = place; end = place + length (frame_bytes opened side (written_segment n r p)); bytes = frame_bytes opened side (written_segment n r p) }) p
+is_piece opened side n r place p proper some = by (written_segment n r p) refl proper
   where
     behind : eqb place 0 ≡ false
     behind = ne_eqb place 0 (λ e. omega (arith, e, some))
 
-    by : (s : Option Segment) → numbered_segment n r p ≡ s → IsWritableAs Fpdu s
-        → Carries n r (record { at = place; end = place + length (frame_bytes opened side (numbered_segment n r p)); bytes = frame_bytes opened side (numbered_segment n r p) }) p
+    by : (s : Option Segment) → written_segment n r p ≡ s → IsWritableAs Fpdu s
+        → IsSent n r (record { at = place; end = place + length (frame_bytes opened side (written_segment n r p)); bytes = frame_bytes opened side (written_segment n r p) }) p
     by None is h = absurd h
     by (Some segment) is h = record {
       behind = behind;

@@ -11,9 +11,9 @@ use Rattle.nr_link.specs.ReceiveState.{ReceiveState, nothing_received, is_send, 
 use Rattle.nr_reduce.specs.declared.mark.LinkParameters.{LinkParameters}
 use Rattle.nr_reduce.specs.ClientState.{OutstandingCall}
 use Rattle.nr_reduce.specs.ServerState.{PendingRead}
-use Rattle.nr_laws.specs.MessageSegments.{message_segments, messages_completed, received_after_all}
+use Rattle.nr_laws.specs.MessageSegments.{named_segments, messages_completed, received_after_all}
 use Rattle.nr_laws.proofs.SegmentedMessages.{message_is_received}
-use Rattle.nr_laws.proofs.Outputs.{Output, message_outputs, call_sends, message_sends, message_of_call, request_outputs, final_outputs, terminate_segment}
+use Rattle.nr_laws.proofs.Outputs.{Output, message_outputs, named_outputs, call_sends, message_sends, message_of_call, request_outputs, final_outputs, terminate_segment}
 use Rattle.nr_laws.proofs.Outputs.Output.{AHello, ASegment}
 use Rattle.nr_laws.proofs.TaggedSegments.{AreTagged}
 
@@ -120,13 +120,16 @@ completes_append xs ys ms ns p q = record {
   begun = begun_append None xs ys ∙ ap (λ (b : Option (List ℕ)). begun_from b ys) p.begun ∙ q.begun;
 }
 
-pub completes_message : (msn : ℕ) (message : List ℕ) → Completes (message_outputs msn message) (message ∷ [])
-completes_message msn message =
-    let r = message_is_received nothing_received msn message refl in
+pub completes_named : (named : Option ℕ) (msn : ℕ) (message : List ℕ) → Completes (named_outputs named msn message) (message ∷ [])
+completes_named named msn message =
+    let r = message_is_received nothing_received named msn message refl in
     record {
-      completed = segments_completed nothing_received (message_segments msn message) ∙ r.messages;
-      begun = segments_begun nothing_received (message_segments msn message) ∙ ap (λ (h : ReceiveState). h.begun) r.state;
+      completed = segments_completed nothing_received (named_segments named msn message) ∙ r.messages;
+      begun = segments_begun nothing_received (named_segments named msn message) ∙ ap (λ (h : ReceiveState). h.begun) r.state;
     }
+
+pub completes_message : (msn : ℕ) (message : List ℕ) → Completes (message_outputs msn message) (message ∷ [])
+completes_message msn message = completes_named None msn message
 
 pub completes_calls : (opened : LinkParameters) (msn : ℕ) (os : List OutstandingCall) → Completes (call_sends opened msn os) (map (message_of_call opened) os)
 completes_calls opened msn [] = completes_none

@@ -8,7 +8,6 @@ use Rattle.nr_wire.specs.Segment.{Segment}
 use Rattle.nr_link.specs.declared.end.End.{End as Stop}
 use Rattle.nr_link.specs.Frames.{Frame, is_hello}
 use Rattle.nr_link.specs.ReceiveState.{message_completed, read_request_of}
-use Rattle.nr_link.specs.Ending.{frame_segment}
 use Rattle.nr_reduce.specs.declared.mark.Mark.{Mark}
 use Rattle.nr_reduce.specs.declared.mark.Mark.TheVariants as marks
 use Rattle.nr_reduce.specs.declared.mark.LinkParameters.{LinkParameters}
@@ -19,7 +18,7 @@ use Rattle.nr_reduce.specs.Events.RunEvent.{FrameReceived, CallSubmitted, Memory
 use Rattle.nr_reduce.specs.EndRules.{EndState, next_end_state, next_end_state_by, next_end_state_in, end_state_after}
 use Rattle.nr_reduce.specs.OfferedRegions.{Region, until_at, closed_if, regions_closed}
 use Rattle.nr_reduce.specs.ClientState.{ClientState, OutstandingCall, client_memory_at}
-use Rattle.nr_reduce.specs.Client.{client_rules, client_end, client_state_after, initial_client, outstanding_of, region_of, revoked_call, with_message, with_segment, with_hello, due_with_response}
+use Rattle.nr_reduce.specs.Client.{client_segment, client_rules, client_end, client_state_after, initial_client, outstanding_of, region_of, revoked_call, with_message, with_segment, with_hello, due_with_response}
 use Rattle.nr_reduce.specs.Matched.{IsPrefixOf}
 use Rattle.nr_reduce.specs.Asked.{AskedMark, AskedSoFar, IsCompleted}
 use Rattle.nr_reduce.specs.Run.{client, placed_bytes}
@@ -41,6 +40,7 @@ use Rattle.nr_laws.proofs.Outcomes.{client_by, WasGiven, outcome_given}
 use Rattle.nr_laws.proofs.OwnXids.{OwnXids, below_next, own_xids_came, own_xids_accepts, own_xids_writes}
 use Rattle.nr_laws.proofs.RevokedEvents.{NoRevoke, no_revoke, revoke_at}
 use Rattle.nr_laws.proofs.Revoked.{frame_regions, request_regions}
+use Rattle.nr_laws.proofs.ReadFrames.{client_read}
 
 -- ---- The xids of outstanding calls are below the one that is given next
 
@@ -140,10 +140,10 @@ closed_event : (opened : LinkParameters) (x : ℕ) (k : ClientState) (ended : Op
 unfolding client_state_after
 closed_event opened x k ended (FrameReceived f) good h = by (is_hello f)
   where
-    by : (b : Bool) → HasClosedRegions opened x (cond b (with_hello opened k f) (with_segment k f (frame_segment f)))
+    by : (b : Bool) → HasClosedRegions opened x (cond b (with_hello opened k f) (with_segment k f (client_segment k f)))
     by true = record { regions = h.regions; low = h.low }
-    by false = (let same = segment_next k f (frame_segment f) in let low = h.low in record {
-      regions = frame_regions (λ (rs : List Region). AreClosed x rs) k f (λ test. closed_again test f.end x k.regions) h.regions (frame_segment f);
+    by false = (let same = segment_next k f (client_segment k f) in let low = h.low in record {
+      regions = frame_regions (λ (rs : List Region). AreClosed x rs) k f (λ test. closed_again test f.end x k.regions) h.regions (client_segment k f);
       low = omega (arith, same, low);
     })
 closed_event opened x k ended (CallSubmitted p a) good h =
@@ -164,11 +164,11 @@ closed_message k f s message x whole own =
     (subst (λ (o : Option (List ℕ)). AreClosed x (with_message k f.end o).regions) (sym whole)
     (subst (λ (n : ℕ). AreClosed x (regions_closed (λ r. eqb r.call n) f.end k.regions)) own (closed_now f.end x k.regions)))
 
-closed_frame : (opened : LinkParameters) (k : ClientState) (f : Frame) (s : Segment) (message : List ℕ) (x : ℕ) → is_hello f ≡ false → frame_segment f ≡ Ok s → message_completed k.received s ≡ Some message → x ≡ word_at 0 message → x < k.next_xid
+closed_frame : (opened : LinkParameters) (k : ClientState) (f : Frame) (s : Segment) (message : List ℕ) (x : ℕ) → is_hello f ≡ false → client_segment k f ≡ Ok s → message_completed k.received s ≡ Some message → x ≡ word_at 0 message → x < k.next_xid
     → HasClosedRegions opened x (client_state_after opened k (FrameReceived f))
 unfolding client_state_after
 closed_frame opened k f s message x behind is whole own low =
-    subst (λ (b : Bool). HasClosedRegions opened x (cond b (with_hello opened k f) (with_segment k f (frame_segment f)))) (sym behind)
+    subst (λ (b : Bool). HasClosedRegions opened x (cond b (with_hello opened k f) (with_segment k f (client_segment k f)))) (sym behind)
     (subst (λ (r : Result Segment ℕ). HasClosedRegions opened x (with_segment k f r)) (sym is)
     (let same = segment_next k f (Ok s) in record { regions = closed_message k f s message x whole own; low = omega (arith, same, low) }))
 
@@ -189,7 +189,7 @@ closed_by_outcome opened link run c typed asked w =
     let under = found_below _ k.next_xid k.outstanding by.call by.is_call (below_next opened k numbers.follow) in
     let same = by.call_xid in
     let now : HasClosedRegions opened c.xid (client_state_after opened k (FrameReceived w.frame)) =
-    closed_frame opened k w.frame w.segment w.message c.xid w.behind w.is_segment w.whole (verdict_xid k w.frame.end w.message c.xid (Some c.outcome) w.given) (omega (arith, under, same)) in
+    closed_frame opened k w.frame w.segment w.message c.xid w.behind (client_read k w.frame w.behind w.stays ∙ w.is_segment) w.whole (verdict_xid k w.frame.end w.message c.xid (Some c.outcome) w.given) (omega (arith, under, same)) in
     let after : EndState ClientState = next_end_state rules before (FrameReceived w.frame) in
     let is_after : after ≡ record { state = client_state_after opened k (FrameReceived w.frame); ended = None } =
     ap (λ (o : Option Stop). next_end_state_in rules k (FrameReceived w.frame) o) w.live ∙ ap (λ (o : Option Stop). next_end_state_by rules k (FrameReceived w.frame) o) w.stays in

@@ -106,10 +106,11 @@ starts opened link = record {
       regions = record { stags = tt; calls = tt };
       limits = record { up = (omega arith, omega arith); down = (omega arith, omega arith) };
     };
-    sizes = record { client_up = (up_limited opened).0; client_down = λ e. absurd cc; server_up = λ some. absurd (omega (arith, some)); server_down = (down_limited opened).0 };
+    sizes = record { client_up = (up_limited opened).0; client_down = λ e. absurd cc; server_up = λ some. absurd (omega (arith, some)); server_down = (down_limited opened).0; client_takes = λ e. absurd cc; server_names = λ e. absurd cc };
     window = record { window = omega arith; grant = omega (arith, o.granted); receives = o.receives };
     up_said = (tt, tt);
     down_said = tt;
+    names = tt;
     credit = omega arith;
     calls = tt;
     within = record { fit = tt; few = lit< tt; small = tt };

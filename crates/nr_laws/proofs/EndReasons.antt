@@ -3,7 +3,7 @@ use Rattle.std.specs.Prelude.{◌≡◌, ℕ, List, None, Some, ◌⊎◌}
 use Rattle.nr_wire.specs.declared.hello.Side.TheVariants.{Initiator, Responder}
 use Rattle.nr_link.specs.declared.end.End.{End}
 use Rattle.nr_link.specs.declared.end.End.TheVariants as ends
-use Rattle.nr_link.specs.Reasons.{REASON_HEAD, REASON_XID, REASON_CHUNKS}
+use Rattle.nr_link.specs.Reasons.{REASON_HEAD, REASON_XID, REASON_CHUNKS, REASON_INVALIDATED}
 use Rattle.nr_reduce.specs.declared.mark.Mark.{Mark}
 use Rattle.nr_reduce.specs.declared.mark.LinkParameters.{LinkParameters}
 use Rattle.nr_reduce.specs.Opening.{IsOpened}
@@ -22,8 +22,12 @@ EndsForCall end = (at : ℕ) × (reason : ℕ) × (end ≡ ends.Bad at reason) �
 abbrev pub IsMessageReason : ℕ → Type 0
 IsMessageReason reason = (reason ≡ REASON_CHUNKS) ⊎ IsReplyReason reason
 
+-- or the STag that it names
+abbrev pub IsVerdictReason : ℕ → Type 0
+IsVerdictReason reason = IsMessageReason reason ⊎ (reason ≡ REASON_INVALIDATED)
+
 abbrev pub EndsForMessage : End → Type 0
-EndsForMessage end = (at : ℕ) × (reason : ℕ) × (end ≡ ends.Bad at reason) × IsMessageReason reason
+EndsForMessage end = (at : ℕ) × (reason : ℕ) × (end ≡ ends.Bad at reason) × IsVerdictReason reason
 
 -- of a matched link the side that ends first ends so
 abbrev pub FirstServerEnd : Type 0

@@ -15,7 +15,7 @@ use Rattle.nr_link.specs.Ending.{frame_end, frame_end_by, missing_access, end_of
 use Rattle.nr_reduce.specs.OfferedRegions.{region_grants}
 use Rattle.nr_reduce.specs.Events.RunEvent.{FrameReceived}
 use Rattle.nr_reduce.specs.ClientState.{ClientState}
-use Rattle.nr_reduce.specs.Client.{client_readiness as client_readiness, client_end, or_message_end, client_message_end, segment_message}
+use Rattle.nr_reduce.specs.Client.{client_segment, client_readiness, client_end, or_message_end}
 use Rattle.nr_reduce.specs.ServerState.{ServerState, PendingRead}
 use Rattle.nr_reduce.specs.Server.{server_readiness, server_end, or_refusal, refusal_end}
 use Rattle.nr_reduce.specs.ServerFrames.{frame_effect}
@@ -24,10 +24,12 @@ use Rattle.nr_laws.proofs.FrameContents.FrameContent.{PartFrame, SendFrame, Tagg
 use Rattle.nr_laws.proofs.LinkInvariants.{Transit, TotalsAgree, ReadsAgree, AreResponses, WithinWindow}
 use Rattle.nr_laws.proofs.FreeReceives.{receives}
 use Rattle.nr_laws.proofs.FaultlessSegments.{send_frame, response_flaw, part_frame_end}
-use Rattle.nr_laws.proofs.TotalsAtServer.{segment_is}
+use Rattle.nr_laws.proofs.ReadContents.{segment_is, plain_is, message_end_is}
 use Rattle.nr_laws.proofs.ExpectedResponses.{is_expected_lem}
 use Rattle.nr_laws.proofs.SendFrames.{at_front, send_goes_on}
 use Rattle.nr_link.specs.ReceiveState.{begun_bytes}
+use Rattle.nr_laws.proofs.NamedReplies.{message_end_in}
+use Rattle.nr_laws.proofs.PlainSegments.{plain_segment, plain_frame_end}
 
 -- ---- The server
 
@@ -37,29 +39,31 @@ server_by_lem opened s f first_fault behind is = λ i. cond (behind i) (hello_en
 
 -- a Send: none of the link's reasons, and never a missing receive
 pub server_send : (opened : LinkParameters) (k : ClientState) (s : ServerState) (w : Transit) (f : Frame) (message : SentMessage) (rest : List FrameContent) → TotalsAgree k s w → WithinWindow opened k → w.up ≡ SendFrame message ∷ rest
-    → Carries s.received.sends s.received.requests f (SendFrame message) → 16 ≤ length message.bytes → length message.bytes ≤ s.up_max → server_end opened s (FrameReceived f) ≡ refusal_end f (frame_effect s f).refusal
+    → Carries false s.received.sends s.received.requests f (SendFrame message) → 16 ≤ length message.bytes → length message.bytes ≤ s.up_max → server_end opened s (FrameReceived f) ≡ refusal_end f (frame_effect s f).refusal
+unfolding frame_end frame_segment
 server_send opened k s w f message rest c g head p long short =
     let some : 0 < total_of sends_in (w.up ++ w.queued_up) = omega (arith, ap (λ (ps : List FrameContent). total_of sends_in (ps ++ w.queued_up)) head) in
     let front = at_front s.received.begun w.up w.queued_up (SendFrame message) rest head c.whole_up in
     server_by_lem opened s f None p.behind
-    (send_frame (server_readiness opened s) (region_grants f.end s.regions) s.received.sends s.received.requests f message p refl front.0 front.1 (receives opened k s w c g some) refl long (omega (arith, short)))
+    (send_frame false (server_readiness opened s) (region_grants f.end s.regions) s.received.sends s.received.requests f message p refl front.0 front.1 (receives opened k s w c g some) refl long (omega (arith, short)))
 
 -- a segment of a Send that isn't its last: nothing
-pub server_part : (opened : LinkParameters) (k : ClientState) (s : ServerState) (w : Transit) (f : Frame) (offset : ℕ) (payload : List ℕ) (rest : List FrameContent) → TotalsAgree k s w → WithinWindow opened k → w.up ≡ PartFrame offset payload ∷ rest
-    → Carries s.received.sends s.received.requests f (PartFrame offset payload) → server_end opened s (FrameReceived f) ≡ refusal_end f (frame_effect s f).refusal
-server_part opened k s w f offset payload rest c g head p =
-    let front = at_front s.received.begun w.up w.queued_up (PartFrame offset payload) rest head c.whole_up in
+pub server_part : (opened : LinkParameters) (k : ClientState) (s : ServerState) (w : Transit) (f : Frame) (named : Bool) (offset : ℕ) (payload : List ℕ) (rest : List FrameContent) → TotalsAgree k s w → WithinWindow opened k → w.up ≡ PartFrame named offset payload ∷ rest
+    → Carries false s.received.sends s.received.requests f (PartFrame named offset payload) → server_end opened s (FrameReceived f) ≡ refusal_end f (frame_effect s f).refusal
+unfolding frame_end frame_segment
+server_part opened k s w f named offset payload rest c g head p =
+    let front = at_front s.received.begun w.up w.queued_up (PartFrame named offset payload) rest head c.whole_up in
     let some : 0 < total_of sends_in (w.up ++ w.queued_up) =
     omega (arith, ap (λ (ps : List FrameContent). total_of sends_in (ps ++ w.queued_up)) head, send_goes_on (begun_bytes s.received.begun ++ payload) (rest ++ w.queued_up) front.1) in
     server_by_lem opened s f None p.behind
-    (part_frame_end (server_readiness opened s) (region_grants f.end s.regions) s.received.sends s.received.requests f offset payload p refl front.0 (receives opened k s w c g some) refl)
+    (part_frame_end false (server_readiness opened s) (region_grants f.end s.regions) s.received.sends s.received.requests f named offset payload p refl front.0 (receives opened k s w c g some) refl)
 
 -- a segment of a Response: only what its access lacks
 lacks_none : (f : Frame) (segment : Segment) (lack : Option Denied) → lack ≡ None → end_of_fault f segment (first_fault (missing_fault lack ∷ [])) ≡ None
 lacks_none f segment lack e = ap (λ (l : Option Denied). end_of_fault f segment (first_fault (missing_fault l ∷ []))) e
 
 pub server_response : (opened : LinkParameters) (s : ServerState) (w : Transit) (f : Frame) (last : Bool) (stag to : ℕ) (payload : List ℕ) (rest : List FrameContent) → ReadsAgree s w → w.up ≡ TaggedFrame last OPCODE_READ_RESPONSE stag to payload ∷ rest
-    → Carries s.received.sends s.received.requests f (TaggedFrame last OPCODE_READ_RESPONSE stag to payload) → missing_access (region_grants f.end s.regions) f (Tagged last OPCODE_READ_RESPONSE stag to payload) ≡ None
+    → Carries false s.received.sends s.received.requests f (TaggedFrame last OPCODE_READ_RESPONSE stag to payload) → missing_access (region_grants f.end s.regions) f (Tagged last OPCODE_READ_RESPONSE stag to payload) ≡ None
     → server_end opened s (FrameReceived f) ≡ refusal_end f (frame_effect s f).refusal
 unfolding frame_end
 server_response opened s w f last stag to payload rest c head p allowed =
@@ -80,7 +84,7 @@ server_response opened s w f last stag to payload rest c head p allowed =
 
 -- ---- The client
 
-pub client_by_lem : (k : ClientState) (f : Frame) (found : Option End) → is_hello f ≡ false → frame_end (client_readiness k) (region_grants f.end k.regions) f ≡ found → client_end k (FrameReceived f) ≡ or_message_end k f found
+pub client_by_lem : (k : ClientState) (f : Frame) (found : Option End) → is_hello f ≡ false → frame_end_by (client_readiness k) (region_grants f.end k.regions) f (client_segment k f) ≡ found → client_end k (FrameReceived f) ≡ or_message_end k f found
 unfolding client_end
 client_by_lem k f found behind is = λ i. cond (behind i) (hello_end (hello_of Responder f.bytes)) (or_message_end k f (is i))
 
@@ -88,21 +92,27 @@ or_true : (b : Bool) → (b || true) ≡ true
 or_true true = refl
 or_true false = refl
 
+-- a segment ends it as a plain one
+pub plain_end_by : (k : ClientState) (f : Frame) (segment : Segment) → plain_segment k f ≡ Ok segment → frame_end_by (client_readiness k) (region_grants f.end k.regions) f (client_segment k f) ≡ frame_end_by (client_readiness k) (region_grants f.end k.regions) f (Ok segment)
+plain_end_by k f segment is =
+    sym (plain_frame_end (client_readiness k) (region_grants f.end k.regions) f (client_segment k f))
+    ∙ ap (λ (r : Result Segment ℕ). frame_end_by (client_readiness k) (region_grants f.end k.regions) f r) is
+
 -- a message: its verdict alone
 pub client_send : (opened : LinkParameters) (k : ClientState) (s : ServerState) (w : Transit) (f : Frame) (message : SentMessage) (rest : List FrameContent) → TotalsAgree k s w → w.down ≡ SendFrame message ∷ rest
-    → Carries k.received.sends k.received.requests f (SendFrame message) → 16 ≤ length message.bytes → length message.bytes ≤ k.down_max → client_end k (FrameReceived f) ≡ client_message_end k f (segment_message k (frame_segment f))
+    → Carries k.invalidates k.received.sends k.received.requests f (SendFrame message) → 16 ≤ length message.bytes → length message.bytes ≤ k.down_max → client_end k (FrameReceived f) ≡ message_end_in k f (client_segment k f)
 client_send opened k s w f message rest c head p long short =
     let front = at_front k.received.begun w.down w.queued_down (SendFrame message) rest head c.whole_down in
     client_by_lem k f None p.behind
-    (send_frame (client_readiness k) (region_grants f.end k.regions) k.received.sends k.received.requests f message p refl front.0 front.1 (or_true (is_begun k.received.begun)) refl long (omega (arith, short)))
+    (send_frame k.invalidates (client_readiness k) (region_grants f.end k.regions) k.received.sends k.received.requests f message p refl front.0 front.1 (or_true (is_begun k.received.begun)) refl long (omega (arith, short)))
 
 -- a segment of a Send that isn't its last: nothing
-pub client_part : (k : ClientState) (s : ServerState) (w : Transit) (f : Frame) (offset : ℕ) (payload : List ℕ) (rest : List FrameContent) → TotalsAgree k s w → w.down ≡ PartFrame offset payload ∷ rest
-    → Carries k.received.sends k.received.requests f (PartFrame offset payload) → client_end k (FrameReceived f) ≡ None
-client_part k s w f offset payload rest c head p =
+pub client_part : (k : ClientState) (s : ServerState) (w : Transit) (f : Frame) (named : Bool) (offset : ℕ) (payload : List ℕ) (rest : List FrameContent) → TotalsAgree k s w → w.down ≡ PartFrame named offset payload ∷ rest
+    → Carries k.invalidates k.received.sends k.received.requests f (PartFrame named offset payload) → client_end k (FrameReceived f) ≡ None
+client_part k s w f named offset payload rest c head p =
     let segment : Segment = part_segment k.received.sends offset payload in
-    let is : frame_segment f ≡ Ok segment = segment_is k.received.sends k.received.requests f (PartFrame offset payload) segment p refl in
-    let front = at_front k.received.begun w.down w.queued_down (PartFrame offset payload) rest head c.whole_down in
+    let is : plain_segment k f ≡ Ok segment = plain_is k f (PartFrame named offset payload) segment p refl in
+    let front = at_front k.received.begun w.down w.queued_down (PartFrame named offset payload) rest head c.whole_down in
     client_by_lem k f None p.behind
-    (part_frame_end (client_readiness k) (region_grants f.end k.regions) k.received.sends k.received.requests f offset payload p refl front.0 (or_true (is_begun k.received.begun)) refl)
-    ∙ ap (λ (r : Result Segment ℕ). client_message_end k f (segment_message k r)) is
+    (part_frame_end k.invalidates (client_readiness k) (region_grants f.end k.regions) k.received.sends k.received.requests f named offset payload p refl front.0 (or_true (is_begun k.received.begun)) refl)
+    ∙ message_end_is k f segment is

@@ -4,7 +4,7 @@ use Rattle.std.specs.List.{filter, flat_map, range_with_len}
 use Rattle.std.proofs.lemmas.Bool.{le-leb, lt-leb, cases_lt}
 use Rattle.nr_wire.specs.Fields.{half_word}
 use Rattle.nr_wire.specs.Segment.{Segment, encoding}
-use Rattle.nr_link.specs.Output.{cut, segment_count, send, read_response}
+use Rattle.nr_link.specs.Output.{cut, segment_count, send, read_response, send_by, send_invalidating}
 use Rattle.nr_link.specs.ReceiveState.{ReadRequest}
 use Rattle.nr_header.specs.declared.header.ChunkLists.{ChunkLists}
 use Rattle.nr_reduce.specs.declared.mark.LinkParameters.{LinkParameters}
@@ -15,7 +15,7 @@ use Rattle.nr_reduce.specs.ClientState.{ClientState, OutstandingCall}
 use Rattle.nr_reduce.specs.Client.{call_output, call_ends, response_output}
 use Rattle.nr_rpc.specs.Reading.{call_of, target_of}
 use Rattle.nr_reduce.specs.ServerState.{ServerState, credit_word}
-use Rattle.nr_reduce.specs.Server.{send_ends_from, offer_of, answer_of_target, answer_output, execution_output}
+use Rattle.nr_reduce.specs.Server.{send_ends_from, offer_of, answer_of_target, answer_output, execution_output, stag_named}
 
 abbrev pub AreAbove : ℕ → List ℕ → Type 0
 AreAbove n [] = Unit {0}
@@ -70,6 +70,11 @@ pub send_some : (msn : ℕ) (message : List ℕ) → 0 < length (send msn messag
 unfolding send
 send_some msn message = cut_some_lem _ message
 
+pub named_some : (named : Option ℕ) (msn : ℕ) (message : List ℕ) → 0 < length (send_by named msn message)
+unfolding send_invalidating
+named_some None msn message = send_some msn message
+named_some (Some stag) msn message = cut_some_lem _ message
+
 response_some : (stag to : ℕ) (bytes : List ℕ) → 0 < length (read_response stag to bytes)
 unfolding read_response
 response_some stag to bytes = cut_some_lem _ bytes
@@ -84,7 +89,11 @@ execution_some k e = by (offer_of k e.xid) (answer_of_target (offer_of k e.xid) 
     by : (offer : ChunkLists) (a : Option Answer) → 0 < length (answer_output k e.xid offer a)
     by offer None = send_some _ _
     by offer (Some a) =
-        omega (arith, send_some (k.messages_queued + 1) (answer_message e.xid (credit_word k) offer a), length-append (answer_writes offer a) (send (k.messages_queued + 1) (answer_message e.xid (credit_word k) offer a)))
+        omega (
+          arith,
+          named_some (stag_named k.invalidates offer) (k.messages_queued + 1) (answer_message e.xid (credit_word k) offer a),
+          length-append (answer_writes offer a) (send_by (stag_named k.invalidates offer) (k.messages_queued + 1) (answer_message e.xid (credit_word k) offer a)),
+        )
 
 -- ---- The ends of what is added
 

@@ -3,6 +3,7 @@ use Rattle.std.proofs.Common.{◌≡◌, ℕ, ◌+◌, false, List, [], ◌∷�
 use Rattle.nr_wire.specs.declared.hello.Side.TheVariants.{Responder}
 use Rattle.nr_link.specs.Frames.{Frame, is_hello}
 use Rattle.nr_link.specs.Ending.{frame_segment}
+use Rattle.nr_link.proofs.TakenSegments.{frame_read}
 use Rattle.nr_link.specs.ReceiveState.{message_completed}
 use Rattle.nr_wire.specs.Segment.{Segment}
 use Rattle.nr_reduce.specs.Hellos.{client_hello}
@@ -29,6 +30,7 @@ use Rattle.nr_laws.proofs.Outputs.Output.{AHello, ASegment}
 use Rattle.nr_laws.proofs.Brought.{Brings, Receives, receives}
 use Rattle.nr_laws.proofs.Completions.{completed_by, completed_from, begun_from, completed_at_lem}
 use Rattle.nr_laws.proofs.ReceivedMessages.{hears, server_receives, brings_at, own_segment, completed_message, live_first}
+use Rattle.nr_laws.proofs.PlainOutputs.{ArePlain, plain_first, client_plain}
 use Rattle.nr_laws.proofs.ClientRun.{client_outputs, client_outs, WasSubmitted, message_submitted}
 use Rattle.nr_laws.proofs.HeaderXid.{header_xid, call_xid_lem}
 
@@ -40,6 +42,13 @@ server_receives_of opened link run typed asked matched =
     let t = client_outputs opened link run typed asked in
     receives link Responder run (AHello (client_hello opened) ∷ client_outs opened link run) (client_hello_is opened, t.says.words)
     (subst (λ (xs : List ℕ). IsPrefixOf (bytes_received link Responder run) xs) t.bytes (flows_up opened link run matched asked))
+
+-- none of it is of a Send with Invalidate
+pub plain_came : (opened : LinkParameters) (link : ℕ) (run : List Mark) (typed : IsTyped run) (asked : AskedSoFar opened link run) (matched : Matched link run)
+    → ArePlain (server_receives_of opened link run typed asked matched).came
+plain_came opened link run typed asked matched =
+    let r = server_receives_of opened link run typed asked matched in
+    plain_first r.came r.left (subst (λ (outs : List Output). ArePlain outs) (sym r.parts) (client_plain opened link run))
 
 -- ---- The message of a Send that was received
 
@@ -53,7 +62,7 @@ frame_message opened link run typed asked matched es f rest s message all behind
     let t = client_outputs opened link run typed asked in
     let at = brings_at es f rest r.came (subst (λ (xs : List RunEvent). Brings xs r.came) all r.brings) in
     let counted = hears (server_rules opened) (λ (k : ServerState). k.received) (server_receives opened) (initial_server opened) es at.earlier at.brings live in
-    let segment : at.own ≡ ASegment s = own_segment at.own f s at.brought behind is in
+    let segment : at.own ≡ ASegment s = own_segment at.own f s at.brought behind (frame_read f s is) in
     let one : completed_by (begun_from None at.earlier) s ≡ message ∷ [] = completed_message (server_by opened es).received (begun_from None at.earlier) s message counted.begun whole in
     let all_outs : AHello (client_hello opened) ∷ client_outs opened link run ≡ at.earlier ++ ASegment s ∷ (at.later ++ r.left) =
     sym r.parts ∙ ap (λ (xs : List Output). xs ++ r.left) (at.parts ∙ ap (λ (o : Output). at.earlier ++ o ∷ at.later) segment)

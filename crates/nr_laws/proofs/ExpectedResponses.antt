@@ -1,5 +1,5 @@
 -- The Read Responses of a client are those that its server expects.
-use Rattle.std.proofs.Common.{◌≡◌, ℕ, zero, suc, ◌+◌, ◌-◌, ◌*◌, ◌≤◌, ◌<◌, min, Bool, true, false, not, cond, ◌&&◌, eqb, leb, List, [], ◌∷◌, ◌++◌, length, map, drop, refl, sym, ap, subst, ◌∙◌, arith, eq-eqb, ne_eqb, length-take, length-drop, le-leb}
+use Rattle.std.proofs.Common.{◌≡◌, ℕ, zero, suc, ◌+◌, ◌-◌, ◌*◌, ◌≤◌, ◌<◌, min, Bool, true, false, not, cond, ◌&&◌, eqb, leb, List, [], ◌∷◌, ◌++◌, length, map, drop, refl, sym, ap, subst, ◌∙◌, arith, eq-eqb, ne_eqb, length-take, length-drop, le-leb, Option, None}
 use Rattle.std.specs.List.{range_with_len}
 use Rattle.nr_wire.specs.Constants.{OPCODE_READ_RESPONSE}
 use Rattle.nr_link.specs.Limits.{segment_max}
@@ -22,7 +22,7 @@ pub answers_append : (came : ℕ) (rs : List PendingRead) (ps : List FrameConten
 answers_append came rs [] others more h k =
     subst (λ (c : ℕ). AreResponses c (rs ++ others) more) (sym h.0) (subst (λ (qs : List PendingRead). AreResponses 0 (qs ++ others) more) (sym h.1) k)
 answers_append came rs (HelloFrame ∷ ps) others more h k = answers_append came rs ps others more h k
-answers_append came rs (PartFrame offset payload ∷ ps) others more h k = answers_append came rs ps others more h k
+answers_append came rs (PartFrame named offset payload ∷ ps) others more h k = answers_append came rs ps others more h k
 answers_append came rs (SendFrame message ∷ ps) others more h k = answers_append came rs ps others more h k
 answers_append came rs (RequestFrame sink at size stag to ∷ ps) others more h k = answers_append came rs ps others more h k
 answers_append came [] (TaggedFrame last opcode stag to payload ∷ ps) others more h k = absurd h
@@ -30,17 +30,17 @@ answers_append came (r ∷ rs) (TaggedFrame last opcode stag to payload ∷ ps) 
     (h.0, h.1, h.2, continues_more last came (length payload) r rs others (λ c qs. AreResponses c qs ps) (λ c qs. AreResponses c qs (ps ++ more)) (λ c qs later. answers_append c qs ps others more later k) h.3)
 
 -- messages are no responses
-pub send_answers : (message : List ℕ) → AreResponses 0 [] (send_frames message)
+pub send_answers : (named : Option ℕ) (message : List ℕ) → AreResponses 0 [] (send_frames named message)
 unfolding send_frames
-send_answers message = by (range_with_len 0 (last_index message))
+send_answers named message = by (range_with_len 0 (last_index message))
   where
-    by : (is : List ℕ) → AreResponses 0 [] (map (part_frame message) is ++ SendFrame (last_part message) ∷ [])
+    by : (is : List ℕ) → AreResponses 0 [] (map (part_frame named message) is ++ SendFrame (last_part named message) ∷ [])
     by [] = (refl, refl)
     by (i ∷ is) = by is
 
 pub sends_answers : {X : Type 0} (f : X → List ℕ) (xs : List X) → AreResponses 0 [] (sends_frames f xs)
 sends_answers f [] = (refl, refl)
-sends_answers f (x ∷ xs) = answers_append 0 [] (send_frames (f x)) [] (sends_frames f xs) (send_answers (f x)) (sends_answers f xs)
+sends_answers f (x ∷ xs) = answers_append 0 [] (send_frames None (f x)) [] (sends_frames f xs) (send_answers None (f x)) (sends_answers f xs)
 
 -- ---- A response as it is cut
 

@@ -14,9 +14,10 @@ use Rattle.nr_link.specs.Frames.{Frame}
 use Rattle.nr_link.specs.SegmentFaults.{Readiness, SegmentReason, segment_reason, first_fault, reason_if, missing_fault, is_begun, is_expected}
 use Rattle.nr_link.specs.ReceiveState.{begun_bytes, read_request_in}
 use Rattle.nr_link.specs.SegmentFaults.SegmentReason.{NoBuffer}
-use Rattle.nr_link.specs.Ending.{frame_end, frame_end_by, end_of_fault, frame_segment}
+use Rattle.nr_link.specs.Ending.{frame_end_by, end_of_fault, frame_segment_with}
 use Rattle.nr_laws.proofs.FrameContents.{Carries, SentMessage, CompletesMessage, part_segment, last_segment}
 use Rattle.nr_laws.proofs.FrameContents.FrameContent.{PartFrame, SendFrame}
+use Rattle.nr_laws.proofs.PlainSegments.{plain_frame_end, plain_result}
 
 itself : (n : ℕ) → eqb n n ≡ true
 itself n = eq-eqb n n refl
@@ -84,21 +85,19 @@ response_flaw r last stag to payload e =
     (λ i. first_fault (missing_fault r.missing ∷ reason_if REASON_RESPONSE (not (e i)) ∷ [])) ∙ skip_one r.missing
 
 -- a frame of a Send ends no side whose receive is there
-pub send_frame : (ready : Option Denied → Readiness Denied) (grants : List Grant) (n req : ℕ) (f : Frame) (m : SentMessage) → Carries n req f (SendFrame m)
+pub send_frame : (b : Bool) (ready : Option Denied → Readiness Denied) (grants : List Grant) (n req : ℕ) (f : Frame) (m : SentMessage) → Carries b n req f (SendFrame m)
     → (ready None).received.sends ≡ n → m.offset ≡ length (begun_bytes (ready None).received.begun) → CompletesMessage (ready None).received m → (is_begun (ready None).received.begun || (ready None).has_receive) ≡ true → (ready None).missing ≡ None
-    → 16 ≤ length m.bytes → length m.bytes ≤ (ready None).message_max → frame_end ready grants f ≡ None
-unfolding frame_end
-send_frame ready grants n req f m p same starts whole h l long short =
+    → 16 ≤ length m.bytes → length m.bytes ≤ (ready None).message_max → frame_end_by ready grants f (frame_segment_with b f) ≡ None
+send_frame b ready grants n req f m p same starts whole h l long short =
     let segment : Segment = last_segment (ready None).received.sends m in
-    let is : frame_segment f ≡ Ok segment = p.reads ∙ ap (λ (s : Segment). Ok s) (same_Some _ _ (sym p.is_segment)) ∙ ap (λ (k : ℕ). Ok (last_segment k m)) (sym same) in
-    ap (λ (r : Result Segment ℕ). frame_end_by ready grants f r) is
+    let is : plain_result (frame_segment_with b f) ≡ Ok segment = p.reads ∙ ap (λ (s : Segment). Ok s) (same_Some _ _ (sym p.is_segment)) ∙ ap (λ (k : ℕ). Ok (last_segment k m)) (sym same) in
+    sym (plain_frame_end ready grants f (frame_segment_with b f)) ∙ ap (λ (r : Result Segment ℕ). frame_end_by ready grants f r) is
     ∙ ap (λ (x : Option (SegmentReason Denied)). end_of_fault f segment x) (send_flaw (ready None) m starts whole h l long short)
 
-pub part_frame_end : (ready : Option Denied → Readiness Denied) (grants : List Grant) (n req : ℕ) (f : Frame) (offset : ℕ) (payload : List ℕ) → Carries n req f (PartFrame offset payload)
-    → (ready None).received.sends ≡ n → offset ≡ length (begun_bytes (ready None).received.begun) → (is_begun (ready None).received.begun || (ready None).has_receive) ≡ true → (ready None).missing ≡ None → frame_end ready grants f ≡ None
-unfolding frame_end
-part_frame_end ready grants n req f offset payload p same starts h l =
+pub part_frame_end : (b : Bool) (ready : Option Denied → Readiness Denied) (grants : List Grant) (n req : ℕ) (f : Frame) (named : Bool) (offset : ℕ) (payload : List ℕ) → Carries b n req f (PartFrame named offset payload)
+    → (ready None).received.sends ≡ n → offset ≡ length (begun_bytes (ready None).received.begun) → (is_begun (ready None).received.begun || (ready None).has_receive) ≡ true → (ready None).missing ≡ None → frame_end_by ready grants f (frame_segment_with b f) ≡ None
+part_frame_end b ready grants n req f named offset payload p same starts h l =
     let segment : Segment = part_segment (ready None).received.sends offset payload in
-    let is : frame_segment f ≡ Ok segment = p.reads ∙ ap (λ (s : Segment). Ok s) (same_Some _ _ (sym p.is_segment)) ∙ ap (λ (k : ℕ). Ok (part_segment k offset payload)) (sym same) in
-    ap (λ (r : Result Segment ℕ). frame_end_by ready grants f r) is
+    let is : plain_result (frame_segment_with b f) ≡ Ok segment = p.reads ∙ ap (λ (s : Segment). Ok s) (same_Some _ _ (sym p.is_segment)) ∙ ap (λ (k : ℕ). Ok (part_segment k offset payload)) (sym same) in
+    sym (plain_frame_end ready grants f (frame_segment_with b f)) ∙ ap (λ (r : Result Segment ℕ). frame_end_by ready grants f r) is
     ∙ ap (λ (x : Option (SegmentReason Denied)). end_of_fault f segment x) (part_flaw (ready None) offset payload starts h l)

@@ -6,13 +6,11 @@ use Rattle.nr_wire.specs.Segment.{Segment}
 use Rattle.nr_link.specs.declared.end.End.{End as Stop}
 use Rattle.nr_link.specs.Frames.{Frame, is_hello}
 use Rattle.nr_link.specs.ReceiveState.{ReadRequest, message_completed, read_request_of}
-use Rattle.nr_link.specs.Ending.{frame_segment}
 use Rattle.nr_wire.specs.declared.hello.Side.TheVariants.{Initiator}
-use Rattle.nr_reduce.specs.declared.call.Form.TheVariants as forms
 use Rattle.nr_reduce.specs.declared.mark.LinkParameters.{LinkParameters}
 use Rattle.nr_reduce.specs.declared.outline.Plan.{Plan}
 use Rattle.nr_reduce.specs.ClientState.{ClientState, OutstandingCall, call_payload, plan_for}
-use Rattle.nr_reduce.specs.Client.{client_rules, client_end, client_state_after, due_with_response, initial_client, outstanding_of, plan_or, revoked_call, with_hello, with_message, with_request, with_segment}
+use Rattle.nr_reduce.specs.Client.{client_segment, client_rules, client_end, client_state_after, due_with_response, initial_client, outstanding_of, plan_or, revoked_call, with_hello, with_message, with_request, with_segment}
 use Rattle.nr_reduce.specs.EndRules.{next_end_state_by, next_end_state_in}
 use Rattle.nr_reduce.specs.Events.{RunEvent, events}
 use Rattle.nr_reduce.specs.Events.RunEvent.{FrameReceived, CallSubmitted, MemoryRevoked, CallExecuted, QueueWritten, ServerTold}
@@ -101,9 +99,9 @@ unfolding client_state_after
 few_frame opened place k f next h (Some end) = few_later place f.end k (let l = next.1 in omega (arith, l)) h
 few_frame opened place k f next h None = by (is_hello f) refl
   where
-    by : (b : Bool) → is_hello f ≡ b → FewAt f.end (cond b (with_hello opened k f) (with_segment k f (frame_segment f)))
+    by : (b : Bool) → is_hello f ≡ b → FewAt f.end (cond b (with_hello opened k f) (with_segment k f (client_segment k f)))
     by true is = few_hello opened place k f (sym next.0 ∙ eqb-true f.at 0 is) (let l = next.1 in omega (arith, l)) h
-    by false is = few_segment place k f (frame_segment f) (let l = next.1 in omega (arith, l)) h
+    by false is = few_segment place k f (client_segment k f) (let l = next.1 in omega (arith, l)) h
 
 few_call : (opened : LinkParameters) (place q : ℕ) (k : ClientState) (a : AcceptedCall) (plan : Plan) → plan_for k a.xid a.call a.form ≡ Ok plan → FewAt place k → FewAt place (client_state_after opened k (CallSubmitted q a))
 unfolding client_state_after

@@ -10,7 +10,7 @@ use Rattle.nr_regions.specs.RegisteredMemory.{denial_in}
 use Rattle.nr_link.specs.declared.end.End.{End as Stop}
 use Rattle.nr_link.specs.Frames.{Frame, is_hello, frames_completed}
 use Rattle.nr_link.specs.ReceiveState.{message_completed, read_request_of}
-use Rattle.nr_link.specs.Ending.{frame_segment, tagged_access, missing_access}
+use Rattle.nr_link.specs.Ending.{tagged_access}
 use Rattle.nr_reduce.specs.declared.call.Submission.TheVariants as submissions
 use Rattle.nr_reduce.specs.declared.mark.Mark.{Mark}
 use Rattle.nr_reduce.specs.declared.mark.Mark.TheVariants as marks
@@ -22,7 +22,7 @@ use Rattle.nr_reduce.specs.EndRules.{EndState, next_end_state, next_end_state_by
 use Rattle.nr_reduce.specs.OfferedRegions.{Region, region_grant, region_grants, closed_if, regions_closed}
 use Rattle.nr_reduce.specs.Plans.{buffers}
 use Rattle.nr_reduce.specs.ClientState.{ClientState}
-use Rattle.nr_reduce.specs.Client.{client_rules, client_end, client_state_after, outstanding_of, region_of, with_message, with_segment, with_hello, due_with_response}
+use Rattle.nr_reduce.specs.Client.{client_segment, client_rules, client_end, client_state_after, outstanding_of, region_of, with_message, with_segment, with_hello, due_with_response}
 use Rattle.nr_reduce.specs.Asked.{AskedSoFar}
 use Rattle.nr_reduce.specs.Run.{client, grants_of, placed_bytes}
 use Rattle.nr_reduce.proofs.Touches.{client_touched}
@@ -71,7 +71,7 @@ pub record Frozen (stag p : ℕ) (bytes : List ℕ) (old : List TaggedSegment) (
   pub none : NotTo stag more
 
 -- an access to the STag by a frame that ends later is refused
-no_access : (stag p : ℕ) (k : ClientState) (f : Frame) (s : Segment) → OnlyClosed stag p k.regions → p < f.end → is_hello f ≡ false → frame_segment f ≡ Ok s → client_end k (FrameReceived f) ≡ None → NotTo stag (tagged_access f s)
+no_access : (stag p : ℕ) (k : ClientState) (f : Frame) (s : Segment) → OnlyClosed stag p k.regions → p < f.end → is_hello f ≡ false → client_segment k f ≡ Ok s → client_end k (FrameReceived f) ≡ None → NotTo stag (tagged_access f s)
 unfolding grant_denial grant_at region_grants
 no_access stag p k f (Tagged last opcode own to payload) only lt behind is stays = (
   (λ e.
@@ -86,7 +86,7 @@ no_access stag p k f (Untagged last opcode w queue msn offset payload) only lt b
 has_left : (xs ys : List Region) (stag : ℕ) (bytes : List ℕ) → HasRegion xs stag bytes → HasRegion (xs ++ ys) stag bytes
 has_left xs ys stag bytes h = record { region = h.region; there = find_left stag xs ys h.region h.there; own = h.own; holds = h.holds }
 
-frozen_segment : (stag p : ℕ) (bytes : List ℕ) (old : List TaggedSegment) (k : ClientState) (f : Frame) → p < f.end → is_hello f ≡ false → client_end k (FrameReceived f) ≡ None → (r : Result Segment ℕ) → frame_segment f ≡ r → Frozen stag p bytes old k → Frozen stag p bytes old (with_segment k f r)
+frozen_segment : (stag p : ℕ) (bytes : List ℕ) (old : List TaggedSegment) (k : ClientState) (f : Frame) → p < f.end → is_hello f ≡ false → client_end k (FrameReceived f) ≡ None → (r : Result Segment ℕ) → client_segment k f ≡ r → Frozen stag p bytes old k → Frozen stag p bytes old (with_segment k f r)
 frozen_segment stag p bytes old k f lt behind stays (Err reason) is h = h
 frozen_segment stag p bytes old k f lt behind stays (Ok s) is h =
     let own : (with_segment k f (Ok s)).stag ≡ k.stag = request_stag (with_message k f.end (message_completed k.received s)) (due_with_response k f s) (read_request_of s) ∙ message_stag k f.end (message_completed k.received s) in
@@ -118,9 +118,9 @@ frozen_event : (opened : LinkParameters) (stag p : ℕ) (bytes : List ℕ) (old 
 unfolding client_state_after
 frozen_event opened stag p bytes old k (FrameReceived f) by stays h = by_hello (is_hello f) refl
   where
-    by_hello : (b : Bool) → is_hello f ≡ b → Frozen stag p bytes old (cond b (with_hello opened k f) (with_segment k f (frame_segment f)))
+    by_hello : (b : Bool) → is_hello f ≡ b → Frozen stag p bytes old (cond b (with_hello opened k f) (with_segment k f (client_segment k f)))
     by_hello true is = record { only = h.only; low = h.low; has = h.has; more = h.more; accesses = h.accesses; none = h.none }
-    by_hello false is = frozen_segment stag p bytes old k f by is stays (frame_segment f) refl h
+    by_hello false is = frozen_segment stag p bytes old k f by is stays (client_segment k f) refl h
 frozen_event opened stag p bytes old k (CallSubmitted q a) by stays h =
     let plan = (outstanding_of k a).plan in
     let new : List Region = map (region_of a.xid q) (buffers k.stag plan) in

@@ -23,8 +23,8 @@ use Rattle.nr_reduce.specs.ClientState.{ClientState, OutstandingCall}
 use Rattle.nr_reduce.specs.Client.{client_rules, initial_client}
 use Rattle.nr_reduce.specs.ServerState.{ServerState, PendingRead, credit_word, credit_told, is_busy}
 use Rattle.nr_reduce.specs.ServerFrames.{FrameEffect}
-use Rattle.nr_reduce.specs.Server.{newly_open_reads, offer_of, answer_of_target}
-use Rattle.nr_laws.proofs.FrameContents.{FrameContent, request_frame, effect_frames, write_frames, answer_frames, tagged_frames, send_frames, errors_frames}
+use Rattle.nr_reduce.specs.Server.{newly_open_reads, offer_of, answer_of_target, stag_named}
+use Rattle.nr_laws.proofs.FrameContents.{FrameContent, request_frame, effect_frames, write_frames, answer_frames, tagged_frames, send_frames, errors_frames, IsTaken, IsPlainContent}
 use Rattle.nr_laws.proofs.FrameContents.FrameContent.{HelloFrame, PartFrame, SendFrame, RequestFrame, TaggedFrame}
 use Rattle.nr_laws.proofs.LinkInvariants.{Transit, WithinWindow}
 use Rattle.nr_laws.proofs.ServerInvariant.{ServerAgrees}
@@ -36,25 +36,34 @@ use Rattle.nr_laws.proofs.WritableOffers.{OfferFits}
 use Rattle.nr_laws.proofs.ServerOutputs.{CallsFit, for_target, found_fits}
 use Rattle.nr_laws.proofs.ServerOutput.{execution_frames}
 use Rattle.nr_laws.proofs.Basics.{each_append}
-use Rattle.nr_laws.proofs.AgreedSizes.{SizesAgree, matched_up, matched_down}
+use Rattle.nr_laws.proofs.AgreedSizes.{SizesAgree, matched_up, matched_down, matched_invalidates}
 use Rattle.nr_laws.proofs.Outputs.{message_of_call}
 use Rattle.nr_laws.proofs.SendFrames.{each_send}
 
--- a message of a client has the size of one, by what both sides agree on, version 1, a kind that a client sends, and at most one read chunk
+-- a message of a client has the size of one, by what both sides agree on, version 1, a kind that a client sends, and at most one read chunk;
+-- and it names no STag
 abbrev pub ClientMessage : LinkParameters → List ℕ → Type 0
 ClientMessage opened message = (16 ≤ length message) × (length message ≤ matched_up opened) × (word_at 4 message ≡ 1) × (word_at 12 message ≤ 1) × OneChunk message
 
 abbrev pub ClientContent : LinkParameters → FrameContent → Type 0
 ClientContent opened HelloFrame = Unit {0}
-ClientContent opened (PartFrame offset payload) = Unit {0}
-ClientContent opened (SendFrame message) = ClientMessage opened message.bytes
+ClientContent opened (PartFrame named offset payload) = named ≡ false
+ClientContent opened (SendFrame message) = ClientMessage opened message.bytes × (message.named ≡ None)
 ClientContent opened (RequestFrame sink at size stag to) = Unit {0}
 ClientContent opened (TaggedFrame last opcode stag to payload) = Unit {0}
+
+-- so a client names no STag
+pub content_plain : (opened : LinkParameters) (p : FrameContent) → ClientContent opened p → IsPlainContent p
+content_plain opened HelloFrame h = tt
+content_plain opened (PartFrame named offset payload) h = h
+content_plain opened (SendFrame message) h = h.1
+content_plain opened (RequestFrame sink at size stag to) h = tt
+content_plain opened (TaggedFrame last opcode stag to payload) h = tt
 
 -- a message of a server too, and it grants at most `credit`; its tagged segments are of Writes
 abbrev pub ServerContent : (most credit : ℕ) → FrameContent → Type 0
 ServerContent most credit HelloFrame = Unit {0}
-ServerContent most credit (PartFrame offset payload) = Unit {0}
+ServerContent most credit (PartFrame named offset payload) = Unit {0}
 ServerContent most credit (SendFrame message) = IsReply most credit message.bytes
 ServerContent most credit (RequestFrame sink at size stag to) = Unit {0}
 ServerContent most credit (TaggedFrame last opcode stag to payload) = opcode ≡ OPCODE_WRITE
@@ -72,6 +81,7 @@ pub record Guards (opened : LinkParameters) (k : ClientState) (s : ServerState) 
   pub sizes : SizesAgree opened k s u
   pub up_said : AllByRecursion (ClientContent opened) all_up
   pub down_said : AllByRecursion (ServerContent (matched_down opened) opened.granted) all_down
+  pub names : AllByRecursion (IsTaken (matched_invalidates opened)) all_down
   pub credit : s.credit ≤ opened.granted
   pub calls : AreSized opened k.outstanding
   pub within : AreWithin s.reads s.regions
@@ -98,7 +108,7 @@ told_most opened (Granted credits) h = h.1
 
 one_less : (most n m : ℕ) → n ≤ m → (p : FrameContent) → ServerContent most n p → ServerContent most m p
 one_less most n m le HelloFrame h = tt
-one_less most n m le (PartFrame offset payload) h = tt
+one_less most n m le (PartFrame named offset payload) h = tt
 one_less most n m le (SendFrame message) h = (let credits = h.credits in record { least = h.least; size = h.size; credits = omega (arith, credits, le); read = h.read })
 one_less most n m le (RequestFrame sink at size stag to) h = tt
 one_less most n m le (TaggedFrame last opcode stag to payload) h = h
@@ -109,12 +119,12 @@ credit_down most n m le (p ∷ ps) h = (one_less most n m le p h.0, credit_down 
 
 -- ---- What is sent
 
-pub send_down : (most credit : ℕ) (message : List ℕ) → IsReply most credit message → AllByRecursion (ServerContent most credit) (send_frames message)
-send_down most credit message h = each_send (ServerContent most credit) (λ offset payload. tt) message h
+pub send_down : (most credit : ℕ) (named : Option ℕ) (message : List ℕ) → IsReply most credit message → AllByRecursion (ServerContent most credit) (send_frames named message)
+send_down most credit named message h = each_send (ServerContent most credit) named (λ offset payload. tt) message h
 
 sends_down_lem : (most credit : ℕ) (messages : List (List ℕ)) → AreReplies most credit messages → AllByRecursion (ServerContent most credit) (errors_frames messages)
 sends_down_lem most credit [] h = tt
-sends_down_lem most credit (m ∷ messages) h = each_append (ServerContent most credit) (send_frames m) (errors_frames messages) (send_down most credit m h.0) (sends_down_lem most credit messages h.1)
+sends_down_lem most credit (m ∷ messages) h = each_append (ServerContent most credit) (send_frames None m) (errors_frames messages) (send_down most credit None m h.0) (sends_down_lem most credit messages h.1)
 
 reads_down : (most credit : ℕ) (reads : List PendingRead) → AllByRecursion (ServerContent most credit) (map request_frame reads)
 reads_down most credit [] = tt
@@ -141,13 +151,13 @@ fills_down most credit (p ∷ chunk) bytes =
 answer_down : (most : ℕ) (k : ServerState) → ServerLimits k → k.down_max ≤ most → (xid : ℕ) (offer : ChunkLists) (reply : List ℕ) (t : Option CallTarget) (o : Option Answer) → xid < 2 ^ 32 → credit_word k < 2 ^ 32 → answer_of_target offer k.down_max reply t ≡ o → OfferFits offer → AllByRecursion (ServerContent most (credit_word k)) (answer_frames k xid offer o)
 answer_down most k l room xid offer reply t None word lt e fits =
     let down = l.down.0 in
-    send_down most (credit_word k) (chunk_error xid (credit_word k)) (chunk_error_reply most xid (credit_word k) (omega (arith, down, room)) word lt)
+    send_down most (credit_word k) None (chunk_error xid (credit_word k)) (chunk_error_reply most xid (credit_word k) (omega (arith, down, room)) word lt)
 answer_down most k l room xid offer reply t (Some a) word lt e fits =
     let target = for_target offer k.down_max reply t a e in
     let one = answer_reply offer most k.down_max target.0 target.1 target.2 xid (credit_word k) reply a l.down room word lt fits target.3 in
-    each_append (ServerContent most (credit_word k)) (write_frames (first_chunk offer.write) a.moved) (cond a.long (write_frames (no_segments offer.reply) a.stream) [] ++ send_frames (answer_message xid (credit_word k) offer a))
+    each_append (ServerContent most (credit_word k)) (write_frames (first_chunk offer.write) a.moved) (cond a.long (write_frames (no_segments offer.reply) a.stream) [] ++ send_frames (stag_named k.invalidates offer) (answer_message xid (credit_word k) offer a))
     (fills_down most (credit_word k) (first_chunk offer.write) a.moved)
-    (each_append (ServerContent most (credit_word k)) (cond a.long (write_frames (no_segments offer.reply) a.stream) []) (send_frames (answer_message xid (credit_word k) offer a)) (by a.long) (send_down most (credit_word k) (answer_message xid (credit_word k) offer a) one))
+    (each_append (ServerContent most (credit_word k)) (cond a.long (write_frames (no_segments offer.reply) a.stream) []) (send_frames (stag_named k.invalidates offer) (answer_message xid (credit_word k) offer a)) (by a.long) (send_down most (credit_word k) (stag_named k.invalidates offer) (answer_message xid (credit_word k) offer a) one))
   where
     by : (b : Bool) → AllByRecursion (ServerContent most (credit_word k)) (cond b (write_frames (no_segments offer.reply) a.stream) [])
     by true = fills_down most (credit_word k) (no_segments offer.reply) a.stream

@@ -12,7 +12,6 @@ use Rattle.nr_link.specs.declared.end.End.{End}
 use Rattle.nr_link.specs.Frames.{Frame, is_hello}
 use Rattle.nr_link.specs.Output.{msn_word, segment_count}
 use Rattle.nr_link.specs.ReceiveState.{begun_bytes, ReadRequest, message_completed, read_request_of}
-use Rattle.nr_link.specs.Ending.{frame_segment}
 use Rattle.nr_reduce.specs.declared.mark.LinkParameters.{LinkParameters}
 use Rattle.nr_reduce.specs.Opening.{IsOpened}
 use Rattle.nr_reduce.specs.Limits.{credits_max}
@@ -26,11 +25,10 @@ use Rattle.nr_reduce.specs.ServerState.{ServerState, PendingRead}
 use Rattle.nr_reduce.specs.ServerReads.{open_reads}
 use Rattle.nr_reduce.proofs.Steps.{end_state_after_append}
 use Rattle.nr_reduce.proofs.OwnStags.{AreNumbered, own_stags, client_numbers}
-use Rattle.nr_laws.proofs.FrameContents.{FrameContent, total_of, sends_in, hellos_in, request_frame, client_frames, tagged_frames, tagged_frame, response_frames, Carries, SentMessage, last_segment, part_segment, calls_frames}
+use Rattle.nr_laws.proofs.FrameContents.{FrameContent, total_of, sends_in, hellos_in, request_frame, client_frames, tagged_frames, tagged_frame, response_frames, Carries, SentMessage, last_segment, part_segment, calls_frames, IsTaken, last_part}
 use Rattle.nr_laws.proofs.FrameContents.FrameContent.{HelloFrame, PartFrame, SendFrame, RequestFrame, TaggedFrame}
 use Rattle.nr_laws.proofs.LinkInvariants.{Transit, TotalsAgree, hello_bit, ReadsAgree, WithinWindow, HasSink, HaveSinks, AreAtMost, requests_of}
 use Rattle.nr_laws.proofs.Totals.{others}
-use Rattle.nr_laws.proofs.TotalsAtServer.{segment_is}
 use Rattle.nr_laws.proofs.TotalsAtClient.{down_one, after_is_lem, says_is, request_payload, totals_hello_down, totals_send_down, totals_read_down, totals_tagged_down, bit_of, totals_part_down}
 use Rattle.nr_laws.proofs.ReadsAtClient.{AnswersNone, reads_read_down, reads_says_up}
 use Rattle.nr_laws.proofs.ServerInvariant.{ServerAgrees}
@@ -45,18 +43,26 @@ use Rattle.nr_laws.proofs.ClientFrame.{calls_said}
 use Rattle.nr_laws.proofs.AnsweredSteps.{Answered, answered_message_lem, answered_same}
 use Rattle.nr_wire.specs.declared.hello.Side.TheVariants.{Responder}
 use Rattle.nr_laws.proofs.FirstHellos.{first_hello}
-use Rattle.nr_laws.proofs.AgreedSizes.{SizesAgree, matched_down, client_keeps_sizes, client_takes_sizes}
-use Rattle.nr_laws.proofs.Guards.{ClientContent, ServerContent, IsAsked, AreSized, Guards, ClientMessage}
+use Rattle.nr_laws.proofs.AgreedSizes.{SizesAgree, matched_down, client_keeps_sizes, client_takes_sizes, matched_invalidates}
+use Rattle.nr_laws.proofs.Guards.{ClientContent, ServerContent, IsAsked, AreSized, Guards}
 use Rattle.nr_laws.proofs.GuardsAtServer.{each_at}
 use Rattle.nr_laws.proofs.Basics.{each_append, each_right, each_take, each_kept, each_all}
 use Rattle.nr_laws.proofs.Sinks.{sinks_taken}
 use Rattle.nr_laws.proofs.SendFrames.{at_front, each_sends}
 use Rattle.nr_laws.proofs.Outputs.{message_of_call}
 use Rattle.nr_laws.proofs.ExpectedResponses.{sends_answers}
+use Rattle.nr_laws.proofs.ReadContents.{plain_is, own_is}
+use Rattle.nr_laws.proofs.PlainSegments.{plain_segment}
 
 pub front_down : (opened : LinkParameters) (k : ClientState) (s : ServerState) (u d all_up all_down : List FrameContent) (w : Transit) (place : ℕ) (p : FrameContent) (rest : List FrameContent) → EndsAgree opened k s u d all_up all_down w → Guards opened k s u d all_up all_down w place → w.down ≡ p ∷ rest → ServerContent (matched_down opened) opened.granted p
 front_down opened k s u d all_up all_down w place p rest l g first =
     each_at (ServerContent (matched_down opened) opened.granted) d p (rest ++ w.queued_down) (subst (AllByRecursion (ServerContent (matched_down opened) opened.granted)) (sym l.parts_down ∙ ap (λ (ps : List FrameContent). d ++ (ps ++ w.queued_down)) first) g.down_said)
+
+-- and the client takes it
+pub front_taken : (opened : LinkParameters) (k : ClientState) (s : ServerState) (u d all_up all_down : List FrameContent) (w : Transit) (place : ℕ) (p : FrameContent) (rest : List FrameContent) → EndsAgree opened k s u d all_up all_down w → Guards opened k s u d all_up all_down w place → w.down ≡ p ∷ rest → k.has_hello ≡ true → IsTaken k.invalidates p
+front_taken opened k s u d all_up all_down w place p rest l g first hello =
+    subst (λ (b : Bool). IsTaken b p) (sym (g.sizes.client_takes hello))
+    (each_at (IsTaken (matched_invalidates opened)) d p (rest ++ w.queued_down) (subst (AllByRecursion (IsTaken (matched_invalidates opened))) (sym l.parts_down ∙ ap (λ (ps : List FrameContent). d ++ (ps ++ w.queued_down)) first) g.names))
 
 -- ---- The read of a Read Request
 
@@ -122,6 +128,7 @@ guards_down opened k t s u d all_up all_down w place p rest said event g server 
   sizes = sizes;
   up_said = each_append (ClientContent opened) all_up said g.up_said up;
   down_said = g.down_said;
+  names = g.names;
   credit = g.credit;
   calls = calls;
   within = g.within;
@@ -176,7 +183,7 @@ credits_most n most some le = by (eqb n 0)
     by false = by_max (ltb credits_max n) refl
 
 asks_up : (opened : LinkParameters) (os : List OutstandingCall) → AreSized opened os → AllByRecursion (ClientContent opened) (calls_frames opened os)
-asks_up opened os h = each_sends (ClientContent opened) (λ offset payload. tt) (message_of_call opened) os (each_all (IsAsked opened) (λ o. ClientMessage opened (message_of_call opened o)) os (λ o asked. asked.0) h)
+asks_up opened os h = each_sends (ClientContent opened) (λ offset payload. refl) (message_of_call opened) os (each_all (IsAsked opened) (λ o. ClientContent opened (SendFrame (last_part None (message_of_call opened o)))) os (λ o asked. (asked.0, refl)) h)
 
 none_asks : (opened : LinkParameters) (os : List OutstandingCall) → AnswersNone (calls_frames opened os)
 none_asks opened os = sends_answers (message_of_call opened) os
@@ -208,11 +215,11 @@ guards_hello_down opened k s u d all_up all_down w place rest f l g first is own
     (answered_same opened.first_xid k t s u d all_down w (down_one w said rest) HelloFrame (ap (λ (x : ClientState). x.outstanding) after) (ap (λ (x : ClientState). x.sends) after) refl g.answered) stays refl)
 
 pub guards_send_down : (opened : LinkParameters) (k : ClientState) (s : ServerState) (u d all_up all_down : List FrameContent) (w : Transit) (place : ℕ) (message : SentMessage) (rest : List FrameContent) (f : Frame) → IsOpened opened → EndsAgree opened k s u d all_up all_down w → Guards opened k s u d all_up all_down w place → w.down ≡ SendFrame message ∷ rest
-    → Carries k.received.sends k.received.requests f (SendFrame message) → k.has_hello ≡ true → client_end k (FrameReceived f) ≡ None
+    → Carries k.invalidates k.received.sends k.received.requests f (SendFrame message) → k.has_hello ≡ true → client_end k (FrameReceived f) ≡ None
     → Guards opened (client_state_after opened k (FrameReceived f)) s u (d ++ SendFrame message ∷ []) (all_up ++ client_frames opened k (FrameReceived f)) all_down (down_one w (client_frames opened k (FrameReceived f)) rest) place
 guards_send_down opened k s u d all_up all_down w place message rest f o l g first piece hello stays =
     let segment : Segment = last_segment k.received.sends message in
-    let reads : frame_segment f ≡ Ok segment = segment_is k.received.sends k.received.requests f (SendFrame message) segment piece refl in
+    let reads : plain_segment k f ≡ Ok segment = plain_is k f (SendFrame message) segment piece refl in
     let t = client_state_after opened k (FrameReceived f) in
     let says : client_frames opened k (FrameReceived f) ≡ [] = says_is opened k f (Ok segment) piece.behind reads in
     let after : t ≡ with_segment k f (Ok segment) = after_is_lem opened k f (Ok segment) piece.behind reads in
@@ -249,7 +256,7 @@ guards_send_down opened k s u d all_up all_down w place message rest f o l g fir
         by false le = omega (arith, le)
 
 -- what the client answers to a Read Request has no message
-tagged_up : (opened : LinkParameters) (k : ClientState) (f : Frame) (r : Result Segment ℕ) → is_hello f ≡ false → frame_segment f ≡ r → AllByRecursion (ClientContent opened) (client_frames opened k (FrameReceived f))
+tagged_up : (opened : LinkParameters) (k : ClientState) (f : Frame) (r : Result Segment ℕ) → is_hello f ≡ false → plain_segment k f ≡ r → AllByRecursion (ClientContent opened) (client_frames opened k (FrameReceived f))
 unfolding tagged_frames
 tagged_up opened k f r behind is = subst (AllByRecursion (ClientContent opened)) (sym (says_is opened k f r behind is)) (by (segment_request r))
   where
@@ -261,7 +268,7 @@ tagged_up opened k f r behind is = subst (AllByRecursion (ClientContent opened))
     by None = tt
     by (Some q) = cuts _ q.sink q.sink_to _ _
 
-tagged_xids : (x : ℕ) (opened : LinkParameters) (k : ClientState) (f : Frame) (r : Result Segment ℕ) → is_hello f ≡ false → frame_segment f ≡ r → XidsFrom x (client_frames opened k (FrameReceived f))
+tagged_xids : (x : ℕ) (opened : LinkParameters) (k : ClientState) (f : Frame) (r : Result Segment ℕ) → is_hello f ≡ false → plain_segment k f ≡ r → XidsFrom x (client_frames opened k (FrameReceived f))
 unfolding tagged_frames
 tagged_xids x opened k f r behind is = subst (XidsFrom x) (sym (says_is opened k f r behind is)) (by (segment_request r))
   where
@@ -276,11 +283,11 @@ tagged_xids x opened k f r behind is = subst (XidsFrom x) (sym (says_is opened k
         cuts OPCODE_READ_RESPONSE q.sink q.sink_to bytes (range_with_len 0 (segment_count bytes))
 
 pub guards_read_down : (opened : LinkParameters) (k : ClientState) (s : ServerState) (u d all_up all_down : List FrameContent) (w : Transit) (place sink at size stag to : ℕ) (rest : List FrameContent) (f : Frame) → EndsAgree opened k s u d all_up all_down w → Guards opened k s u d all_up all_down w place → w.down ≡ RequestFrame sink at size stag to ∷ rest
-    → Carries k.received.sends k.received.requests f (RequestFrame sink at size stag to) → k.has_hello ≡ true → client_end k (FrameReceived f) ≡ None
+    → Carries k.invalidates k.received.sends k.received.requests f (RequestFrame sink at size stag to) → k.has_hello ≡ true → client_end k (FrameReceived f) ≡ None
     → Guards opened (client_state_after opened k (FrameReceived f)) s u (d ++ RequestFrame sink at size stag to ∷ []) (all_up ++ client_frames opened k (FrameReceived f)) all_down (down_one w (client_frames opened k (FrameReceived f)) rest) place
 guards_read_down opened k s u d all_up all_down w place sink at size stag to rest f l g first piece hello stays =
     let segment : Segment = Untagged true OPCODE_READ_REQUEST 0 QUEUE_READ_REQUEST (msn_word (k.received.requests + 1)) 0 (request_payload sink at size stag to) in
-    let reads : frame_segment f ≡ Ok segment = segment_is k.received.sends k.received.requests f (RequestFrame sink at size stag to) segment piece refl in
+    let reads : plain_segment k f ≡ Ok segment = plain_is k f (RequestFrame sink at size stag to) segment piece refl in
     let t = client_state_after opened k (FrameReceived f) in
     let said = client_frames opened k (FrameReceived f) in
     let after : t ≡ with_segment k f (Ok segment) = after_is_lem opened k f (Ok segment) piece.behind reads in
@@ -288,7 +295,7 @@ guards_read_down opened k s u d all_up all_down w place sink at size stag to res
     let numbers = client_numbers opened g.reached.0 in
     let own : HaveOwnStags (region_grants f.end k.regions) =
     own_stags f.end opened.first_stag k.regions (ap_regions opened k g.reached.0 g.reached.1 numbers.regions) in
-    let there = is_there_lem k f (msn_word (k.received.requests + 1)) sink at size stag to own piece.behind reads stays a.some a.sink_word a.at_word a.size_word a.stag_word a.to_word in
+    let there = is_there_lem k f (msn_word (k.received.requests + 1)) sink at size stag to own piece.behind (own_is k f (RequestFrame sink at size stag to) segment piece refl refl) stays a.some a.sink_word a.at_word a.size_word a.stag_word a.to_word in
     let server : ServerAgrees opened t s (down_one w said rest) place = record {
       counts = totals_read_down opened k s w f sink at size stag to rest g.server.counts first piece;
       reads = reads_read_down opened k s w f sink at size stag to rest g.server.reads first piece there;
@@ -306,33 +313,33 @@ guards_read_down opened k s u d all_up all_down w place sink at size stag to res
     ap_regions opened k es is h = subst (λ (r : EndState ClientState). AreNumbered opened.first_stag r.state.regions) is h
 
 -- a segment of a Send that isn't its last
-pub guards_part_down : (opened : LinkParameters) (k : ClientState) (s : ServerState) (u d all_up all_down : List FrameContent) (w : Transit) (place : ℕ) (offset : ℕ) (payload : List ℕ) (rest : List FrameContent) (f : Frame) → Guards opened k s u d all_up all_down w place
-    → w.down ≡ PartFrame offset payload ∷ rest → Carries k.received.sends k.received.requests f (PartFrame offset payload) → k.has_hello ≡ true → client_end k (FrameReceived f) ≡ None
-    → Guards opened (client_state_after opened k (FrameReceived f)) s u (d ++ PartFrame offset payload ∷ []) (all_up ++ client_frames opened k (FrameReceived f)) all_down (down_one w (client_frames opened k (FrameReceived f)) rest) place
-guards_part_down opened k s u d all_up all_down w place offset payload rest f g first piece hello stays =
+pub guards_part_down : (opened : LinkParameters) (k : ClientState) (s : ServerState) (u d all_up all_down : List FrameContent) (w : Transit) (place : ℕ) (named : Bool) (offset : ℕ) (payload : List ℕ) (rest : List FrameContent) (f : Frame) → Guards opened k s u d all_up all_down w place
+    → w.down ≡ PartFrame named offset payload ∷ rest → Carries k.invalidates k.received.sends k.received.requests f (PartFrame named offset payload) → k.has_hello ≡ true → client_end k (FrameReceived f) ≡ None
+    → Guards opened (client_state_after opened k (FrameReceived f)) s u (d ++ PartFrame named offset payload ∷ []) (all_up ++ client_frames opened k (FrameReceived f)) all_down (down_one w (client_frames opened k (FrameReceived f)) rest) place
+guards_part_down opened k s u d all_up all_down w place named offset payload rest f g first piece hello stays =
     let segment : Segment = part_segment k.received.sends offset payload in
-    let reads : frame_segment f ≡ Ok segment = segment_is k.received.sends k.received.requests f (PartFrame offset payload) segment piece refl in
+    let reads : plain_segment k f ≡ Ok segment = plain_is k f (PartFrame named offset payload) segment piece refl in
     let t = client_state_after opened k (FrameReceived f) in
     let says : client_frames opened k (FrameReceived f) ≡ [] = says_is opened k f (Ok segment) piece.behind reads in
     let after : t ≡ with_segment k f (Ok segment) = after_is_lem opened k f (Ok segment) piece.behind reads in
     let server : ServerAgrees opened t s (down_one w [] rest) place = record {
-      counts = subst (λ (ps : List FrameContent). TotalsAgree t s (down_one w ps rest)) says (totals_part_down opened k s w f offset payload rest g.server.counts first piece);
+      counts = subst (λ (ps : List FrameContent). TotalsAgree t s (down_one w ps rest)) says (totals_part_down opened k s w f named offset payload rest g.server.counts first piece);
       reads = reads_says_up s w [] rest g.server.reads (refl, refl) (ap requests_of first);
       waits = g.server.waits;
       sinks = g.server.sinks;
       regions = g.server.regions;
       limits = g.server.limits;
     } in
-    subst (λ (ps : List FrameContent). Guards opened t s u (d ++ PartFrame offset payload ∷ []) (all_up ++ ps) all_down (down_one w ps rest) place) (sym says)
-    (guards_down opened k t s u d all_up all_down w place (PartFrame offset payload) rest [] (FrameReceived f) g server (subst (WithinWindow opened) (sym after) (record { window = g.window.window; grant = g.window.grant; receives = g.window.receives })) tt (client_keeps_sizes opened k t s u f (Ok segment) after hello g.sizes) (sized_frame opened k t f (Ok segment) after g.calls) tt (behind_hello_lem opened k t s u d all_up all_down w f (Ok segment) after hello)
-    (answered_same opened.first_xid k t s u d all_down w (down_one w [] rest) (PartFrame offset payload) (ap (λ (x : ClientState). x.outstanding) after) (ap (λ (x : ClientState). x.sends) after) refl g.answered) stays refl)
+    subst (λ (ps : List FrameContent). Guards opened t s u (d ++ PartFrame named offset payload ∷ []) (all_up ++ ps) all_down (down_one w ps rest) place) (sym says)
+    (guards_down opened k t s u d all_up all_down w place (PartFrame named offset payload) rest [] (FrameReceived f) g server (subst (WithinWindow opened) (sym after) (record { window = g.window.window; grant = g.window.grant; receives = g.window.receives })) tt (client_keeps_sizes opened k t s u f (Ok segment) after hello g.sizes) (sized_frame opened k t f (Ok segment) after g.calls) tt (behind_hello_lem opened k t s u d all_up all_down w f (Ok segment) after hello)
+    (answered_same opened.first_xid k t s u d all_down w (down_one w [] rest) (PartFrame named offset payload) (ap (λ (x : ClientState). x.outstanding) after) (ap (λ (x : ClientState). x.sends) after) refl g.answered) stays refl)
 
 pub guards_tagged_down : (opened : LinkParameters) (k : ClientState) (s : ServerState) (u d all_up all_down : List FrameContent) (w : Transit) (place : ℕ) (last : Bool) (opcode stag to : ℕ) (payload : List ℕ) (rest : List FrameContent) (f : Frame) → Guards opened k s u d all_up all_down w place
-    → w.down ≡ TaggedFrame last opcode stag to payload ∷ rest → Carries k.received.sends k.received.requests f (TaggedFrame last opcode stag to payload) → k.has_hello ≡ true → client_end k (FrameReceived f) ≡ None
+    → w.down ≡ TaggedFrame last opcode stag to payload ∷ rest → Carries k.invalidates k.received.sends k.received.requests f (TaggedFrame last opcode stag to payload) → k.has_hello ≡ true → client_end k (FrameReceived f) ≡ None
     → Guards opened (client_state_after opened k (FrameReceived f)) s u (d ++ TaggedFrame last opcode stag to payload ∷ []) (all_up ++ client_frames opened k (FrameReceived f)) all_down (down_one w (client_frames opened k (FrameReceived f)) rest) place
 guards_tagged_down opened k s u d all_up all_down w place last opcode stag to payload rest f g first piece hello stays =
     let segment : Segment = Tagged last opcode stag to payload in
-    let reads : frame_segment f ≡ Ok segment = segment_is k.received.sends k.received.requests f (TaggedFrame last opcode stag to payload) segment piece refl in
+    let reads : plain_segment k f ≡ Ok segment = plain_is k f (TaggedFrame last opcode stag to payload) segment piece refl in
     let t = client_state_after opened k (FrameReceived f) in
     let says : client_frames opened k (FrameReceived f) ≡ [] = says_is opened k f (Ok segment) piece.behind reads in
     let after : t ≡ with_segment k f (Ok segment) = after_is_lem opened k f (Ok segment) piece.behind reads in

@@ -22,7 +22,7 @@ use Rattle.nr_reduce.specs.ServerState.{ServerState, ReadyCall, credit_word}
 use Rattle.nr_reduce.specs.Client.{client_rules, client_end, client_state_after, initial_client, outstanding_of, revoked_call}
 use Rattle.nr_reduce.specs.Server.{server_state_after}
 use Rattle.nr_reduce.proofs.Steps.{end_state_after_append}
-use Rattle.nr_laws.proofs.FrameContents.{FrameContent, client_frames, server_frames, send_frames}
+use Rattle.nr_laws.proofs.FrameContents.{FrameContent, client_frames, server_frames, send_frames, IsTaken}
 use Rattle.nr_laws.proofs.LinkInvariants.{Transit}
 use Rattle.nr_laws.proofs.TotalsAtClient.{up_more, totals_accepts, totals_writes_up}
 use Rattle.nr_laws.proofs.ReadsAtClient.{AnswersNone, reads_says_up, reads_writes_up}
@@ -39,13 +39,14 @@ use Rattle.nr_laws.proofs.PendingExecuted.{executed_there}
 use Rattle.nr_laws.proofs.AnsweredCalls.{times, answer_xids, executed_less}
 use Rattle.nr_laws.proofs.AnsweredSteps.{Answered, answered_submit, answered_map, answered_server}
 use Rattle.nr_laws.proofs.GuardsAtServer.{pending_word}
-use Rattle.nr_laws.proofs.AgreedSizes.{matched_up, matched_down}
+use Rattle.nr_laws.proofs.AgreedSizes.{matched_up, matched_down, matched_invalidates}
 use Rattle.nr_laws.proofs.Guards.{ClientContent, ServerContent, IsAsked, AreSized, Guards, execution_down, ClientMessage, credit_down, word_most, told_most}
 use Rattle.nr_laws.proofs.Basics.{each_append, each_kept}
 use Rattle.nr_reduce.proofs.WholeWrotes.{ClientEnds, ServerEnds}
 use Rattle.nr_laws.proofs.SendFrames.{each_send}
 use Rattle.nr_laws.proofs.Outputs.{message_of_call}
 use Rattle.nr_laws.proofs.ExpectedResponses.{send_answers}
+use Rattle.nr_laws.proofs.NamedFrames.{answer_taken}
 
 -- an event of the client that is no frame
 reached_more : (opened : LinkParameters) (k : ClientState) (event : RunEvent) → client_end k event ≡ None → (es : List RunEvent) × (end_state_after (client_rules opened) (initial_client opened) es ≡ live k)
@@ -67,12 +68,12 @@ sized_call opened k a plan is lt up =
     (sym (planned (call_payload a.xid a.call) (plan_for k a.xid a.call a.form) plan is)) (omega (arith, size.0), omega (arith, size.1, up)) in
     ((fits.0, fits.1, words.version, words.kind, one_chunk a.xid opened.wished k.stag (outstanding_of k a).plan), words.xid_is)
 
-none_says : (b : Bool) (message : List ℕ) → AnswersNone (cond b (send_frames message) [])
-none_says true message = send_answers message
+none_says : (b : Bool) (message : List ℕ) → AnswersNone (cond b (send_frames None message) [])
+none_says true message = send_answers None message
 none_says false message = (refl, refl)
 
-up_says : (opened : LinkParameters) (b : Bool) (message : List ℕ) → ClientMessage opened message → AllByRecursion (ClientContent opened) (cond b (send_frames message) [])
-up_says opened true message h = each_send (ClientContent opened) (λ offset payload. tt) message h
+up_says : (opened : LinkParameters) (b : Bool) (message : List ℕ) → ClientMessage opened message → AllByRecursion (ClientContent opened) (cond b (send_frames None message) [])
+up_says opened true message h = each_send (ClientContent opened) None (λ offset payload. refl) message (h, refl)
 up_says opened false message h = tt
 
 pub guards_submit : (opened : LinkParameters) (k : ClientState) (s : ServerState) (u d all_up all_down : List FrameContent) (w : Transit) (up place : ℕ) (a : AcceptedCall) (plan : Plan) → EndsAgree opened k s u d all_up all_down w → Guards opened k s u d all_up all_down w up → plan_for k a.xid a.call a.form ≡ Ok plan → a.xid ≡ k.next_xid → a.xid < numbers_end → length k.outstanding < k.grant
@@ -92,10 +93,11 @@ guards_submit opened k s u d all_up all_down w up place a plan l g is own lt roo
         regions = g.server.regions;
         limits = g.server.limits;
       };
-      sizes = record { client_up = g.sizes.client_up; client_down = g.sizes.client_down; server_up = g.sizes.server_up; server_down = g.sizes.server_down };
+      sizes = record { client_up = g.sizes.client_up; client_down = g.sizes.client_down; server_up = g.sizes.server_up; server_down = g.sizes.server_down; client_takes = g.sizes.client_takes; server_names = g.sizes.server_names };
       window = record { window = omega (arith, g.window.grant, room, length-append k.outstanding (outstanding_of k a ∷ [])); grant = g.window.grant; receives = g.window.receives };
       up_said = each_append (ClientContent opened) all_up said g.up_said (up_says opened k.has_hello message one.0);
       down_said = g.down_said;
+      names = g.names;
       credit = g.credit;
       calls = each_append (IsAsked opened) k.outstanding (outstanding_of k a ∷ []) g.calls (one, tt);
       within = g.within;
@@ -119,12 +121,12 @@ guards_submit opened k s u d all_up all_down w up place a plan l g is own lt roo
     message : List ℕ
     message = message_of_call opened (outstanding_of k a)
 
-    new_xid : (b : Bool) → k.has_hello ≡ b → XidsFrom (opened.first_xid + total_of sends_in all_up) (cond k.has_hello (send_frames message) [])
+    new_xid : (b : Bool) → k.has_hello ≡ b → XidsFrom (opened.first_xid + total_of sends_in all_up) (cond k.has_hello (send_frames None message) [])
     new_xid true e =
         let sends : total_of sends_in all_up ≡ k.sends = calls_said opened k s u d all_up all_down w l ∙ ap (λ (b : Bool). cond b k.sends 0) e in
-        subst (λ (b : Bool). XidsFrom (opened.first_xid + total_of sends_in all_up) (cond b (send_frames message) [])) (sym e)
+        subst (λ (b : Bool). XidsFrom (opened.first_xid + total_of sends_in all_up) (cond b (send_frames None message) [])) (sym e)
         (send_xids_from (opened.first_xid + total_of sends_in all_up) message ((sized_call opened k a plan is lt g.sizes.client_up).1 ∙ omega (arith, number, sends)))
-    new_xid false e = subst (λ (b : Bool). XidsFrom (opened.first_xid + total_of sends_in all_up) (cond b (send_frames message) [])) (sym e) tt
+    new_xid false e = subst (λ (b : Bool). XidsFrom (opened.first_xid + total_of sends_in all_up) (cond b (send_frames None message) [])) (sym e) tt
 
 -- ---- Memory is revoked, and a queue is written
 
@@ -141,10 +143,11 @@ pub guards_revoke : (opened : LinkParameters) (k : ClientState) (s : ServerState
 unfolding client_state_after client_end
 guards_revoke opened k s u d all_up all_down w up place xid g = record {
   server = record { counts = totals_revoked opened k s w place xid g.server.counts; reads = g.server.reads; waits = g.server.waits; sinks = g.server.sinks; regions = g.server.regions; limits = g.server.limits };
-  sizes = record { client_up = g.sizes.client_up; client_down = g.sizes.client_down; server_up = g.sizes.server_up; server_down = g.sizes.server_down };
+  sizes = record { client_up = g.sizes.client_up; client_down = g.sizes.client_down; server_up = g.sizes.server_up; server_down = g.sizes.server_down; client_takes = g.sizes.client_takes; server_names = g.sizes.server_names };
   window = record { window = omega (arith, g.window.window, length-map k.outstanding (revoked_call xid)); grant = g.window.grant; receives = g.window.receives };
   up_said = g.up_said;
   down_said = g.down_said;
+  names = g.names;
   credit = g.credit;
   calls = sized_revoked opened xid k.outstanding g.calls;
   within = g.within;
@@ -161,10 +164,11 @@ pub guards_written_up : (opened : LinkParameters) (k : ClientState) (s : ServerS
 unfolding client_state_after client_end
 guards_written_up opened k s u d all_up all_down w up taken all ends g = record {
   server = record { counts = totals_writes_up opened k s w taken all ends g.server.counts; reads = reads_writes_up s w g.server.reads; waits = g.server.waits; sinks = g.server.sinks; regions = g.server.regions; limits = g.server.limits };
-  sizes = record { client_up = g.sizes.client_up; client_down = g.sizes.client_down; server_up = g.sizes.server_up; server_down = g.sizes.server_down };
+  sizes = record { client_up = g.sizes.client_up; client_down = g.sizes.client_down; server_up = g.sizes.server_up; server_down = g.sizes.server_down; client_takes = g.sizes.client_takes; server_names = g.sizes.server_names };
   window = record { window = g.window.window; grant = g.window.grant; receives = g.window.receives };
   up_said = g.up_said;
   down_said = g.down_said;
+  names = g.names;
   credit = g.credit;
   calls = g.calls;
   within = g.within;
@@ -187,11 +191,13 @@ guards_execute opened k s u d all_up all_down w up e r rest o l g fits first own
     let xid_word = pending_word opened k s u d all_up all_down w up e.xid l g there in
     record {
       server = server_executes opened k s w up e r rest g.server first own;
-      sizes = record { client_up = g.sizes.client_up; client_down = g.sizes.client_down; server_up = g.sizes.server_up; server_down = g.sizes.server_down };
+      sizes = record { client_up = g.sizes.client_up; client_down = g.sizes.client_down; server_up = g.sizes.server_up; server_down = g.sizes.server_down; client_takes = g.sizes.client_takes; server_names = g.sizes.server_names };
       window = g.window;
       up_said = g.up_said;
       down_said = each_append (ServerContent (matched_down opened) opened.granted) all_down (server_frames opened s (CallExecuted e)) g.down_said
           (credit_down (matched_down opened) (credit_word s) opened.granted (omega (arith, word_most s, g.credit)) (server_frames opened s (CallExecuted e)) (execution_down (matched_down opened) s e g.server.limits g.sizes.server_down xid_word small fits));
+      names = each_append (IsTaken (matched_invalidates opened)) all_down (server_frames opened s (CallExecuted e)) g.names
+          (answer_taken (matched_invalidates opened) s e.xid (offer_of s e.xid) (answer_of_target (offer_of s e.xid) s.down_max e.reply (target_of (call_of e.payload))) g.sizes.server_names);
       credit = g.credit;
       calls = g.calls;
       within = g.within;
@@ -209,10 +215,11 @@ pub guards_written_down : (opened : LinkParameters) (k : ClientState) (s : Serve
 unfolding server_state_after
 guards_written_down opened k s u d all_up all_down w up taken all ends g = record {
   server = server_writes opened k s w up taken all ends g.server;
-  sizes = record { client_up = g.sizes.client_up; client_down = g.sizes.client_down; server_up = g.sizes.server_up; server_down = g.sizes.server_down };
+  sizes = record { client_up = g.sizes.client_up; client_down = g.sizes.client_down; server_up = g.sizes.server_up; server_down = g.sizes.server_down; client_takes = g.sizes.client_takes; server_names = g.sizes.server_names };
   window = g.window;
   up_said = g.up_said;
   down_said = g.down_said;
+  names = g.names;
   credit = g.credit;
   calls = g.calls;
   within = g.within;
@@ -230,10 +237,11 @@ pub guards_told : (opened : LinkParameters) (k : ClientState) (s : ServerState) 
 unfolding server_state_after
 guards_told opened k s u d all_up all_down w up what granted g = record {
   server = server_told opened k s w up what g.server;
-  sizes = record { client_up = g.sizes.client_up; client_down = g.sizes.client_down; server_up = g.sizes.server_up; server_down = g.sizes.server_down };
+  sizes = record { client_up = g.sizes.client_up; client_down = g.sizes.client_down; server_up = g.sizes.server_up; server_down = g.sizes.server_down; client_takes = g.sizes.client_takes; server_names = g.sizes.server_names };
   window = g.window;
   up_said = g.up_said;
   down_said = g.down_said;
+  names = g.names;
   credit = told_most opened what granted;
   calls = g.calls;
   within = g.within;

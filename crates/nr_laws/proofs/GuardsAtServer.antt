@@ -18,10 +18,10 @@ use Rattle.nr_reduce.specs.ServerState.{ServerState, credit_word}
 use Rattle.nr_reduce.specs.ServerReads.{is_over}
 use Rattle.nr_reduce.specs.ServerFrames.{FrameEffect, effect_in, frame_effect}
 use Rattle.nr_reduce.specs.Server.{server_end, server_state_after, refusal_end, with_own_hello}
-use Rattle.nr_laws.proofs.FrameContents.{FrameContent, numbered_segment, frame_bytes, effect_frames, server_frames, Carries, SentMessage, last_segment, part_segment}
+use Rattle.nr_laws.proofs.FrameContents.{FrameContent, frame_bytes, effect_frames, server_frames, Carries, SentMessage, last_segment, part_segment, written_segment, IsTaken, written_last}
 use Rattle.nr_laws.proofs.FrameContents.FrameContent.{HelloFrame, PartFrame, SendFrame, TaggedFrame}
 use Rattle.nr_laws.proofs.LinkInvariants.{Transit, TotalsAgree, ReadsAgree, AreResponses}
-use Rattle.nr_laws.proofs.TotalsAtServer.{totals_hello_up, after_is_lem, step_is, segment_is, with_by}
+use Rattle.nr_laws.proofs.TotalsAtServer.{totals_hello_up, after_is_lem, step_is, with_by}
 use Rattle.nr_laws.proofs.ReadsAtClient.{reads_says_down}
 use Rattle.nr_laws.proofs.ServerInvariant.{ServerAgrees, server_takes_send, server_takes_response, server_takes_part}
 use Rattle.nr_laws.proofs.Replies.{replies_send, replies_tagged, AreReplies}
@@ -40,7 +40,7 @@ use Rattle.nr_laws.proofs.AnsweredCalls.{times, call_xids, effect_xids, pending_
 use Rattle.nr_laws.proofs.AnsweredSteps.{Answered, answered_send, answered_other}
 use Rattle.nr_reduce.proofs.OwnLimits.{ServerLimits, server_event}
 use Rattle.nr_laws.proofs.FirstHellos.{first_hello}
-use Rattle.nr_laws.proofs.AgreedSizes.{SizesAgree, matched_down, down_limited, server_keeps_sizes, server_takes_sizes}
+use Rattle.nr_laws.proofs.AgreedSizes.{SizesAgree, matched_down, down_limited, server_keeps_sizes, server_takes_sizes, matched_invalidates}
 use Rattle.nr_laws.proofs.Guards.{ClientContent, ServerContent, Guards, step_down, credit_down, word_most}
 use Rattle.nr_laws.proofs.Basics.{each_append}
 use Rattle.nr_laws.proofs.Words.{word_below_lem}
@@ -48,6 +48,8 @@ use Rattle.nr_laws.proofs.PendingFrames.{later_sinks}
 use Rattle.nr_reduce.proofs.OwnStags.{closed_length}
 use Rattle.nr_laws.proofs.SendFrames.{at_front}
 use Rattle.nr_laws.proofs.EachEffect.{part_effect}
+use Rattle.nr_laws.proofs.ReadContents.{segment_is}
+use Rattle.nr_laws.proofs.NamedFrames.{effect_taken, is_taken}
 
 pub each_at : {X : Type 0} (P : X → Type 0) (xs : List X) (y : X) (ys : List X) → AllByRecursion P (xs ++ y ∷ ys) → P y
 each_at P [] y ys h = h.0
@@ -65,14 +67,15 @@ front_xid opened k s u d all_up all_down w place message rest l g first =
     ∙ ap (λ (n : ℕ). opened.first_xid + n) (sym l.sends_up)
 
 guards_up : (opened : LinkParameters) (k : ClientState) (s t : ServerState) (u d all_up all_down : List FrameContent) (w : Transit) (place end : ℕ) (p : FrameContent) (rest said : List FrameContent) → Guards opened k s u d all_up all_down w place
-    → ServerAgrees opened k t (taken_up w rest said) end → AllByRecursion (ServerContent (matched_down opened) opened.granted) said → SizesAgree opened k t (u ++ p ∷ []) → t.credit ≡ s.credit → AreWithin t.reads t.regions → length t.regions ≤ t.received.sends → AllByRecursion (IsNumbered opened.first_xid) t.calls → Answered opened.first_xid k t (u ++ p ∷ []) d (all_down ++ said) (taken_up w rest said)
+    → ServerAgrees opened k t (taken_up w rest said) end → AllByRecursion (ServerContent (matched_down opened) opened.granted) said → AllByRecursion (IsTaken (matched_invalidates opened)) said → SizesAgree opened k t (u ++ p ∷ []) → t.credit ≡ s.credit → AreWithin t.reads t.regions → length t.regions ≤ t.received.sends → AllByRecursion (IsNumbered opened.first_xid) t.calls → Answered opened.first_xid k t (u ++ p ∷ []) d (all_down ++ said) (taken_up w rest said)
     → Guards opened k t (u ++ p ∷ []) d all_up (all_down ++ said) (taken_up w rest said) end
-guards_up opened k s t u d all_up all_down w place end p rest said g server down sizes credit within sinks numbers answered = record {
+guards_up opened k s t u d all_up all_down w place end p rest said g server down names sizes credit within sinks numbers answered = record {
   server = server;
   window = g.window;
   sizes = sizes;
   up_said = g.up_said;
   down_said = each_append (ServerContent (matched_down opened) opened.granted) all_down said g.down_said down;
+  names = each_append (IsTaken (matched_invalidates opened)) all_down said g.names names;
   credit = omega (arith, credit, g.credit);
   calls = g.calls;
   within = within;
@@ -145,13 +148,13 @@ sinks_after s f r is n h =
     omega (arith, e, closed_length (is_over (effect_in s f r).calls (effect_in s f r).reads) f.end (effect_in s f r).regions)
 
 pub takes_send : (opened : LinkParameters) (k : ClientState) (s : ServerState) (u d all_up all_down : List FrameContent) (w : Transit) (place : ℕ) (message : SentMessage) (rest : List FrameContent) (f : Frame) → IsOpened opened → EndsAgree opened k s u d all_up all_down w → Guards opened k s u d all_up all_down w place → 0 < length u → w.up ≡ SendFrame message ∷ rest
-    → Carries s.received.sends s.received.requests f (SendFrame message) → IsBytes f.bytes → f.bytes ≡ frame_bytes opened Initiator (numbered_segment s.received.sends s.received.requests (SendFrame message)) → place < f.end → ServerTakes opened k s u d all_up all_down w (SendFrame message) rest f
+    → Carries false s.received.sends s.received.requests f (SendFrame message) → IsBytes f.bytes → f.bytes ≡ frame_bytes opened Initiator (written_segment s.received.sends s.received.requests (SendFrame message)) → place < f.end → ServerTakes opened k s u d all_up all_down w (SendFrame message) rest f
 takes_send opened k s u d all_up all_down w place message rest f o l g received first piece bytes is lt =
     let segment : Segment = last_segment s.received.sends message in
     let reads : frame_segment f ≡ Ok segment = segment_is s.received.sends s.received.requests f (SendFrame message) segment piece refl in
     let completes = (at_front s.received.begun w.up w.queued_up (SendFrame message) rest first l.counts.whole_up).1 in
-    let are_bytes = message_bytes s.received message completes l.bytes_up (payload_bytes segment (subst IsBytes is bytes)) in
-    let size = front_up opened k s u d all_up all_down w place (SendFrame message) rest l g first in
+    let are_bytes = message_bytes s.received message completes l.bytes_up (payload_bytes (written_last s.received.sends message) (subst IsBytes is bytes)) in
+    let size = (front_up opened k s u d all_up all_down w place (SendFrame message) rest l g first).0 in
     let t = server_takes_send opened k s w place f message rest g.server g.window first piece size.0 (omega (arith, size.1, g.sizes.server_up received)) lt in
     let says = says_frame opened s f piece.behind in
     let after = after_is_lem opened s f (Ok segment) piece.behind reads in
@@ -177,22 +180,22 @@ takes_send opened k s u d all_up all_down w place message rest f o l g received 
           subst (λ (said : List FrameContent). Guards opened k (server_state_after opened s (FrameReceived f)) (u ++ SendFrame message ∷ []) d all_up (all_down ++ said) (taken_up w rest said) f.end) (sym says)
           (guards_up opened k s (server_state_after opened s (FrameReceived f)) u d all_up all_down w place f.end (SendFrame message) rest (effect_frames (frame_effect s f)) g
           (t.1 (not_refused_lem opened s f piece.behind stays)) (credit_down (matched_down opened) (credit_word s) opened.granted (omega (arith, word_most s, g.credit)) (effect_frames (frame_effect s f)) (step_down (matched_down opened) (credit_word s) (frame_effect s f) (replies_send (matched_down opened) (down_limited opened).0 s f message completes small_xid (word_below_lem 4 message.bytes are_bytes) small reads)))
-          (server_keeps_sizes opened k s (server_state_after opened s (FrameReceived f)) u (SendFrame message) received (ap (λ (x : ServerState). x.up_max) after) (ap (λ (x : ServerState). x.down_max) after) g.sizes) (ap (λ (x : ServerState). x.credit) after) (subst (λ (x : ServerState). AreWithin x.reads x.regions) (sym after) within) (subst (λ (x : ServerState). length x.regions ≤ x.received.sends) (sym after) sinks) numbers answered);
+          (effect_taken (matched_invalidates opened) (frame_effect s f)) (server_keeps_sizes opened k s (server_state_after opened s (FrameReceived f)) u (SendFrame message) received (ap (λ (x : ServerState). x.up_max) after) (ap (λ (x : ServerState). x.down_max) after) (ap (λ (x : ServerState). x.invalidates) after) g.sizes) (ap (λ (x : ServerState). x.credit) after) (subst (λ (x : ServerState). AreWithin x.reads x.regions) (sym after) within) (subst (λ (x : ServerState). length x.regions ≤ x.received.sends) (sym after) sinks) numbers answered);
     }
 
 -- a segment of a Send that isn't its last
-pub takes_part : (opened : LinkParameters) (k : ClientState) (s : ServerState) (u d all_up all_down : List FrameContent) (w : Transit) (place : ℕ) (offset : ℕ) (payload : List ℕ) (rest : List FrameContent) (f : Frame) → IsOpened opened → Guards opened k s u d all_up all_down w place → 0 < length u → w.up ≡ PartFrame offset payload ∷ rest
-    → Carries s.received.sends s.received.requests f (PartFrame offset payload) → place < f.end → ServerTakes opened k s u d all_up all_down w (PartFrame offset payload) rest f
-takes_part opened k s u d all_up all_down w place offset payload rest f o g received first piece lt =
+pub takes_part : (opened : LinkParameters) (k : ClientState) (s : ServerState) (u d all_up all_down : List FrameContent) (w : Transit) (place : ℕ) (named : Bool) (offset : ℕ) (payload : List ℕ) (rest : List FrameContent) (f : Frame) → IsOpened opened → Guards opened k s u d all_up all_down w place → 0 < length u → w.up ≡ PartFrame named offset payload ∷ rest
+    → Carries false s.received.sends s.received.requests f (PartFrame named offset payload) → place < f.end → ServerTakes opened k s u d all_up all_down w (PartFrame named offset payload) rest f
+takes_part opened k s u d all_up all_down w place named offset payload rest f o g received first piece lt =
     let segment : Segment = part_segment s.received.sends offset payload in
-    let reads : frame_segment f ≡ Ok segment = segment_is s.received.sends s.received.requests f (PartFrame offset payload) segment piece refl in
-    let t = server_takes_part opened k s w place f offset payload rest g.server g.window first piece lt in
+    let reads : frame_segment f ≡ Ok segment = segment_is s.received.sends s.received.requests f (PartFrame named offset payload) segment piece refl in
+    let t = server_takes_part opened k s w place f named offset payload rest g.server g.window first piece lt in
     let says = says_frame opened s f piece.behind in
     let after = after_is_lem opened s f (Ok segment) piece.behind reads in
     let effect = step_is s f (Ok segment) reads in
     let calls_are : call_xids (server_state_after opened s (FrameReceived f)).calls ≡ call_xids s.calls = ap (λ (x : ServerState). call_xids x.calls) after in
     let none : message_xids (effect_frames (frame_effect s f)) ≡ [] = effect_xids (frame_effect s f) ∙ ap (λ (e : FrameEffect). map (λ (m : List ℕ). word_at 0 m) e.errors) effect in
-    let answered = answered_other opened.first_xid k s (server_state_after opened s (FrameReceived f)) u d all_down w (PartFrame offset payload) rest (effect_frames (frame_effect s f)) (ap (λ (x : ServerState). x.received.sends) after)
+    let answered = answered_other opened.first_xid k s (server_state_after opened s (FrameReceived f)) u d all_down w (PartFrame named offset payload) rest (effect_frames (frame_effect s f)) (ap (λ (x : ServerState). x.received.sends) after)
     (λ x. omega (arith, ap (λ (xs : List ℕ). times x xs) none, ap (λ (xs : List ℕ). times x xs) calls_are)) g.answered in
     let numbers = subst (AllByRecursion (IsNumbered opened.first_xid)) (ap (λ (x : ServerState). x.calls) (sym after)) g.numbers in
     let sinks = sinks_after s f (Ok segment) reads s.received.sends (omega (arith, ap (λ (e : FrameEffect). length e.regions) effect, g.sinks)) in
@@ -200,14 +203,14 @@ takes_part opened k s u d all_up all_down w place offset payload rest f o g rece
     record {
       ends = t.0;
       kept = λ stays.
-          subst (λ (said : List FrameContent). Guards opened k (server_state_after opened s (FrameReceived f)) (u ++ PartFrame offset payload ∷ []) d all_up (all_down ++ said) (taken_up w rest said) f.end) (sym says)
-          (guards_up opened k s (server_state_after opened s (FrameReceived f)) u d all_up all_down w place f.end (PartFrame offset payload) rest (effect_frames (frame_effect s f)) g
+          subst (λ (said : List FrameContent). Guards opened k (server_state_after opened s (FrameReceived f)) (u ++ PartFrame named offset payload ∷ []) d all_up (all_down ++ said) (taken_up w rest said) f.end) (sym says)
+          (guards_up opened k s (server_state_after opened s (FrameReceived f)) u d all_up all_down w place f.end (PartFrame named offset payload) rest (effect_frames (frame_effect s f)) g
           t.1 (credit_down (matched_down opened) (credit_word s) opened.granted (omega (arith, word_most s, g.credit)) (effect_frames (frame_effect s f)) (step_down (matched_down opened) (credit_word s) (frame_effect s f) (part_effect s (λ e. AreReplies (matched_down opened) (credit_word s) e.errors) tt f offset payload reads)))
-          (server_keeps_sizes opened k s (server_state_after opened s (FrameReceived f)) u (PartFrame offset payload) received (ap (λ (x : ServerState). x.up_max) after) (ap (λ (x : ServerState). x.down_max) after) g.sizes) (ap (λ (x : ServerState). x.credit) after) (subst (λ (x : ServerState). AreWithin x.reads x.regions) (sym after) within) (subst (λ (x : ServerState). length x.regions ≤ x.received.sends) (sym after) sinks) numbers answered);
+          (effect_taken (matched_invalidates opened) (frame_effect s f)) (server_keeps_sizes opened k s (server_state_after opened s (FrameReceived f)) u (PartFrame named offset payload) received (ap (λ (x : ServerState). x.up_max) after) (ap (λ (x : ServerState). x.down_max) after) (ap (λ (x : ServerState). x.invalidates) after) g.sizes) (ap (λ (x : ServerState). x.credit) after) (subst (λ (x : ServerState). AreWithin x.reads x.regions) (sym after) within) (subst (λ (x : ServerState). length x.regions ≤ x.received.sends) (sym after) sinks) numbers answered);
     }
 
 pub takes_tagged : (opened : LinkParameters) (k : ClientState) (s : ServerState) (u d all_up all_down : List FrameContent) (w : Transit) (place : ℕ) (last : Bool) (opcode stag to : ℕ) (payload : List ℕ) (rest : List FrameContent) (f : Frame) → IsOpened opened → EndsAgree opened k s u d all_up all_down w → Guards opened k s u d all_up all_down w place → 0 < length u
-    → w.up ≡ TaggedFrame last opcode stag to payload ∷ rest → Carries s.received.sends s.received.requests f (TaggedFrame last opcode stag to payload) → place < f.end → ServerTakes opened k s u d all_up all_down w (TaggedFrame last opcode stag to payload) rest f
+    → w.up ≡ TaggedFrame last opcode stag to payload ∷ rest → Carries false s.received.sends s.received.requests f (TaggedFrame last opcode stag to payload) → place < f.end → ServerTakes opened k s u d all_up all_down w (TaggedFrame last opcode stag to payload) rest f
 takes_tagged opened k s u d all_up all_down w place last opcode stag to payload rest f o l g received first piece lt =
     let segment : Segment = Tagged last opcode stag to payload in
     let reads : frame_segment f ≡ Ok segment = segment_is s.received.sends s.received.requests f (TaggedFrame last opcode stag to payload) segment piece refl in
@@ -230,7 +233,7 @@ takes_tagged opened k s u d all_up all_down w place last opcode stag to payload 
           subst (λ (said : List FrameContent). Guards opened k (server_state_after opened s (FrameReceived f)) (u ++ TaggedFrame last opcode stag to payload ∷ []) d all_up (all_down ++ said) (taken_up w rest said) f.end) (sym says)
           (guards_up opened k s (server_state_after opened s (FrameReceived f)) u d all_up all_down w place f.end (TaggedFrame last opcode stag to payload) rest (effect_frames (frame_effect s f)) g
           (t.1 (not_refused_lem opened s f piece.behind stays)) (credit_down (matched_down opened) (credit_word s) opened.granted (omega (arith, word_most s, g.credit)) (effect_frames (frame_effect s f)) (step_down (matched_down opened) (credit_word s) (frame_effect s f) (replies_tagged (matched_down opened) (down_limited opened).0 s f last opcode stag to payload (λ n c found. small_xid_lem opened k s u d all_up all_down w place n c l g found) small reads)))
-          (server_keeps_sizes opened k s (server_state_after opened s (FrameReceived f)) u (TaggedFrame last opcode stag to payload) received (ap (λ (x : ServerState). x.up_max) after) (ap (λ (x : ServerState). x.down_max) after) g.sizes) (ap (λ (x : ServerState). x.credit) after) (subst (λ (x : ServerState). AreWithin x.reads x.regions) (sym after) within) (subst (λ (x : ServerState). length x.regions ≤ x.received.sends) (sym after) sinks) numbers answered);
+          (effect_taken (matched_invalidates opened) (frame_effect s f)) (server_keeps_sizes opened k s (server_state_after opened s (FrameReceived f)) u (TaggedFrame last opcode stag to payload) received (ap (λ (x : ServerState). x.up_max) after) (ap (λ (x : ServerState). x.down_max) after) (ap (λ (x : ServerState). x.invalidates) after) g.sizes) (ap (λ (x : ServerState). x.credit) after) (subst (λ (x : ServerState). AreWithin x.reads x.regions) (sym after) within) (subst (λ (x : ServerState). length x.regions ≤ x.received.sends) (sym after) sinks) numbers answered);
     }
 
 -- the client's hello
@@ -259,5 +262,5 @@ hello_guards opened k s u d all_up all_down w place rest f g first is own le =
     } in
     subst (λ (said : List FrameContent). Guards opened k (server_state_after opened s (FrameReceived f)) (u ++ HelloFrame ∷ []) d all_up (all_down ++ said) (taken_up w rest said) f.end) (sym says)
     (subst (λ (t : ServerState). Guards opened k t (u ++ HelloFrame ∷ []) d all_up (all_down ++ HelloFrame ∷ []) (taken_up w rest (HelloFrame ∷ [])) f.end) (sym after)
-    (guards_up opened k s t u d all_up all_down w place f.end HelloFrame rest (HelloFrame ∷ []) g server (tt, tt) (server_takes_sizes opened k s u HelloFrame f own g.sizes) refl g.within g.sinks g.numbers
+    (guards_up opened k s t u d all_up all_down w place f.end HelloFrame rest (HelloFrame ∷ []) g server (tt, tt) (is_taken (matched_invalidates opened) HelloFrame tt, tt) (server_takes_sizes opened k s u HelloFrame f own g.sizes) refl g.within g.sinks g.numbers
     (answered_other opened.first_xid k s t u d all_down w HelloFrame rest (HelloFrame ∷ []) refl (λ x. omega arith) g.answered)))

@@ -10,7 +10,7 @@ use Rattle.nr_regions.specs.Access.{TaggedSegment}
 use Rattle.nr_link.specs.declared.end.End.{End as Stop}
 use Rattle.nr_link.specs.Frames.{Frame, is_hello}
 use Rattle.nr_link.specs.ReceiveState.{ReceiveState, message_completed, read_request_of}
-use Rattle.nr_link.specs.Ending.{frame_segment, tagged_access}
+use Rattle.nr_link.specs.Ending.{tagged_access}
 use Rattle.nr_reduce.specs.declared.mark.Mark.{Mark}
 use Rattle.nr_reduce.specs.declared.mark.Mark.TheVariants as marks
 use Rattle.nr_reduce.specs.declared.mark.LinkParameters.{LinkParameters}
@@ -20,7 +20,7 @@ use Rattle.nr_reduce.specs.Events.RunEvent.{FrameReceived, CallSubmitted, Memory
 use Rattle.nr_reduce.specs.EndRules.{EndState, next_end_state, next_end_state_by, next_end_state_in, end_state_after}
 use Rattle.nr_reduce.specs.OfferedRegions.{Region, until_at, closed_if, regions_closed}
 use Rattle.nr_reduce.specs.ClientState.{ClientState}
-use Rattle.nr_reduce.specs.Client.{client_rules, client_end, client_state_after, initial_client, with_message, with_segment, with_hello, due_with_response}
+use Rattle.nr_reduce.specs.Client.{client_segment, client_rules, client_end, client_state_after, initial_client, with_message, with_segment, with_hello, due_with_response}
 use Rattle.nr_reduce.specs.Matched.{IsPrefixOf}
 use Rattle.nr_reduce.specs.Asked.{AskedMark, AskedSoFar, IsLost}
 use Rattle.nr_reduce.specs.Run.{client, end_of_side}
@@ -162,10 +162,10 @@ goes_to opened r e live = by_end r.ended live
     by_end None h = by_why (client_end r.state e) h
     by_end (Some end) h = absurd (let wrong : Some end ≡ None = h in cc)
 
-segment_after : (opened : LinkParameters) (k : ClientState) (f : Frame) (s : Segment) → is_hello f ≡ false → frame_segment f ≡ Ok s → client_state_after opened k (FrameReceived f) ≡ with_segment k f (Ok s)
+segment_after : (opened : LinkParameters) (k : ClientState) (f : Frame) (s : Segment) → is_hello f ≡ false → client_segment k f ≡ Ok s → client_state_after opened k (FrameReceived f) ≡ with_segment k f (Ok s)
 unfolding client_state_after
 segment_after opened k f s behind is =
-    ap (λ (b : Bool). cond b (with_hello opened k f) (with_segment k f (frame_segment f))) behind ∙ ap (λ (r : Result Segment ℕ). with_segment k f r) is
+    ap (λ (b : Bool). cond b (with_hello opened k f) (with_segment k f (client_segment k f))) behind ∙ ap (λ (r : Result Segment ℕ). with_segment k f r) is
 
 untagged : (h : ReceiveState) (f : Frame) (s : Segment) (stag : ℕ) (message : List ℕ) → message_completed h s ≡ Some message → NotTo stag (tagged_access f s)
 untagged h f (Tagged last opcode own to payload) stag message whole = absurd (let wrong : None ≡ Some message = whole in cc)

@@ -30,7 +30,7 @@ use Rattle.nr_laws.specs.Typed.{IsTyped}
 use Rattle.nr_laws.proofs.EventOutputs.{GoesOn, first_preserve, later_preserve, places_after}
 use Rattle.nr_laws.proofs.CameResponses.{came_responses}
 use Rattle.nr_laws.proofs.ClientResponses.{responses_of}
-use Rattle.nr_laws.proofs.ExecutedCalls.{server_receives_of}
+use Rattle.nr_laws.proofs.ExecutedCalls.{plain_came, server_receives_of}
 use Rattle.nr_laws.proofs.FetchedRegions.{IsFetched}
 use Rattle.nr_laws.proofs.FewRegions.{few_regions}
 use Rattle.nr_laws.proofs.FilledSinks.{SinkOf, IsFilled, filled}
@@ -87,7 +87,7 @@ pub server_good : (opened : LinkParameters) (link : ℕ) (run : List Mark) → I
 server_good opened link run typed asked served matched =
     let g = server_goes opened link run typed served in
     let r = server_receives_of opened link run typed asked matched in
-    hello_preserves opened 0 (initial_server opened) (events link Responder run) r.came g.goes r.brings r.from
+    hello_preserves opened 0 (initial_server opened) (events link Responder run) r.came g.goes r.brings r.from (plain_came opened link run typed asked matched)
 
 -- ---- What the sink holds
 

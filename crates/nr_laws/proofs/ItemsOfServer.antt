@@ -1,14 +1,14 @@
 -- All output of a server that is due is its hello, and then items; and the ends of messages that its state keeps are those of items.
 use Rattle.std.proofs.Common.{◌≡◌, ℕ, ◌+◌, ◌≤◌, ◌<◌, Bool, true, false, cond, ltb, not, eqb, List, [], ◌∷◌, ◌++◌, length, Option, None, Some, Result, Ok, Err, refl, sym, ap, subst, ◌∙◌, arith, append_assoc, append-nil, length-append}
 use Rattle.std.proofs.lemmas.Bool.{ne_eqb, eq-eqb}
-use Rattle.nr_wire.specs.Constants.{REASON_FLAGS, DDP_VERSION, RDMAP_VERSION}
+use Rattle.nr_wire.specs.Constants.{REASON_FLAGS, REASON_OPCODE, DDP_VERSION, RDMAP_VERSION}
 use Rattle.nr_wire.specs.declared.hello.Side.TheVariants.{Initiator, Responder}
 use Rattle.nr_wire.specs.Hello.{hello_of, value_unless}
 use Rattle.nr_wire.specs.Segment.{Segment, segment_of, frame_reason, segment_by_form, is_tagged, ulpdu_len, ddp_header_len, ddp_version, rdmap_version, opcode_of, queue_of, is_supported, is_of_other_form, is_of_other_queue}
 use Rattle.nr_link.specs.declared.end.End.{End}
 use Rattle.nr_link.specs.declared.end.End.TheVariants as ends
 use Rattle.nr_link.specs.Frames.{Frame, is_hello}
-use Rattle.nr_link.specs.Ending.{frame_segment, frame_end, frame_end_by, hello_end, rejection}
+use Rattle.nr_link.specs.Ending.{frame_segment, frame_end, frame_end_by, hello_end, is_not_taken, rejection, segment_taken}
 use Rattle.nr_link.specs.Output.{refusing_hello}
 use Rattle.nr_link.specs.OutputItem.{OutputItem, items_encoding, is_send_item, item_ends, items_written}
 use Rattle.nr_link.specs.OutputItem.OutputItem.{LastItem}
@@ -58,13 +58,21 @@ flaw_big bytes =
     six_big (ltb (ulpdu_len bytes) (ddp_header_len (is_tagged bytes))) (not (eqb (ddp_version bytes) DDP_VERSION)) (not (eqb (rdmap_version bytes) RDMAP_VERSION)) (not (is_supported (opcode_of bytes))) (is_of_other_form (is_tagged bytes) (opcode_of bytes))
     (is_of_other_queue (is_tagged bytes) (opcode_of bytes) (queue_of bytes))
 
-segment_big : (f : Frame) (reason : ℕ) → frame_segment f ≡ Err reason → 5 ≤ reason
-unfolding frame_segment segment_of
-segment_big f reason is = by (frame_reason f.bytes) (flaw_big f.bytes) is
+read_big : (f : Frame) (reason : ℕ) → segment_of f.bytes ≡ Err reason → 5 ≤ reason
+unfolding segment_of
+read_big f reason is = by (frame_reason f.bytes) (flaw_big f.bytes) is
   where
     by : (o : Option ℕ) → AtLeast5 o → value_unless o (segment_by_form (is_tagged f.bytes) f.bytes) ≡ Err reason → 5 ≤ reason
     by None h e = absurd cc
     by (Some r) h e = subst (λ (n : ℕ). 5 ≤ n) (let s : r ≡ reason = cc in s) h
+
+segment_big : (f : Frame) (reason : ℕ) → frame_segment f ≡ Err reason → 5 ≤ reason
+unfolding frame_segment segment_taken
+segment_big f reason is = by (is_not_taken false f.bytes (segment_of f.bytes)) is
+  where
+    by : (b : Bool) → cond b (Err REASON_OPCODE) (segment_of f.bytes) ≡ Err reason → 5 ≤ reason
+    by true e = (let same : REASON_OPCODE ≡ reason = cc in omega (arith, same))
+    by false e = read_big f reason e
 
 ends_big : (opened : LinkParameters) (k : ServerState) (f : Frame) → is_hello f ≡ false → BigEnd (server_end opened k (FrameReceived f))
 unfolding server_end frame_end

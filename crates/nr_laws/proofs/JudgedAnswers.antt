@@ -1,12 +1,13 @@
 -- The answer of an executed call ends its client for its reply alone: its lists suit what the call offered, and what they convey is that
 -- reply. A plain server's reply has the call's xid, and doesn't end it.
-use Rattle.std.proofs.Common.{◌≡◌, ℕ, ◌≤◌, ◌<◌, Bool, true, false, cond, ◌||◌, eqb, List, [], ◌∷◌, ◌++◌, map, Option, None, Some, Result, refl, sym, ap, subst, ◌∙◌, arith, append-nil}
+use Rattle.std.proofs.Common.{◌≡◌, ℕ, ◌≤◌, ◌<◌, Bool, true, false, cond, ◌||◌, eqb, List, [], ◌∷◌, ◌++◌, map, Option, None, Some, Result, Ok, refl, sym, ap, subst, ◌∙◌, arith, append-nil}
 use Rattle.std.specs.List.{find, list_any}
 use Rattle.nr_xdr.specs.Item.{IsBytes}
 use Rattle.nr_xdr.specs.Fields.{word_at}
 use Rattle.nr_header.specs.declared.header.ChunkLists.{ChunkLists}
+use Rattle.nr_header.specs.declared.header.Header.{Header}
 use Rattle.nr_header.specs.Reading.{header_of}
-use Rattle.nr_wire.specs.declared.hello.Side.TheVariants.{Responder}
+use Rattle.nr_wire.specs.declared.hello.Side.TheVariants.{Initiator, Responder}
 use Rattle.nr_rpc.specs.declared.head.CallHead.{CallHead}
 use Rattle.nr_rpc.specs.declared.head.CallHead.TheVariants as calls
 use Rattle.nr_rpc.specs.Reading.{reply_of, head_xid, xid_of_call, target_of}
@@ -27,9 +28,9 @@ use Rattle.nr_reduce.specs.Events.RunEvent.{FrameReceived}
 use Rattle.nr_reduce.specs.Plans.{Buffer, buffers, lists_of, read_list, write_stag, reply_stag}
 use Rattle.nr_reduce.specs.Chunks.{answers_offer, reply_conveyed}
 use Rattle.nr_reduce.specs.Holds.{Answer, answer_for, answer_lists, answer_message}
-use Rattle.nr_reduce.specs.ChunkBytes.{answer_segments, lists_by, inline_by, ReadsAsAnswer}
+use Rattle.nr_reduce.specs.ChunkBytes.{IsOffer, answer_segments, lists_by, inline_by, ReadsAsAnswer}
 use Rattle.nr_reduce.specs.ClientState.{ClientState, OutstandingCall, client_memory_at}
-use Rattle.nr_reduce.specs.ClientMessages.{reply_by_payload}
+use Rattle.nr_reduce.specs.ClientMessages.{reply_by_payload, answered_call}
 use Rattle.nr_reduce.specs.ClientMessages.ReplyVerdict.{EndsLink}
 use Rattle.nr_reduce.specs.Client.{client_rules, initial_client}
 use Rattle.nr_reduce.specs.Run.{client}
@@ -47,6 +48,7 @@ use Rattle.nr_laws.specs.Typed.{TypedMark, IsTyped}
 use Rattle.nr_laws.specs.Payloads.{HasPlan}
 use Rattle.nr_laws.specs.PlainLinks.{server_with, HasPlainReplies, PlainReplyMark}
 use Rattle.nr_laws.proofs.EventOutputs.{GoesOn, later_preserve, places_after}
+use Rattle.nr_laws.proofs.Outputs.{Output}
 use Rattle.nr_laws.proofs.Outputs.Output.{ASegment}
 use Rattle.nr_laws.proofs.ServerAlong.{outs_of, SaidAnswer}
 use Rattle.nr_laws.proofs.ExecuteMarks.{execute_mark, ExecuteMark}
@@ -87,6 +89,72 @@ same_xid : (head : CallHead) → call_xid head ≡ head_xid head
 same_xid (calls.Version2 xid prog vers proc cred args_at) = refl
 same_xid (calls.Other xid rpcvers) = refl
 
+-- ---- An answer is of the offer of the call that it answers
+
+pub record OfferedTo (opened : LinkParameters) (link : ℕ) (run : List Mark) (earlier : List RunEvent) (call : OutstandingCall) (es : List RunEvent) (e : ExecutedCall) : Type 0 where
+  pub answered : AnsweredBy opened link run e es
+  pub own_xid : call.xid ≡ e.xid
+  pub submitted : AnsweredCall opened link run earlier call
+  pub same : e.xid ≡ submitted.submit.submit.xid
+  pub fine : IsOffer (lists_of (client opened link submitted.submit.submit.earlier).state.stag submitted.submit.submit.accepted.plan)
+  pub offer : offer_of (server_by opened es) e.xid ≡ lists_of (client opened link submitted.submit.submit.earlier).state.stag submitted.submit.submit.accepted.plan
+
+pub offered_to : (opened : LinkParameters) (link : ℕ) (run : List Mark) → IsTyped run → MatchedSoFar opened link run → (earlier more : List RunEvent) → events link Initiator run ≡ earlier ++ more → (message : List ℕ) (header : Header) → header_of message ≡ Ok header
+    → (call : OutstandingCall) → answered_call (client_by opened earlier).state header.xid ≡ Some call → call.xid ≡ header.xid → (xs : List Output) (s : SaidAnswer opened (events link Responder run) xs message) → OfferedTo opened link run earlier call s.earlier s.call
+offered_to opened link run typed far earlier more is_events message header is_header call is_call own xs s = record {
+  answered = x;
+  own_xid = own_xid;
+  submitted = w;
+  same = same;
+  fine = p.offer;
+  offer = ap offer_by f.there ∙ p.lists;
+}
+  where
+    server : ServerState
+    server = server_by opened s.earlier
+
+    e : ExecutedCall
+    e = s.call
+
+    x : AnsweredBy opened link run e s.earlier
+    x = answered_by_lem opened link run typed far s.earlier e s.later s.is
+
+    m : ExecuteMark link run s.earlier e
+    m = x.mark
+
+    word : e.xid < 4294967296
+    word = x.fits
+
+    -- the call that is answered is the one that was executed
+    own_xid : call.xid ≡ e.xid
+    own_xid = own ∙ header_xid message header is_header ∙ ap (λ (xs : List ℕ). word_at 0 xs) s.message ∙ answer_xid e.xid (credit_word server) (offer_of server e.xid) s.answer (omega (arith, word))
+
+    w : AnsweredCall opened link run earlier call
+    w = answered_submit opened link run typed far.asked earlier more is_events header.xid call is_call
+
+    u : SubmittedCall opened link run w.submit.index w.submit.own
+    u = w.submit.submit
+
+    plan : Plan
+    plan = u.accepted.plan
+
+    stag : ℕ
+    stag = (client opened link u.earlier).state.stag
+
+    same : e.xid ≡ u.xid
+    same = sym own_xid ∙ w.submit.own_xid
+
+    has : HasPlan opened link run u.xid plan
+    has = record { call = u.call; form = u.form; before = u.earlier; at = record { after = u.later; is = u.is }; planned = u.accepted.planned }
+
+    -- its offer
+    f : FoundOne e.xid server.calls
+    f = found_one e.xid server.calls (executes_pending opened link run typed far.served s.earlier e s.later s.is)
+
+    p : PendingOffer f.call stag plan
+    p = pending_offer opened link run m.earlier (execute_mark link e) m.later u.xid plan (before_mark TypedMark run m.earlier (execute_mark link e) m.later m.is typed) (far_before opened link run m.earlier (execute_mark link e) m.later m.is far) far.asked m.is
+        has s.earlier [] (m.before ∙ sym (append-nil s.earlier)) s.live f.call (ap (λ (n : ℕ). find (λ (c : PendingCall). eqb c.xid n) server.calls) (sym same) ∙ f.there)
+
 -- what a client makes of an answer is what it makes of the executed call's reply
 pub record JudgesReply (opened : LinkParameters) (link : ℕ) (run : List Mark) (call : OutstandingCall) (earlier : List RunEvent) (e : ExecutedCall) (reason : ℕ) : Type 0 where
   pub answered : AnsweredBy opened link run e earlier
@@ -99,7 +167,7 @@ pub answer_judges : (opened : LinkParameters) (link : ℕ) (run : List Mark) (re
 unfolding lists_of
 answer_judges opened link run reason opens typed far d j s = record {
   answered = x;
-  own_xid = own_xid;
+  own_xid = g.own_xid;
   bytes = own.bytes;
   by_reply = answer_judged k place j.call d.message j.header.body a.long a.stream (answer_lists (lists_of stag plan) a) e.reply reason lists inline
       ((λ i. answers_offer a.long (lists_of (stag_is i) (plan_is i)) (answer_lists (lists_of stag plan) a)) ∙ suits)
@@ -122,8 +190,11 @@ answer_judges opened link run reason opens typed far d j s = record {
     a : Answer
     a = s.answer
 
+    g : OfferedTo opened link run d.earlier j.call s.earlier e
+    g = offered_to opened link run typed far d.earlier (FrameReceived d.frame ∷ d.later) d.is d.message j.header j.is_header j.call j.is_call j.own d.before s
+
     x : AnsweredBy opened link run e s.earlier
-    x = answered_by_lem opened link run typed far s.earlier e s.later s.is
+    x = g.answered
 
     m : ExecuteMark link run s.earlier e
     m = x.mark
@@ -142,12 +213,8 @@ answer_judges opened link run reason opens typed far d j s = record {
     bytes : IsBytes e.reply
     bytes = at_mark TypedMark run m.earlier (execute_mark link e) m.later m.is typed
 
-    -- the call that is answered is the one that was executed
-    own_xid : j.call.xid ≡ e.xid
-    own_xid = j.own ∙ header_xid d.message j.header j.is_header ∙ ap (λ (xs : List ℕ). word_at 0 xs) s.message ∙ answer_xid e.xid (credit_word server) (offer_of server e.xid) a (omega (arith, word))
-
     w : AnsweredCall opened link run d.earlier j.call
-    w = answered_submit opened link run typed far.asked d.earlier (FrameReceived d.frame ∷ d.later) d.is j.header.xid j.call j.is_call
+    w = g.submitted
 
     u : SubmittedCall opened link run w.submit.index w.submit.own
     u = w.submit.submit
@@ -167,27 +234,16 @@ answer_judges opened link run reason opens typed far d j s = record {
     call_is : j.call.call ≡ u.call
     call_is = w.submit.own_call
 
-    same : e.xid ≡ u.xid
-    same = sym own_xid ∙ w.submit.own_xid
-
     has : HasPlan opened link run u.xid plan
     has = record { call = u.call; form = u.form; before = u.earlier; at = record { after = u.later; is = u.is }; planned = u.accepted.planned }
 
-    -- its offer
-    f : FoundOne e.xid server.calls
-    f = found_one e.xid server.calls (executes_pending opened link run typed far.served s.earlier e s.later s.is)
-
-    p : PendingOffer f.call stag plan
-    p = pending_offer opened link run m.earlier (execute_mark link e) m.later u.xid plan (before_mark TypedMark run m.earlier (execute_mark link e) m.later m.is typed) (far_before opened link run m.earlier (execute_mark link e) m.later m.is far) far.asked m.is
-        has s.earlier [] (m.before ∙ sym (append-nil s.earlier)) s.live f.call (ap (λ (n : ℕ). find (λ (c : PendingCall). eqb c.xid n) server.calls) (sym same) ∙ f.there)
-
     offer : offer_of server e.xid ≡ lists_of stag plan
-    offer = ap offer_by f.there ∙ p.lists
+    offer = g.offer
 
     -- its target
     own : IsOwnPayload u.xid u.call e.payload
     own = own_executes opened link run m.earlier u.xid plan e.moment e.payload e.place e.reply typed far has
-        (record { after = m.later; is = m.is ∙ ap (λ (n : ℕ). m.earlier ++ marks.Execute link n e.moment e.payload e.place e.reply ∷ m.later) same })
+        (record { after = m.later; is = m.is ∙ ap (λ (n : ℕ). m.earlier ++ marks.Execute link n e.moment e.payload e.place e.reply ∷ m.later) g.same })
 
     down : ℕ
     down = server.down_max
@@ -204,7 +260,7 @@ answer_judges opened link run reason opens typed far d j s = record {
     message = s.message ∙ ap (λ (o : ChunkLists). answer_message e.xid (credit_word server) o a) offer
 
     again : ReadsAsAnswer (lists_of stag plan) a e.xid (credit_word server) (answer_message e.xid (credit_word server) (lists_of stag plan) a)
-    again = answer_again (read_list stag plan plan.read_at) (write_stag stag plan) (reply_stag stag plan) plan.write plan.reply down u.call.prog u.call.vers u.call.proc e.xid (credit_word server) e.reply a bytes p.offer answer down_small word credit
+    again = answer_again (read_list stag plan plan.read_at) (write_stag stag plan) (reply_stag stag plan) plan.write plan.reply down u.call.prog u.call.vers u.call.proc e.xid (credit_word server) e.reply a bytes g.fine answer down_small word credit
 
     body : again.body ≡ j.header.body
     body = same_body_lem e.xid (credit_word server) again.body j.header (sym again.reads ∙ ap header_of (sym message) ∙ j.is_header)

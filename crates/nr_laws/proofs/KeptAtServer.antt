@@ -9,6 +9,7 @@ use Rattle.nr_link.specs.declared.end.End.{End}
 use Rattle.nr_link.specs.Frames.{Frame, is_hello}
 use Rattle.nr_link.specs.ReceiveState.{message_completed, begun_bytes}
 use Rattle.nr_link.specs.Ending.{frame_segment}
+use Rattle.nr_link.proofs.TakenSegments.{frame_read}
 use Rattle.nr_reduce.specs.declared.mark.Mark.{Mark}
 use Rattle.nr_reduce.specs.declared.mark.LinkParameters.{LinkParameters}
 use Rattle.nr_reduce.specs.Events.{RunEvent, events}
@@ -36,6 +37,7 @@ use Rattle.nr_laws.proofs.PendingFrames.{pending_agree_tagged_up}
 use Rattle.nr_laws.proofs.PendingExecuted.{pending_agree_executes}
 use Rattle.nr_laws.proofs.PendingReads.{AreOwn, own_effect, own_executed}
 use Rattle.nr_laws.proofs.Basics.{each_kept}
+use Rattle.nr_laws.proofs.ReadContents.{carries_tagged}
 
 pub record KeptAtServer (k : ServerState) : Type 0 where
   pub agree : PendingAgree k
@@ -55,7 +57,7 @@ agree_frame : (opened : LinkParameters) (s : ServerState) (f : Frame) → is_hel
 agree_frame opened s f behind (Err reason) is agree goes_on =
     subst PendingAgree (sym (after_is_lem opened s f (Err reason) behind is)) (pending_agree_same s (with_by s f (Err reason) (effect_in s f (Err reason))) agree refl refl (append-nil s.ready) (omega arith))
 agree_frame opened s f behind (Ok (Tagged last opcode stag to payload)) is agree goes_on =
-    pending_agree_tagged_up opened s f last opcode stag to payload agree (record { behind = behind; segment = Tagged last opcode stag to payload; is_segment = refl; reads = is }) goes_on
+    pending_agree_tagged_up opened s f last opcode stag to payload agree (carries_tagged s.received.sends s.received.requests f last opcode stag to payload behind is) goes_on
 agree_frame opened s f behind (Ok (Untagged last opcode w queue msn offset payload)) is agree goes_on =
     let segment : Segment = Untagged last opcode w queue msn offset payload in
     let after = after_is_lem opened s f (Ok segment) behind is in
@@ -67,12 +69,10 @@ agree_frame opened s f behind (Ok (Untagged last opcode w queue msn offset paylo
     (ap (λ (x : FrameEffect). x.refusal) (sym (step_is s f (Ok segment) is)) ∙ goes_on))
 
 begun_after : (s : ServerState) (f : Frame) (r : Result Segment ℕ) → frame_segment f ≡ r → IsBytes f.bytes → IsBytes (begun_bytes s.received.begun) → IsBytes (begun_bytes (received_by s.received r).begun)
-unfolding frame_segment
 begun_after s f (Err reason) is bytes h = h
-begun_after s f (Ok segment) is bytes h = received_bytes s.received segment h (payload_bytes_lem f.bytes segment bytes is)
+begun_after s f (Ok segment) is bytes h = received_bytes s.received segment h (payload_bytes_lem f.bytes segment bytes (frame_read f segment is))
 
 segment_holds : (opened : LinkParameters) (s : ServerState) (f : Frame) → is_hello f ≡ false → IsBytes f.bytes → server_end opened s (FrameReceived f) ≡ None → KeptAtServer s → KeptAtServer (server_state_after opened s (FrameReceived f))
-unfolding frame_segment
 segment_holds opened s f behind bytes stays h =
     let after = after_is_lem opened s f (frame_segment f) behind refl in
     let effect = effect_in s f (frame_segment f) in
@@ -82,7 +82,7 @@ segment_holds opened s f behind bytes stays h =
       begun = subst (λ (t : ServerState). IsBytes (begun_bytes t.received.begun)) (sym after) (begun_after s f (frame_segment f) refl bytes h.begun);
       fit = subst (λ (t : ServerState). CallsFit t.calls) (sym after)
           (subst (λ (e : FrameEffect). CallsFit e.calls) (step_is s f (frame_segment f) refl)
-          (fine_frame s f (λ x m is whole. completed_bytes s.received x m h.begun (payload_bytes_lem f.bytes x bytes is) whole) h.fit).fit);
+          (fine_frame s f (λ x m is whole. completed_bytes s.received x m h.begun (payload_bytes_lem f.bytes x bytes (frame_read f x is)) whole) h.fit).fit);
     }
 
 frame_holds : (opened : LinkParameters) (s : ServerState) (f : Frame) → IsBytes f.bytes → server_end opened s (FrameReceived f) ≡ None → KeptAtServer s → KeptAtServer (server_state_after opened s (FrameReceived f))

@@ -205,3 +205,12 @@ pub mod ItemsOfServer
 pub mod CountedReceives
 pub mod SentCalls
 pub mod FirstHellos
+pub mod ReadFrames
+pub mod PlainOutputs
+pub mod NamedReplies
+pub mod PlainSegments
+pub mod NamedStags
+pub mod GivenStags
+pub mod NamedStagsDead
+pub mod ReadContents
+pub mod NamedFrames

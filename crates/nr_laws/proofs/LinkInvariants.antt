@@ -43,7 +43,7 @@ hello_bit false = 0
 abbrev pub AreSends : Option (List ℕ) → List FrameContent → Type 0
 AreSends begun [] = begun ≡ None
 AreSends begun (HelloFrame ∷ ps) = AreSends begun ps
-AreSends begun (PartFrame offset payload ∷ ps) = (offset ≡ length (begun_bytes begun)) × AreSends (Some (begun_bytes begun ++ payload)) ps
+AreSends begun (PartFrame named offset payload ∷ ps) = (offset ≡ length (begun_bytes begun)) × AreSends (Some (begun_bytes begun ++ payload)) ps
 AreSends begun (SendFrame message ∷ ps) = (message.offset ≡ length (begun_bytes begun)) × (begun_bytes begun ++ message.payload ≡ message.bytes) × AreSends None ps
 AreSends begun (RequestFrame sink at size stag to ∷ ps) = AreSends begun ps
 AreSends begun (TaggedFrame last opcode stag to payload ∷ ps) = AreSends begun ps
@@ -89,7 +89,7 @@ ContinuesRead false came n r rs Later = (came + n < r.size) × Later (came + n) 
 abbrev pub AreResponses : ℕ → List PendingRead → List FrameContent → Type 0
 AreResponses came rs [] = (came ≡ 0) × (rs ≡ [])
 AreResponses came rs (HelloFrame ∷ ps) = AreResponses came rs ps
-AreResponses came rs (PartFrame offset payload ∷ ps) = AreResponses came rs ps
+AreResponses came rs (PartFrame named offset payload ∷ ps) = AreResponses came rs ps
 AreResponses came rs (SendFrame message ∷ ps) = AreResponses came rs ps
 AreResponses came rs (RequestFrame sink at size stag to ∷ ps) = AreResponses came rs ps
 AreResponses came [] (TaggedFrame last opcode stag to payload ∷ ps) = ⊥
@@ -100,7 +100,7 @@ AreResponses came (r ∷ rs) (TaggedFrame last opcode stag to payload ∷ ps) =
 abbrev pub requests_of : List FrameContent → List FrameContent
 requests_of [] = []
 requests_of (HelloFrame ∷ ps) = requests_of ps
-requests_of (PartFrame offset payload ∷ ps) = requests_of ps
+requests_of (PartFrame named offset payload ∷ ps) = requests_of ps
 requests_of (SendFrame message ∷ ps) = requests_of ps
 requests_of (RequestFrame sink at size stag to ∷ ps) = RequestFrame sink at size stag to ∷ requests_of ps
 requests_of (TaggedFrame last opcode stag to payload ∷ ps) = requests_of ps

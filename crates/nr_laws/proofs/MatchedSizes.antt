@@ -5,7 +5,7 @@ use Rattle.nr_wire.specs.Hello.{hello_of}
 use Rattle.nr_link.specs.declared.agreement.Agreement.{Agreement}
 use Rattle.nr_link.specs.declared.end.End.{End as Stop}
 use Rattle.nr_link.specs.Frames.{is_hello, Frame}
-use Rattle.nr_link.specs.Ending.{frame_segment, frame_end, hello_end}
+use Rattle.nr_link.specs.Ending.{hello_end, frame_end_by}
 use Rattle.nr_reduce.specs.declared.mark.Mark.{Mark}
 use Rattle.nr_reduce.specs.declared.mark.LinkParameters.{LinkParameters}
 use Rattle.nr_reduce.specs.Events.{RunEvent, events}
@@ -13,7 +13,7 @@ use Rattle.nr_reduce.specs.Events.RunEvent.{FrameReceived, CallSubmitted, Memory
 use Rattle.nr_reduce.specs.EndRules.{EndMachine, EndState, next_end_state_by, next_end_state_in}
 use Rattle.nr_reduce.specs.OfferedRegions.{region_grants}
 use Rattle.nr_reduce.specs.ClientState.{ClientState}
-use Rattle.nr_reduce.specs.Client.{client_rules, client_end, client_readiness, client_state_after, initial_client, or_message_end, with_hello, with_segment}
+use Rattle.nr_reduce.specs.Client.{client_segment, client_rules, client_end, client_readiness, client_state_after, initial_client, or_message_end, with_hello, with_segment}
 use Rattle.nr_reduce.specs.ServerState.{ReadyCall, ServerState}
 use Rattle.nr_reduce.specs.ServerFrames.{frame_effect}
 use Rattle.nr_reduce.specs.Server.{server_rules, server_end, server_state_after, initial_server, with_effect, with_own_hello}
@@ -33,7 +33,7 @@ use Rattle.nr_laws.proofs.ServerAlong.{ServerPlain, outs_of}
 use Rattle.nr_laws.proofs.ServerEnds.{hello_goes}
 use Rattle.nr_laws.proofs.ServerSide.{server_goes, client_receives_of}
 use Rattle.nr_laws.proofs.FirstHellos.{first_hello, first_hello_is, first_of_server}
-use Rattle.nr_laws.proofs.AgreedSizes.{matched_up, matched_down, up_limited, down_limited, client_agrees, server_agrees, segment_sizes}
+use Rattle.nr_laws.proofs.AgreedSizes.{matched_up, matched_down, matched_invalidates, up_limited, down_limited, client_agrees, server_agrees, segment_sizes}
 use Rattle.nr_laws.proofs.MatchedHellos.{HearsHello, HearHello, FirstIs, first_part, first_more, brought_hello, heard_at, heard_along, server_hears}
 
 some_place : (place : ℕ) → (place ≡ 0 → ⊥) → 0 < place
@@ -43,7 +43,7 @@ some_place (suc n) h = omega arith
 -- ---- A server
 
 abbrev ServerSized : LinkParameters → ServerState → Type 0
-ServerSized opened k = (k.up_max ≡ matched_up opened) × (k.down_max ≡ matched_down opened)
+ServerSized opened k = (k.up_max ≡ matched_up opened) × (k.down_max ≡ matched_down opened) × (k.invalidates ≡ matched_invalidates opened)
 
 record ServerMatched (opened : LinkParameters) (place : ℕ) (r : EndState ServerState) (outs : List Output) : Type 0 where
   first : place ≡ 0 → (outs ≡ []) × (r.ended ≡ None) × (r.state.ready ≡ [])
@@ -51,22 +51,22 @@ record ServerMatched (opened : LinkParameters) (place : ℕ) (r : EndState Serve
   hello : FirstIs (first_hello opened Responder) outs
   sized : 0 < place → ServerSized opened r.state
 
-server_later : (opened : LinkParameters) (place end : ℕ) (r t : EndState ServerState) (outs more : List Output) → 0 < place → 0 < end → t.state.up_max ≡ r.state.up_max → t.state.down_max ≡ r.state.down_max → ServerMatched opened place r outs
+server_later : (opened : LinkParameters) (place end : ℕ) (r t : EndState ServerState) (outs more : List Output) → 0 < place → 0 < end → t.state.up_max ≡ r.state.up_max → t.state.down_max ≡ r.state.down_max → t.state.invalidates ≡ r.state.invalidates → ServerMatched opened place r outs
     → ServerMatched opened end t (outs ++ more)
-server_later opened place end r t outs more some later up down h = record {
+server_later opened place end r t outs more some later up down names h = record {
   first = λ e. absurd (omega (arith, e, later));
   greeted = λ e. omega (arith, h.greeted some, length-append outs more);
   hello = first_more (first_hello opened Responder) outs more (h.greeted some) h.hello;
-  sized = λ e. (up ∙ (h.sized some).0, down ∙ (h.sized some).1);
+  sized = λ e. (up ∙ (h.sized some).0, down ∙ (h.sized some).1, names ∙ (h.sized some).2);
 }
 
-server_quiet : (opened : LinkParameters) (place : ℕ) (r t : EndState ServerState) (outs : List Output) → t.ended ≡ r.ended → t.state.ready ≡ r.state.ready → t.state.up_max ≡ r.state.up_max → t.state.down_max ≡ r.state.down_max → ServerMatched opened place r outs
+server_quiet : (opened : LinkParameters) (place : ℕ) (r t : EndState ServerState) (outs : List Output) → t.ended ≡ r.ended → t.state.ready ≡ r.state.ready → t.state.up_max ≡ r.state.up_max → t.state.down_max ≡ r.state.down_max → t.state.invalidates ≡ r.state.invalidates → ServerMatched opened place r outs
     → ServerMatched opened place t (outs ++ [])
-server_quiet opened place r t outs ended ready up down h = subst (ServerMatched opened place t) (sym (append-nil outs)) (record {
+server_quiet opened place r t outs ended ready up down names h = subst (ServerMatched opened place t) (sym (append-nil outs)) (record {
   first = λ e. (let f = h.first e in (f.0, ended ∙ f.1, ready ∙ f.2));
   greeted = h.greeted;
   hello = h.hello;
-  sized = λ e. (up ∙ (h.sized e).0, down ∙ (h.sized e).1);
+  sized = λ e. (up ∙ (h.sized e).0, down ∙ (h.sized e).1, names ∙ (h.sized e).2);
 })
 
 server_greets : (opened : LinkParameters) (k : ServerState) (f : Frame) (outs : List Output) → 0 < f.end → f.bytes ≡ first_hello opened Initiator → outs ≡ []
@@ -77,7 +77,7 @@ server_greets opened k f outs some own none =
       first = λ e. absurd (omega (arith, e, some));
       greeted = λ e. omega arith;
       hello = first_of_server opened f own;
-      sized = λ e. (ap (λ (a : Agreement). a.up) agreed, ap (λ (a : Agreement). a.down) agreed);
+      sized = λ e. (ap (λ (a : Agreement). a.up) agreed, ap (λ (a : Agreement). a.down) agreed, ap (λ (a : Agreement). a.invalidates) agreed);
     })
 
 server_frame : (opened : LinkParameters) (place : ℕ) (k : ServerState) (outs : List Output) (f : Frame) → IsNext place (FrameReceived f) → (is_hello f ≡ true → f.bytes ≡ first_hello opened Initiator) → ServerMatched opened place (record { state = k; ended = None }) outs
@@ -89,13 +89,13 @@ server_frame opened place k outs f next hears h (Some end) stops = by (is_hello 
     by : (b : Bool) → is_hello f ≡ b → ServerMatched opened f.end (record { state = k; ended = Some end }) (outs ++ server_final_outputs end)
     by true is = absurd (let wrong : None ≡ Some end = sym (hello_goes opened k f is (subst (IsHelloFrame Initiator) (sym (hears is)) (first_hello_is opened Initiator))) ∙ stops in cc)
     by false is = server_later opened place f.end (record { state = k; ended = None }) (record { state = k; ended = Some end }) outs (server_final_outputs end)
-        (let some = above_zero f.at is in let at = next.0 in omega (arith, some, at)) (let l = next.1 in omega (arith, l)) refl refl h
+        (let some = above_zero f.at is in let at = next.0 in omega (arith, some, at)) (let l = next.1 in omega (arith, l)) refl refl refl h
 server_frame opened place k outs f next hears h None stays = by (is_hello f) refl
   where
     by : (b : Bool) → is_hello f ≡ b → ServerMatched opened f.end (record { state = cond b (with_own_hello opened k f) (with_effect k f (frame_effect k f)); ended = None }) (outs ++ cond b (AHello (server_hello opened f) ∷ []) (effect_outputs k (frame_effect k f)))
     by true is = server_greets opened k f outs (let l = next.1 in omega (arith, l)) (hears is) (h.first (sym next.0 ∙ eqb-true f.at 0 is)).0
     by false is = server_later opened place f.end (record { state = k; ended = None }) (record { state = with_effect k f (frame_effect k f); ended = None }) outs (effect_outputs k (frame_effect k f))
-        (let some = above_zero f.at is in let at = next.0 in omega (arith, some, at)) (let l = next.1 in omega (arith, l)) refl refl h
+        (let some = above_zero f.at is in let at = next.0 in omega (arith, some, at)) (let l = next.1 in omega (arith, l)) refl refl refl h
 
 -- one that ended, or has a call to execute, received a frame
 ended_place : (opened : LinkParameters) (place : ℕ) (k : ServerState) (end : Stop) (outs : List Output) → ServerMatched opened place (record { state = k; ended = Some end }) outs → 0 < place
@@ -109,22 +109,22 @@ server_step : (opened : LinkParameters) (place : ℕ) (k : ServerState) (ended :
     → ServerMatched opened (place_after place e) (next_end_state_in (server_rules opened) k e ended) (outs ++ outputs_in (server_rules opened) (server_says opened) server_final_outputs k e ended)
 unfolding server_state_after server_says server_end
 server_step opened place k None outs (FrameReceived f) next good h = server_frame opened place k outs f next good.1 h (server_end opened k (FrameReceived f)) refl
-server_step opened place k None outs (CallSubmitted p a) next good h = server_quiet opened place (record { state = k; ended = None }) (record { state = k; ended = None }) outs refl refl refl refl h
-server_step opened place k None outs (MemoryRevoked p xid) next good h = server_quiet opened place (record { state = k; ended = None }) (record { state = k; ended = None }) outs refl refl refl refl h
+server_step opened place k None outs (CallSubmitted p a) next good h = server_quiet opened place (record { state = k; ended = None }) (record { state = k; ended = None }) outs refl refl refl refl refl h
+server_step opened place k None outs (MemoryRevoked p xid) next good h = server_quiet opened place (record { state = k; ended = None }) (record { state = k; ended = None }) outs refl refl refl refl refl h
 server_step opened place k None outs (CallExecuted e) next good h =
     let some = ready_place opened place (record { state = k; ended = None }) outs good.0.call good.0.others good.0.is_next h in
-    server_later opened place place (record { state = k; ended = None }) (record { state = server_state_after opened k (CallExecuted e); ended = None }) outs (server_says opened k (CallExecuted e)) some some refl refl h
+    server_later opened place place (record { state = k; ended = None }) (record { state = server_state_after opened k (CallExecuted e); ended = None }) outs (server_says opened k (CallExecuted e)) some some refl refl refl h
 server_step opened place k None outs (QueueWritten taken) next good h =
-    server_quiet opened place (record { state = k; ended = None }) (record { state = server_state_after opened k (QueueWritten taken); ended = None }) outs refl refl refl refl h
+    server_quiet opened place (record { state = k; ended = None }) (record { state = server_state_after opened k (QueueWritten taken); ended = None }) outs refl refl refl refl refl h
 server_step opened place k None outs (ServerTold what) next good h =
-    server_quiet opened place (record { state = k; ended = None }) (record { state = server_state_after opened k (ServerTold what); ended = None }) outs refl refl refl refl h
+    server_quiet opened place (record { state = k; ended = None }) (record { state = server_state_after opened k (ServerTold what); ended = None }) outs refl refl refl refl refl h
 server_step opened place k (Some end) outs (FrameReceived f) next good h =
-    server_later opened place f.end (record { state = k; ended = Some end }) (record { state = k; ended = Some end }) outs [] (ended_place opened place k end outs h) (let l = next.1 in omega (arith, l)) refl refl h
-server_step opened place k (Some end) outs (CallSubmitted p a) next good h = server_quiet opened place (record { state = k; ended = Some end }) (record { state = k; ended = Some end }) outs refl refl refl refl h
-server_step opened place k (Some end) outs (MemoryRevoked p xid) next good h = server_quiet opened place (record { state = k; ended = Some end }) (record { state = k; ended = Some end }) outs refl refl refl refl h
-server_step opened place k (Some end) outs (CallExecuted e) next good h = server_quiet opened place (record { state = k; ended = Some end }) (record { state = k; ended = Some end }) outs refl refl refl refl h
-server_step opened place k (Some end) outs (QueueWritten taken) next good h = server_quiet opened place (record { state = k; ended = Some end }) (record { state = k; ended = Some end }) outs refl refl refl refl h
-server_step opened place k (Some end) outs (ServerTold what) next good h = server_quiet opened place (record { state = k; ended = Some end }) (record { state = k; ended = Some end }) outs refl refl refl refl h
+    server_later opened place f.end (record { state = k; ended = Some end }) (record { state = k; ended = Some end }) outs [] (ended_place opened place k end outs h) (let l = next.1 in omega (arith, l)) refl refl refl h
+server_step opened place k (Some end) outs (CallSubmitted p a) next good h = server_quiet opened place (record { state = k; ended = Some end }) (record { state = k; ended = Some end }) outs refl refl refl refl refl h
+server_step opened place k (Some end) outs (MemoryRevoked p xid) next good h = server_quiet opened place (record { state = k; ended = Some end }) (record { state = k; ended = Some end }) outs refl refl refl refl refl h
+server_step opened place k (Some end) outs (CallExecuted e) next good h = server_quiet opened place (record { state = k; ended = Some end }) (record { state = k; ended = Some end }) outs refl refl refl refl refl h
+server_step opened place k (Some end) outs (QueueWritten taken) next good h = server_quiet opened place (record { state = k; ended = Some end }) (record { state = k; ended = Some end }) outs refl refl refl refl refl h
+server_step opened place k (Some end) outs (ServerTold what) next good h = server_quiet opened place (record { state = k; ended = Some end }) (record { state = k; ended = Some end }) outs refl refl refl refl refl h
 
 server_matched : (opened : LinkParameters) (link : ℕ) (run : List Mark) → IsTyped run → MatchedSoFar opened link run
     → ServerMatched opened (places_after 0 (events link Responder run)) (server opened link run) (outs_of opened (events link Responder run))
@@ -149,31 +149,31 @@ client_hears opened link run typed far =
 -- ---- A client
 
 abbrev ClientSized : LinkParameters → ClientState → Type 0
-ClientSized opened k = (k.up_max ≡ matched_up opened) × (k.down_max ≡ matched_down opened)
+ClientSized opened k = (k.up_max ≡ matched_up opened) × (k.down_max ≡ matched_down opened) × (k.invalidates ≡ matched_invalidates opened)
 
 record ClientMatched (opened : LinkParameters) (place : ℕ) (r : EndState ClientState) : Type 0 where
   first : place ≡ 0 → r.ended ≡ None
   sized : 0 < place → ClientSized opened r.state
   within : (r.state.up_max ≤ matched_up opened) × (r.state.down_max ≤ matched_down opened)
 
-client_later : (opened : LinkParameters) (place end : ℕ) (r t : EndState ClientState) → 0 < place → 0 < end → t.state.up_max ≡ r.state.up_max → t.state.down_max ≡ r.state.down_max → ClientMatched opened place r → ClientMatched opened end t
-client_later opened place end r t some later up down h = record {
+client_later : (opened : LinkParameters) (place end : ℕ) (r t : EndState ClientState) → 0 < place → 0 < end → t.state.up_max ≡ r.state.up_max → t.state.down_max ≡ r.state.down_max → t.state.invalidates ≡ r.state.invalidates → ClientMatched opened place r → ClientMatched opened end t
+client_later opened place end r t some later up down names h = record {
   first = λ e. absurd (omega (arith, e, later));
-  sized = λ e. (up ∙ (h.sized some).0, down ∙ (h.sized some).1);
+  sized = λ e. (up ∙ (h.sized some).0, down ∙ (h.sized some).1, names ∙ (h.sized some).2);
   within = (omega (arith, up, h.within.0), omega (arith, down, h.within.1));
 }
 
-client_quiet : (opened : LinkParameters) (place : ℕ) (r t : EndState ClientState) → t.ended ≡ r.ended → t.state.up_max ≡ r.state.up_max → t.state.down_max ≡ r.state.down_max → ClientMatched opened place r → ClientMatched opened place t
-client_quiet opened place r t ended up down h = record {
+client_quiet : (opened : LinkParameters) (place : ℕ) (r t : EndState ClientState) → t.ended ≡ r.ended → t.state.up_max ≡ r.state.up_max → t.state.down_max ≡ r.state.down_max → t.state.invalidates ≡ r.state.invalidates → ClientMatched opened place r → ClientMatched opened place t
+client_quiet opened place r t ended up down names h = record {
   first = λ e. ended ∙ h.first e;
-  sized = λ e. (up ∙ (h.sized e).0, down ∙ (h.sized e).1);
+  sized = λ e. (up ∙ (h.sized e).0, down ∙ (h.sized e).1, names ∙ (h.sized e).2);
   within = (omega (arith, up, h.within.0), omega (arith, down, h.within.1));
 }
 
 hello_stays : (opened : LinkParameters) (k : ClientState) (f : Frame) → is_hello f ≡ true → IsHelloFrame Responder f.bytes → client_end k (FrameReceived f) ≡ None
 unfolding client_end
 hello_stays opened k f is read =
-    ap (λ (b : Bool). cond b (hello_end (hello_of Responder f.bytes)) (or_message_end k f (frame_end (client_readiness k) (region_grants f.end k.regions) f))) is ∙ ap hello_end read.says
+    ap (λ (b : Bool). cond b (hello_end (hello_of Responder f.bytes)) (or_message_end k f (frame_end_by (client_readiness k) (region_grants f.end k.regions) f (client_segment k f)))) is ∙ ap hello_end read.says
 
 client_frame : (opened : LinkParameters) (place : ℕ) (k : ClientState) (f : Frame) → IsNext place (FrameReceived f) → (is_hello f ≡ true → f.bytes ≡ first_hello opened Responder) → ClientMatched opened place (record { state = k; ended = None })
     → (o : Option Stop) → client_end k (FrameReceived f) ≡ o → ClientMatched opened f.end (next_end_state_by (client_rules opened) k (FrameReceived f) o)
@@ -183,31 +183,32 @@ client_frame opened place k f next hears h (Some end) stops = by (is_hello f) re
     by : (b : Bool) → is_hello f ≡ b → ClientMatched opened f.end (record { state = k; ended = Some end })
     by true is = absurd (let wrong : None ≡ Some end = sym (hello_stays opened k f is (subst (IsHelloFrame Responder) (sym (hears is)) (first_hello_is opened Responder))) ∙ stops in cc)
     by false is = client_later opened place f.end (record { state = k; ended = None }) (record { state = k; ended = Some end })
-        (let some = above_zero f.at is in let at = next.0 in omega (arith, some, at)) (let l = next.1 in omega (arith, l)) refl refl h
+        (let some = above_zero f.at is in let at = next.0 in omega (arith, some, at)) (let l = next.1 in omega (arith, l)) refl refl refl h
 client_frame opened place k f next hears h None stays = by (is_hello f) refl
   where
-    by : (b : Bool) → is_hello f ≡ b → ClientMatched opened f.end (record { state = cond b (with_hello opened k f) (with_segment k f (frame_segment f)); ended = None })
+    by : (b : Bool) → is_hello f ≡ b → ClientMatched opened f.end (record { state = cond b (with_hello opened k f) (with_segment k f (client_segment k f)); ended = None })
     by true is =
         let agreed = client_agrees opened f (hears is) in
         let up : (client_agreement opened f).up ≡ matched_up opened = ap (λ (a : Agreement). a.up) agreed in
         let down : (client_agreement opened f).down ≡ matched_down opened = ap (λ (a : Agreement). a.down) agreed in
-        record { first = λ e. absurd (let l = next.1 in omega (arith, e, l)); sized = λ e. (up, down); within = (omega (arith, up), omega (arith, down)) }
+        let names : (client_agreement opened f).invalidates ≡ matched_invalidates opened = ap (λ (a : Agreement). a.invalidates) agreed in
+        record { first = λ e. absurd (let l = next.1 in omega (arith, e, l)); sized = λ e. (up, down, names); within = (omega (arith, up), omega (arith, down)) }
     by false is =
-        let same = segment_sizes k f (frame_segment f) in
-        client_later opened place f.end (record { state = k; ended = None }) (record { state = with_segment k f (frame_segment f); ended = None })
-        (let some = above_zero f.at is in let at = next.0 in omega (arith, some, at)) (let l = next.1 in omega (arith, l)) same.0 same.1 h
+        let same = segment_sizes k f (client_segment k f) in
+        client_later opened place f.end (record { state = k; ended = None }) (record { state = with_segment k f (client_segment k f); ended = None })
+        (let some = above_zero f.at is in let at = next.0 in omega (arith, some, at)) (let l = next.1 in omega (arith, l)) same.0 same.1 same.2 h
 
 client_step : (opened : LinkParameters) (place : ℕ) (k : ClientState) (ended : Option Stop) (e : RunEvent) → IsNext place e → ClientGood opened (record { state = k; ended = ended }) e × HearsHello (first_hello opened Responder) e
     → ClientMatched opened place (record { state = k; ended = ended }) → ClientMatched opened (place_after place e) (next_end_state_in (client_rules opened) k e ended)
 unfolding client_state_after client_end
 client_step opened place k None (FrameReceived f) next good h = client_frame opened place k f next good.1 h (client_end k (FrameReceived f)) refl
-client_step opened place k None (CallSubmitted p a) next good h = client_quiet opened place (record { state = k; ended = None }) (record { state = client_state_after opened k (CallSubmitted p a); ended = None }) refl refl refl h
-client_step opened place k None (MemoryRevoked p xid) next good h = client_quiet opened place (record { state = k; ended = None }) (record { state = client_state_after opened k (MemoryRevoked p xid); ended = None }) refl refl refl h
+client_step opened place k None (CallSubmitted p a) next good h = client_quiet opened place (record { state = k; ended = None }) (record { state = client_state_after opened k (CallSubmitted p a); ended = None }) refl refl refl refl h
+client_step opened place k None (MemoryRevoked p xid) next good h = client_quiet opened place (record { state = k; ended = None }) (record { state = client_state_after opened k (MemoryRevoked p xid); ended = None }) refl refl refl refl h
 client_step opened place k None (CallExecuted e) next good h = h
-client_step opened place k None (QueueWritten taken) next good h = client_quiet opened place (record { state = k; ended = None }) (record { state = client_state_after opened k (QueueWritten taken); ended = None }) refl refl refl h
-client_step opened place k None (ServerTold what) next good h = client_quiet opened place (record { state = k; ended = None }) (record { state = client_state_after opened k (ServerTold what); ended = None }) refl refl refl h
+client_step opened place k None (QueueWritten taken) next good h = client_quiet opened place (record { state = k; ended = None }) (record { state = client_state_after opened k (QueueWritten taken); ended = None }) refl refl refl refl h
+client_step opened place k None (ServerTold what) next good h = client_quiet opened place (record { state = k; ended = None }) (record { state = client_state_after opened k (ServerTold what); ended = None }) refl refl refl refl h
 client_step opened place k (Some end) (FrameReceived f) next good h =
-    client_later opened place f.end (record { state = k; ended = Some end }) (record { state = k; ended = Some end }) (some_place place (λ e. (let wrong : Some end ≡ None = h.first e in cc))) (let l = next.1 in omega (arith, l)) refl refl h
+    client_later opened place f.end (record { state = k; ended = Some end }) (record { state = k; ended = Some end }) (some_place place (λ e. (let wrong : Some end ≡ None = h.first e in cc))) (let l = next.1 in omega (arith, l)) refl refl refl h
 client_step opened place k (Some end) (CallSubmitted p a) next good h = h
 client_step opened place k (Some end) (MemoryRevoked p xid) next good h = h
 client_step opened place k (Some end) (CallExecuted e) next good h = h
@@ -277,7 +278,7 @@ client_goes_by_agreement opened link run f typed far h =
     subst (λ (es : List RunEvent). 0 < places_after 0 es) (sym h.is)
     (place_some (client_rules opened) (ClientGood opened) 0 (initial_client opened) h.before f h.after (subst (λ (es : List RunEvent). GoesOn (client_rules opened) (ClientGood opened) 0 (initial_client opened) es) h.is goes)) in
     let sized = (client_matched opened link run typed far).sized some in
-    (sized.0 ∙ ap (λ (a : Agreement). a.up) (sym agreed), sized.1 ∙ ap (λ (a : Agreement). a.down) (sym agreed))
+    (sized.0 ∙ ap (λ (a : Agreement). a.up) (sym agreed), (sized.1 ∙ ap (λ (a : Agreement). a.down) (sym agreed), sized.2 ∙ ap (λ (a : Agreement). a.invalidates) (sym agreed)))
 
 pub server_goes_by_agreement : ServerGoesByAgreement
 server_goes_by_agreement opened link run g typed far h =
@@ -288,4 +289,4 @@ server_goes_by_agreement opened link run g typed far h =
     subst (λ (es : List RunEvent). 0 < places_after 0 es) (sym h.is)
     (place_some (server_rules opened) ServerPlain 0 (initial_server opened) h.before g h.after (subst (λ (es : List RunEvent). GoesOn (server_rules opened) ServerPlain 0 (initial_server opened) es) h.is goes)) in
     let sized = (server_matched opened link run typed far).sized some in
-    (sized.0 ∙ ap (λ (a : Agreement). a.up) (sym agreed), sized.1 ∙ ap (λ (a : Agreement). a.down) (sym agreed))
+    (sized.0 ∙ ap (λ (a : Agreement). a.up) (sym agreed), (sized.1 ∙ ap (λ (a : Agreement). a.down) (sym agreed), sized.2 ∙ ap (λ (a : Agreement). a.invalidates) (sym agreed)))

@@ -2,7 +2,7 @@
 use Rattle.std.proofs.Common.{◌≡◌, ℕ, ◌≤◌, Bool, true, false, cond, ◌&&◌, eqb, leb, List, [], ◌∷◌, ◌++◌, map, Option, None, Some, is_none, refl, sym, ap, ◌∙◌, arith, append_assoc, append-nil}
 use Rattle.std.proofs.lemmas.Bool.{le-leb}
 use Rattle.std.specs.List.{find}
-use Rattle.nr_wire.specs.Segment.{Segment}
+use Rattle.nr_wire.specs.Segment.{Segment, segment_of}
 use Rattle.nr_wire.specs.Segment.Segment.{Tagged, Untagged}
 use Rattle.nr_regions.specs.declared.right.Right.{Right}
 use Rattle.nr_regions.specs.declared.denied.Denied.{Denied}
@@ -10,7 +10,7 @@ use Rattle.nr_regions.specs.RegisteredMemory.{Access, denial_in, bytes_after_wri
 use Rattle.nr_regions.specs.Access.{Grant, TaggedSegment, access_of_tagged, applies, grant_at, grant_offer, grant_denial, after_segment, contents}
 use Rattle.nr_link.specs.declared.end.End.{End as Stop}
 use Rattle.nr_link.specs.Frames.{Frame, is_hello}
-use Rattle.nr_link.specs.Ending.{frame_segment, tagged_access}
+use Rattle.nr_link.specs.Ending.{tagged_access}
 use Rattle.nr_reduce.specs.Events.{RunEvent}
 use Rattle.nr_reduce.specs.Events.RunEvent.{FrameReceived, CallSubmitted, MemoryRevoked, CallExecuted, QueueWritten, ServerTold}
 use Rattle.nr_reduce.specs.EndRules.{EndMachine, EndState, next_end_state, next_end_state_by, next_end_state_in, end_state_after}
@@ -74,7 +74,7 @@ parts_append (x ∷ xs) ys = ap (λ (ps : List Part). part_of x ∷ ps) (parts_a
 -- ---- What is received is what was brought
 
 abbrev pub accesses_event : List TaggedSegment → RunEvent → List TaggedSegment
-accesses_event a (FrameReceived f) = cond (is_hello f) a (a ++ tagged_accesses f (frame_segment f))
+accesses_event a (FrameReceived f) = cond (is_hello f) a (a ++ tagged_accesses f (segment_of f.bytes))
 accesses_event a (CallSubmitted p c) = a
 accesses_event a (MemoryRevoked p xid) = a
 accesses_event a (CallExecuted e) = a
@@ -82,14 +82,14 @@ accesses_event a (QueueWritten taken) = a
 accesses_event a (ServerTold what) = a
 
 abbrev pub Gathering : {S : Type 0} → EndMachine S → (S → List TaggedSegment) → Type 0
-Gathering rules accesses = (s : _) (e : RunEvent) → accesses (rules.state_after s e) ≡ accesses_event (accesses s) e
+Gathering rules accesses = (s : _) (e : RunEvent) → rules.end_at s e ≡ None → accesses (rules.state_after s e) ≡ accesses_event (accesses s) e
 
 pub access_parts : (f : Frame) (s : Segment) → parts_of (tagged_access f s) ≡ segment_parts s
 access_parts f (Tagged last opcode stag to payload) = refl
 access_parts f (Untagged last opcode w queue msn offset payload) = refl
 
 frame_parts : (a : List TaggedSegment) (o : Output) (f : Frame) (outs : List Output) → Brought o f → parts_of (accesses_event a (FrameReceived f)) ++ parts_out outs ≡ parts_of a ++ parts_out (o ∷ outs)
-frame_parts a (AHello bytes) f outs b = ap (λ (x : Bool). parts_of (cond x a (a ++ tagged_accesses f (frame_segment f))) ++ parts_out outs) b.0
+frame_parts a (AHello bytes) f outs b = ap (λ (x : Bool). parts_of (cond x a (a ++ tagged_accesses f (segment_of f.bytes))) ++ parts_out outs) b.0
 frame_parts a (ASegment s) f outs b =
     (λ i. parts_of (cond (b.0 i) a (a ++ tagged_accesses f (b.1 i))) ++ parts_out outs)
     ∙ ap (λ (ps : List Part). ps ++ parts_out outs) (parts_append a (tagged_access f s) ∙ ap (λ (ps : List Part). parts_of a ++ ps) (access_parts f s))
@@ -98,12 +98,12 @@ frame_parts a (ASegment s) f outs b =
 one_gather : {S : Type 0} (rules : EndMachine S) (accesses : S → List TaggedSegment) → Gathering rules accesses → (r : EndState S) (e : RunEvent) → (next_end_state rules r e).ended ≡ None → accesses (next_end_state rules r e).state ≡ accesses_event (accesses r.state) e
 one_gather {S} rules accesses goes r e live = by_end r.state r.ended live
   where
-    by_why : (s : S) (o : Option Stop) → (next_end_state_by rules s e o).ended ≡ None → accesses (next_end_state_by rules s e o).state ≡ accesses_event (accesses s) e
-    by_why s None h = goes s e
-    by_why s (Some end) h = absurd cc
+    by_why : (s : S) (o : Option Stop) → rules.end_at s e ≡ o → (next_end_state_by rules s e o).ended ≡ None → accesses (next_end_state_by rules s e o).state ≡ accesses_event (accesses s) e
+    by_why s None is h = goes s e is
+    by_why s (Some end) is h = absurd cc
 
     by_end : (s : S) (o : Option Stop) → (next_end_state_in rules s e o).ended ≡ None → accesses (next_end_state_in rules s e o).state ≡ accesses_event (accesses s) e
-    by_end s None h = by_why s (rules.end_at s e) h
+    by_end s None h = by_why s (rules.end_at s e) refl h
     by_end s (Some end) h = absurd cc
 
 pub gathers : {S : Type 0} (rules : EndMachine S) (accesses : S → List TaggedSegment) → Gathering rules accesses → (r : EndState S) (es : List RunEvent) (outs : List Output) → Brings es outs

@@ -14,7 +14,7 @@ use Rattle.nr_link.specs.declared.end.End.TheVariants as ends
 use Rattle.nr_link.specs.Output.{msn_word}
 use Rattle.nr_link.specs.Frames.{Frame, is_hello, frames_from, frames_completed}
 use Rattle.nr_link.specs.ReceiveState.{ReadRequest}
-use Rattle.nr_link.specs.Ending.{frame_segment, missing_access}
+use Rattle.nr_link.specs.Ending.{missing_access}
 use Rattle.nr_reduce.specs.declared.mark.Mark.{Mark}
 use Rattle.nr_reduce.specs.declared.mark.LinkParameters.{LinkParameters}
 use Rattle.nr_reduce.specs.Opening.{IsOpened}
@@ -34,7 +34,7 @@ use Rattle.nr_laws.specs.Typed.{TypedMark, IsTyped}
 use Rattle.nr_laws.specs.Stays.{NotRevokedMark, HasNoRevoke}
 use Rattle.nr_laws.specs.EndCauses.{KeepLaws}
 use Rattle.nr_laws.proofs.EndReasons.{EndsForMessage}
-use Rattle.nr_laws.proofs.FrameContents.{FrameContent, numbered_segment, frame_bytes, total_of, sends_in, requests_in, Carries, last_segment, part_segment}
+use Rattle.nr_laws.proofs.FrameContents.{FrameContent, frame_bytes, total_of, sends_in, requests_in, Carries, last_segment, part_segment, written_segment}
 use Rattle.nr_laws.proofs.FrameContents.FrameContent.{HelloFrame, PartFrame, SendFrame, RequestFrame, TaggedFrame}
 use Rattle.nr_laws.proofs.LinkInvariants.{Transit}
 use Rattle.nr_laws.proofs.Bytes.{bytes_both}
@@ -42,13 +42,12 @@ use Rattle.nr_laws.proofs.Totals.{total_append}
 use Rattle.nr_laws.proofs.LaterFrames.{EndBehind, frames_behind}
 use Rattle.nr_laws.proofs.StreamFrames.{frames_at}
 use Rattle.nr_laws.proofs.Writable.{IsOutput}
-use Rattle.nr_laws.proofs.TotalsAtServer.{segment_is}
 use Rattle.nr_laws.proofs.TotalsAtClient.{request_payload, down_one}
 use Rattle.nr_laws.proofs.RequestFields.{request_again}
 use Rattle.nr_laws.proofs.AgreeingEnds.{EndsAgree, IsPlace, frame_of}
 use Rattle.nr_laws.proofs.Guards.{Guards}
-use Rattle.nr_laws.proofs.GuardsAtClient.{front_down, asked_of}
-use Rattle.nr_laws.proofs.ClientStep.{LacksAccess, step_down}
+use Rattle.nr_laws.proofs.GuardsAtClient.{front_down, asked_of, front_taken}
+use Rattle.nr_laws.proofs.ClientStep.{LacksAccess, step_down, has_hello_lem}
 use Rattle.nr_laws.proofs.ClientFrame.{client_took}
 use Rattle.nr_laws.proofs.ServerFrames.{AreSome, events_of, place_next_lem, ends_first}
 use Rattle.nr_laws.proofs.AgreeingRuns.{MarkAgrees, place_of, preserved, arrives}
@@ -61,6 +60,8 @@ use Rattle.nr_laws.proofs.AllowedAccesses.{offered_granted}
 use Rattle.nr_laws.proofs.Basics.{each_all}
 use Rattle.nr_reduce.proofs.Standing.{received_one}
 use Rattle.nr_laws.proofs.ClientRun.{each_both}
+use Rattle.nr_laws.proofs.ReadContents.{plain_is, carries_taken}
+use Rattle.nr_laws.proofs.PlainSegments.{plain_segment}
 
 -- ---- One frame
 
@@ -69,42 +70,43 @@ numbered_regions opened k es is = subst (λ (r : EndState ClientState). AreNumbe
 
 -- the access of a frame is allowed
 abbrev LacksNothing : ClientState → Frame → Type 0
-LacksNothing k f = (segment : Segment) → frame_segment f ≡ Ok segment → missing_access (region_grants f.end k.regions) f segment ≡ None
+LacksNothing k f = (segment : Segment) → plain_segment k f ≡ Ok segment → missing_access (region_grants f.end k.regions) f segment ≡ None
 
-same_segment : (k : ClientState) (f : Frame) (segment : Segment) → frame_segment f ≡ Ok segment → missing_access (region_grants f.end k.regions) f segment ≡ None → LacksNothing k f
+same_segment : (k : ClientState) (f : Frame) (segment : Segment) → plain_segment k f ≡ Ok segment → missing_access (region_grants f.end k.regions) f segment ≡ None → LacksNothing k f
 same_segment k f segment is none other own = (let same : Ok segment ≡ Ok other = sym is ∙ own in subst (λ (x : Segment). missing_access (region_grants f.end k.regions) f x ≡ None) (let e : segment ≡ other = cc in e) none)
 
 piece_allowed : (opened : LinkParameters) (k : ClientState) (s : ServerState) (u d all_up all_down : List FrameContent) (w : Transit) (up : ℕ) (p : FrameContent) (rest : List FrameContent) (at : ℕ) (f : Frame) → EndsAgree opened k s u d all_up all_down w → Guards opened k s u d all_up all_down w up → w.down ≡ p ∷ rest
-    → Carries k.received.sends k.received.requests f p → at < f.end → AccessesAgree opened k s d all_up all_down at → IsAccess k.regions (message_xids d) p → LacksNothing k f
+    → Carries k.invalidates k.received.sends k.received.requests f p → at < f.end → AccessesAgree opened k s d all_up all_down at → IsAccess k.regions (message_xids d) p → LacksNothing k f
 piece_allowed opened k s u d all_up all_down w up HelloFrame rest at f l g first piece lt h own = absurd (let wrong = piece.is_segment in cc)
-piece_allowed opened k s u d all_up all_down w up (PartFrame offset payload) rest at f l g first piece lt h own =
+piece_allowed opened k s u d all_up all_down w up (PartFrame named offset payload) rest at f l g first piece lt h own =
     let segment : Segment = part_segment k.received.sends offset payload in
-    same_segment k f segment (segment_is k.received.sends k.received.requests f (PartFrame offset payload) segment piece refl) refl
+    same_segment k f segment (plain_is k f (PartFrame named offset payload) segment piece refl) refl
 piece_allowed opened k s u d all_up all_down w up (SendFrame message) rest at f l g first piece lt h own =
     let segment : Segment = last_segment k.received.sends message in
-    same_segment k f segment (segment_is k.received.sends k.received.requests f (SendFrame message) segment piece refl) refl
+    same_segment k f segment (plain_is k f (SendFrame message) segment piece refl) refl
 piece_allowed opened k s u d all_up all_down w up (RequestFrame sink sink_to size stag to) rest at f l g first piece lt h own =
     let segment : Segment = Untagged true OPCODE_READ_REQUEST 0 QUEUE_READ_REQUEST (msn_word (k.received.requests + 1)) 0 (request_payload sink sink_to size stag to) in
     let a = asked_of s w up sink sink_to size stag to rest g.server.reads first g.server.sinks g.server.regions.stags g.within in
     let again = request_again sink sink_to size stag to a.sink_word a.at_word a.size_word a.stag_word a.to_word in
     let granted = offered_granted at f.end opened.first_stag own.0 stag Fetch to size (message_xids d) k.regions (numbered_regions opened k g.reached.0 g.reached.1) own.1 h.lives h.early lt own.2 in
-    same_segment k f segment (segment_is k.received.sends k.received.requests f (RequestFrame sink sink_to size stag to) segment piece refl)
+    same_segment k f segment (plain_is k f (RequestFrame sink sink_to size stag to) segment piece refl)
     (ap (λ (q : ReadRequest). grant_denial (region_grants f.end k.regions) (record { right = Fetch; stag = q.stag; to = q.to; len = q.size }) f.end) again ∙ granted)
 piece_allowed opened k s u d all_up all_down w up (TaggedFrame last opcode stag to payload) rest at f l g first piece lt h own =
     let write : opcode ≡ OPCODE_WRITE = front_down opened k s u d all_up all_down w up (TaggedFrame last opcode stag to payload) rest l g first in
-    let reads = segment_is k.received.sends k.received.requests f (TaggedFrame last opcode stag to payload) (Tagged last opcode stag to payload) piece refl in
+    let reads = plain_is k f (TaggedFrame last opcode stag to payload) (Tagged last opcode stag to payload) piece refl in
     let granted = offered_granted at f.end opened.first_stag own.0 stag Fill to (length payload) (message_xids d) k.regions (numbered_regions opened k g.reached.0 g.reached.1) own.1 h.lives h.early lt own.2 in
     same_segment k f (Tagged last OPCODE_WRITE stag to payload) (reads ∙ ap (λ (c : ℕ). Ok (Tagged last c stag to payload)) write) granted
 
 frame_allowed : (opened : LinkParameters) (k : ClientState) (s : ServerState) (u d all_up all_down : List FrameContent) (w : Transit) (up : ℕ) (p : FrameContent) (rest : List FrameContent) (n r place at : ℕ) → EndsAgree opened k s u d all_up all_down w → Guards opened k s u d all_up all_down w up → w.down ≡ p ∷ rest
-    → n ≡ total_of sends_in d → r ≡ total_of requests_in d → IsPlace d place → at < place + length (frame_bytes opened Responder (numbered_segment n r p)) → AccessesAgree opened k s d all_up all_down at
-    → is_hello (frame_of (frame_bytes opened Responder (numbered_segment n r p)) place) ≡ false → LacksNothing k (frame_of (frame_bytes opened Responder (numbered_segment n r p)) place)
+    → n ≡ total_of sends_in d → r ≡ total_of requests_in d → IsPlace d place → at < place + length (frame_bytes opened Responder (written_segment n r p)) → AccessesAgree opened k s d all_up all_down at
+    → is_hello (frame_of (frame_bytes opened Responder (written_segment n r p)) place) ≡ false → LacksNothing k (frame_of (frame_bytes opened Responder (written_segment n r p)) place)
 frame_allowed opened k s u [] all_up all_down w up p rest n r place at l g first sends requests is lt h behind = absurd (let wrong : true ≡ false = sym (ap (λ (x : ℕ). eqb x 0) is) ∙ behind in cc)
 frame_allowed opened k s u (q ∷ d) all_up all_down w up p rest n r place at l g first sends requests is lt h behind =
     let own : IsAccess k.regions (message_xids (q ∷ d)) p =
     access_at k.regions [] (q ∷ d) p (rest ++ w.queued_down) (subst (AreAccesses k.regions []) (sym l.parts_down ∙ ap (λ (ps : List FrameContent). (q ∷ d) ++ (ps ++ w.queued_down)) first) h.down_said) in
-    piece_allowed opened k s u (q ∷ d) all_up all_down w up p rest at (frame_of (frame_bytes opened Responder (numbered_segment n r p)) place) l g first
-    (front_piece_down opened k s u q d all_up all_down w p rest n r place l first sends requests is) lt h own
+    piece_allowed opened k s u (q ∷ d) all_up all_down w up p rest at (frame_of (frame_bytes opened Responder (written_segment n r p)) place) l g first
+    (carries_taken k.invalidates k.received.sends k.received.requests (frame_of (frame_bytes opened Responder (written_segment n r p)) place) p
+    (front_taken opened k s u (q ∷ d) all_up all_down w up p rest l g first (has_hello_lem opened k s u q d all_up all_down w l)) (front_piece_down opened k s u q d all_up all_down w p rest n r place l first sends requests is)) lt h own
 
 -- so it doesn't end the client
 not_lacking : (k : ClientState) (f : Frame) (stag offset : ℕ) (why : Denied) → (is_hello f ≡ false → LacksNothing k f) → EndsForMessage (ends.Denied stag offset why) ⊎ LacksAccess k f (ends.Denied stag offset why) → ⊥
@@ -119,7 +121,7 @@ frames_allowed : (opened : LinkParameters) (s : ServerState) (u all_down left : 
 frames_allowed opened s u all_down left o up at stag offset why [] k d all_up w n r place l g first sends requests is bytes some behind h e = absurd (let wrong : None ≡ Some (ends.Denied stag offset why) = e in cc)
 frames_allowed opened s u all_down left o up at stag offset why (p ∷ new) k d all_up w n r place l g first sends requests is bytes some behind h e =
     let rules = client_rules opened in
-    let frame = frame_bytes opened Responder (numbered_segment n r p) in
+    let frame = frame_bytes opened Responder (written_segment n r p) in
     let later = frames_at opened Responder (n + sends_in p) (r + requests_in p) new in
     let event = FrameReceived (frame_of frame place) in
     let es = events_of (place + length frame) later in
@@ -130,7 +132,7 @@ frames_allowed opened s u all_down left o up at stag offset why (p ∷ new) k d 
     let t = client_took opened k s u d all_up all_down w p (new ++ left) n r place l first sends requests is (IsBytes_left frame (concat later) bytes) stays in
     let after = client_state_after opened k event in
     let one = subst (λ (ps : List FrameContent). Guards opened after s u (d ++ p ∷ []) (all_up ++ ps) all_down (down_one w ps (new ++ left)) up) (sym t.said_is) (step.kept stays) in
-    let two = subst (λ (ps : List FrameContent). AccessesAgree opened after s (d ++ p ∷ []) (all_up ++ ps) all_down at) (sym t.said_is) (accessed_down opened k s u d all_up all_down w p (new ++ left) n r place at l first sends requests is h) in
+    let two = subst (λ (ps : List FrameContent). AccessesAgree opened after s (d ++ p ∷ []) (all_up ++ ps) all_down at) (sym t.said_is) (accessed_down opened k s u d all_up all_down w p (new ++ left) n r place at l first sends requests is stays h) in
     frames_allowed opened s u all_down left o up at stag offset why new after (d ++ p ∷ []) (all_up ++ t.said) (down_one w t.said (new ++ left)) (n + sends_in p) (r + requests_in p) (place + length frame) t.linked one refl
     (omega (arith, sends, total_append sends_in d (p ∷ []))) (omega (arith, requests, total_append requests_in d (p ∷ []))) (place_next_lem d p frame place is some.0)
     (IsBytes_right frame (concat later) bytes) some.1 behind.1 two rest)

@@ -1,6 +1,6 @@
 -- What a server accesses of its client's memory is offered by the call that is to be answered, and no earlier message of the server
 -- answers that call.
-use Rattle.std.proofs.Common.{◌≡◌, ℕ, ◌+◌, ◌≤◌, Bool, true, false, List, [], ◌∷◌, ◌++◌, length, drop, None, Ok, sym, ap, subst, arith, append_assoc, append-nil, ◌⊎◌, inl, inr}
+use Rattle.std.proofs.Common.{◌≡◌, ℕ, ◌+◌, ◌≤◌, Bool, true, false, List, [], ◌∷◌, ◌++◌, length, drop, None, Ok, sym, ap, subst, arith, append_assoc, append-nil, ◌⊎◌, inl, inr, Option}
 use Rattle.std.specs.List.{AllByRecursion}
 use Rattle.nr_xdr.specs.Fields.{word_at}
 use Rattle.nr_header.specs.declared.header.RdmaSegment.{RdmaSegment as Part}
@@ -58,7 +58,7 @@ SendOffered regions message = (h : Header) → header_of message ≡ Ok h → Li
 
 abbrev pub MessageOffered : List Region → FrameContent → Type 0
 MessageOffered regions HelloFrame = Unit {0}
-MessageOffered regions (PartFrame offset payload) = Unit {0}
+MessageOffered regions (PartFrame named offset payload) = Unit {0}
 MessageOffered regions (SendFrame message) = SendOffered regions message.bytes
 MessageOffered regions (RequestFrame sink at size stag to) = Unit {0}
 MessageOffered regions (TaggedFrame last opcode stag to payload) = Unit {0}
@@ -77,7 +77,7 @@ ReadOffered regions (c ∷ calls) r = ((c.number ≡ r.number) × IsOffered c.xi
 -- the access of a frame, if it has one, is of a call that isn't among those that are answered
 abbrev pub IsAccess : List Region → List ℕ → FrameContent → Type 0
 IsAccess regions answered HelloFrame = Unit {0}
-IsAccess regions answered (PartFrame offset payload) = Unit {0}
+IsAccess regions answered (PartFrame named offset payload) = Unit {0}
 IsAccess regions answered (SendFrame message) = Unit {0}
 IsAccess regions answered (RequestFrame sink at size stag to) = (xid : ℕ) × (times xid answered ≡ 0) × IsOffered xid stag Fetch (to + size) regions
 IsAccess regions answered (TaggedFrame last opcode stag to payload) = (xid : ℕ) × (times xid answered ≡ 0) × IsOffered xid stag Fill (to + length payload) regions
@@ -144,7 +144,7 @@ send_more regions others f message h = λ header is. lists_more regions others (
 
 pub message_more : (regions others : List Region) → OffersMore regions others → (p : FrameContent) → MessageOffered regions p → MessageOffered others p
 message_more regions others f HelloFrame h = tt
-message_more regions others f (PartFrame offset payload) h = tt
+message_more regions others f (PartFrame named offset payload) h = tt
 message_more regions others f (SendFrame message) h = send_more regions others f message.bytes h
 message_more regions others f (RequestFrame sink at size stag to) h = tt
 message_more regions others f (TaggedFrame last opcode stag to payload) h = tt
@@ -156,7 +156,7 @@ read_more_lem regions others f (c ∷ calls) r (inr h) = inr (read_more_lem regi
 
 access_more : (regions others : List Region) → OffersMore regions others → (answered : List ℕ) (p : FrameContent) → IsAccess regions answered p → IsAccess others answered p
 access_more regions others f answered HelloFrame h = tt
-access_more regions others f answered (PartFrame offset payload) h = tt
+access_more regions others f answered (PartFrame named offset payload) h = tt
 access_more regions others f answered (SendFrame message) h = tt
 access_more regions others f answered (RequestFrame sink at size stag to) h = (h.0, h.1, f h.0 stag Fetch (to + size) h.2)
 access_more regions others f answered (TaggedFrame last opcode stag to payload) h = (h.0, h.1, f h.0 stag Fill (to + length payload) h.2)
@@ -184,7 +184,7 @@ access_at regions before (x ∷ ps) p qs h = subst (λ (xs : List FrameContent).
 -- what isn't answered by all of some frames isn't by the first of them
 access_earlier : (regions : List Region) (answered later : List ℕ) → ((x : ℕ) → times x answered ≤ times x later) → (p : FrameContent) → IsAccess regions later p → IsAccess regions answered p
 access_earlier regions answered later le HelloFrame h = tt
-access_earlier regions answered later le (PartFrame offset payload) h = tt
+access_earlier regions answered later le (PartFrame named offset payload) h = tt
 access_earlier regions answered later le (SendFrame message) h = tt
 access_earlier regions answered later le (RequestFrame sink at size stag to) h = (h.0, omega (arith, le h.0, h.1), h.2)
 access_earlier regions answered later le (TaggedFrame last opcode stag to payload) h = (h.0, omega (arith, le h.0, h.1), h.2)
@@ -198,11 +198,11 @@ accesses_each regions before (p ∷ ps) h = (
 )
 
 -- messages access nothing
-pub accesses_message : (regions : List Region) (before : List FrameContent) (message : List ℕ) → AreAccesses regions before (send_frames message)
-accesses_message regions before message =
-    accesses_each regions before (send_frames message) (each_send (IsAccess regions (message_xids (before ++ send_frames message))) (λ offset payload. tt) message tt)
+pub accesses_message : (regions : List Region) (before : List FrameContent) (named : Option ℕ) (message : List ℕ) → AreAccesses regions before (send_frames named message)
+accesses_message regions before named message =
+    accesses_each regions before (send_frames named message) (each_send (IsAccess regions (message_xids (before ++ send_frames named message))) named (λ offset payload. tt) message tt)
 
 pub accesses_messages : (regions : List Region) (before : List FrameContent) (messages : List (List ℕ)) → AreAccesses regions before (errors_frames messages)
 accesses_messages regions before [] = tt
 accesses_messages regions before (m ∷ messages) =
-    accesses_append regions before (send_frames m) (errors_frames messages) (accesses_message regions before m) (accesses_messages regions (before ++ send_frames m) messages)
+    accesses_append regions before (send_frames None m) (errors_frames messages) (accesses_message regions before None m) (accesses_messages regions (before ++ send_frames None m) messages)

@@ -4,7 +4,6 @@ use Rattle.std.specs.Prelude.{slice_index_or, Contains}
 use Rattle.nr_wire.specs.declared.hello.Side.TheVariants.{Initiator}
 use Rattle.nr_link.specs.declared.end.End.{End as Stop}
 use Rattle.nr_link.specs.Frames.{Frame, is_hello}
-use Rattle.nr_link.specs.Ending.{frame_segment}
 use Rattle.nr_reduce.specs.declared.mark.LinkParameters.{LinkParameters}
 use Rattle.nr_reduce.specs.Plans.{Buffer, buffers}
 use Rattle.nr_reduce.specs.Events.{RunEvent, events}
@@ -12,7 +11,7 @@ use Rattle.nr_reduce.specs.Events.RunEvent.{FrameReceived, CallSubmitted, Memory
 use Rattle.nr_reduce.specs.EndRules.{EndState, next_end_state, next_end_state_by, next_end_state_in, end_state_after}
 use Rattle.nr_reduce.specs.OfferedRegions.{Region, closed_if, regions_closed}
 use Rattle.nr_reduce.specs.ClientState.{ClientState}
-use Rattle.nr_reduce.specs.Client.{client_rules, client_end, client_state_after, initial_client, outstanding_of, region_of, with_segment, with_hello, due_with_response}
+use Rattle.nr_reduce.specs.Client.{client_segment, client_rules, client_end, client_state_after, initial_client, outstanding_of, region_of, with_segment, with_hello, due_with_response}
 use Rattle.nr_reduce.specs.Run.{client}
 use Rattle.nr_reduce.proofs.Steps.{end_state_after_append}
 use Rattle.nr_reduce.proofs.OwnStags.{kept_after}
@@ -94,9 +93,9 @@ one_event opened es e h = by_ended (state_at opened es).ended
     by_event : (x : RunEvent) → e ≡ x → AllOf P (client_state_after opened k x).regions
     by_event (FrameReceived f) is = by_hello (is_hello f)
       where
-        by_hello : (b : Bool) → AllOf P (cond b (with_hello opened k f) (with_segment k f (frame_segment f))).regions
+        by_hello : (b : Bool) → AllOf P (cond b (with_hello opened k f) (with_segment k f (client_segment k f))).regions
         by_hello true = same
-        by_hello false = frame_regions (AllOf P) k f (λ test g. all_closed_lem P (chunk_closed opened (es ++ e ∷ [])) test f.end k.regions g) same (frame_segment f)
+        by_hello false = frame_regions (AllOf P) k f (λ test g. all_closed_lem P (chunk_closed opened (es ++ e ∷ [])) test f.end k.regions g) same (client_segment k f)
     by_event (CallSubmitted place a) is =
         let new : List Region = map (region_of a.xid place) (buffers k.stag (outstanding_of k a).plan) in
         all_append P k.regions new same
@@ -203,9 +202,9 @@ lives_after : (opened : LinkParameters) (k : ClientState) (e : RunEvent) → All
 unfolding client_state_after
 lives_after opened k (FrameReceived f) h = by (is_hello f)
   where
-    by : (b : Bool) → AllLive (cond b (with_hello opened k f) (with_segment k f (frame_segment f)))
+    by : (b : Bool) → AllLive (cond b (with_hello opened k f) (with_segment k f (client_segment k f)))
     by true = h
-    by false = lives_segment k f (frame_segment f) h
+    by false = lives_segment k f (client_segment k f) h
 lives_after opened k (CallSubmitted place a) h =
     let os : List OutstandingCall = k.outstanding ++ outstanding_of k a ∷ [] in
     all_append (Lives os) k.regions (map (region_of a.xid place) (buffers k.stag (outstanding_of k a).plan))

@@ -11,9 +11,10 @@ use Rattle.nr_header.specs.WithinLimits.{CanRead}
 use Rattle.nr_header.specs.Reading.{header_of}
 use Rattle.nr_header.proofs.Messages.{header_take}
 use Rattle.nr_wire.specs.declared.hello.Side.TheVariants.{Responder}
-use Rattle.nr_wire.specs.Segment.{Segment}
+use Rattle.nr_wire.specs.Segment.{Segment, segment_of}
 use Rattle.nr_link.specs.Frames.{Frame, is_hello}
 use Rattle.nr_link.specs.Ending.{frame_segment}
+use Rattle.nr_link.proofs.TakenSegments.{frame_read}
 use Rattle.nr_link.specs.ReceiveState.{ReceiveState, begun_bytes, message_completed}
 use Rattle.nr_reduce.specs.declared.mark.Mark.{Mark}
 use Rattle.nr_reduce.specs.declared.mark.LinkParameters.{LinkParameters}
@@ -68,10 +69,9 @@ read_offer message h bytes is =
 -- ---- A message that a server received is of bytes
 
 begun_event : (h : ReceiveState) (place : ℕ) (e : RunEvent) → IsNext place e → IsBytes (begun_bytes h.begun) → IsBytes (begun_bytes (received_event h e).begun)
-unfolding frame_segment
-begun_event h place (FrameReceived f) next b = by (is_hello f) (frame_segment f) refl
+begun_event h place (FrameReceived f) next b = by (is_hello f) (segment_of f.bytes) refl
   where
-    by : (c : Bool) (r : Result Segment ℕ) → frame_segment f ≡ r → IsBytes (begun_bytes (cond c h (received_by h r)).begun)
+    by : (c : Bool) (r : Result Segment ℕ) → segment_of f.bytes ≡ r → IsBytes (begun_bytes (cond c h (received_by h r)).begun)
     by true r is = b
     by false (Err reason) is = b
     by false (Ok segment) is = bytes-after h segment b (payload_bytes_lem f.bytes segment next.2 is)
@@ -93,10 +93,9 @@ begun_along opened place r (e ∷ es) rest g live b =
 pub received_bytes : (opened : LinkParameters) (link : ℕ) (run : List Mark) → IsTyped run → AskedSoFar opened link run → ServedSoFar opened link run → Matched link run
     → (es : List RunEvent) (f : Frame) (rest : List RunEvent) (s : Segment) (message : List ℕ) → events link Responder run ≡ es ++ FrameReceived f ∷ rest → is_hello f ≡ false → frame_segment f ≡ Ok s
     → message_completed (server_by opened es).received s ≡ Some message → (end_state_after (server_rules opened) (initial_server opened) es).ended ≡ None → IsBytes message
-unfolding frame_segment
 received_bytes opened link run typed asked served matched es f rest s message all behind is whole live =
     let g = server_goes opened link run typed served in
     let goes = subst (λ (xs : List RunEvent). GoesOn (server_rules opened) ServerPlain 0 (initial_server opened) xs) all g.goes in
     let next = (later_preserve (server_rules opened) ServerPlain 0 (initial_server opened) es (FrameReceived f ∷ rest) goes).0 in
     let begun = begun_along opened 0 (initial_server opened) es (FrameReceived f ∷ rest) goes live (λ i. omega arith) in
-    completed_bytes (server_by opened es).received s message begun (payload_bytes_lem f.bytes s next.2 is) whole
+    completed_bytes (server_by opened es).received s message begun (payload_bytes_lem f.bytes s next.2 (frame_read f s is)) whole

@@ -4,11 +4,11 @@ use Rattle.std.specs.Prelude.{Contains}
 use Rattle.std.proofs.lemmas.List.Elements.{All-contains, All-from_recursion}
 use Rattle.std.specs.List.{AllByRecursion}
 use Rattle.nr_wire.specs.declared.hello.Side.TheVariants.{Initiator, Responder}
-use Rattle.nr_wire.specs.Segment.{Segment}
+use Rattle.nr_wire.specs.Segment.{Segment, segment_of}
 use Rattle.nr_link.specs.declared.end.End.{End as Stop}
 use Rattle.nr_link.specs.Frames.{Frame, is_hello}
 use Rattle.nr_link.specs.ReceiveState.{ReadRequest, message_completed, read_request_of}
-use Rattle.nr_link.specs.Ending.{frame_segment}
+use Rattle.nr_link.proofs.TakenSegments.{taken_read}
 use Rattle.nr_reduce.specs.declared.mark.Mark.{Mark}
 use Rattle.nr_reduce.specs.declared.mark.LinkParameters.{LinkParameters}
 use Rattle.nr_reduce.specs.History.{CompletedCall}
@@ -19,7 +19,7 @@ use Rattle.nr_reduce.specs.EndRules.{EndState, next_end_state_by, next_end_state
 use Rattle.nr_reduce.specs.ClientState.{ClientState}
 use Rattle.nr_reduce.specs.ClientMessages.{ReplyVerdict, reply_verdict}
 use Rattle.nr_reduce.specs.ClientMessages.ReplyVerdict.{EndsLink, GivesOutcome}
-use Rattle.nr_reduce.specs.Client.{client_rules, client_end, client_state_after, outcomes_of, with_message, with_request, with_segment, initial_client, with_hello, due_with_response}
+use Rattle.nr_reduce.specs.Client.{client_segment, client_rules, client_end, client_state_after, outcomes_of, with_message, with_request, with_segment, initial_client, with_hello, due_with_response}
 use Rattle.nr_reduce.specs.Run.{client}
 use Rattle.nr_reduce.specs.Asked.{AskedSoFar}
 use Rattle.nr_reduce.specs.Served.{ServedSoFar}
@@ -48,7 +48,7 @@ pub record WasGiven (opened : LinkParameters) (es : List RunEvent) (c : Complete
   pub live : (client_by opened earlier).ended ≡ None
   pub stays : client_end (client_by opened earlier).state (FrameReceived frame) ≡ None
   pub segment : Segment
-  pub is_segment : frame_segment frame ≡ Ok segment
+  pub is_segment : segment_of frame.bytes ≡ Ok segment
   pub message : List ℕ
   pub whole : message_completed (client_by opened earlier).state.received segment ≡ Some message
   pub given : reply_verdict (client_by opened earlier).state frame.end message ≡ GivesOutcome c.xid (Some c.outcome)
@@ -100,10 +100,10 @@ after_each opened es (FrameReceived f) h live stays = by (is_hello f) refl
     old : AllByRecursion (WasGiven opened (es ++ FrameReceived f ∷ [])) k.outcomes
     old = each_all (WasGiven opened es) (WasGiven opened (es ++ FrameReceived f ∷ [])) k.outcomes (given_later opened es (FrameReceived f)) h
 
-    by : (b : Bool) → is_hello f ≡ b → AllByRecursion (WasGiven opened (es ++ FrameReceived f ∷ [])) (cond b (with_hello opened k f) (with_segment k f (frame_segment f))).outcomes
+    by : (b : Bool) → is_hello f ≡ b → AllByRecursion (WasGiven opened (es ++ FrameReceived f ∷ [])) (cond b (with_hello opened k f) (with_segment k f (client_segment k f))).outcomes
     by true is = old
-    by false is = segment_each (WasGiven opened (es ++ FrameReceived f ∷ [])) k f (frame_segment f) old (λ s m c own whole given.
-        record { earlier = es; frame = f; later = []; is = refl; behind = is; live = live; stays = stays; segment = s; is_segment = own; message = m; whole = whole; given = given })
+    by false is = segment_each (WasGiven opened (es ++ FrameReceived f ∷ [])) k f (client_segment k f) old (λ s m c own whole given.
+        record { earlier = es; frame = f; later = []; is = refl; behind = is; live = live; stays = stays; segment = s; is_segment = taken_read k.invalidates f.bytes s own; message = m; whole = whole; given = given })
 after_each opened es (CallSubmitted p a) h live stays = each_all (WasGiven opened es) (WasGiven opened (es ++ CallSubmitted p a ∷ [])) (client_by opened es).state.outcomes (given_later opened es (CallSubmitted p a)) h
 after_each opened es (MemoryRevoked p xid) h live stays = each_all (WasGiven opened es) (WasGiven opened (es ++ MemoryRevoked p xid ∷ [])) (client_by opened es).state.outcomes (given_later opened es (MemoryRevoked p xid)) h
 after_each opened es (CallExecuted e) h live stays = each_all (WasGiven opened es) (WasGiven opened (es ++ CallExecuted e ∷ [])) (client_by opened es).state.outcomes (given_later opened es (CallExecuted e)) h
@@ -170,5 +170,5 @@ outcome_said opened link run typed asked served matched c there =
       behind = at.later ++ r.left;
       parts = parts;
       brings = at.brings;
-      said = t.said at.earlier w.segment (at.later ++ r.left) w.message parts one;
+      said = (t.said at.earlier w.segment (at.later ++ r.left) w.message parts one).said;
     }

@@ -11,11 +11,11 @@ use Rattle.nr_link.specs.declared.end.End.{End as Stop}
 use Rattle.nr_link.specs.declared.end.End.TheVariants as ends
 use Rattle.nr_link.specs.Limits.{segment_max, send_unit}
 use Rattle.nr_link.specs.Reasons.{denied_word, NO_BUFFER_WORD}
-use Rattle.nr_link.specs.Output.{segment_count, segment_payload, cut, msn_word, send, read_response, read_request, terminate_message, refusing_hello}
-use Rattle.nr_laws.specs.MessageSegments.{message_segment, message_segments}
+use Rattle.nr_link.specs.Output.{segment_count, segment_payload, cut, msn_word, send, send_by, send_invalidating, read_response, read_request, terminate_message, refusing_hello}
+use Rattle.nr_laws.specs.MessageSegments.{message_segment, message_segments, named_segment, named_segments}
 use Rattle.nr_link.specs.Frames.{is_hello}
 use Rattle.nr_link.specs.ReceiveState.{ReadRequest}
-use Rattle.nr_link.specs.Ending.{frame_segment, final_output, last_output, is_hello_reason}
+use Rattle.nr_link.specs.Ending.{final_output, last_output, is_hello_reason}
 use Rattle.nr_reduce.specs.Hellos.{server_hello}
 use Rattle.nr_reduce.specs.declared.mark.LinkParameters.{LinkParameters}
 use Rattle.nr_reduce.specs.History.{ExecutedCall}
@@ -28,10 +28,10 @@ use Rattle.nr_reduce.specs.Holds.{Answer, answer_message, chunk_error}
 use Rattle.nr_reduce.specs.ChunkBytes.{answer_segments}
 use Rattle.nr_reduce.proofs.Answering.{answer_spells}
 use Rattle.nr_reduce.specs.ClientState.{ClientState, OutstandingCall, client_memory_at}
-use Rattle.nr_reduce.specs.Client.{client_output, calls_output, call_output, response_output, segment_request, outstanding_of}
+use Rattle.nr_reduce.specs.Client.{client_segment, client_output, calls_output, call_output, response_output, segment_request, outstanding_of}
 use Rattle.nr_reduce.specs.ServerState.{ServerState, PendingRead, credit_word}
 use Rattle.nr_reduce.specs.ServerFrames.{FrameEffect, frame_effect}
-use Rattle.nr_reduce.specs.Server.{server_output, sends_from, requests_from, newly_open_reads, effect_output, offer_of, answer_of_target, answer_output, execution_output}
+use Rattle.nr_reduce.specs.Server.{server_output, sends_from, requests_from, newly_open_reads, effect_output, offer_of, answer_of_target, answer_output, execution_output, stag_named}
 
 pub data Output : Type 0 where
   AHello : (bytes : List ℕ) → Output
@@ -65,11 +65,25 @@ flat_map_lem f (i ∷ is) = ap (λ (xs : List ℕ). encoding (f i) ++ xs) (flat_
 abbrev pub message_outputs : ℕ → List ℕ → List Output
 message_outputs msn message = map ASegment (message_segments msn message)
 
+-- one that names an STag, or none
+abbrev pub named_outputs : Option ℕ → ℕ → List ℕ → List Output
+named_outputs named msn message = map ASegment (named_segments named msn message)
+
+invalidating_said : (msn stag : ℕ) (message : List ℕ) → send_invalidating msn stag message ≡ bytes_of_all (named_outputs (Some stag) msn message)
+unfolding send_invalidating cut
+invalidating_said msn stag message =
+    flat_map_lem (named_segment (Some stag) msn message) (range_with_len 0 (segment_count message))
+    ∙ sym (bytes_segments (named_segments (Some stag) msn message))
+
 pub send_said : (msn : ℕ) (message : List ℕ) → send msn message ≡ bytes_of_all (message_outputs msn message)
 unfolding send cut
 send_said msn message =
     flat_map_lem (message_segment msn message) (range_with_len 0 (segment_count message))
     ∙ sym (bytes_segments (message_segments msn message))
+
+pub named_said : (named : Option ℕ) (msn : ℕ) (message : List ℕ) → send_by named msn message ≡ bytes_of_all (named_outputs named msn message)
+named_said None msn message = send_said msn message
+named_said (Some stag) msn message = invalidating_said msn stag message
 
 abbrev pub message_of_call : LinkParameters → OutstandingCall → List ℕ
 message_of_call opened o = call_message o.xid opened.wished o.stag o.plan
@@ -188,7 +202,7 @@ response_outputs k place None = []
 response_outputs k place (Some r) = map ASegment (response_segments r.sink r.sink_to (take r.size (drop r.to (client_memory_at k place r.stag))))
 
 unfoldable pub client_says : LinkParameters → ClientState → RunEvent → List Output
-client_says opened k (FrameReceived f) = cond (is_hello f) (call_sends opened 1 k.outstanding) (response_outputs k f.end (segment_request (frame_segment f)))
+client_says opened k (FrameReceived f) = cond (is_hello f) (call_sends opened 1 k.outstanding) (response_outputs k f.end (segment_request (client_segment k f)))
 client_says opened k (CallSubmitted place a) = cond k.has_hello (message_outputs (k.sends + 1) (message_of_call opened (outstanding_of k a))) []
 client_says opened k (MemoryRevoked place xid) = []
 client_says opened k (CallExecuted call) = []
@@ -197,7 +211,7 @@ client_says opened k (ServerTold what) = []
 
 pub client_said : (opened : LinkParameters) (k : ClientState) (event : RunEvent) → client_output opened k event ≡ bytes_of_all (client_says opened k event)
 unfolding client_output client_says
-client_said opened k (FrameReceived f) = by (is_hello f) (segment_request (frame_segment f))
+client_said opened k (FrameReceived f) = by (is_hello f) (segment_request (client_segment k f))
   where
     by_request : (o : Option ReadRequest) → response_output k f.end o ≡ bytes_of_all (response_outputs k f.end o)
     by_request None = refl
@@ -221,7 +235,7 @@ effect_outputs k s = message_sends (k.messages_queued + 1) s.errors ++ request_o
 
 abbrev pub answer_outputs : ServerState → ℕ → ChunkLists → Option Answer → List Output
 answer_outputs k xid offer None = message_outputs (k.messages_queued + 1) (chunk_error xid (credit_word k))
-answer_outputs k xid offer (Some a) = map ASegment (answer_segments offer a) ++ message_outputs (k.messages_queued + 1) (answer_message xid (credit_word k) offer a)
+answer_outputs k xid offer (Some a) = map ASegment (answer_segments offer a) ++ named_outputs (stag_named k.invalidates offer) (k.messages_queued + 1) (answer_message xid (credit_word k) offer a)
 
 abbrev pub answer_of_call : ServerState → ExecutedCall → Option Answer
 answer_of_call k e = answer_of_target (offer_of k e.xid) k.down_max e.reply (target_of (call_of e.payload))
@@ -241,8 +255,8 @@ AnswerShort k xid offer (Some a) = IsShort (answer_message xid (credit_word k) o
 answer_said : (k : ServerState) (xid : ℕ) (offer : ChunkLists) (o : Option Answer) → answer_output k xid offer o ≡ bytes_of_all (answer_outputs k xid offer o)
 answer_said k xid offer None = send_said (k.messages_queued + 1) (chunk_error xid (credit_word k))
 answer_said k xid offer (Some a) =
-    (λ i. (answer_spells offer a ∙ sym (bytes_segments (answer_segments offer a))) i ++ send_said (k.messages_queued + 1) (answer_message xid (credit_word k) offer a) i)
-    ∙ sym (bytes_append (map ASegment (answer_segments offer a)) (message_outputs (k.messages_queued + 1) (answer_message xid (credit_word k) offer a)))
+    (λ i. (answer_spells offer a ∙ sym (bytes_segments (answer_segments offer a))) i ++ named_said (stag_named k.invalidates offer) (k.messages_queued + 1) (answer_message xid (credit_word k) offer a) i)
+    ∙ sym (bytes_append (map ASegment (answer_segments offer a)) (named_outputs (stag_named k.invalidates offer) (k.messages_queued + 1) (answer_message xid (credit_word k) offer a)))
 
 pub server_said : (opened : LinkParameters) (k : ServerState) (event : RunEvent) → server_output opened k event ≡ bytes_of_all (server_says opened k event)
 unfolding server_output server_says execution_output

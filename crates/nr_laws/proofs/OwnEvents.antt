@@ -1,6 +1,6 @@
 -- What holds between both ends of a link is kept when a call is submitted or executed, memory is revoked, a queue is written, and the server
 -- is told something.
-use Rattle.std.proofs.Common.{◌≡◌, ℕ, ◌+◌, ◌<◌, Bool, true, false, cond, not, eqb, List, [], ◌∷◌, ◌++◌, length, map, Result, Ok, refl, sym, ap, subst, ◌∙◌, arith, append_assoc, append-nil}
+use Rattle.std.proofs.Common.{◌≡◌, ℕ, ◌+◌, ◌<◌, Bool, true, false, cond, not, eqb, List, [], ◌∷◌, ◌++◌, length, map, Result, Ok, refl, sym, ap, subst, ◌∙◌, arith, append_assoc, append-nil, None}
 use Rattle.std.specs.List.{list_any}
 use Rattle.std.proofs.lemmas.List.{length-map}
 use Rattle.nr_wire.specs.declared.hello.Side.TheVariants.{Initiator, Responder}
@@ -88,7 +88,7 @@ submitted opened k s u d all_up all_down w place a plan l own is limits = by k.h
     message = message_of_call opened (outstanding_of k a)
 
     frames : List FrameContent
-    frames = send_frames message
+    frames = send_frames None message
 
     calls : (b : Bool) → k.has_hello ≡ b → total_of sends_in all_up ≡ cond b k.sends 0
     calls b e = calls_said opened k s u d all_up all_down w l ∙ ap (λ (x : Bool). cond x k.sends 0) e
@@ -109,9 +109,9 @@ submitted opened k s u d all_up all_down w place a plan l own is limits = by k.h
     by true e =
         with_said frames (ap (λ (x : Bool). cond x frames []) e)
         (ap (λ (x : Bool). cond x (call_output opened (k.sends + 1) (outstanding_of k a)) []) e
-        ∙ message_said opened Initiator k.sends (total_of requests_in all_up) message
+        ∙ message_said opened Initiator k.sends (total_of requests_in all_up) None message
         ∙ (λ i. output_bytes opened Initiator (sym (calls true e) i) (total_of requests_in all_up) frames))
-        (short_proper message short) (send_counts hellos_in 0 (λ offset payload. refl) (λ m. refl) message) (send_counts requests_in 0 (λ offset payload. refl) (λ m. refl) message)
+        (short_proper None message tt short) (send_counts hellos_in 0 (λ named offset payload. refl) (λ m. refl) None message) (send_counts requests_in 0 (λ named offset payload. refl) (λ m. refl) None message)
     by false e =
         with_said [] (ap (λ (x : Bool). cond x frames []) e) (ap (λ (x : Bool). cond x (call_output opened (k.sends + 1) (outstanding_of k a)) []) e) tt refl refl
 
@@ -208,8 +208,8 @@ executed opened k s u d all_up all_down w e r rest l first own begun limits =
     let t = server_state_after opened s (CallExecuted e) in
     let answer = answer_of_target (offer_of s e.xid) s.down_max e.reply (target_of (call_of e.payload)) in
     let there = executed_there s e.xid r rest l.waits first own in
-    let hellos : total_of hellos_in said ≡ 0 = answer_counts hellos_in 0 (λ last stag to payload. refl) (λ offset payload. refl) (λ m. refl) s e.xid (offer_of s e.xid) answer in
-    let reads : total_of requests_in said ≡ 0 = answer_counts requests_in 0 (λ last stag to payload. refl) (λ offset payload. refl) (λ m. refl) s e.xid (offer_of s e.xid) answer in
+    let hellos : total_of hellos_in said ≡ 0 = answer_counts hellos_in 0 (λ last stag to payload. refl) (λ named offset payload. refl) (λ m. refl) s e.xid (offer_of s e.xid) answer in
+    let reads : total_of requests_in said ≡ 0 = answer_counts requests_in 0 (λ last stag to payload. refl) (λ named offset payload. refl) (λ m. refl) s e.xid (offer_of s e.xid) answer in
     record {
       said = said;
       said_is = refl;

@@ -7,10 +7,9 @@ use Rattle.nr_reduce.specs.declared.mark.LinkParameters.{LinkParameters}
 use Rattle.nr_reduce.specs.History.{AcceptedCall}
 use Rattle.nr_link.specs.Frames.{Frame, is_hello}
 use Rattle.nr_link.specs.ReceiveState.{ReadRequest, message_completed, read_request_of}
-use Rattle.nr_link.specs.Ending.{frame_segment}
 use Rattle.nr_reduce.specs.Events.RunEvent.{FrameReceived, CallSubmitted, QueueWritten}
 use Rattle.nr_reduce.specs.ClientState.{ClientState, OutstandingCall}
-use Rattle.nr_reduce.specs.Client.{client_state_after, with_segment, with_message, with_request, outstanding_of, with_hello, due_with_response}
+use Rattle.nr_reduce.specs.Client.{client_segment, client_state_after, with_segment, with_message, with_request, outstanding_of, with_hello, due_with_response}
 use Rattle.nr_laws.proofs.LinkInvariants.{IsUnused, AreDistinct, AreAtMost}
 use Rattle.nr_laws.proofs.Totals.{apart_kept, apart_push}
 use Rattle.nr_reduce.proofs.XidsFollow.{Follows, BothFollow, both_after}
@@ -46,13 +45,13 @@ pub own_xids_came : (opened : LinkParameters) (k : ClientState) (f : Frame) → 
 unfolding client_state_after
 own_xids_came opened k f h = record { apart = by (is_hello f); follow = both_after opened k (FrameReceived f) tt h.follow }
   where
-    segment : ((with_segment k f (frame_segment f)).outstanding ≡ k.outstanding) ⊎ ((p : OutstandingCall → Bool) × ((with_segment k f (frame_segment f)).outstanding ≡ filter p k.outstanding)) → Distinct (with_segment k f (frame_segment f)).outstanding
+    segment : ((with_segment k f (client_segment k f)).outstanding ≡ k.outstanding) ⊎ ((p : OutstandingCall → Bool) × ((with_segment k f (client_segment k f)).outstanding ≡ filter p k.outstanding)) → Distinct (with_segment k f (client_segment k f)).outstanding
     segment (inl same) = subst (λ (os : List OutstandingCall). Distinct os) (sym same) h.apart
     segment (inr left) = subst (λ (os : List OutstandingCall). Distinct os) (sym left.1) (apart_kept (λ (o : OutstandingCall). o.xid) left.0 k.outstanding h.apart)
 
-    by : (b : Bool) → Distinct (cond b (with_hello opened k f) (with_segment k f (frame_segment f))).outstanding
+    by : (b : Bool) → Distinct (cond b (with_hello opened k f) (with_segment k f (client_segment k f))).outstanding
     by true = h.apart
-    by false = segment (segment_out k f (frame_segment f))
+    by false = segment (segment_out k f (client_segment k f))
 
 above : (n : ℕ) (os : List OutstandingCall) → AreAtMost (λ (o : OutstandingCall). o.xid + 1) n os → IsUnused (λ (o : OutstandingCall). o.xid) n os
 above n [] h = tt

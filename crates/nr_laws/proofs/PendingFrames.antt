@@ -20,14 +20,15 @@ use Rattle.nr_reduce.specs.ServerMessages.CallVerdict.{Refuses, IsReady}
 use Rattle.nr_laws.proofs.FrameContents.{Carries, SentMessage, part_segment, last_segment}
 use Rattle.nr_laws.proofs.FrameContents.FrameContent.{PartFrame, SendFrame, TaggedFrame}
 use Rattle.nr_laws.proofs.LinkInvariants.{PendingAgree, HaveSinks}
-use Rattle.nr_laws.proofs.TotalsAtServer.{after_is_lem, step_is, segment_is, with_by}
+use Rattle.nr_laws.proofs.TotalsAtServer.{after_is_lem, step_is, with_by}
 use Rattle.nr_laws.proofs.PendingSends.{AfterEffect, pending_agree_message, pending_agree_same, verdict_new}
 use Rattle.nr_laws.proofs.PendingExecuted.{pending_agree_read}
 use Rattle.nr_laws.proofs.Sinks.{sink_later, sinks_closed, sinks_more, sinks_append, sinks_taken, sinks_dropped, sinks_kept}
 use Rattle.nr_laws.proofs.NewSinks.{AreKnown, sinks_opened}
 use Rattle.nr_laws.proofs.EachEffect.{whole_rule}
+use Rattle.nr_laws.proofs.ReadContents.{segment_is}
 
-pub pending_agree_send_up : (opened : LinkParameters) (s : ServerState) (f : Frame) (message : SentMessage) → PendingAgree s → Carries s.received.sends s.received.requests f (SendFrame message) → (frame_effect s f).refusal ≡ None → PendingAgree (server_state_after opened s (FrameReceived f))
+pub pending_agree_send_up : (opened : LinkParameters) (s : ServerState) (f : Frame) (message : SentMessage) → PendingAgree s → Carries false s.received.sends s.received.requests f (SendFrame message) → (frame_effect s f).refusal ≡ None → PendingAgree (server_state_after opened s (FrameReceived f))
 pending_agree_send_up opened s f message w p goes_on =
     let segment : Segment = last_segment s.received.sends message in
     let is : frame_segment f ≡ Ok segment = segment_is s.received.sends s.received.requests f (SendFrame message) segment p refl in
@@ -39,10 +40,10 @@ pending_agree_send_up opened s f message w p goes_on =
     (pending_agree_message s t f.end whole (verdict s whole) refl w (record { sends_are = refl; calls = refl; reads = refl; ready = refl }) unended)
 
 -- a segment of a Send that isn't its last
-pub pending_agree_part_up : (opened : LinkParameters) (s : ServerState) (f : Frame) (offset : ℕ) (payload : List ℕ) → PendingAgree s → Carries s.received.sends s.received.requests f (PartFrame offset payload) → PendingAgree (server_state_after opened s (FrameReceived f))
-pending_agree_part_up opened s f offset payload w p =
+pub pending_agree_part_up : (opened : LinkParameters) (s : ServerState) (f : Frame) (named : Bool) (offset : ℕ) (payload : List ℕ) → PendingAgree s → Carries false s.received.sends s.received.requests f (PartFrame named offset payload) → PendingAgree (server_state_after opened s (FrameReceived f))
+pending_agree_part_up opened s f named offset payload w p =
     let segment : Segment = part_segment s.received.sends offset payload in
-    let is : frame_segment f ≡ Ok segment = segment_is s.received.sends s.received.requests f (PartFrame offset payload) segment p refl in
+    let is : frame_segment f ≡ Ok segment = segment_is s.received.sends s.received.requests f (PartFrame named offset payload) segment p refl in
     let t = with_by s f (Ok segment) (effect_in s f (Ok segment)) in
     subst (λ (t2 : ServerState). PendingAgree t2) (sym (after_is_lem opened s f (Ok segment) p.behind is))
     (pending_agree_same s t w refl refl (append-nil s.ready) (omega arith))
@@ -54,7 +55,7 @@ pending_agree_response s t f segment (r ∷ others) is w b goes_on =
     let k = with_access s f segment in
     pending_agree_read s t k f.end r others (call_of_number k r.number) (record (no_effect k) { reads = others; kept = length (open_reads k) - 1 }) w is refl refl refl refl b goes_on
 
-pub pending_agree_tagged_up : (opened : LinkParameters) (s : ServerState) (f : Frame) (last : Bool) (opcode stag to : ℕ) (payload : List ℕ) → PendingAgree s → Carries s.received.sends s.received.requests f (TaggedFrame last opcode stag to payload) → (frame_effect s f).refusal ≡ None
+pub pending_agree_tagged_up : (opened : LinkParameters) (s : ServerState) (f : Frame) (last : Bool) (opcode stag to : ℕ) (payload : List ℕ) → PendingAgree s → Carries false s.received.sends s.received.requests f (TaggedFrame last opcode stag to payload) → (frame_effect s f).refusal ≡ None
     → PendingAgree (server_state_after opened s (FrameReceived f))
 pending_agree_tagged_up opened s f last opcode stag to payload w p goes_on =
     let segment : Segment = Tagged last opcode stag to payload in
@@ -111,7 +112,7 @@ pub later_sinks : (place at : ℕ) (regions : List Region) (reads : List Pending
 later_sinks place at regions [] le h = tt
 later_sinks place at regions (r ∷ reads) le h = (sink_later place at r regions le h.0, later_sinks place at regions reads le h.1)
 
-pub sinks_send_up : (opened : LinkParameters) (s : ServerState) (f : Frame) (place : ℕ) (message : SentMessage) → AreKnown s → HaveSinks place s.regions s.reads → place ≤ f.end → Carries s.received.sends s.received.requests f (SendFrame message)
+pub sinks_send_up : (opened : LinkParameters) (s : ServerState) (f : Frame) (place : ℕ) (message : SentMessage) → AreKnown s → HaveSinks place s.regions s.reads → place ≤ f.end → Carries false s.received.sends s.received.requests f (SendFrame message)
     → HaveSinks f.end (server_state_after opened s (FrameReceived f)).regions (server_state_after opened s (FrameReceived f)).reads
 sinks_send_up opened s f place message a h le p =
     let segment : Segment = last_segment s.received.sends message in
@@ -121,17 +122,17 @@ sinks_send_up opened s f place message a h le p =
     subst (λ (t : ServerState). HaveSinks f.end t.regions t.reads) (sym (after_is_lem opened s f (Ok segment) p.behind is))
     (sinks_closed f.end f.end st.calls st.reads st.regions (omega arith) (message_sinks s f.end whole (verdict s whole) refl a (later_sinks place f.end s.regions s.reads le h)))
 
-pub sinks_part_up : (opened : LinkParameters) (s : ServerState) (f : Frame) (place : ℕ) (offset : ℕ) (payload : List ℕ) → HaveSinks place s.regions s.reads → place ≤ f.end → Carries s.received.sends s.received.requests f (PartFrame offset payload)
+pub sinks_part_up : (opened : LinkParameters) (s : ServerState) (f : Frame) (place : ℕ) (named : Bool) (offset : ℕ) (payload : List ℕ) → HaveSinks place s.regions s.reads → place ≤ f.end → Carries false s.received.sends s.received.requests f (PartFrame named offset payload)
     → HaveSinks f.end (server_state_after opened s (FrameReceived f)).regions (server_state_after opened s (FrameReceived f)).reads
-sinks_part_up opened s f place offset payload h le p =
+sinks_part_up opened s f place named offset payload h le p =
     let segment : Segment = part_segment s.received.sends offset payload in
-    let is : frame_segment f ≡ Ok segment = segment_is s.received.sends s.received.requests f (PartFrame offset payload) segment p refl in
+    let is : frame_segment f ≡ Ok segment = segment_is s.received.sends s.received.requests f (PartFrame named offset payload) segment p refl in
     let st = effect_in s f (Ok segment) in
     subst (λ (t : ServerState). HaveSinks f.end t.regions t.reads) (sym (after_is_lem opened s f (Ok segment) p.behind is))
     (sinks_closed f.end f.end st.calls st.reads st.regions (omega arith) (later_sinks place f.end s.regions s.reads le h))
 
 pub sinks_tagged_up : (opened : LinkParameters) (s : ServerState) (f : Frame) (place : ℕ) (last : Bool) (opcode stag to : ℕ) (payload : List ℕ) → HaveSinks place s.regions s.reads → place ≤ f.end
-    → Carries s.received.sends s.received.requests f (TaggedFrame last opcode stag to payload) → HaveSinks f.end (server_state_after opened s (FrameReceived f)).regions (server_state_after opened s (FrameReceived f)).reads
+    → Carries false s.received.sends s.received.requests f (TaggedFrame last opcode stag to payload) → HaveSinks f.end (server_state_after opened s (FrameReceived f)).regions (server_state_after opened s (FrameReceived f)).reads
 sinks_tagged_up opened s f place last opcode stag to payload h le p =
     let segment : Segment = Tagged last opcode stag to payload in
     let is : frame_segment f ≡ Ok segment = segment_is s.received.sends s.received.requests f (TaggedFrame last opcode stag to payload) segment p refl in

@@ -2,7 +2,7 @@
 -- done had the last segment of a response.
 use Rattle.std.proofs.Common.{◌≡◌, ℕ, ◌+◌, Bool, true, false, cond, ◌&&◌, not, eqb, List, [], ◌∷◌, ◌++◌, length, take, map, Option, None, Some, Result, Ok, Err, refl, sym, ap, subst, ◌∙◌, arith, append_assoc, append-nil, length-append, eqb-true}
 use Rattle.nr_wire.specs.Constants.{OPCODE_READ_RESPONSE, OPCODE_READ_REQUEST}
-use Rattle.nr_wire.specs.Segment.{Segment}
+use Rattle.nr_wire.specs.Segment.{Segment, segment_of}
 use Rattle.nr_wire.specs.Segment.Segment.{Tagged, Untagged}
 use Rattle.nr_regions.specs.declared.denied.Denied.{Denied}
 use Rattle.nr_link.specs.declared.end.End.{End as Stop}
@@ -11,6 +11,7 @@ use Rattle.nr_link.specs.ReceiveState.{ReceiveState, received_after, message_com
 use Rattle.nr_link.specs.SegmentFaults.{Readiness, segment_reason, reason_if, missing_fault, is_unexpected, is_expected}
 use Rattle.nr_link.specs.Reasons.{REASON_RESPONSE}
 use Rattle.nr_link.specs.Ending.{frame_segment, frame_end, frame_end_by, end_of_fault, hello_end, missing_access}
+use Rattle.nr_link.proofs.TakenSegments.{frame_read}
 use Rattle.nr_wire.specs.Hello.{hello_of}
 use Rattle.nr_wire.specs.declared.hello.Side.TheVariants.{Initiator}
 use Rattle.nr_reduce.specs.declared.mark.LinkParameters.{LinkParameters}
@@ -22,15 +23,15 @@ use Rattle.nr_reduce.specs.ServerReads.{expected_read_response, reads_of, region
 use Rattle.nr_reduce.specs.ServerMessages.{Verdict, verdict}
 use Rattle.nr_reduce.specs.ServerMessages.Verdict.{EndsLink, OtherVersion, BadChunks, MakesPending}
 use Rattle.nr_reduce.specs.ServerFrames.{FrameEffect, no_effect, message_effect, response_effect, call_of_number, by_message, with_access, effect_in, frame_effect}
-use Rattle.nr_reduce.specs.Server.{server_end, server_state_after, with_effect, received_by, or_refusal, server_readiness, newly_open_reads, offer_of}
+use Rattle.nr_reduce.specs.Server.{server_end, server_state_after, with_effect, received_by, or_refusal, server_readiness, newly_open_reads, offer_of, stag_named}
 use Rattle.nr_reduce.specs.Holds.{Answer, answer_message, chunk_error}
 use Rattle.nr_link.specs.Output.{segment_count}
-use Rattle.nr_laws.specs.MessageSegments.{message_segment}
+use Rattle.nr_laws.specs.MessageSegments.{named_segment}
 use Rattle.std.specs.List.{range_with_len}
 use Rattle.nr_header.specs.declared.header.ChunkLists.{ChunkLists}
 use Rattle.nr_reduce.proofs.Once.{NumberIs, verdict_number, whole_with, rises_with}
 use Rattle.nr_reduce.proofs.OwnStags.{AreNumbered, closed_length}
-use Rattle.nr_laws.proofs.Outputs.{Output, effect_outputs, answer_outputs, answer_of_call, message_sends, message_outputs, request_outputs, request_payload}
+use Rattle.nr_laws.proofs.Outputs.{Output, effect_outputs, answer_outputs, answer_of_call, message_sends, message_outputs, request_outputs, request_payload, named_outputs}
 use Rattle.nr_laws.proofs.Outputs.Output.{AHello, ASegment}
 use Rattle.nr_laws.proofs.TaggedSegments.{AreTagged}
 use Rattle.nr_laws.proofs.ClientSays.{no_reason}
@@ -58,12 +59,16 @@ requests_append [] ys = refl
 requests_append (AHello bytes ∷ xs) ys = requests_append xs ys
 requests_append (ASegment s ∷ xs) ys = ap (λ (ps : List (List ℕ)). request_in s ++ ps) (requests_append xs ys) ∙ sym (append_assoc (request_in s) (requests_in xs) (requests_in ys))
 
-requests_pieces : (msn : ℕ) (message is : List ℕ) → requests_in (map ASegment (map (message_segment msn message) is)) ≡ []
-requests_pieces msn message [] = refl
-requests_pieces msn message (i ∷ is) = requests_pieces msn message is
+requests_pieces : (named : Option ℕ) (msn : ℕ) (message is : List ℕ) → requests_in (map ASegment (map (named_segment named msn message) is)) ≡ []
+requests_pieces named msn message [] = refl
+requests_pieces None msn message (i ∷ is) = requests_pieces None msn message is
+requests_pieces (Some stag) msn message (i ∷ is) = requests_pieces (Some stag) msn message is
+
+requests_named : (named : Option ℕ) (msn : ℕ) (message : List ℕ) → requests_in (named_outputs named msn message) ≡ []
+requests_named named msn message = requests_pieces named msn message (range_with_len 0 (segment_count message))
 
 requests_message : (msn : ℕ) (message : List ℕ) → requests_in (message_outputs msn message) ≡ []
-requests_message msn message = requests_pieces msn message (range_with_len 0 (segment_count message))
+requests_message msn message = requests_named None msn message
 
 requests_sends : (msn : ℕ) (ms : List (List ℕ)) → requests_in (message_sends msn ms) ≡ []
 requests_sends msn [] = refl
@@ -83,9 +88,9 @@ requests_tagged (Untagged last opcode w queue msn offset payload ∷ segments) h
 requests_answer : (k : ServerState) (xid : ℕ) (offer : ChunkLists) (o : Option Answer) → requests_in (answer_outputs k xid offer o) ≡ []
 requests_answer k xid offer None = requests_message (k.messages_queued + 1) (chunk_error xid (credit_word k))
 requests_answer k xid offer (Some a) =
-    requests_append (map ASegment (Rattle.nr_reduce.specs.ChunkBytes.answer_segments offer a)) (message_outputs (k.messages_queued + 1) (answer_message xid (credit_word k) offer a))
+    requests_append (map ASegment (Rattle.nr_reduce.specs.ChunkBytes.answer_segments offer a)) (named_outputs (stag_named k.invalidates offer) (k.messages_queued + 1) (answer_message xid (credit_word k) offer a))
     ∙ (λ i. requests_tagged (Rattle.nr_reduce.specs.ChunkBytes.answer_segments offer a) (tagged_answer offer a) i
-    ++ requests_message (k.messages_queued + 1) (answer_message xid (credit_word k) offer a) i)
+    ++ requests_named (stag_named k.invalidates offer) (k.messages_queued + 1) (answer_message xid (credit_word k) offer a) i)
 
 -- ---- Last segments of responses
 
@@ -99,7 +104,7 @@ last_of (Err reason) = 0
 
 abbrev pub lasts_in : List RunEvent → ℕ
 lasts_in [] = 0
-lasts_in (FrameReceived f ∷ es) = cond (is_hello f) 0 (last_of (frame_segment f)) + lasts_in es
+lasts_in (FrameReceived f ∷ es) = cond (is_hello f) 0 (last_of (segment_of f.bytes)) + lasts_in es
 lasts_in (CallSubmitted p a ∷ es) = lasts_in es
 lasts_in (MemoryRevoked p xid ∷ es) = lasts_in es
 lasts_in (CallExecuted e ∷ es) = lasts_in es
@@ -218,7 +223,7 @@ frame_reads opened es k outs f s behind is stays own numbered h =
           ∙ (λ i. h.requests i ++ (requests_append (message_sends (k.messages_queued + 1) e.errors) (request_outputs (k.requests_sent + 1) (newly_open_reads e))
           ∙ (λ j. requests_sends (k.messages_queued + 1) e.errors j ++ requests_reads (k.requests_sent + 1) (newly_open_reads e) j)) i)
           ∙ sym (map-append request_payload (h.done ++ take 8 k.reads) (newly_open_reads e)) ∙ ap (λ (rs : List PendingRead). map request_payload rs) (sym effect.opened);
-      lasts = x.count ∙ (let l = h.lasts in let a = lasts_append es (FrameReceived f ∷ []) in let b = ap (λ (c : Bool). cond c 0 (last_of (frame_segment f))) behind in let c = ap last_of is in omega (arith, l, a, b, c));
+      lasts = x.count ∙ (let l = h.lasts in let a = lasts_append es (FrameReceived f ∷ []) in let b = ap (λ (c : Bool). cond c 0 (last_of (segment_of f.bytes))) behind in let c = ap last_of (frame_read f s is) in omega (arith, l, a, b, c));
     }
 
 quiet_reads : (opened : LinkParameters) (es : List RunEvent) (e : RunEvent) (k : ServerState) (outs more : List Output) → lasts_in (e ∷ []) ≡ 0 → requests_in more ≡ [] → ReadsAt opened es k outs → ReadsAt opened (es ++ e ∷ []) k (outs ++ more)

@@ -10,7 +10,6 @@ use Rattle.nr_reduce.specs.declared.mark.LinkParameters.{LinkParameters}
 use Rattle.nr_link.specs.Output.{msn_word, segment_count, segment_payload}
 use Rattle.nr_link.specs.Frames.{Frame}
 use Rattle.nr_link.specs.ReceiveState.{ReadRequest, read_request_in}
-use Rattle.nr_link.specs.Ending.{frame_segment}
 use Rattle.nr_reduce.specs.Holds.{Answer, answer_message, first_chunk, no_segments, chunk_error}
 use Rattle.nr_reduce.specs.Events.RunEvent.{FrameReceived}
 use Rattle.nr_reduce.specs.ClientState.{ClientState, client_memory_at}
@@ -18,11 +17,13 @@ use Rattle.nr_reduce.specs.ServerState.{ServerState, PendingRead, credit_word}
 use Rattle.nr_laws.proofs.FrameContents.{FrameContent, Carries, request_frame, client_frames, tagged_frames, write_frames, answer_frames, send_frames}
 use Rattle.nr_laws.proofs.FrameContents.FrameContent.{RequestFrame, TaggedFrame}
 use Rattle.nr_laws.proofs.LinkInvariants.{Transit, AreResponses, requests_of, ReadsAgree}
-use Rattle.nr_laws.proofs.TotalsAtServer.{segment_is}
 use Rattle.nr_laws.proofs.TotalsAtClient.{says_is, request_payload, down_one}
 use Rattle.nr_laws.proofs.ExpectedResponses.{answers_append, answers_one}
 use Rattle.nr_laws.proofs.ReadsAtServer.{requests_append, send_asks_none}
 use Rattle.nr_link.specs.Limits.{segment_max}
+use Rattle.nr_reduce.specs.Server.{stag_named}
+use Rattle.nr_laws.proofs.ReadContents.{plain_is}
+use Rattle.nr_laws.proofs.PlainSegments.{plain_segment}
 
 -- ---- The client receives a Read Request, and answers it by the bytes that it asks for
 
@@ -38,11 +39,11 @@ first_asked [] sink at size stag to ps e = absurd cc
 first_asked (r ∷ others) sink at size stag to ps e = (r, others, refl, cc, cc, cc, cc)
 
 pub reads_read_down : (opened : LinkParameters) (k : ClientState) (s : ServerState) (w : Transit) (f : Frame) (sink at size stag to : ℕ) (rest : List FrameContent) → ReadsAgree s w → w.down ≡ RequestFrame sink at size stag to ∷ rest
-    → Carries k.received.sends k.received.requests f (RequestFrame sink at size stag to) → IsThere k f.end sink at size stag to
+    → Carries k.invalidates k.received.sends k.received.requests f (RequestFrame sink at size stag to) → IsThere k f.end sink at size stag to
     → ReadsAgree s (down_one w (client_frames opened k (FrameReceived f)) rest)
 reads_read_down opened k s w f sink at size stag to rest c first p there =
     let segment : Segment = Untagged true OPCODE_READ_REQUEST 0 QUEUE_READ_REQUEST (msn_word (k.received.requests + 1)) 0 (request_payload sink at size stag to) in
-    let is : frame_segment f ≡ Ok segment = segment_is k.received.sends k.received.requests f (RequestFrame sink at size stag to) segment p refl in
+    let is : plain_segment k f ≡ Ok segment = plain_is k f (RequestFrame sink at size stag to) segment p refl in
     let bytes = take size (drop to (client_memory_at k f.end stag)) in
     let len : length bytes ≡ size = omega (arith, length-take size (drop to (client_memory_at k f.end stag)), length-drop to (client_memory_at k f.end stag), there.there) in
     let said : client_frames opened k (FrameReceived f) ≡ tagged_frames OPCODE_READ_RESPONSE sink at bytes =
@@ -102,14 +103,14 @@ none_long true chunk bytes = none_filled chunk bytes
 none_long false chunk bytes = refl
 
 pub none_answered : (s : ServerState) (xid : ℕ) (offer : ChunkLists) (a : Option Answer) → requests_of (answer_frames s xid offer a) ≡ []
-none_answered s xid offer None = send_asks_none (chunk_error xid (credit_word s))
+none_answered s xid offer None = send_asks_none None (chunk_error xid (credit_word s))
 none_answered s xid offer (Some a) =
     let moved = write_frames (first_chunk offer.write) a.moved in
     let long = cond a.long (write_frames (no_segments offer.reply) a.stream) [] in
-    let last = send_frames (answer_message xid (credit_word s) offer a) in
+    let last = send_frames (stag_named s.invalidates offer) (answer_message xid (credit_word s) offer a) in
     requests_append moved (long ++ last)
     ∙ ap (λ (ps : List FrameContent). requests_of moved ++ ps) (requests_append long last)
-    ∙ (λ i. none_filled (first_chunk offer.write) a.moved i ++ (none_long a.long (no_segments offer.reply) a.stream i ++ send_asks_none (answer_message xid (credit_word s) offer a) i))
+    ∙ (λ i. none_filled (first_chunk offer.write) a.moved i ++ (none_long a.long (no_segments offer.reply) a.stream i ++ send_asks_none (stag_named s.invalidates offer) (answer_message xid (credit_word s) offer a) i))
 
 -- it sends more that asks for nothing, and its reads stay
 pub reads_says_down : (s t : ServerState) (w : Transit) (said : List FrameContent) → ReadsAgree s w → t.reads ≡ s.reads → t.response_bytes ≡ s.response_bytes → requests_of said ≡ []

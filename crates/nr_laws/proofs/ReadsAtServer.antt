@@ -22,8 +22,9 @@ use Rattle.nr_reduce.specs.ServerMessages.CallVerdict.{Refuses, IsReady}
 use Rattle.nr_laws.proofs.FrameContents.{FrameContent, Carries, request_frame, effect_frames, SentMessage, last_segment, part_segment, send_frames, errors_frames, part_frame, last_part, last_index}
 use Rattle.nr_laws.proofs.FrameContents.FrameContent.{HelloFrame, PartFrame, SendFrame, RequestFrame, TaggedFrame}
 use Rattle.nr_laws.proofs.LinkInvariants.{Transit, AreResponses, ContinuesRead, requests_of, ReadsAgree}
-use Rattle.nr_laws.proofs.TotalsAtServer.{shape_message, after_is_lem, step_is, segment_is, with_by}
+use Rattle.nr_laws.proofs.TotalsAtServer.{shape_message, after_is_lem, step_is, with_by}
 use Rattle.nr_laws.proofs.EachEffect.{whole_rule}
+use Rattle.nr_laws.proofs.ReadContents.{segment_is}
 
 -- ---- What stays at the front of the reads
 
@@ -92,22 +93,22 @@ open_parts_lem st xs le h =
 pub requests_append : (xs ys : List FrameContent) → requests_of (xs ++ ys) ≡ requests_of xs ++ requests_of ys
 requests_append [] ys = refl
 requests_append (HelloFrame ∷ xs) ys = requests_append xs ys
-requests_append (PartFrame offset payload ∷ xs) ys = requests_append xs ys
+requests_append (PartFrame named offset payload ∷ xs) ys = requests_append xs ys
 requests_append (SendFrame message ∷ xs) ys = requests_append xs ys
 requests_append (RequestFrame sink at size stag to ∷ xs) ys = ap (λ (zs : List FrameContent). RequestFrame sink at size stag to ∷ zs) (requests_append xs ys)
 requests_append (TaggedFrame last opcode stag to payload ∷ xs) ys = requests_append xs ys
 
-pub send_asks_none : (message : List ℕ) → requests_of (send_frames message) ≡ []
+pub send_asks_none : (named : Option ℕ) (message : List ℕ) → requests_of (send_frames named message) ≡ []
 unfolding send_frames
-send_asks_none message = by (range_with_len 0 (last_index message))
+send_asks_none named message = by (range_with_len 0 (last_index message))
   where
-    by : (is : List ℕ) → requests_of (map (part_frame message) is ++ SendFrame (last_part message) ∷ []) ≡ []
+    by : (is : List ℕ) → requests_of (map (part_frame named message) is ++ SendFrame (last_part named message) ∷ []) ≡ []
     by [] = refl
     by (i ∷ is) = by is
 
 none_of_sends : (messages : List (List ℕ)) → requests_of (errors_frames messages) ≡ []
 none_of_sends [] = refl
-none_of_sends (m ∷ messages) = requests_append (send_frames m) (errors_frames messages) ∙ (λ i. send_asks_none m i ++ none_of_sends messages i)
+none_of_sends (m ∷ messages) = requests_append (send_frames None m) (errors_frames messages) ∙ (λ i. send_asks_none None m i ++ none_of_sends messages i)
 
 all_of_reads : (rs : List PendingRead) → requests_of (map request_frame rs) ≡ map request_frame rs
 all_of_reads [] = refl
@@ -136,7 +137,7 @@ reads_moved s t w st rest answered asked same le parts answers requests = record
 }
 
 pub reads_send_up : (opened : LinkParameters) (s : ServerState) (w : Transit) (f : Frame) (message : SentMessage) (rest : List FrameContent) → ReadsAgree s w → w.up ≡ SendFrame message ∷ rest
-    → Carries s.received.sends s.received.requests f (SendFrame message) → (frame_effect s f).refusal ≡ None → ReadsAgree (server_state_after opened s (FrameReceived f)) (moved w (frame_effect s f) rest)
+    → Carries false s.received.sends s.received.requests f (SendFrame message) → (frame_effect s f).refusal ≡ None → ReadsAgree (server_state_after opened s (FrameReceived f)) (moved w (frame_effect s f) rest)
 reads_send_up opened s w f message rest c first p goes_on =
     let segment : Segment = last_segment s.received.sends message in
     let is : frame_segment f ≡ Ok segment = segment_is s.received.sends s.received.requests f (SendFrame message) segment p refl in
@@ -153,11 +154,11 @@ reads_send_up opened s w f message rest c first p goes_on =
     (subst (λ (t2 : ServerState). ReadsAgree t2 (moved w st rest)) (sym (after_is_lem opened s f (Ok segment) p.behind is)) m)
 
 -- a segment of a Send that isn't its last
-pub reads_part_up : (opened : LinkParameters) (s : ServerState) (w : Transit) (f : Frame) (offset : ℕ) (payload : List ℕ) (rest : List FrameContent) → ReadsAgree s w → w.up ≡ PartFrame offset payload ∷ rest
-    → Carries s.received.sends s.received.requests f (PartFrame offset payload) → ReadsAgree (server_state_after opened s (FrameReceived f)) (moved w (frame_effect s f) rest)
-reads_part_up opened s w f offset payload rest c first p =
+pub reads_part_up : (opened : LinkParameters) (s : ServerState) (w : Transit) (f : Frame) (named : Bool) (offset : ℕ) (payload : List ℕ) (rest : List FrameContent) → ReadsAgree s w → w.up ≡ PartFrame named offset payload ∷ rest
+    → Carries false s.received.sends s.received.requests f (PartFrame named offset payload) → ReadsAgree (server_state_after opened s (FrameReceived f)) (moved w (frame_effect s f) rest)
+reads_part_up opened s w f named offset payload rest c first p =
     let segment : Segment = part_segment s.received.sends offset payload in
-    let is : frame_segment f ≡ Ok segment = segment_is s.received.sends s.received.requests f (PartFrame offset payload) segment p refl in
+    let is : frame_segment f ≡ Ok segment = segment_is s.received.sends s.received.requests f (PartFrame named offset payload) segment p refl in
     let st = effect_in s f (Ok segment) in
     let t = with_by s f (Ok segment) st in
     let answers : AreResponses s.response_bytes c.answered (rest ++ w.queued_up) = subst (λ (ps : List FrameContent). AreResponses s.response_bytes c.answered (ps ++ w.queued_up)) first c.answers in
@@ -209,7 +210,7 @@ reads_segment s w f true stag to payload rest r rs asked parts goes requests =
     subst (λ (x : FrameEffect). ReadsAgree (with_by s f (Ok segment) x) (moved w x rest)) (sym stepped) m
 
 pub reads_tagged_up : (opened : LinkParameters) (s : ServerState) (w : Transit) (f : Frame) (last : Bool) (opcode stag to : ℕ) (payload : List ℕ) (rest : List FrameContent) → ReadsAgree s w → w.up ≡ TaggedFrame last opcode stag to payload ∷ rest
-    → Carries s.received.sends s.received.requests f (TaggedFrame last opcode stag to payload) → ReadsAgree (server_state_after opened s (FrameReceived f)) (moved w (frame_effect s f) rest)
+    → Carries false s.received.sends s.received.requests f (TaggedFrame last opcode stag to payload) → ReadsAgree (server_state_after opened s (FrameReceived f)) (moved w (frame_effect s f) rest)
 reads_tagged_up opened s w f last opcode stag to payload rest c first p =
     by c.answered c.parts (subst (λ (ps : List FrameContent). AreResponses s.response_bytes c.answered (ps ++ w.queued_up)) first c.answers)
   where

@@ -1,23 +1,23 @@
 -- What a side has of the messages that its frames brought: how many its segments completed.
 use Rattle.std.proofs.Common.{◌≡◌, ℕ, ◌+◌, Bool, true, false, cond, List, [], ◌∷◌, ◌++◌, length, length-append, Option, None, Some, Result, Ok, Err, refl, sym, ap, subst, ◌∙◌, arith}
 use Rattle.std.specs.Prelude.{option_to_list}
-use Rattle.nr_wire.specs.Segment.{Segment}
+use Rattle.nr_wire.specs.Segment.{Segment, segment_of}
 use Rattle.nr_link.specs.declared.end.End.{End as Stop}
 use Rattle.nr_link.specs.Frames.{Frame, is_hello}
 use Rattle.nr_link.specs.ReceiveState.{ReceiveState, received_after, message_completed}
-use Rattle.nr_link.specs.Ending.{frame_segment}
 use Rattle.nr_reduce.specs.declared.mark.LinkParameters.{LinkParameters}
 use Rattle.nr_reduce.specs.Events.{RunEvent}
 use Rattle.nr_reduce.specs.Events.RunEvent.{FrameReceived, CallSubmitted, MemoryRevoked, CallExecuted, QueueWritten, ServerTold}
 use Rattle.nr_reduce.specs.EndRules.{EndMachine, EndState, next_end_state, next_end_state_by, next_end_state_in, end_state_after}
 use Rattle.nr_reduce.specs.ClientState.{ClientState}
-use Rattle.nr_reduce.specs.Client.{client_rules, client_state_after, with_segment, with_hello}
+use Rattle.nr_reduce.specs.Client.{client_rules, client_segment, client_state_after, with_segment, with_hello}
 use Rattle.nr_reduce.specs.ServerState.{ServerState}
 use Rattle.nr_reduce.specs.Server.{server_rules, server_state_after, received_by, with_own_hello}
 use Rattle.nr_reduce.proofs.Steps.{ended_stays, end_state_after_append}
 use Rattle.nr_laws.proofs.Outputs.{Output}
 use Rattle.nr_laws.proofs.Outputs.Output.{AHello, ASegment}
 use Rattle.nr_laws.proofs.Brought.{Brought, Brings}
+use Rattle.nr_laws.proofs.ReadFrames.{server_read, client_read}
 use Rattle.nr_laws.proofs.Completions.{completed_by, begun_by, completed_from, begun_from, begun_is, completed_is, sends_is}
 
 -- ---- An end that hasn't ended hadn't before
@@ -35,16 +35,16 @@ live_first rules r es more e = was_live_lem rules (end_state_after rules r es) m
 -- ---- What is received
 
 abbrev pub received_event : ReceiveState → RunEvent → ReceiveState
-received_event h (FrameReceived f) = cond (is_hello f) h (received_by h (frame_segment f))
+received_event h (FrameReceived f) = cond (is_hello f) h (received_by h (segment_of f.bytes))
 received_event h (CallSubmitted p a) = h
 received_event h (MemoryRevoked p xid) = h
 received_event h (CallExecuted e) = h
 received_event h (QueueWritten taken) = h
 received_event h (ServerTold what) = h
 
--- a machine that receives so
+-- a machine that receives so, unless it ends
 abbrev pub Receiving : {S : Type 0} → EndMachine S → (S → ReceiveState) → Type 0
-Receiving rules received = (s : _) (e : RunEvent) → received (rules.state_after s e) ≡ received_event (received s) e
+Receiving rules received = (s : _) (e : RunEvent) → rules.end_at s e ≡ None → received (rules.state_after s e) ≡ received_event (received s) e
 
 -- n Sends were completed, and these bytes of one have begun
 pub record Count (before after : ReceiveState) (n : ℕ) (bytes : Option (List ℕ)) : Type 0 where
@@ -66,7 +66,7 @@ begun_of b (AHello bytes) = b
 begun_of b (ASegment s) = begun_by b s
 
 count_frame : (h : ReceiveState) (o : Output) (f : Frame) → Brought o f → Count h (received_event h (FrameReceived f)) (length (completed_of h.begun o)) (begun_of h.begun o)
-count_frame h (AHello bytes) f b = count_none h (received_event h (FrameReceived f)) (ap (λ (x : Bool). cond x h (received_by h (frame_segment f))) b.0)
+count_frame h (AHello bytes) f b = count_none h (received_event h (FrameReceived f)) (ap (λ (x : Bool). cond x h (received_by h (segment_of f.bytes))) b.0)
 count_frame h (ASegment s) f b =
     let is : received_event h (FrameReceived f) ≡ received_after h s = (λ i. cond (b.0 i) h (received_by h (b.1 i))) in
     subst (λ (t : ReceiveState). Count h t (length (completed_by h.begun s)) (begun_by h.begun s)) (sym is) (count_segment h s)
@@ -82,12 +82,12 @@ begun_first b (ASegment s) outs = refl
 pub one_step_lem : {S : Type 0} (rules : EndMachine S) (received : S → ReceiveState) → Receiving rules received → (r : EndState S) (e : RunEvent) → (next_end_state rules r e).ended ≡ None → received (next_end_state rules r e).state ≡ received_event (received r.state) e
 one_step_lem {S} rules received goes r e live = by_end r.state r.ended live
   where
-    by_why : (s : S) (o : Option Stop) → (next_end_state_by rules s e o).ended ≡ None → received (next_end_state_by rules s e o).state ≡ received_event (received s) e
-    by_why s None h = goes s e
-    by_why s (Some end) h = absurd cc
+    by_why : (s : S) (o : Option Stop) → rules.end_at s e ≡ o → (next_end_state_by rules s e o).ended ≡ None → received (next_end_state_by rules s e o).state ≡ received_event (received s) e
+    by_why s None is h = goes s e is
+    by_why s (Some end) is h = absurd cc
 
     by_end : (s : S) (o : Option Stop) → (next_end_state_in rules s e o).ended ≡ None → received (next_end_state_in rules s e o).state ≡ received_event (received s) e
-    by_end s None h = by_why s (rules.end_at s e) h
+    by_end s None h = by_why s (rules.end_at s e) refl h
     by_end s (Some end) h = absurd cc
 
 count_both : (a b c : ReceiveState) (m n : ℕ) (x y : Option (List ℕ)) → Count a b m x → Count b c n y → Count a c (m + n) y
@@ -140,30 +140,33 @@ hears rules received goes r (ServerTold what ∷ es) outs b live =
 
 pub server_receives : (opened : LinkParameters) → Receiving (server_rules opened) (λ (k : ServerState). k.received)
 unfolding server_state_after
-server_receives opened k (FrameReceived f) = by (is_hello f)
+server_receives opened k (FrameReceived f) lives = by (is_hello f) refl
   where
-    by : (b : Bool) → (cond b (with_own_hello opened k f) (Rattle.nr_reduce.specs.Server.with_effect k f (Rattle.nr_reduce.specs.ServerFrames.frame_effect k f))).received ≡ cond b k.received (received_by k.received (frame_segment f))
-    by true = refl
-    by false = refl
-server_receives opened k (CallSubmitted p a) = refl
-server_receives opened k (MemoryRevoked p xid) = refl
-server_receives opened k (CallExecuted e) = refl
-server_receives opened k (QueueWritten taken) = refl
-server_receives opened k (ServerTold what) = refl
+    by : (b : Bool) → is_hello f ≡ b → (cond b (with_own_hello opened k f) (Rattle.nr_reduce.specs.Server.with_effect k f (Rattle.nr_reduce.specs.ServerFrames.frame_effect k f))).received ≡ cond b k.received (received_by k.received (segment_of f.bytes))
+    by true first = refl
+    by false behind = ap (λ (r : Result Segment ℕ). received_by k.received r) (server_read opened k f behind lives)
+server_receives opened k (CallSubmitted p a) lives = refl
+server_receives opened k (MemoryRevoked p xid) lives = refl
+server_receives opened k (CallExecuted e) lives = refl
+server_receives opened k (QueueWritten taken) lives = refl
+server_receives opened k (ServerTold what) lives = refl
 
 pub client_receives : (opened : LinkParameters) → Receiving (client_rules opened) (λ (k : ClientState). k.received)
 unfolding client_state_after
-client_receives opened k (FrameReceived f) = by (is_hello f) (frame_segment f)
+client_receives opened k (FrameReceived f) lives = by (is_hello f) refl
   where
-    by : (b : Bool) (r : Result Segment ℕ) → (cond b (with_hello opened k f) (with_segment k f r)).received ≡ cond b k.received (received_by k.received r)
-    by true r = refl
-    by false (Ok segment) = refl
-    by false (Err reason) = refl
-client_receives opened k (CallSubmitted p a) = refl
-client_receives opened k (MemoryRevoked p xid) = refl
-client_receives opened k (CallExecuted e) = refl
-client_receives opened k (QueueWritten taken) = refl
-client_receives opened k (ServerTold what) = refl
+    one : (r : Result Segment ℕ) → (with_segment k f r).received ≡ received_by k.received r
+    one (Ok segment) = refl
+    one (Err reason) = refl
+
+    by : (b : Bool) → is_hello f ≡ b → (cond b (with_hello opened k f) (with_segment k f (client_segment k f))).received ≡ cond b k.received (received_by k.received (segment_of f.bytes))
+    by true first = refl
+    by false behind = one (client_segment k f) ∙ ap (λ (r : Result Segment ℕ). received_by k.received r) (client_read k f behind lives)
+client_receives opened k (CallSubmitted p a) lives = refl
+client_receives opened k (MemoryRevoked p xid) lives = refl
+client_receives opened k (CallExecuted e) lives = refl
+client_receives opened k (QueueWritten taken) lives = refl
+client_receives opened k (ServerTold what) lives = refl
 
 -- ---- At one frame
 
@@ -190,7 +193,7 @@ brings_at (QueueWritten taken ∷ es) f more outs b = (let r = brings_at es f mo
 brings_at (ServerTold what ∷ es) f more outs b = (let r = brings_at es f more outs b in record { earlier = r.earlier; own = r.own; later = r.later; parts = r.parts; brings = r.brings; brought = r.brought; behind = r.behind })
 
 -- the output that brought a segment
-pub own_segment : (o : Output) (f : Frame) (s : Segment) → Brought o f → is_hello f ≡ false → frame_segment f ≡ Ok s → o ≡ ASegment s
+pub own_segment : (o : Output) (f : Frame) (s : Segment) → Brought o f → is_hello f ≡ false → segment_of f.bytes ≡ Ok s → o ≡ ASegment s
 own_segment (AHello bytes) f s b behind is = absurd (let t : true ≡ false = sym b.0 ∙ behind in cc)
 own_segment (ASegment t) f s b behind is = (let e : Ok t ≡ Ok s = sym b.1 ∙ is in ap ASegment (let u : t ≡ s = same t s e in u))
   where

@@ -16,11 +16,11 @@ use Rattle.nr_regions.specs.RegisteredMemory.{Access, denial_in, same_right, byt
 use Rattle.nr_regions.specs.Access.{Grant, TaggedSegment, applies, grant_at, grant_offer, grant_denial, HasOwnStag, HaveOwnStags, after_segment, access_of_tagged, contents}
 use Rattle.nr_link.specs.Frames.{Frame, is_hello}
 use Rattle.nr_link.specs.ReceiveState.{read_request_in}
-use Rattle.nr_link.specs.Ending.{frame_segment, missing_access}
+use Rattle.nr_link.specs.Ending.{missing_access}
 use Rattle.nr_reduce.specs.OfferedRegions.{Region, region_grant, region_grants, region_bytes, region_bytes_by}
 use Rattle.nr_reduce.specs.Events.RunEvent.{FrameReceived}
 use Rattle.nr_reduce.specs.ClientState.{ClientState}
-use Rattle.nr_reduce.specs.Client.{client_end}
+use Rattle.nr_reduce.specs.Client.{client_segment, client_end}
 use Rattle.nr_reduce.proofs.Touches.{client_touched}
 use Rattle.nr_laws.proofs.TotalsAtClient.{request_payload}
 use Rattle.nr_laws.proofs.ReadsAtClient.{IsThere}
@@ -128,7 +128,7 @@ memory_there place access regions segments own e =
     ap (λ (o : Option Region). region_bytes_by (map (region_grant place) regions) segments o) m.found in
     omega (arith, not_denied m.region place access m.allowed, longer_contents (map (region_grant place) regions) m.region.stag segments m.region.bytes, ap (λ (xs : List ℕ). length xs) bytes)
 
-pub is_there_lem : (k : ClientState) (f : Frame) (n sink at size stag to : ℕ) → HaveOwnStags (region_grants f.end k.regions) → is_hello f ≡ false → frame_segment f ≡ Ok (Untagged true OPCODE_READ_REQUEST 0 QUEUE_READ_REQUEST n 0 (request_payload sink at size stag to))
+pub is_there_lem : (k : ClientState) (f : Frame) (n sink at size stag to : ℕ) → HaveOwnStags (region_grants f.end k.regions) → is_hello f ≡ false → client_segment k f ≡ Ok (Untagged true OPCODE_READ_REQUEST 0 QUEUE_READ_REQUEST n 0 (request_payload sink at size stag to))
     → client_end k (FrameReceived f) ≡ None → 0 < size → sink < 2 ^ 32 → at < 2 ^ 64 → size < 2 ^ 32 → stag < 2 ^ 32 → to < 2 ^ 64 → IsThere k f.end sink at size stag to
 is_there_lem k f n sink at size stag to own behind is stays some a b c d e =
     let read = request_again sink at size stag to a b c d e in

@@ -10,9 +10,8 @@ use Rattle.nr_rpc.specs.declared.head.CallTarget.{CallTarget}
 use Rattle.nr_rpc.specs.Reading.{call_of, target_of}
 use Rattle.nr_wire.specs.declared.hello.Side.TheVariants.{Responder}
 use Rattle.nr_link.specs.declared.end.End.{End as Stop}
-use Rattle.nr_link.specs.Output.{msn_word}
 use Rattle.nr_link.specs.OutputItem.{OutputItem}
-use Rattle.nr_link.specs.OutputItem.OutputItem.{SendItem, WriteItem, LastItem}
+use Rattle.nr_link.specs.OutputItem.OutputItem.{WriteItem, LastItem}
 use Rattle.nr_reduce.specs.declared.item.Of.TheVariants.{Reply}
 use Rattle.nr_reduce.specs.declared.mark.LinkParameters.{LinkParameters}
 use Rattle.nr_reduce.specs.declared.mark.Mark.{Mark}
@@ -27,10 +26,10 @@ use Rattle.nr_reduce.specs.Events.{RunEvent, events, events_at, if_own}
 use Rattle.nr_reduce.specs.Events.RunEvent.{CallExecuted}
 use Rattle.nr_reduce.specs.EndRules.{EndState, end_state_after}
 use Rattle.nr_reduce.specs.ServerState.{ServerState, ReadyCall, credit_word}
-use Rattle.nr_reduce.specs.Server.{server_rules, server_end, initial_server, offer_of, answer_of_target}
+use Rattle.nr_reduce.specs.Server.{server_rules, server_end, initial_server, offer_of, answer_of_target, stag_named}
 use Rattle.nr_reduce.specs.Served.{ServedMark, IsExecuted, first_ready, next_call}
 use Rattle.nr_reduce.specs.Run.{server}
-use Rattle.nr_reduce.specs.DueItems.{server_items_at, write_items, answer_items, execution_items, due_for_all, items_due}
+use Rattle.nr_reduce.specs.DueItems.{server_items_at, write_items, answer_items, execution_items, due_for_all, items_due, send_item_by}
 use Rattle.nr_reduce.proofs.Calls.{execute_answered}
 use Rattle.nr_reduce.proofs.Steps.{events_one}
 use Rattle.nr_reduce.proofs.Standing.{itself}
@@ -193,7 +192,7 @@ answers_convey opened link run before xid moment payload place reply answer type
     let bytes : IsBytes reply = at_mark TypedMark run before mark at.after at.is typed in
     let m = made_by offer k.down_max reply (target_of (call_of payload)) answer bytes held in
     let old : List OutputItem = items_due opened link Responder before in
-    let last : List OutputItem = SendItem (msn_word (k.messages_queued + 1)) (answer_message xid (credit_word k) offer answer) ∷ [] in
+    let last : List OutputItem = send_item_by (stag_named k.invalidates offer) (k.messages_queued + 1) (answer_message xid (credit_word k) offer answer) ∷ [] in
     record {
       answered = record { answer = answer; is_held = held; due = (execute_answered opened link before xid moment payload place reply x).0 answer held };
       writes = execute_items opened link before xid moment payload place reply x

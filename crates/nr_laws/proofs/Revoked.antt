@@ -8,7 +8,6 @@ use Rattle.nr_regions.specs.Access.{applies}
 use Rattle.nr_link.specs.declared.end.End.{End as Stop}
 use Rattle.nr_link.specs.Frames.{Frame, is_hello, frames_completed}
 use Rattle.nr_link.specs.ReceiveState.{ReadRequest, message_completed, read_request_of}
-use Rattle.nr_link.specs.Ending.{frame_segment}
 use Rattle.nr_reduce.specs.declared.call.Submission.TheVariants as submissions
 use Rattle.nr_reduce.specs.declared.mark.Mark.{Mark}
 use Rattle.nr_reduce.specs.declared.mark.Mark.TheVariants as marks
@@ -20,7 +19,7 @@ use Rattle.nr_reduce.specs.EndRules.{EndState, next_end_state, next_end_state_by
 use Rattle.nr_reduce.specs.OfferedRegions.{Region, until_or, until_at, region_grant, closed_if, regions_closed}
 use Rattle.nr_reduce.specs.Plans.{Buffer, buffers}
 use Rattle.nr_reduce.specs.ClientState.{ClientState}
-use Rattle.nr_reduce.specs.Client.{client_rules, client_end, client_state_after, outstanding_of, region_of, with_message, with_request, with_segment, with_hello, due_with_response}
+use Rattle.nr_reduce.specs.Client.{client_segment, client_rules, client_end, client_state_after, outstanding_of, region_of, with_message, with_request, with_segment, with_hello, due_with_response}
 use Rattle.nr_reduce.specs.Run.{client}
 use Rattle.nr_reduce.proofs.OwnStags.{AreNumbered}
 use Rattle.nr_reduce.proofs.Steps.{client_one}
@@ -141,9 +140,9 @@ until_event : (opened : LinkParameters) (n : ℕ) (k : ClientState) (e : RunEven
 unfolding client_state_after
 until_event opened n k (FrameReceived f) by h = by_hello (is_hello f)
   where
-    by_hello : (b : Bool) → UntilBy n (cond b (with_hello opened k f) (with_segment k f (frame_segment f))).regions
+    by_hello : (b : Bool) → UntilBy n (cond b (with_hello opened k f) (with_segment k f (client_segment k f))).regions
     by_hello true = h
-    by_hello false = frame_regions (UntilBy n) k f (λ test g. until_closed test f.end n k.regions by g) h (frame_segment f)
+    by_hello false = frame_regions (UntilBy n) k f (λ test g. until_closed test f.end n k.regions by g) h (client_segment k f)
 until_event opened n k (CallSubmitted q a) by h = until_append n k.regions (map (region_of a.xid q) (buffers k.stag (outstanding_of k a).plan)) h (until_new n a.xid q (buffers k.stag (outstanding_of k a).plan))
 until_event opened n k (MemoryRevoked q xid) by h = until_closed (λ r. eqb r.call xid) q n k.regions by h
 until_event opened n k (CallExecuted e) by h = h

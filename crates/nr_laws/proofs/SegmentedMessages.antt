@@ -1,17 +1,18 @@
 -- A message that is sent in segments is received complete, and none of its segments breaks a rule of the link.
-use Rattle.std.proofs.Common.{◌≡◌, ℕ, zero, suc, ◌+◌, ◌*◌, ◌-◌, ◌/◌, ◌^◌, ◌≤◌, ◌<◌, max, Bool, true, false, not, cond, ◌||◌, eqb, ltb, List, [], ◌∷◌, ◌++◌, length, take, drop, map, Option, None, Some, refl, sym, ap, subst, ◌∙◌, arith, append_assoc, eq-eqb, ne_eqb, le-ltb, length-take-le}
-use Rattle.std.specs.Prelude.{option_to_list}
+use Rattle.std.proofs.Common.{◌≡◌, ℕ, zero, suc, ◌+◌, ◌*◌, ◌-◌, ◌/◌, ◌^◌, ◌≤◌, ◌<◌, max, Bool, true, false, not, cond, ◌||◌, ◌&&◌, eqb, ltb, List, [], ◌∷◌, ◌++◌, length, take, drop, map, Option, None, Some, refl, sym, ap, subst, ◌∙◌, arith, append_assoc, eq-eqb, ne_eqb, le-ltb, length-take-le}
+use Rattle.std.specs.Prelude.{option_to_list, IfSome}
 use Rattle.std.specs.List.{flat_map, range_with_len}
 use Rattle.std.proofs.Math.Seq.{take-add}
 use Rattle.std.proofs.lemmas.List.{take_all, length-take}
 use Rattle.nr_regions.specs.declared.denied.Denied.{Denied}
+use Rattle.nr_wire.specs.Constants.{OPCODE_SEND_INVALIDATE}
 use Rattle.nr_wire.specs.Segment.{Segment, encoding}
-use Rattle.nr_link.specs.Output.{segment_count, segment_payload, msn_word, send, cut}
+use Rattle.nr_link.specs.Output.{segment_count, segment_payload, msn_word, send, send_invalidating, cut}
 use Rattle.nr_link.specs.ReceiveState.{ReceiveState, begun_bytes, received_after, message_completed, send_continued}
 use Rattle.nr_link.specs.Reasons.{REASON_MSN, REASON_OFFSET, REASON_SHORT, REASON_LONG}
 use Rattle.nr_link.specs.SegmentFaults.{Readiness, segment_reason, first_fault, reason_if, missing_fault, is_begun, message_length_is}
 use Rattle.nr_link.specs.SegmentFaults.SegmentReason.{NoBuffer}
-use Rattle.nr_laws.specs.MessageSegments.{message_segment, message_segments, SendIsItsSegments, SegmentsReadBack, received_after_all, messages_completed, IsReceived, MessageIsReceived, segments_of_messages, MessagesAreReceived, BreakNoRule, SegmentsBreakNoRule}
+use Rattle.nr_laws.specs.MessageSegments.{message_segment, message_segments, named_segment, named_segments, SendIsItsSegments, SegmentsReadBack, LastSegmentNames, received_after_all, messages_completed, IsReceived, MessageIsReceived, segments_of_messages, MessagesAreReceived, BreakNoRule, SegmentsBreakNoRule}
 use Rattle.nr_laws.proofs.Brought.{IsWord, encoding_is}
 use Rattle.nr_link.specs.Limits.{segment_max}
 
@@ -22,8 +23,9 @@ flat_over f g [] = refl
 flat_over f g (x ∷ xs) = ap (λ (ys : List ℕ). f (g x) ++ ys) (flat_over f g xs)
 
 pub send_is_its_segments : SendIsItsSegments
-unfolding send cut
-send_is_its_segments msn message = sym (flat_over encoding (message_segment msn message) (range_with_len 0 (segment_count message)))
+unfolding send send_invalidating cut
+send_is_its_segments None msn message = sym (flat_over encoding (message_segment msn message) (range_with_len 0 (segment_count message)))
+send_is_its_segments (Some stag) msn message = sym (flat_over encoding (named_segment (Some stag) msn message) (range_with_len 0 (segment_count message)))
 
 -- at which offset a segment stands in its message
 pub piece_starts : (n i : ℕ) → i < max 1 ((n + (segment_max - 1)) / segment_max) → segment_max * i ≤ n
@@ -43,8 +45,56 @@ segment_word msn message i lt short =
     let size = payload_size message i in
     record { supported = (refl, refl); fits = (omega arith, omega arith, omega arith, omega arith, offset_word (length message) i lt short); size = omega (arith, size) }
 
+last_word : (last : Bool) (stag : ℕ) → stag < 2 ^ 32 → cond last stag 0 < 2 ^ 32
+last_word true stag h = h
+last_word false stag h = omega arith
+
+pub named_word : (named : Option ℕ) (msn : ℕ) (message : List ℕ) (i : ℕ) → i < segment_count message → length message ≤ 2 ^ 32 → IfSome named (λ stag. stag < 2 ^ 32) → IsWord (named_segment named msn message i)
+named_word None msn message i lt short h = segment_word msn message i lt short
+named_word (Some stag) msn message i lt short h =
+    let size = payload_size message i in
+    record { supported = (refl, refl); fits = (omega arith, last_word (eqb (i + 1) (segment_count message)) stag h, omega arith, omega arith, offset_word (length message) i lt short); size = omega (arith, size) }
+
 pub segments_read_back : SegmentsReadBack
-segments_read_back msn message i lt short = (payload_size message i, (encoding_is (message_segment msn message i) (segment_word msn message i lt short)).says)
+segments_read_back named msn message i lt short h = (payload_size message i, (encoding_is (named_segment named msn message i) (named_word named msn message i lt short h)).says)
+
+names_none : (last : Bool) → ◌≡◌ {A = Option ℕ} None (cond last None None)
+names_none true = refl
+names_none false = refl
+
+names_one : (last : Bool) (stag : ℕ) → cond (eqb OPCODE_SEND_INVALIDATE OPCODE_SEND_INVALIDATE && last) (Some (cond last stag 0)) None ≡ cond last (Some stag) None
+names_one true stag = refl
+names_one false stag = refl
+
+pub last_segment_names : LastSegmentNames
+last_segment_names None msn message i = names_none (eqb (i + 1) (segment_count message))
+last_segment_names (Some stag) msn message i = names_one (eqb (i + 1) (segment_count message)) stag
+
+-- a segment of a message that names an STag is received as one of a message that names none
+named_received : (h : ReceiveState) (named : Option ℕ) (msn : ℕ) (message : List ℕ) (i : ℕ) → received_after h (named_segment named msn message i) ≡ received_after h (message_segment msn message i)
+named_received h None msn message i = refl
+named_received h (Some stag) msn message i = refl
+
+named_completed : (h : ReceiveState) (named : Option ℕ) (msn : ℕ) (message : List ℕ) (i : ℕ) → message_completed h (named_segment named msn message i) ≡ message_completed h (message_segment msn message i)
+named_completed h None msn message i = refl
+named_completed h (Some stag) msn message i = refl
+
+named_reason : (r : Readiness Denied) (named : Option ℕ) (msn : ℕ) (message : List ℕ) (i : ℕ) → segment_reason r (named_segment named msn message i) ≡ segment_reason r (message_segment msn message i)
+unfolding segment_reason
+named_reason r None msn message i = refl
+named_reason r (Some stag) msn message i = refl
+
+all_received : (h : ReceiveState) (named : Option ℕ) (msn : ℕ) (message is : List ℕ) → received_after_all h (map (named_segment named msn message) is) ≡ received_after_all h (map (message_segment msn message) is)
+all_received h named msn message [] = refl
+all_received h named msn message (i ∷ is) =
+    ap (λ (x : ReceiveState). received_after_all x (map (named_segment named msn message) is)) (named_received h named msn message i)
+    ∙ all_received (received_after h (message_segment msn message i)) named msn message is
+
+all_completed : (h : ReceiveState) (named : Option ℕ) (msn : ℕ) (message is : List ℕ) → messages_completed h (map (named_segment named msn message) is) ≡ messages_completed h (map (message_segment msn message) is)
+all_completed h named msn message [] = refl
+all_completed h named msn message (i ∷ is) =
+    (λ j. option_to_list (named_completed h named msn message i j) ++ messages_completed (named_received h named msn message i j) (map (named_segment named msn message) is))
+    ∙ ap (λ (ms : List (List ℕ)). option_to_list (message_completed h (message_segment msn message i)) ++ ms) (all_completed (received_after h (message_segment msn message i)) named msn message is)
 
 -- ---- What is received
 
@@ -96,13 +146,19 @@ some_segments message = by (segment_count message) refl
     by zero is = absurd (omega (arith, is))
     by (suc k) is = (k, omega (arith, is))
 
-pub message_is_received : MessageIsReceived
-message_is_received h msn message none =
+plain_is_received : (h : ReceiveState) (msn : ℕ) (message : List ℕ) → h.begun ≡ None → IsReceived h (message_segments msn message) message
+plain_is_received h msn message none =
     let s = some_segments message in
     let all = s.1 in
     let count : suc s.0 ≡ segment_count message = omega (arith, all) in
     subst (λ (n : ℕ). IsReceived h (map (message_segment msn message) (range_with_len 0 n)) message) count
     (received_from h msn message s.0 0 s.1 (ap begun_bytes none))
+
+pub message_is_received : MessageIsReceived
+message_is_received h named msn message none =
+    let plain = plain_is_received h msn message none in
+    let is = range_with_len 0 (segment_count message) in
+    record { messages = all_completed h named msn message is ∙ plain.messages; state = all_received h named msn message is ∙ plain.state }
 
 completed_append : (h : ReceiveState) (xs ys : List Segment) → messages_completed h (xs ++ ys) ≡ messages_completed h xs ++ messages_completed (received_after_all h xs) ys
 completed_append h [] ys = refl
@@ -113,12 +169,12 @@ completed_append h (x ∷ xs) ys =
 pub messages_are_received : MessagesAreReceived
 messages_are_received h msn [] none = refl
 messages_are_received h msn (message ∷ messages) none =
-    let one = message_is_received h msn message none in
+    let one = message_is_received h message.0 msn message.1 none in
     let later : List Segment = segments_of_messages (msn + 1) messages in
     let next : ReceiveState = record { sends = h.sends + 1; begun = None; requests = h.requests } in
-    completed_append h (message_segments msn message) later
+    completed_append h (named_segments message.0 msn message.1) later
     ∙ (λ i. one.messages i ++ messages_completed (one.state i) later)
-    ∙ ap (λ (ms : List (List ℕ)). message ∷ ms) (messages_are_received next (msn + 1) messages refl)
+    ∙ ap (λ (ms : List (List ℕ)). message.1 ∷ ms) (messages_are_received next (msn + 1) messages refl)
 
 -- ---- No segment breaks a rule
 
@@ -181,10 +237,19 @@ fine_from_lem r n message (suc k) i number all front h l long short =
           (fine_from_lem (record r { received = next }) n message k (i + 1) number (omega (arith, all)) (joined message i (begun_bytes r.received.begun) front) h l long short),
     )
 
+no_rule_named : (r : Readiness Denied) (named : Option ℕ) (msn : ℕ) (message is : List ℕ) → BreakNoRule r (map (message_segment msn message) is) → BreakNoRule r (map (named_segment named msn message) is)
+no_rule_named r named msn message [] h = tt
+no_rule_named r named msn message (i ∷ is) h = (
+  named_reason r named msn message i ∙ h.0,
+  subst (λ (x : ReceiveState). BreakNoRule (record r { received = x }) (map (named_segment named msn message) is)) (sym (named_received r.received named msn message i))
+      (no_rule_named (record r { received = received_after r.received (message_segment msn message i) }) named msn message is h.1),
+)
+
 pub segments_break_no_rule : SegmentsBreakNoRule
-segments_break_no_rule r message none h l long short =
+segments_break_no_rule r named message none h l long short =
     let s = some_segments message in
     let all = s.1 in
     let count : suc s.0 ≡ segment_count message = omega (arith, all) in
+    no_rule_named r named (r.received.sends + 1) message (range_with_len 0 (segment_count message)) (
     subst (λ (n : ℕ). BreakNoRule r (map (message_segment (r.received.sends + 1) message) (range_with_len 0 n))) count
-    (fine_from_lem r (r.received.sends + 1) message s.0 0 refl s.1 (ap begun_bytes none) h l long short)
+    (fine_from_lem r (r.received.sends + 1) message s.0 0 refl s.1 (ap begun_bytes none) h l long short))

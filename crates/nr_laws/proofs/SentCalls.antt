@@ -9,7 +9,6 @@ use Rattle.nr_wire.specs.declared.hello.Side.TheVariants.{Initiator}
 use Rattle.nr_wire.specs.Segment.{Segment}
 use Rattle.nr_link.specs.declared.end.End.{End as Stop}
 use Rattle.nr_link.specs.Frames.{Frame, is_hello}
-use Rattle.nr_link.specs.Ending.{frame_segment}
 use Rattle.nr_link.specs.OutputItem.{OutputItem, item_encoding, is_send_item, one_if_true, items_written}
 use Rattle.nr_link.specs.OutputItem.OutputItem.{LastItem}
 use Rattle.nr_link.specs.ReceiveState.{ReadRequest, message_completed, read_request_of}
@@ -21,7 +20,7 @@ use Rattle.nr_reduce.specs.Events.{RunEvent, events}
 use Rattle.nr_reduce.specs.Events.RunEvent.{FrameReceived, CallSubmitted, MemoryRevoked, CallExecuted, QueueWritten, ServerTold}
 use Rattle.nr_reduce.specs.EndRules.{EndState, live, next_end_state_by, end_state_after}
 use Rattle.nr_reduce.specs.ClientState.{ClientState, OutstandingCall, is_sent}
-use Rattle.nr_reduce.specs.Client.{client_rules, client_end, client_state_after, initial_client, outstanding_of, revoked_call, segment_request, with_hello, with_segment, with_message, with_request, due_with_response}
+use Rattle.nr_reduce.specs.Client.{client_segment, client_rules, client_end, client_state_after, initial_client, outstanding_of, revoked_call, segment_request, with_hello, with_segment, with_message, with_request, due_with_response}
 use Rattle.nr_reduce.specs.DueItems.{sent_call_item, sent_call_items, response_items, client_items_at, due_for_by, due_for_all, items_due, hello_due}
 use Rattle.nr_reduce.specs.Run.{client}
 use Rattle.nr_reduce.proofs.CountedBytes.{some_none}
@@ -273,10 +272,10 @@ event_step : (opened : LinkParameters) (place : ℕ) (k : ClientState) (e : RunE
 unfolding client_state_after client_items_at
 event_step opened place k (FrameReceived f) items next good h = by (is_hello f) refl
   where
-    by : (b : Bool) → is_hello f ≡ b → SendsAreDue opened f.end (cond b (with_hello opened k f) (with_segment k f (frame_segment f)))
-        (send_items items ++ send_items (cond b (sent_call_items opened 1 k.outstanding) (response_items k f.end (segment_request (frame_segment f)))))
+    by : (b : Bool) → is_hello f ≡ b → SendsAreDue opened f.end (cond b (with_hello opened k f) (with_segment k f (client_segment k f)))
+        (send_items items ++ send_items (cond b (sent_call_items opened 1 k.outstanding) (response_items k f.end (segment_request (client_segment k f)))))
     by true is = (let e = eqb-true f.at 0 is in let at = next.0 in hello_step opened place f.end k f (send_items items) (omega (arith, e, at)) next.1 h)
-    by false is = segment_step opened place f.end k f (frame_segment f) (send_items items) (λ first. clash (is_hello f) (eq-eqb f.at 0 (next.0 ∙ first)) is) next.1 h
+    by false is = segment_step opened place f.end k f (client_segment k f) (send_items items) (λ first. clash (is_hello f) (eq-eqb f.at 0 (next.0 ∙ first)) is) next.1 h
 event_step opened place k (CallSubmitted p a) items next good h = submit_step opened place p k a (send_items items) h
 event_step opened place k (MemoryRevoked p xid) items next good h =
     let same : send_items items ++ [] ≡ send_items items = append-nil (send_items items) in

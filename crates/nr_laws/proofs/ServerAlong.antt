@@ -3,10 +3,11 @@ use Rattle.std.proofs.Common.{◌≡◌, ℕ, ◌<◌, true, false, List, [], �
 use Rattle.nr_xdr.specs.Item.{IsBytes}
 use Rattle.nr_wire.specs.declared.hello.Side.TheVariants.{Initiator, Responder}
 use Rattle.nr_wire.specs.declared.stream.Awaited.TheVariants.{Hello as HelloFrom, Fpdu}
-use Rattle.nr_wire.specs.Segment.{Segment}
+use Rattle.nr_wire.specs.Segment.{Segment, segment_of}
 use Rattle.nr_link.specs.Frames.{Frame, is_hello}
-use Rattle.nr_link.specs.ReceiveState.{begun_bytes}
+use Rattle.nr_link.specs.ReceiveState.{begun_bytes, stag_invalidated}
 use Rattle.nr_link.specs.Ending.{frame_segment}
+use Rattle.nr_link.proofs.TakenSegments.{plain_taken}
 use Rattle.nr_reduce.specs.declared.mark.LinkParameters.{LinkParameters}
 use Rattle.nr_reduce.specs.History.{ExecutedCall}
 use Rattle.nr_reduce.specs.Events.{RunEvent}
@@ -16,12 +17,13 @@ use Rattle.nr_reduce.specs.Holds.{Answer, answer_message, chunk_error}
 use Rattle.nr_reduce.specs.ChunkBytes.{answer_segments}
 use Rattle.nr_reduce.specs.ServerState.{ServerState, ReadyCall, credit_word}
 use Rattle.nr_reduce.specs.ServerFrames.{frame_effect}
-use Rattle.nr_reduce.specs.Server.{server_rules, server_end, offer_of, initial_server}
+use Rattle.nr_reduce.specs.Server.{server_rules, server_end, offer_of, initial_server, stag_named}
 use Rattle.nr_reduce.specs.RunLaws.{server_by}
 use Rattle.nr_reduce.proofs.Steps.{output_for_all_append, end_state_after_append}
 use Rattle.nr_laws.proofs.EventOutputs.{GoesOn, place_after, outputs_for, outputs_all}
 use Rattle.nr_laws.proofs.Outputs.{Output, bytes_of_all, bytes_append, server_says, server_final_outputs, answer_of_call}
 use Rattle.nr_laws.proofs.Outputs.Output.{AHello, ASegment}
+use Rattle.nr_laws.proofs.PlainOutputs.{ArePlain, IsPlain}
 use Rattle.nr_laws.proofs.Brought.{AreFrom, Brings, IsHelloFrame}
 use Rattle.nr_laws.proofs.Words.{from_append}
 use Rattle.nr_laws.proofs.Completions.{completed_by, begun_from, begun_append}
@@ -63,27 +65,32 @@ ServerPlain r (CallExecuted e) = IsGoodExecution r e
 ServerPlain r (QueueWritten taken) = Unit {0}
 ServerPlain r (ServerTold what) = Unit {0}
 
-fpdus_preserve : (opened : LinkParameters) (place : ℕ) (r : EndState ServerState) (es : List RunEvent) (came : List Output) → GoesOn (server_rules opened) ServerPlain place r es → Brings es came → AreFrom Fpdu came → GoesOn (server_rules opened) ServerGood place r es
-fpdus_preserve opened place r [] came g b from = tt
-fpdus_preserve opened place r (FrameReceived f ∷ es) [] g b from = absurd b
-fpdus_preserve opened place r (FrameReceived f ∷ es) (AHello bytes ∷ came) g b from = absurd from
-fpdus_preserve opened place r (FrameReceived f ∷ es) (ASegment s ∷ came) g b from = (g.0, inr (s, b.0.0, b.0.1), fpdus_preserve opened f.end (next_end_state (server_rules opened) r (FrameReceived f)) es came g.2 b.1 from.1)
-fpdus_preserve opened place r (CallSubmitted p a ∷ es) came g b from = (g.0, g.1, fpdus_preserve opened place (next_end_state (server_rules opened) r (CallSubmitted p a)) es came g.2 b from)
-fpdus_preserve opened place r (MemoryRevoked p xid ∷ es) came g b from = (g.0, g.1, fpdus_preserve opened place (next_end_state (server_rules opened) r (MemoryRevoked p xid)) es came g.2 b from)
-fpdus_preserve opened place r (CallExecuted e ∷ es) came g b from = (g.0, g.1, fpdus_preserve opened place (next_end_state (server_rules opened) r (CallExecuted e)) es came g.2 b from)
-fpdus_preserve opened place r (QueueWritten taken ∷ es) came g b from = (g.0, g.1, fpdus_preserve opened place (next_end_state (server_rules opened) r (QueueWritten taken)) es came g.2 b from)
-fpdus_preserve opened place r (ServerTold what ∷ es) came g b from = (g.0, g.1, fpdus_preserve opened place (next_end_state (server_rules opened) r (ServerTold what)) es came g.2 b from)
+-- a segment of another opcode is read by a server as it is
+plain_frame : (f : Frame) (s : Segment) → segment_of f.bytes ≡ Ok s → IsPlain s → frame_segment f ≡ Ok s
+unfolding frame_segment
+plain_frame f s is plain = plain_taken false f.bytes s is plain
 
-pub hello_preserves : (opened : LinkParameters) (place : ℕ) (r : EndState ServerState) (es : List RunEvent) (came : List Output) → GoesOn (server_rules opened) ServerPlain place r es → Brings es came → AreFrom (HelloFrom Initiator) came → GoesOn (server_rules opened) ServerGood place r es
-hello_preserves opened place r [] came g b from = tt
-hello_preserves opened place r (FrameReceived f ∷ es) [] g b from = absurd b
-hello_preserves opened place r (FrameReceived f ∷ es) (AHello bytes ∷ came) g b from = (g.0, inl (b.0.0, subst (λ (bytes : List ℕ). IsHelloFrame Initiator bytes) (sym b.0.1) from.0), fpdus_preserve opened f.end (next_end_state (server_rules opened) r (FrameReceived f)) es came g.2 b.1 from.1)
-hello_preserves opened place r (FrameReceived f ∷ es) (ASegment s ∷ came) g b from = absurd from
-hello_preserves opened place r (CallSubmitted p a ∷ es) came g b from = (g.0, g.1, hello_preserves opened place (next_end_state (server_rules opened) r (CallSubmitted p a)) es came g.2 b from)
-hello_preserves opened place r (MemoryRevoked p xid ∷ es) came g b from = (g.0, g.1, hello_preserves opened place (next_end_state (server_rules opened) r (MemoryRevoked p xid)) es came g.2 b from)
-hello_preserves opened place r (CallExecuted e ∷ es) came g b from = (g.0, g.1, hello_preserves opened place (next_end_state (server_rules opened) r (CallExecuted e)) es came g.2 b from)
-hello_preserves opened place r (QueueWritten taken ∷ es) came g b from = (g.0, g.1, hello_preserves opened place (next_end_state (server_rules opened) r (QueueWritten taken)) es came g.2 b from)
-hello_preserves opened place r (ServerTold what ∷ es) came g b from = (g.0, g.1, hello_preserves opened place (next_end_state (server_rules opened) r (ServerTold what)) es came g.2 b from)
+fpdus_preserve : (opened : LinkParameters) (place : ℕ) (r : EndState ServerState) (es : List RunEvent) (came : List Output) → GoesOn (server_rules opened) ServerPlain place r es → Brings es came → AreFrom Fpdu came → ArePlain came → GoesOn (server_rules opened) ServerGood place r es
+fpdus_preserve opened place r [] came g b from plain = tt
+fpdus_preserve opened place r (FrameReceived f ∷ es) [] g b from plain = absurd b
+fpdus_preserve opened place r (FrameReceived f ∷ es) (AHello bytes ∷ came) g b from plain = absurd from
+fpdus_preserve opened place r (FrameReceived f ∷ es) (ASegment s ∷ came) g b from plain = (g.0, inr (s, b.0.0, plain_frame f s b.0.1 plain.0), fpdus_preserve opened f.end (next_end_state (server_rules opened) r (FrameReceived f)) es came g.2 b.1 from.1 plain.1)
+fpdus_preserve opened place r (CallSubmitted p a ∷ es) came g b from plain = (g.0, g.1, fpdus_preserve opened place (next_end_state (server_rules opened) r (CallSubmitted p a)) es came g.2 b from plain)
+fpdus_preserve opened place r (MemoryRevoked p xid ∷ es) came g b from plain = (g.0, g.1, fpdus_preserve opened place (next_end_state (server_rules opened) r (MemoryRevoked p xid)) es came g.2 b from plain)
+fpdus_preserve opened place r (CallExecuted e ∷ es) came g b from plain = (g.0, g.1, fpdus_preserve opened place (next_end_state (server_rules opened) r (CallExecuted e)) es came g.2 b from plain)
+fpdus_preserve opened place r (QueueWritten taken ∷ es) came g b from plain = (g.0, g.1, fpdus_preserve opened place (next_end_state (server_rules opened) r (QueueWritten taken)) es came g.2 b from plain)
+fpdus_preserve opened place r (ServerTold what ∷ es) came g b from plain = (g.0, g.1, fpdus_preserve opened place (next_end_state (server_rules opened) r (ServerTold what)) es came g.2 b from plain)
+
+pub hello_preserves : (opened : LinkParameters) (place : ℕ) (r : EndState ServerState) (es : List RunEvent) (came : List Output) → GoesOn (server_rules opened) ServerPlain place r es → Brings es came → AreFrom (HelloFrom Initiator) came → ArePlain came → GoesOn (server_rules opened) ServerGood place r es
+hello_preserves opened place r [] came g b from plain = tt
+hello_preserves opened place r (FrameReceived f ∷ es) [] g b from plain = absurd b
+hello_preserves opened place r (FrameReceived f ∷ es) (AHello bytes ∷ came) g b from plain = (g.0, inl (b.0.0, subst (λ (bytes : List ℕ). IsHelloFrame Initiator bytes) (sym b.0.1) from.0), fpdus_preserve opened f.end (next_end_state (server_rules opened) r (FrameReceived f)) es came g.2 b.1 from.1 plain)
+hello_preserves opened place r (FrameReceived f ∷ es) (ASegment s ∷ came) g b from plain = absurd from
+hello_preserves opened place r (CallSubmitted p a ∷ es) came g b from plain = (g.0, g.1, hello_preserves opened place (next_end_state (server_rules opened) r (CallSubmitted p a)) es came g.2 b from plain)
+hello_preserves opened place r (MemoryRevoked p xid ∷ es) came g b from plain = (g.0, g.1, hello_preserves opened place (next_end_state (server_rules opened) r (MemoryRevoked p xid)) es came g.2 b from plain)
+hello_preserves opened place r (CallExecuted e ∷ es) came g b from plain = (g.0, g.1, hello_preserves opened place (next_end_state (server_rules opened) r (CallExecuted e)) es came g.2 b from plain)
+hello_preserves opened place r (QueueWritten taken ∷ es) came g b from plain = (g.0, g.1, hello_preserves opened place (next_end_state (server_rules opened) r (QueueWritten taken)) es came g.2 b from plain)
+hello_preserves opened place r (ServerTold what ∷ es) came g b from plain = (g.0, g.1, hello_preserves opened place (next_end_state (server_rules opened) r (ServerTold what)) es came g.2 b from plain)
 
 -- ---- Why a message is said
 
@@ -170,17 +177,33 @@ said_later opened es e xs m (IsNoAnswer s) = IsNoAnswer (record {
   message = s.message;
 })
 
+-- The STag that its last segment names: that of the offer that is answered, and none else.
+abbrev pub NamesBy : (opened : LinkParameters) (es : List RunEvent) (xs : List Output) (m : List ℕ) → Segment → Said opened es xs m → Type 0
+NamesBy opened es xs m s (IsRefusal y) = stag_invalidated s ≡ None
+NamesBy opened es xs m s (IsAnswer y) = stag_invalidated s ≡ stag_named (server_by opened y.earlier).invalidates (offer_of (server_by opened y.earlier) y.call.xid)
+NamesBy opened es xs m s (IsNoAnswer y) = stag_invalidated s ≡ None
+
+names_later : (opened : LinkParameters) (es : List RunEvent) (e : RunEvent) (xs : List Output) (m : List ℕ) (s : Segment) (y : Said opened es xs m) → NamesBy opened es xs m s y → NamesBy opened (es ++ e ∷ []) xs m s (said_later opened es e xs m y)
+unfolding said_later
+names_later opened es e xs m s (IsRefusal y) h = h
+names_later opened es e xs m s (IsAnswer y) h = h
+names_later opened es e xs m s (IsNoAnswer y) h = h
+
+pub record SaidBy (opened : LinkParameters) (es : List RunEvent) (xs : List Output) (m : List ℕ) (s : Segment) : Type 0 where
+  pub said : Said opened es xs m
+  pub names : NamesBy opened es xs m s said
+
 abbrev pub EachSaid : LinkParameters → List RunEvent → List Output → Type 0
-EachSaid opened es outs = (xs : List Output) (s : Segment) (ys : List Output) (m : List ℕ) → outs ≡ xs ++ ASegment s ∷ ys → completed_by (begun_from None xs) s ≡ m ∷ [] → Said opened es xs m
+EachSaid opened es outs = (xs : List Output) (s : Segment) (ys : List Output) (m : List ℕ) → outs ≡ xs ++ ASegment s ∷ ys → completed_by (begun_from None xs) s ≡ m ∷ [] → SaidBy opened es xs m s
 
 each_more : (opened : LinkParameters) (es : List RunEvent) (e : RunEvent) (outs more : List Output) → begun_from None outs ≡ None → EachSaid opened es outs
-    → ((pre : List Output) (s : Segment) (post : List Output) (m : List ℕ) → more ≡ pre ++ ASegment s ∷ post → completed_by (begun_from None pre) s ≡ m ∷ [] → Said opened (es ++ e ∷ []) (outs ++ pre) m)
+    → ((pre : List Output) (s : Segment) (post : List Output) (m : List ℕ) → more ≡ pre ++ ASegment s ∷ post → completed_by (begun_from None pre) s ≡ m ∷ [] → SaidBy opened (es ++ e ∷ []) (outs ++ pre) m s)
     → EachSaid opened (es ++ e ∷ []) (outs ++ more)
 each_more opened es e outs more none old new xs s ys m is one = by (parted_two outs more xs (ASegment s) ys is)
   where
-    by : PartedTwo outs more xs (ASegment s) ys → Said opened (es ++ e ∷ []) xs m
-    by (InFirst rest same) = said_later opened es e xs m (old xs s rest m same one)
-    by (InSecond rest same then) = subst (λ (zs : List Output). Said opened (es ++ e ∷ []) zs m) (sym same)
+    by : PartedTwo outs more xs (ASegment s) ys → SaidBy opened (es ++ e ∷ []) xs m s
+    by (InFirst rest same) = (let was = old xs s rest m same one in record { said = said_later opened es e xs m was.said; names = names_later opened es e xs m s was.said was.names })
+    by (InSecond rest same then) = subst (λ (zs : List Output). SaidBy opened (es ++ e ∷ []) zs m s) (sym same)
         (new rest s ys m then (ap (λ (b : Option (List ℕ)). completed_by b s) (sym (ap (λ (zs : List Output). begun_from None zs) same ∙ begun_append None outs rest ∙ ap (λ (b : Option (List ℕ)). begun_from b rest) none)) ∙ one))
 
 pub nothing_at : (ms a : List (List ℕ)) (m : List ℕ) (b : List (List ℕ)) → ms ≡ [] → ms ≡ a ++ m ∷ b → ⊥
@@ -236,7 +259,7 @@ pub record Grows (opened : LinkParameters) (es : List RunEvent) (place : ℕ) (r
   pub fit : CallsFit (next_end_state (server_rules opened) r e).state.calls
   pub shape : Shape (place_after place e) (next_end_state (server_rules opened) r e) (outs ++ more)
   pub none_begun : begun_from None more ≡ None
-  pub cause : (pre : List Output) (s : Segment) (post : List Output) (m : List ℕ) → more ≡ pre ++ ASegment s ∷ post → completed_by (begun_from None pre) s ≡ m ∷ [] → Said opened (es ++ e ∷ []) (outs ++ pre) m
+  pub cause : (pre : List Output) (s : Segment) (post : List Output) (m : List ℕ) → more ≡ pre ++ ASegment s ∷ post → completed_by (begun_from None pre) s ≡ m ∷ [] → SaidBy opened (es ++ e ∷ []) (outs ++ pre) m s
 
 pub grown : (opened : LinkParameters) (es : List RunEvent) (place : ℕ) (r : EndState ServerState) (outs : List Output) (e : RunEvent) (more : List Output) → ServerTells opened es place r outs → Grows opened es place r outs e more
     → ServerTells opened (es ++ e ∷ []) (place_after place e) (next_end_state (server_rules opened) r e) (outs ++ outputs_for (server_rules opened) (server_says opened) server_final_outputs r e)

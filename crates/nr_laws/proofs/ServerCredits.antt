@@ -18,7 +18,7 @@ use Rattle.nr_reduce.specs.Matched.{IsPrefixOf}
 use Rattle.nr_reduce.specs.Opening.{IsOpened}
 use Rattle.nr_reduce.specs.Events.{RunEvent, events, events_at, if_own}
 use Rattle.nr_reduce.specs.Events.RunEvent.{FrameReceived, CallSubmitted, MemoryRevoked, CallExecuted, QueueWritten, ServerTold}
-use Rattle.nr_reduce.specs.EndRules.{EndState, live, next_end_state, next_end_state_by, next_end_state_in, end_state_after}
+use Rattle.nr_reduce.specs.EndRules.{EndState, next_end_state, next_end_state_by, next_end_state_in, end_state_after}
 use Rattle.nr_reduce.specs.ServerState.{ServerState, is_busy, credit_word, credit_told}
 use Rattle.nr_reduce.specs.ServerFrames.{frame_effect}
 use Rattle.nr_reduce.specs.Server.{server_rules, server_end, server_state_after, initial_server, with_effect, with_own_hello}

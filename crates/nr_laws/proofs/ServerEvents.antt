@@ -10,8 +10,9 @@ use Rattle.nr_link.specs.declared.end.End.{End as Stop}
 use Rattle.nr_link.specs.declared.end.End.TheVariants as ends
 use Rattle.nr_link.specs.Frames.{Frame, is_hello}
 use Rattle.nr_link.specs.Output.{refusing_hello}
-use Rattle.nr_link.specs.ReceiveState.{ReceiveState, received_after, message_completed, begun_bytes, is_send, send_continued}
+use Rattle.nr_link.specs.ReceiveState.{ReceiveState, received_after, message_completed, begun_bytes, is_send, send_continued, stag_invalidated}
 use Rattle.nr_link.specs.Ending.{frame_segment}
+use Rattle.nr_link.proofs.TakenSegments.{frame_read}
 use Rattle.nr_reduce.specs.Hellos.{server_hello}
 use Rattle.nr_reduce.proofs.OwnLimits.{ServerLimits, server_limits}
 use Rattle.nr_reduce.specs.declared.mark.LinkParameters.{LinkParameters}
@@ -23,26 +24,28 @@ use Rattle.nr_reduce.specs.Holds.{Answer, answer_message, chunk_error}
 use Rattle.nr_reduce.specs.ChunkBytes.{answer_segments}
 use Rattle.nr_reduce.specs.ServerState.{ServerState, ReadyCall, credit_word}
 use Rattle.nr_reduce.specs.ServerFrames.{FrameEffect, frame_effect}
-use Rattle.nr_reduce.specs.Server.{server_rules, server_end, server_output, server_state_after, with_effect, received_by, offer_of, initial_server, with_own_hello}
+use Rattle.nr_reduce.specs.Server.{server_rules, server_end, server_output, server_state_after, with_effect, received_by, offer_of, with_own_hello, stag_named}
 use Rattle.nr_reduce.specs.RunLaws.{server_by}
 use Rattle.nr_laws.proofs.FirstHellos.{server_hello_is}
 use Rattle.nr_laws.proofs.EventOutputs.{IsNext, place_after, outputs_by, outputs_for}
-use Rattle.nr_laws.proofs.Outputs.{Output, bytes_of_all, server_says, server_said, message_outputs, server_final_outputs, server_final_said, final_outputs, effect_outputs, answer_outputs, answer_of_call}
+use Rattle.nr_laws.proofs.Outputs.{Output, bytes_of_all, server_says, server_said, message_outputs, server_final_outputs, server_final_said, final_outputs, effect_outputs, answer_outputs, answer_of_call, named_outputs}
 use Rattle.nr_laws.proofs.Outputs.Output.{AHello, ASegment}
 use Rattle.nr_laws.proofs.Brought.{AreFrom, IsHelloFrame}
 use Rattle.nr_laws.proofs.Words.{payload_bytes_lem, payload_by}
-use Rattle.nr_laws.specs.MessageSegments.{message_segment}
-use Rattle.nr_laws.proofs.Completions.{completed_by, completed_from, begun_from, begun_append, completed_at_lem, Completes, completes_none, completes_message, completes_tagged, completes_final}
+use Rattle.nr_laws.specs.MessageSegments.{named_segment}
+use Rattle.nr_laws.proofs.Completions.{completed_by, completed_from, begun_from, begun_append, completed_at_lem, Completes, completes_none, completes_message, completes_tagged, completes_final, completes_named}
 use Rattle.nr_laws.proofs.Memory.{Part, parts_out, out_append}
 use Rattle.nr_laws.proofs.ClientAlong.{final_words}
 use Rattle.nr_laws.proofs.ServerOutputs.{CallsFit, IsFine, fine_frame, AreFine, fine_effect, fine_answer, tagged_answer, CallFits}
 use Rattle.nr_laws.proofs.ServerEnds.{BigEnd, segment_ends, hello_goes}
-use Rattle.nr_laws.proofs.ServerAlong.{IsGoodExecution, ServerGood, Said, is_live, outs_of, at_most_lem, nothing_at, Greeted, greeted_more, Shape, ServerTells, Grows, grown}
+use Rattle.nr_laws.proofs.PlainOutputs.{plain_message, plain_effect, names_none_at}
+use Rattle.nr_laws.proofs.SegmentedMessages.{last_segment_names}
+use Rattle.nr_laws.proofs.ServerAlong.{IsGoodExecution, ServerGood, SaidBy, is_live, outs_of, at_most_lem, nothing_at, Greeted, greeted_more, Shape, ServerTells, Grows, grown}
 use Rattle.nr_laws.proofs.ServerAlong.Said.{IsRefusal, IsAnswer, IsNoAnswer}
-use Rattle.nr_laws.proofs.Basics.{above_zero, each_kept, PartedTwo, parted_two}
+use Rattle.nr_laws.proofs.Basics.{above_zero, each_kept, first_is_lem, rest_is_lem, PartedTwo, parted_two}
 use Rattle.nr_laws.proofs.Basics.PartedTwo.{InFirst, InSecond}
 use Rattle.std.specs.List.{range_with_len}
-use Rattle.nr_link.specs.Output.{segment_count}
+use Rattle.nr_link.specs.Output.{segment_count, segment_payload}
 use Rattle.nr_laws.proofs.Bytes.{bytes_both}
 
 -- ---- The bytes that are received
@@ -132,7 +135,7 @@ later_shape place r outs some (inr h) = h.1
 segment_step : (opened : LinkParameters) (es : List RunEvent) (place : ℕ) (k : ServerState) (outs : List Output) (f : Frame) (s : Segment) → IsNext place (FrameReceived f) → is_hello f ≡ false → frame_segment f ≡ Ok s
     → ServerTells opened es place (record { state = k; ended = None }) outs → (o : Option Stop) → server_end opened k (FrameReceived f) ≡ o
     → Grows opened es place (record { state = k; ended = None }) outs (FrameReceived f) (outputs_by (server_rules opened) (server_says opened) server_final_outputs k (FrameReceived f) o)
-unfolding server_says server_output server_state_after frame_segment
+unfolding server_says server_output server_state_after
 segment_step opened es place k outs f s next behind is t (Some end) stops =
     let rules = server_rules opened in
     let same : next_end_state rules (record { state = k; ended = None }) (FrameReceived f) ≡ record { state = k; ended = Some end } = ap (λ (o : Option Stop). next_end_state_by rules k (FrameReceived f) o) stops in
@@ -154,8 +157,8 @@ segment_step opened es place k outs f s next behind is t None stays =
     let same : next_end_state rules (record { state = k; ended = None }) (FrameReceived f) ≡ record { state = with_effect k f effect; ended = None } =
     ap (λ (o : Option Stop). next_end_state_by rules k (FrameReceived f) o) stays ∙ ap (λ (b : Bool). record { state = cond b (with_own_hello opened k f) (with_effect k f effect); ended = None }) behind in
     let greeted = later_shape place (record { state = k; ended = None }) outs (let p = above_zero f.at behind in let e = next.0 in omega (arith, p, e)) t.shape in
-    let payload : IsBytes (payload_by s) = payload_bytes_lem f.bytes s next.2 is in
-    let fine : IsFine effect = fine_frame k f (λ x m own whole. completed_bytes k.received x m t.begun (payload_bytes_lem f.bytes x next.2 own) whole) t.fit in
+    let payload : IsBytes (payload_by s) = payload_bytes_lem f.bytes s next.2 (frame_read f s is) in
+    let fine : IsFine effect = fine_frame k f (λ x m own whole. completed_bytes k.received x m t.begun (payload_bytes_lem f.bytes x next.2 (frame_read f x own)) whole) t.fit in
     let own : AreFine (effect_outputs k effect) effect.errors = fine_effect k effect fine in
     let says : cond (is_hello f) (AHello (server_hello opened f) ∷ []) (effect_outputs k effect) ≡ effect_outputs k effect = ap (λ (b : Bool). cond b (AHello (server_hello opened f) ∷ []) (effect_outputs k effect)) behind in
     record {
@@ -166,24 +169,57 @@ segment_step opened es place k outs f s next behind is t None stays =
       fit = subst (λ (r : EndState ServerState). CallsFit r.state.calls) (sym same) fine.fit;
       shape = inr ((let g = next.1 in omega (arith, g)), subst (λ (xs : List Output). Greeted (outs ++ xs)) (sym says) (greeted_more outs (effect_outputs k effect) greeted own.words));
       none_begun = subst (λ (xs : List Output). begun_from None xs ≡ None) (sym says) own.completes.begun;
-      cause = λ pre x post m e one. IsRefusal
+      cause = λ pre x post m e one.
           (let all = at_most_lem effect.errors fine.errors (completed_from None pre) m (completed_from None post)
           (sym own.completes.completed ∙ ap (λ (xs : List Output). completed_from None xs) (sym says ∙ e) ∙ completed_at_lem pre x post m one) in
           let at : k ≡ server_by opened es = ap (λ (r : EndState ServerState). r.state) t.state in
           record {
-            earlier = es;
-            frame = f;
-            later = [];
-            is = refl;
-            behind = behind;
-            segment = s;
-            is_segment = is;
-            live = sym (ap (λ (r : EndState ServerState). r.ended) t.state);
-            stays = ap (λ (q : ServerState). server_end opened q (FrameReceived f)) (sym at) ∙ stays;
-            errors = ap (λ (q : ServerState). (frame_effect q f).errors) (sym at) ∙ all.0;
-            kind = all.1;
+            said = IsRefusal (record {
+              earlier = es;
+              frame = f;
+              later = [];
+              is = refl;
+              behind = behind;
+              segment = s;
+              is_segment = is;
+              live = sym (ap (λ (r : EndState ServerState). r.ended) t.state);
+              stays = ap (λ (q : ServerState). server_end opened q (FrameReceived f)) (sym at) ∙ stays;
+              errors = ap (λ (q : ServerState). (frame_effect q f).errors) (sym at) ∙ all.0;
+              kind = all.1;
+            });
+            names = names_none_at (effect_outputs k effect) pre x post (sym says ∙ e) (plain_effect k effect);
           });
     }
+
+-- ---- The STag that an answer names
+
+whole_last : (b : Option (List ℕ)) (named : Option ℕ) (msn : ℕ) (message : List ℕ) (i : ℕ) (m : List ℕ) → completed_by b (named_segment named msn message i) ≡ m ∷ [] → eqb (i + 1) (segment_count message) ≡ true
+whole_last b None msn message i m = by (eqb (i + 1) (segment_count message))
+  where
+    by : (last : Bool) → cond last ((begun_bytes b ++ segment_payload message i) ∷ []) [] ≡ m ∷ [] → last ≡ true
+    by true e = refl
+    by false e = absurd cc
+whole_last b (Some stag) msn message i m = by (eqb (i + 1) (segment_count message))
+  where
+    by : (last : Bool) → cond last ((begun_bytes b ++ segment_payload message i) ∷ []) [] ≡ m ∷ [] → last ≡ true
+    by true e = refl
+    by false e = absurd cc
+
+names_here : (b : Option (List ℕ)) (named : Option ℕ) (msn : ℕ) (message : List ℕ) (i : ℕ) (m : List ℕ) → completed_by b (named_segment named msn message i) ≡ m ∷ [] → stag_invalidated (named_segment named msn message i) ≡ named
+names_here b named msn message i m one = last_segment_names named msn message i ∙ ap (λ (last : Bool). cond last named None) (whole_last b named msn message i m one)
+
+segment_same : (x s : Segment) → ASegment x ≡ ASegment s → x ≡ s
+segment_same x s e = cc
+
+-- the segment that completes the message names its STag
+names_at : (b : Option (List ℕ)) (named : Option ℕ) (msn : ℕ) (message is : List ℕ) (front : List Output) (s : Segment) (post : List Output) (m : List ℕ) → map ASegment (map (named_segment named msn message) is) ≡ front ++ ASegment s ∷ post → completed_by b s ≡ m ∷ [] → stag_invalidated s ≡ named
+names_at b named msn message [] [] s post m e one = absurd cc
+names_at b named msn message [] (x ∷ front) s post m e one = absurd cc
+names_at b named msn message (i ∷ is) [] s post m e one =
+    let same : named_segment named msn message i ≡ s = segment_same (named_segment named msn message i) s (first_is_lem (ASegment (named_segment named msn message i)) (ASegment s) (map ASegment (map (named_segment named msn message) is)) post e) in
+    ap stag_invalidated (sym same) ∙ names_here b named msn message i m (ap (λ (x : Segment). completed_by b x) same ∙ one)
+names_at b named msn message (i ∷ is) (x ∷ front) s post m e one =
+    names_at b named msn message is front s post m (rest_is_lem (ASegment (named_segment named msn message i)) x (map ASegment (map (named_segment named msn message) is)) (front ++ ASegment s ∷ post) e) one
 
 -- ---- An executed call
 
@@ -214,23 +250,23 @@ executed_step opened es place k outs e good t o is =
     first_is m x (y ∷ a) b e = absurd (let l = ap (λ (zs : List (List ℕ)). length zs) e in let n = length-append a (m ∷ b) in omega (arith, l, n))
 
     -- no segment of a message writes
-    no_writes : (msn : ℕ) (message : List ℕ) (is : List ℕ) → parts_out (map ASegment (map (message_segment msn message) is)) ≡ []
-    no_writes msn message [] = refl
-    no_writes msn message (i ∷ is) = no_writes msn message is
+    no_writes : (named : Option ℕ) (msn : ℕ) (message : List ℕ) (is : List ℕ) → parts_out (map ASegment (map (named_segment named msn message) is)) ≡ []
+    no_writes named msn message [] = refl
+    no_writes named msn message (i ∷ is) = no_writes named msn message is
 
     left_none : (xs ys : List Part) → xs ++ ys ≡ [] → xs ≡ []
     left_none [] ys h = refl
     left_none (x ∷ xs) ys h = absurd cc
 
-    front_writes : (msn : ℕ) (message : List ℕ) (front : List Output) (s : Segment) (post : List Output) → message_outputs msn message ≡ front ++ ASegment s ∷ post → parts_out front ≡ []
-    front_writes msn message front s post h =
+    front_writes : (named : Option ℕ) (msn : ℕ) (message : List ℕ) (front : List Output) (s : Segment) (post : List Output) → named_outputs named msn message ≡ front ++ ASegment s ∷ post → parts_out front ≡ []
+    front_writes named msn message front s post h =
         left_none (parts_out front) (parts_out (ASegment s ∷ post))
-        (sym (out_append front (ASegment s ∷ post)) ∙ ap parts_out (sym h) ∙ no_writes msn message (range_with_len 0 (segment_count message)))
+        (sym (out_append front (ASegment s ∷ post)) ∙ ap parts_out (sym h) ∙ no_writes named msn message (range_with_len 0 (segment_count message)))
 
     answered : (a : Answer) → answer_of_call k e ≡ Some a → (pre : List Output) (s : Segment) (post : List Output) (m : List ℕ) → completed_by (begun_from None pre) s ≡ m ∷ []
         → answer_of_call (server_by opened es) e ≡ answer_of_call k e → k ≡ server_by opened es → is_live opened es → outs ≡ outs_of opened es
-        → PartedTwo (map ASegment (answer_segments (offer_of k e.xid) a)) (message_outputs (k.messages_queued + 1) (answer_message e.xid (credit_word k) (offer_of k e.xid) a)) pre (ASegment s) post
-        → Said opened (es ++ CallExecuted e ∷ []) (outs ++ pre) m
+        → PartedTwo (map ASegment (answer_segments (offer_of k e.xid) a)) (named_outputs (stag_named k.invalidates (offer_of k e.xid)) (k.messages_queued + 1) (answer_message e.xid (credit_word k) (offer_of k e.xid) a)) pre (ASegment s) post
+        → SaidBy opened (es ++ CallExecuted e ∷ []) (outs ++ pre) m s
     answered a is pre s post m one there at live outs_are (InFirst more within) =
         no_cause_lem (map ASegment (answer_segments (offer_of k e.xid) a)) pre s more m (completes_tagged (answer_segments (offer_of k e.xid) a) (tagged_answer (offer_of k e.xid) a)).completed within one
     answered a is pre s post m one there at live outs_are (InSecond front is_pre then) =
@@ -240,39 +276,46 @@ executed_step opened es place k outs e good t o is =
         let quiet = completes_tagged (answer_segments offer a) (tagged_answer offer a) in
         let begun : begun_from None pre ≡ begun_from None front = ap (λ (xs : List Output). begun_from None xs) is_pre ∙ begun_append None segments front ∙ ap (λ (b : Option (List ℕ)). begun_from b front) quiet.begun in
         let own : completed_by (begun_from None front) s ≡ m ∷ [] = ap (λ (b : Option (List ℕ)). completed_by b s) (sym begun) ∙ one in
-        let none : parts_out front ≡ [] = front_writes (k.messages_queued + 1) message front s post then in
-        IsAnswer (record {
-          earlier = es;
-          call = e;
-          later = [];
-          is = refl;
-          live = live;
-          answer = a;
-          is_answer = there ∙ is;
-          message = first_is m message (completed_from None front) (completed_from None post)
-              (sym (completes_message (k.messages_queued + 1) message).completed ∙ ap (λ (xs : List Output). completed_from None xs) then ∙ completed_at_lem front s post m own)
-              ∙ ap (λ (q : ServerState). answer_message e.xid (credit_word q) (offer_of q e.xid) a) at;
-          before = (λ i. parts_out (outs_are i ++ is_pre i)) ∙ out_append (outs_of opened es) (segments ++ front)
-              ∙ ap (λ (ps : List Part). parts_out (outs_of opened es) ++ ps) (out_append segments front ∙ ap (λ (ps : List Part). parts_out segments ++ ps) none ∙ append-nil (parts_out segments))
-              ∙ ap (λ (q : ServerState). parts_out (outs_of opened es) ++ parts_out (map ASegment (answer_segments (offer_of q e.xid) a))) at;
-        })
+        let none : parts_out front ≡ [] = front_writes (stag_named k.invalidates offer) (k.messages_queued + 1) message front s post then in
+        record {
+          said = IsAnswer (record {
+            earlier = es;
+            call = e;
+            later = [];
+            is = refl;
+            live = live;
+            answer = a;
+            is_answer = there ∙ is;
+            message = first_is m message (completed_from None front) (completed_from None post)
+                (sym (completes_named (stag_named k.invalidates offer) (k.messages_queued + 1) message).completed ∙ ap (λ (xs : List Output). completed_from None xs) then ∙ completed_at_lem front s post m own)
+                ∙ ap (λ (q : ServerState). answer_message e.xid (credit_word q) (offer_of q e.xid) a) at;
+            before = (λ i. parts_out (outs_are i ++ is_pre i)) ∙ out_append (outs_of opened es) (segments ++ front)
+                ∙ ap (λ (ps : List Part). parts_out (outs_of opened es) ++ ps) (out_append segments front ∙ ap (λ (ps : List Part). parts_out segments ++ ps) none ∙ append-nil (parts_out segments))
+                ∙ ap (λ (q : ServerState). parts_out (outs_of opened es) ++ parts_out (map ASegment (answer_segments (offer_of q e.xid) a))) at;
+          });
+          names = names_at (begun_from None front) (stag_named k.invalidates offer) (k.messages_queued + 1) message (range_with_len 0 (segment_count message)) front s post m then own
+              ∙ ap (λ (q : ServerState). stag_named q.invalidates (offer_of q e.xid)) at;
+        }
 
     by : (o : Option Answer) → answer_of_call k e ≡ o → (pre : List Output) (s : Segment) (post : List Output) (m : List ℕ) → answer_outputs k e.xid (offer_of k e.xid) o ≡ pre ++ ASegment s ∷ post → completed_by (begun_from None pre) s ≡ m ∷ []
-        → answer_of_call (server_by opened es) e ≡ answer_of_call k e → k ≡ server_by opened es → is_live opened es → outs ≡ outs_of opened es → Said opened (es ++ CallExecuted e ∷ []) (outs ++ pre) m
-    by None is pre s post m same one there at live outs_are = IsNoAnswer (record {
-      earlier = es;
-      call = e;
-      later = [];
-      is = refl;
-      live = live;
-      none = there ∙ is;
-      message = first_is m (chunk_error e.xid (credit_word k)) (completed_from None pre) (completed_from None post)
-          (sym (completes_message (k.messages_queued + 1) (chunk_error e.xid (credit_word k))).completed ∙ ap (λ (xs : List Output). completed_from None xs) same ∙ completed_at_lem pre s post m one)
-          ∙ ap (λ (q : ServerState). chunk_error e.xid (credit_word q)) at;
-    })
+        → answer_of_call (server_by opened es) e ≡ answer_of_call k e → k ≡ server_by opened es → is_live opened es → outs ≡ outs_of opened es → SaidBy opened (es ++ CallExecuted e ∷ []) (outs ++ pre) m s
+    by None is pre s post m same one there at live outs_are = record {
+      said = IsNoAnswer (record {
+        earlier = es;
+        call = e;
+        later = [];
+        is = refl;
+        live = live;
+        none = there ∙ is;
+        message = first_is m (chunk_error e.xid (credit_word k)) (completed_from None pre) (completed_from None post)
+            (sym (completes_message (k.messages_queued + 1) (chunk_error e.xid (credit_word k))).completed ∙ ap (λ (xs : List Output). completed_from None xs) same ∙ completed_at_lem pre s post m one)
+            ∙ ap (λ (q : ServerState). chunk_error e.xid (credit_word q)) at;
+      });
+      names = names_none_at (message_outputs (k.messages_queued + 1) (chunk_error e.xid (credit_word k))) pre s post same (plain_message (k.messages_queued + 1) (chunk_error e.xid (credit_word k)));
+    }
     by (Some a) is pre s post m same one there at live outs_are =
         answered a is pre s post m one there at live outs_are
-        (parted_two (map ASegment (answer_segments (offer_of k e.xid) a)) (message_outputs (k.messages_queued + 1) (answer_message e.xid (credit_word k) (offer_of k e.xid) a)) pre (ASegment s) post same)
+        (parted_two (map ASegment (answer_segments (offer_of k e.xid) a)) (named_outputs (stag_named k.invalidates (offer_of k e.xid)) (k.messages_queued + 1) (answer_message e.xid (credit_word k) (offer_of k e.xid) a)) pre (ASegment s) post same)
 
 -- ---- Each event
 

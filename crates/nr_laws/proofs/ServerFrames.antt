@@ -15,7 +15,7 @@ use Rattle.nr_reduce.specs.ClientState.{ClientState}
 use Rattle.nr_reduce.specs.ServerState.{ServerState}
 use Rattle.nr_reduce.specs.Server.{server_rules, server_state_after}
 use Rattle.nr_reduce.proofs.Steps.{ended_stays}
-use Rattle.nr_laws.proofs.FrameContents.{FrameContent, numbered_segment, frame_bytes, output_bytes, total_of, sends_in, requests_in}
+use Rattle.nr_laws.proofs.FrameContents.{FrameContent, frame_bytes, output_bytes, total_of, sends_in, requests_in, written_segment}
 use Rattle.nr_laws.proofs.LinkInvariants.{Transit}
 use Rattle.nr_laws.proofs.Totals.{total_append}
 use Rattle.nr_laws.proofs.StreamFrames.{frames_at, spelled_append}
@@ -89,7 +89,7 @@ server_runs opened k d all_up left [] s u all_down w n r place l first sends req
     record { after = s; said = []; state = refl; output = refl; linked = same; guarded = guarded; accessed = accessed }
 server_runs opened k d all_up left (p ∷ new) s u all_down w n r place l first sends requests at bytes some e =
     let rules = server_rules opened in
-    let frame = frame_bytes opened Initiator (numbered_segment n r p) in
+    let frame = frame_bytes opened Initiator (written_segment n r p) in
     let later = frames_at opened Initiator (n + sends_in p) (r + requests_in p) new in
     let event = FrameReceived (frame_of frame place) in
     let es = events_of (place + length frame) later in
@@ -115,7 +115,7 @@ server_runs opened k d all_up left (p ∷ new) s u all_down w n r place l first 
           let kept = step.kept a.stays in
           let one = subst (λ (ps : List FrameContent). Guards opened k after (u ++ p ∷ []) d all_up (all_down ++ ps) (taken_up w (new ++ left) ps) (place + length frame)) (sym t.said_is) kept in
           let two = subst (λ (ps : List FrameContent). AccessesAgree opened k after d all_up (all_down ++ ps) reached) (sym t.said_is)
-          (accessed_up opened k s u d all_up all_down w p (new ++ left) n r place reached l first sends requests at kept.answered.once h) in
+          (accessed_up opened k s u d all_up all_down w p (new ++ left) n r place reached l first sends requests at a.stays kept.answered.once h) in
           subst (λ (ps : List FrameContent). AccessesAgree opened k m.after d all_up ps reached) (append_assoc all_down t.said m.said) (m.accessed o one reached two);
       after = m.after;
       said = t.said ++ m.said;
@@ -151,7 +151,7 @@ pub server_ends : (opened : LinkParameters) (k : ClientState) (d all_up left : L
 server_ends opened k d all_up left o end [] s u all_down w n r place l g first sends requests at bytes some e = absurd (let wrong : None ≡ Some end = e in cc)
 server_ends opened k d all_up left o end (p ∷ new) s u all_down w n r place l g first sends requests at bytes some e =
     let rules = server_rules opened in
-    let frame = frame_bytes opened Initiator (numbered_segment n r p) in
+    let frame = frame_bytes opened Initiator (written_segment n r p) in
     let later = frames_at opened Initiator (n + sends_in p) (r + requests_in p) new in
     let event = FrameReceived (frame_of frame place) in
     let es = events_of (place + length frame) later in

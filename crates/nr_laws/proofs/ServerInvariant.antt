@@ -19,7 +19,7 @@ use Rattle.nr_reduce.specs.ServerMessages.Verdict.{MakesPending}
 use Rattle.nr_laws.proofs.FrameContents.{SentMessage, CompletesMessage, last_segment, FrameContent, Carries, part_segment}
 use Rattle.nr_laws.proofs.FrameContents.FrameContent.{PartFrame, SendFrame, TaggedFrame}
 use Rattle.nr_laws.proofs.LinkInvariants.{Transit, TotalsAgree, ReadsAgree, PendingAgree, HaveSinks, AreAtMost, WithinWindow}
-use Rattle.nr_laws.proofs.TotalsAtServer.{after_is_lem, segment_is, totals_send_up, totals_tagged_up, step_is, totals_part_up}
+use Rattle.nr_laws.proofs.TotalsAtServer.{after_is_lem, totals_send_up, totals_tagged_up, step_is, totals_part_up}
 use Rattle.nr_laws.proofs.DistinctKeys.{below_more, below_append}
 use Rattle.nr_laws.proofs.PendingSends.{verdict_new}
 use Rattle.nr_laws.proofs.ReadsAtServer.{reads_send_up, reads_tagged_up, moved, reads_part_up}
@@ -30,6 +30,7 @@ use Rattle.nr_laws.proofs.AllowedResponses.{server_response_taken}
 use Rattle.nr_laws.proofs.EachEffect.{held_messages, held_responses, send_effect, tagged_effect_lem}
 use Rattle.nr_reduce.proofs.OwnStags.{closed_length, closed_stag}
 use Rattle.nr_laws.proofs.SendFrames.{at_front}
+use Rattle.nr_laws.proofs.ReadContents.{segment_is}
 
 record Below (sends : ℕ) (regions : List Region) : Type 0 where
   stags : AreAtMost (λ (g : Region). g.stag) (length regions) regions
@@ -102,7 +103,7 @@ pub record ServerAgrees (opened : LinkParameters) (k : ClientState) (s : ServerS
 
 -- A Send that is received ends the server only by the refusal of its effect; and if it doesn't, all is kept.
 pub server_takes_send : (opened : LinkParameters) (k : ClientState) (s : ServerState) (w : Transit) (place : ℕ) (f : Frame) (message : SentMessage) (rest : List FrameContent) → ServerAgrees opened k s w place → WithinWindow opened k → w.up ≡ SendFrame message ∷ rest
-    → Carries s.received.sends s.received.requests f (SendFrame message) → 16 ≤ length message.bytes → length message.bytes ≤ s.up_max → place < f.end
+    → Carries false s.received.sends s.received.requests f (SendFrame message) → 16 ≤ length message.bytes → length message.bytes ≤ s.up_max → place < f.end
     → (server_end opened s (FrameReceived f) ≡ refusal_end f (frame_effect s f).refusal) × ((frame_effect s f).refusal ≡ None → ServerAgrees opened k (server_state_after opened s (FrameReceived f)) (moved w (frame_effect s f) rest) f.end)
 server_takes_send opened k s w place f message rest j g head p long short lt =
     let segment : Segment = last_segment s.received.sends message in
@@ -122,20 +123,20 @@ server_takes_send opened k s w place f message rest j g head p long short lt =
     )
 
 -- a segment of a Send that isn't its last doesn't end it
-pub server_takes_part : (opened : LinkParameters) (k : ClientState) (s : ServerState) (w : Transit) (place : ℕ) (f : Frame) (offset : ℕ) (payload : List ℕ) (rest : List FrameContent) → ServerAgrees opened k s w place → WithinWindow opened k → w.up ≡ PartFrame offset payload ∷ rest
-    → Carries s.received.sends s.received.requests f (PartFrame offset payload) → place < f.end
+pub server_takes_part : (opened : LinkParameters) (k : ClientState) (s : ServerState) (w : Transit) (place : ℕ) (f : Frame) (named : Bool) (offset : ℕ) (payload : List ℕ) (rest : List FrameContent) → ServerAgrees opened k s w place → WithinWindow opened k → w.up ≡ PartFrame named offset payload ∷ rest
+    → Carries false s.received.sends s.received.requests f (PartFrame named offset payload) → place < f.end
     → (server_end opened s (FrameReceived f) ≡ refusal_end f (frame_effect s f).refusal) × ServerAgrees opened k (server_state_after opened s (FrameReceived f)) (moved w (frame_effect s f) rest) f.end
-server_takes_part opened k s w place f offset payload rest j g head p lt =
+server_takes_part opened k s w place f named offset payload rest j g head p lt =
     let segment : Segment = part_segment s.received.sends offset payload in
-    let is : frame_segment f ≡ Ok segment = segment_is s.received.sends s.received.requests f (PartFrame offset payload) segment p refl in
+    let is : frame_segment f ≡ Ok segment = segment_is s.received.sends s.received.requests f (PartFrame named offset payload) segment p refl in
     let st = effect_in s f (Ok segment) in
     let below = closed_below s.received.sends f.end (is_over st.calls st.reads) st.regions (record { stags = j.regions.stags; calls = j.regions.calls }) in (
-      server_part opened k s w f offset payload rest j.counts g head p,
+      server_part opened k s w f named offset payload rest j.counts g head p,
       record {
-        counts = totals_part_up opened k s w f offset payload rest j.counts head p;
-        reads = reads_part_up opened s w f offset payload rest j.reads head p;
-        waits = pending_agree_part_up opened s f offset payload j.waits p;
-        sinks = sinks_part_up opened s f place offset payload j.sinks (omega (arith, lt)) p;
+        counts = totals_part_up opened k s w f named offset payload rest j.counts head p;
+        reads = reads_part_up opened s w f named offset payload rest j.reads head p;
+        waits = pending_agree_part_up opened s f named offset payload j.waits p;
+        sinks = sinks_part_up opened s f place named offset payload j.sinks (omega (arith, lt)) p;
         regions = subst (λ (t : ServerState). AreKnown t) (sym (after_is_lem opened s f (Ok segment) p.behind is)) (record { stags = below.stags; calls = below.calls });
         limits = server_event opened s (FrameReceived f) j.limits;
       },
@@ -143,7 +144,7 @@ server_takes_part opened k s w place f offset payload rest j g head p lt =
 
 -- and so does a segment of a Response: it is the one expected, and reaches a region that is live
 pub server_takes_response : (opened : LinkParameters) (k : ClientState) (s : ServerState) (w : Transit) (place : ℕ) (f : Frame) (last : Bool) (opcode stag to : ℕ) (payload : List ℕ) (rest : List FrameContent) → ServerAgrees opened k s w place
-    → w.up ≡ TaggedFrame last opcode stag to payload ∷ rest → Carries s.received.sends s.received.requests f (TaggedFrame last opcode stag to payload) → place < f.end
+    → w.up ≡ TaggedFrame last opcode stag to payload ∷ rest → Carries false s.received.sends s.received.requests f (TaggedFrame last opcode stag to payload) → place < f.end
     → (server_end opened s (FrameReceived f) ≡ refusal_end f (frame_effect s f).refusal) × ((frame_effect s f).refusal ≡ None → ServerAgrees opened k (server_state_after opened s (FrameReceived f)) (moved w (frame_effect s f) rest) f.end)
 server_takes_response opened k s w place f last opcode stag to payload rest j head p lt =
     let segment : Segment = Tagged last opcode stag to payload in

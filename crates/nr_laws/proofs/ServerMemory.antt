@@ -1,6 +1,6 @@
 -- What a server's memory holds: each tagged segment that it received was allowed, so a sink holds its bytes with them laid over.
-use Rattle.std.proofs.Common.{◌≡◌, ℕ, ◌≤◌, Bool, true, false, cond, List, [], ◌++◌, Option, None, Some, Result, Ok, refl, sym, subst, ◌∙◌, arith, append-nil, inl, inr}
-use Rattle.nr_wire.specs.Segment.{Segment}
+use Rattle.std.proofs.Common.{◌≡◌, ℕ, ◌≤◌, Bool, true, false, cond, List, [], ◌++◌, Option, None, Some, Result, Ok, refl, sym, subst, ◌∙◌, arith, append-nil, inl, inr, ap}
+use Rattle.nr_wire.specs.Segment.{Segment, segment_of}
 use Rattle.nr_wire.specs.Segment.Segment.{Tagged, Untagged}
 use Rattle.nr_regions.specs.Access.{TaggedSegment}
 use Rattle.nr_link.specs.declared.end.End.{End as Stop}
@@ -19,6 +19,7 @@ use Rattle.nr_reduce.specs.ServerFrames.{FrameEffect, with_verdict, frame_effect
 use Rattle.nr_reduce.specs.Server.{server_rules, server_end, server_state_after, initial_server, with_effect, tagged_accesses, with_own_hello}
 use Rattle.nr_reduce.proofs.Touches.{server_touched}
 use Rattle.nr_laws.proofs.EventOutputs.{IsNext, GoesOn, along, place_after, places_after}
+use Rattle.nr_laws.proofs.ReadFrames.{server_read}
 use Rattle.nr_laws.proofs.Memory.{Gathering, Settled, settled_later, settled_closed, settled_append, settled_more}
 use Rattle.nr_laws.proofs.ServerAlong.{ServerGood}
 use Rattle.nr_laws.proofs.EachEffect.{each_effect}
@@ -104,13 +105,13 @@ settled_along opened es g =
 
 pub server_gathers : (opened : LinkParameters) → Gathering (server_rules opened) (λ (k : ServerState). k.accesses_received)
 unfolding server_state_after
-server_gathers opened k (FrameReceived f) = by (is_hello f)
+server_gathers opened k (FrameReceived f) lives = by (is_hello f) refl
   where
-    by : (b : Bool) → (cond b (with_own_hello opened k f) (with_effect k f (frame_effect k f))).accesses_received ≡ cond b k.accesses_received (k.accesses_received ++ tagged_accesses f (frame_segment f))
-    by true = refl
-    by false = refl
-server_gathers opened k (CallSubmitted p a) = refl
-server_gathers opened k (MemoryRevoked p xid) = refl
-server_gathers opened k (CallExecuted e) = refl
-server_gathers opened k (QueueWritten taken) = refl
-server_gathers opened k (ServerTold what) = refl
+    by : (b : Bool) → is_hello f ≡ b → (cond b (with_own_hello opened k f) (with_effect k f (frame_effect k f))).accesses_received ≡ cond b k.accesses_received (k.accesses_received ++ tagged_accesses f (segment_of f.bytes))
+    by true first = refl
+    by false behind = ap (λ (r : Result Segment ℕ). k.accesses_received ++ tagged_accesses f r) (server_read opened k f behind lives)
+server_gathers opened k (CallSubmitted p a) lives = refl
+server_gathers opened k (MemoryRevoked p xid) lives = refl
+server_gathers opened k (CallExecuted e) lives = refl
+server_gathers opened k (QueueWritten taken) lives = refl
+server_gathers opened k (ServerTold what) lives = refl

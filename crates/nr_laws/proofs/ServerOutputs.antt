@@ -22,21 +22,22 @@ use Rattle.nr_reduce.specs.ServerState.{ServerState, PendingCall, PendingRead, c
 use Rattle.nr_reduce.specs.ServerMessages.{CallVerdict, pending_payload, by_payload}
 use Rattle.nr_reduce.specs.ServerMessages.CallVerdict.{Refuses, IsReady}
 use Rattle.nr_reduce.specs.ServerFrames.{FrameEffect, with_verdict, frame_effect}
-use Rattle.nr_reduce.specs.Server.{offer_by, offer_of, answer_of_target, newly_open_reads}
+use Rattle.nr_reduce.specs.Server.{offer_by, offer_of, answer_of_target, newly_open_reads, stag_named}
 use Rattle.nr_reduce.proofs.AnswerMessages.{answer_length}
 use Rattle.nr_laws.proofs.WritableOffers.{OfferFits, verdict_fits}
-use Rattle.nr_laws.proofs.Outputs.{Output, IsShort, AreShort, message_sends, request_outputs, effect_outputs, answer_outputs, answer_of_call, AnswerShort, message_outputs}
+use Rattle.nr_laws.proofs.Outputs.{Output, IsShort, AreShort, message_sends, request_outputs, effect_outputs, answer_outputs, answer_of_call, AnswerShort, message_outputs, named_outputs}
 use Rattle.nr_laws.proofs.Outputs.Output.{ASegment}
 use Rattle.nr_laws.proofs.Brought.{AreFrom}
-use Rattle.nr_laws.proofs.Words.{message_words, request_word, chunk_words, from_append}
+use Rattle.nr_laws.proofs.Words.{message_words, request_word, chunk_words, from_append, named_words}
 use Rattle.nr_laws.proofs.TaggedSegments.{AreTagged, tagged_append, tagged_chunk}
-use Rattle.nr_laws.proofs.Completions.{Completes, completes_append, completes_message, completes_sends, completes_requests, completes_tagged}
+use Rattle.nr_laws.proofs.Completions.{Completes, completes_append, completes_message, completes_sends, completes_requests, completes_tagged, completes_named}
 use Rattle.std.proofs.lemmas.List.{map-append}
 use Rattle.nr_laws.proofs.EachEffect.{MessageRule, ResponseRule, each_effect}
 use Rattle.nr_header.proofs.Lengths.{word_len}
 use Rattle.nr_laws.proofs.Basics.{each_append, each_kept}
 use Rattle.nr_wire.specs.Constants.{UNITS_MAX}
 use Rattle.nr_link.specs.Limits.{send_unit}
+use Rattle.nr_laws.proofs.NamedStags.{named_word_lem}
 
 -- ---- Error messages
 
@@ -214,9 +215,10 @@ fine_answer k e l h (Some a) is =
     let offer = offer_of k e.xid in
     let segments = map ASegment (answer_segments offer a) in
     let m = answer_message e.xid (credit_word k) offer a in
-    let send : List Output = message_outputs (k.messages_queued + 1) m in
+    let named = stag_named k.invalidates offer in
+    let send : List Output = named_outputs named (k.messages_queued + 1) m in
     let short = answer_is_short k e l h (Some a) is in
     record {
-      words = from_append segments send (answer_words offer a (found_fits e.xid k.calls h)) (message_words (k.messages_queued + 1) m short);
-      completes = completes_append segments send [] (m ∷ []) (completes_tagged (answer_segments offer a) (tagged_answer offer a)) (completes_message (k.messages_queued + 1) m);
+      words = from_append segments send (answer_words offer a (found_fits e.xid k.calls h)) (named_words named (k.messages_queued + 1) m short (named_word_lem k.invalidates offer (found_fits e.xid k.calls h)));
+      completes = completes_append segments send [] (m ∷ []) (completes_tagged (answer_segments offer a) (tagged_answer offer a)) (completes_named named (k.messages_queued + 1) m);
     }

@@ -5,9 +5,9 @@ use Rattle.nr_header.specs.declared.header.ChunkLists.{ChunkLists}
 use Rattle.nr_header.specs.declared.header.Header.{Header}
 use Rattle.nr_header.specs.Reading.{header_of}
 use Rattle.nr_wire.specs.declared.hello.Side.TheVariants.{Responder}
+use Rattle.nr_wire.specs.Segment.{segment_of}
 use Rattle.nr_link.specs.declared.end.End.{End as Stop}
 use Rattle.nr_link.specs.Frames.{Frame, is_hello}
-use Rattle.nr_link.specs.Ending.{frame_segment}
 use Rattle.nr_reduce.specs.Hellos.{server_hello}
 use Rattle.nr_reduce.specs.declared.call.Submission.TheVariants as submissions
 use Rattle.nr_reduce.specs.declared.mark.Mark.{Mark}
@@ -37,7 +37,7 @@ use Rattle.nr_laws.proofs.EventOutputs.{GoesOn, along, outputs_by, outputs_in, p
 use Rattle.nr_laws.proofs.Outputs.{Output, server_says, server_final_outputs, effect_outputs}
 use Rattle.nr_laws.proofs.ClientRun.{WasSubmitted}
 use Rattle.nr_laws.proofs.ConveyedCalls.{planned_fits, plan_reads}
-use Rattle.nr_laws.proofs.ExecutedCalls.{frame_message, server_receives_of}
+use Rattle.nr_laws.proofs.ExecutedCalls.{plain_came, frame_message, server_receives_of}
 use Rattle.nr_laws.proofs.ExecutedPayloads.{planned_by, sizes_up, sizes_down, up_limit}
 use Rattle.nr_laws.proofs.OnceByXid.{at_mark}
 use Rattle.nr_laws.proofs.Outputs.Output.{AHello}
@@ -118,7 +118,7 @@ server_fine opened link run typed asked served matched =
     let g = server_goes opened link run typed served in
     let r = server_receives_of opened link run typed asked matched in
     let es = events link Responder run in
-    runs_preserve opened link run typed asked matched [] es 0 (initial_server opened) refl refl (hello_preserves opened 0 (initial_server opened) es r.came g.goes r.brings r.from)
+    runs_preserve opened link run typed asked matched [] es 0 (initial_server opened) refl refl (hello_preserves opened 0 (initial_server opened) es r.came g.goes r.brings r.from (plain_came opened link run typed asked matched))
 
 pub record ReadsKept (opened : LinkParameters) (es : List RunEvent) (r : EndState ServerState) (outs : List Output) : Type 0 where
   pub state : r ≡ end_state_after (server_rules opened) (initial_server opened) es
@@ -133,7 +133,7 @@ frame_next : (opened : LinkParameters) (es : List RunEvent) (k : ServerState) (o
 unfolding server_state_after server_says
 frame_next opened es k outs f (inl h, own) numbered stays reads =
     subst (λ (b : Bool). ReadsAt opened (es ++ FrameReceived f ∷ []) (cond b (with_own_hello opened k f) (with_effect k f (frame_effect k f))) (outs ++ cond b (AHello (server_hello opened f) ∷ []) (effect_outputs k (frame_effect k f)))) (sym h.0)
-    (other_reads opened es (FrameReceived f) k (with_own_hello opened k f) outs (AHello (server_hello opened f) ∷ []) (ap (λ (b : Bool). cond b 0 (last_of (frame_segment f)) + 0) h.0) refl refl refl refl refl reads)
+    (other_reads opened es (FrameReceived f) k (with_own_hello opened k f) outs (AHello (server_hello opened f) ∷ []) (ap (λ (b : Bool). cond b 0 (last_of (segment_of f.bytes)) + 0) h.0) refl refl refl refl refl reads)
 frame_next opened es k outs f (inr (s, behind, is), own) numbered stays reads =
     subst (λ (b : Bool). ReadsAt opened (es ++ FrameReceived f ∷ []) (cond b (with_own_hello opened k f) (with_effect k f (frame_effect k f))) (outs ++ cond b (AHello (server_hello opened f) ∷ []) (effect_outputs k (frame_effect k f)))) (sym behind)
     (frame_reads opened es k outs f s behind is stays (own refl behind) numbered reads)

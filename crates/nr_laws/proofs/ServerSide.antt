@@ -27,7 +27,7 @@ use Rattle.nr_laws.proofs.Brought.{AreFrom, Receives, receives}
 use Rattle.nr_laws.proofs.ClientRun.{each_both}
 use Rattle.nr_laws.proofs.ServerAlong.{ServerGood, ServerPlain, hello_preserves, outs_of, ServerTells, Shape}
 use Rattle.nr_laws.proofs.ServerEvents.{server_step}
-use Rattle.nr_laws.proofs.ExecutedCalls.{server_receives_of}
+use Rattle.nr_laws.proofs.ExecutedCalls.{plain_came, server_receives_of}
 
 record FirstReady (ready : List ReadyCall) (ended : Option Stop) (call : ReadyCall) : Type 0 where
   stays : ended ≡ None
@@ -114,7 +114,7 @@ server_tells opened link run typed asked served matched =
     let g = server_goes opened link run typed served in
     let r = server_receives_of opened link run typed asked matched in
     let es = events link Responder run in
-    let goes : GoesOn (server_rules opened) ServerGood 0 (initial_server opened) es = hello_preserves opened 0 (initial_server opened) es r.came g.goes r.brings r.from in
+    let goes : GoesOn (server_rules opened) ServerGood 0 (initial_server opened) es = hello_preserves opened 0 (initial_server opened) es r.came g.goes r.brings r.from (plain_came opened link run typed asked matched) in
     let t : ServerTells opened es (places_after 0 es) (end_state_after (server_rules opened) (initial_server opened) es) (outs_of opened es) =
     along (server_rules opened) (server_says opened) server_final_outputs ServerGood (ServerTells opened)
     (λ es place r outs e next good t. server_step opened es place r.state r.ended outs e next good t) [] 0 (initial_server opened) [] es goes (tells_nothing opened) in

@@ -25,7 +25,6 @@ use Rattle.nr_rpc.specs.Reading.{call_of}
 use Rattle.nr_link.specs.declared.end.End.{End}
 use Rattle.nr_link.specs.Frames.{Frame, is_hello}
 use Rattle.nr_link.specs.Ending.{frame_segment, frame_end, hello_end}
-use Rattle.nr_laws.proofs.TotalsAtServer.{segment_is}
 use Rattle.nr_laws.proofs.CallNumbers.{none_pending}
 use Rattle.nr_reduce.specs.declared.mark.LinkParameters.{LinkParameters}
 use Rattle.nr_reduce.specs.Opening.{IsOpened}
@@ -41,18 +40,19 @@ use Rattle.nr_reduce.specs.ServerMessages.Verdict.{EndsLink, OtherVersion, BadCh
 use Rattle.nr_reduce.specs.ServerFrames.{FrameEffect, with_verdict, frame_effect}
 use Rattle.nr_reduce.specs.Server.{server_end, server_state_after, server_readiness, or_refusal, refusal_end}
 use Rattle.nr_laws.proofs.EndReasons.{IsCallReason, EndsForCall}
-use Rattle.nr_laws.proofs.FrameContents.{FrameContent, numbered_segment, frame_bytes, total_of, sends_in, requests_in, server_frames, Carries, SentMessage, CompletesMessage, last_segment, part_segment}
+use Rattle.nr_laws.proofs.FrameContents.{FrameContent, frame_bytes, total_of, sends_in, requests_in, server_frames, Carries, SentMessage, CompletesMessage, last_segment, part_segment, written_segment, written_last, IsSent}
 use Rattle.nr_laws.proofs.FrameContents.FrameContent.{HelloFrame, PartFrame, SendFrame, RequestFrame, TaggedFrame}
 use Rattle.nr_laws.proofs.LinkInvariants.{Transit}
 use Rattle.nr_laws.proofs.Totals.{total_append}
 use Rattle.nr_laws.proofs.CompletedFrames.{is_piece}
 use Rattle.nr_laws.proofs.Writable.{IsWritable, IsOutput, proper_one, stream_first, stream_at_lem}
 use Rattle.nr_laws.proofs.AgreeingEnds.{EndsAgree, IsPlace, frame_of, taken_up}
-use Rattle.nr_laws.proofs.Guards.{Guards}
+use Rattle.nr_laws.proofs.Guards.{Guards, content_plain}
 use Rattle.nr_laws.proofs.GuardsAtServer.{front_up, front_xid, ServerTakes, takes_send, takes_tagged, hello_guards}
 use Rattle.nr_laws.proofs.Basics.{some_not}
 use Rattle.nr_laws.proofs.EachEffect.{send_effect, tagged_effect_lem, part_effect}
 use Rattle.nr_laws.proofs.SendFrames.{at_front}
+use Rattle.nr_laws.proofs.ReadContents.{segment_is, carries_taken}
 
 -- ---- Why the effect of a frame refuses
 
@@ -158,19 +158,19 @@ hello_none opened s f private is says =
     (λ i. cond (is i) (hello_end (says i)) (or_refusal s f (frame_end (server_readiness opened s) (region_grants f.end s.regions) f)))
 
 step_piece : (opened : LinkParameters) (k : ClientState) (s : ServerState) (u d all_up all_down : List FrameContent) (w : Transit) (place : ℕ) (p : FrameContent) (rest : List FrameContent) (f : Frame) → IsOpened opened → EndsAgree opened k s u d all_up all_down w → Guards opened k s u d all_up all_down w place → 0 < length u → w.up ≡ p ∷ rest
-    → IsWritable p → Carries s.received.sends s.received.requests f p → IsBytes f.bytes → f.bytes ≡ frame_bytes opened Initiator (numbered_segment s.received.sends s.received.requests p) → place < f.end
+    → IsWritable p → Carries false s.received.sends s.received.requests f p → IsBytes f.bytes → f.bytes ≡ frame_bytes opened Initiator (written_segment s.received.sends s.received.requests p) → place < f.end
     → ServerStep opened k s u d all_up all_down w p rest f
 step_piece opened k s u d all_up all_down w place HelloFrame rest f o l g received first proper piece bytes is lt = absurd proper
-step_piece opened k s u d all_up all_down w place (PartFrame offset payload) rest f o l g received first proper piece bytes is lt =
+step_piece opened k s u d all_up all_down w place (PartFrame named offset payload) rest f o l g received first proper piece bytes is lt =
     let segment : Segment = part_segment s.received.sends offset payload in
-    let reads : frame_segment f ≡ Ok segment = segment_is s.received.sends s.received.requests f (PartFrame offset payload) segment piece refl in
-    by_takes opened k s u d all_up all_down w (PartFrame offset payload) rest f (part_effect s (λ e. Refusal e.refusal) tt f offset payload reads) (takes_part opened k s u d all_up all_down w place offset payload rest f o g received first piece lt)
+    let reads : frame_segment f ≡ Ok segment = segment_is s.received.sends s.received.requests f (PartFrame named offset payload) segment piece refl in
+    by_takes opened k s u d all_up all_down w (PartFrame named offset payload) rest f (part_effect s (λ e. Refusal e.refusal) tt f offset payload reads) (takes_part opened k s u d all_up all_down w place named offset payload rest f o g received first piece lt)
 step_piece opened k s u d all_up all_down w place (SendFrame message) rest f o l g received first proper piece bytes is lt =
     let segment : Segment = last_segment s.received.sends message in
     let reads : frame_segment f ≡ Ok segment = segment_is s.received.sends s.received.requests f (SendFrame message) segment piece refl in
     let completes = (at_front s.received.begun w.up w.queued_up (SendFrame message) rest first l.counts.whole_up).1 in
-    let are_bytes = message_bytes s.received message completes l.bytes_up (payload_bytes segment (subst IsBytes is bytes)) in
-    let fine = front_up opened k s u d all_up all_down w place (SendFrame message) rest l g first in
+    let are_bytes = message_bytes s.received message completes l.bytes_up (payload_bytes (written_last s.received.sends message) (subst IsBytes is bytes)) in
+    let fine = (front_up opened k s u d all_up all_down w place (SendFrame message) rest l g first).0 in
     let xid = front_xid opened k s u d all_up all_down w place message rest l g first in
     let again = none_pending opened.first_xid s.received.sends (word_at 0 message.bytes) s.calls g.numbers l.waits.calls_below xid in
     let some : 0 < total_of sends_in w.up = omega (arith, ap (total_of sends_in) first) in
@@ -185,25 +185,26 @@ step_piece opened k s u d all_up all_down w place (TaggedFrame last opcode stag 
     by_takes opened k s u d all_up all_down w (TaggedFrame last opcode stag to payload) rest f (refused_tagged s f last opcode stag to payload reads) (takes_tagged opened k s u d all_up all_down w place last opcode stag to payload rest f o l g received first piece lt)
 
 pub step_up_lem : (opened : LinkParameters) (k : ClientState) (s : ServerState) (u d all_up all_down : List FrameContent) (w : Transit) (p : FrameContent) (rest : List FrameContent) (n r place : ℕ) → IsOpened opened → EndsAgree opened k s u d all_up all_down w → Guards opened k s u d all_up all_down w place → w.up ≡ p ∷ rest
-    → n ≡ total_of sends_in u → r ≡ total_of requests_in u → IsPlace u place → IsBytes (frame_bytes opened Initiator (numbered_segment n r p)) → 0 < length (frame_bytes opened Initiator (numbered_segment n r p))
-    → ServerStep opened k s u d all_up all_down w p rest (frame_of (frame_bytes opened Initiator (numbered_segment n r p)) place)
+    → n ≡ total_of sends_in u → r ≡ total_of requests_in u → IsPlace u place → IsBytes (frame_bytes opened Initiator (written_segment n r p)) → 0 < length (frame_bytes opened Initiator (written_segment n r p))
+    → ServerStep opened k s u d all_up all_down w p rest (frame_of (frame_bytes opened Initiator (written_segment n r p)) place)
 step_up_lem opened k s [] d all_up all_down w p rest n r place o l g first sends requests at bytes some =
     let stream : IsOutput (p ∷ (rest ++ w.queued_up)) = subst IsOutput (sym l.parts_up ∙ ap (λ (ps : List FrameContent). ps ++ w.queued_up) first) l.stream_up in
     let hello : p ≡ HelloFrame = stream_first p (rest ++ w.queued_up) stream in
-    let f = frame_of (frame_bytes opened Initiator (numbered_segment n r p)) place in
+    let f = frame_of (frame_bytes opened Initiator (written_segment n r p)) place in
     let is : is_hello f ≡ true = ap (λ (x : ℕ). eqb x 0) at in
-    let says = ap (λ (q : FrameContent). hello_of Initiator (frame_bytes opened Initiator (numbered_segment n r q))) hello ∙ (first_hello_is opened Initiator).says in
+    let says = ap (λ (q : FrameContent). hello_of Initiator (frame_bytes opened Initiator (written_segment n r q))) hello ∙ (first_hello_is opened Initiator).says in
     let none = hello_none opened s f (first_hello_is opened Initiator).private is says in
     subst (λ (q : FrameContent). ServerStep opened k s [] d all_up all_down w q rest f) (sym hello) (record {
       only = λ end e. absurd (some_not end (sym e ∙ none));
-      kept = λ stays. hello_guards opened k s [] d all_up all_down w place rest f g (first ∙ ap (λ (q : FrameContent). q ∷ rest) hello) is (ap (λ (q : FrameContent). frame_bytes opened Initiator (numbered_segment n r q)) hello) (omega (arith, some));
+      kept = λ stays. hello_guards opened k s [] d all_up all_down w place rest f g (first ∙ ap (λ (q : FrameContent). q ∷ rest) hello) is (ap (λ (q : FrameContent). frame_bytes opened Initiator (written_segment n r q)) hello) (omega (arith, some));
     })
 step_up_lem opened k s (q ∷ u) d all_up all_down w p rest n r place o l g first sends requests at bytes some =
     let stream : IsOutput (q ∷ u ++ p ∷ (rest ++ w.queued_up)) = subst IsOutput (sym l.parts_up ∙ ap (λ (ps : List FrameContent). q ∷ u ++ (ps ++ w.queued_up)) first) l.stream_up in
     let proper = stream_at_lem q u p (rest ++ w.queued_up) stream in
-    let f = frame_of (frame_bytes opened Initiator (numbered_segment n r p)) place in
+    let f = frame_of (frame_bytes opened Initiator (written_segment n r p)) place in
     let n_is : n ≡ s.received.sends = sends ∙ sym l.sends_up in
     let r_is : r ≡ s.received.requests = requests ∙ sym l.requests_up in
     step_piece opened k s (q ∷ u) d all_up all_down w place p rest f o l g (omega arith) first proper
-    (subst (λ (x : ℕ). Carries x s.received.requests f p) n_is (subst (λ (x : ℕ). Carries n x f p) r_is (is_piece opened Initiator n r place p (proper_one n r p proper) at)))
-    bytes (λ i. frame_bytes opened Initiator (numbered_segment (n_is i) (r_is i) p)) (omega (arith, some))
+    (carries_taken false s.received.sends s.received.requests f p (content_plain opened p (front_up opened k s (q ∷ u) d all_up all_down w place p rest l g first))
+    (subst (λ (x : ℕ). IsSent x s.received.requests f p) n_is (subst (λ (x : ℕ). IsSent n x f p) r_is (is_piece opened Initiator n r place p (proper_one n r p proper) at))))
+    bytes (λ i. frame_bytes opened Initiator (written_segment (n_is i) (r_is i) p)) (omega (arith, some))

@@ -24,7 +24,7 @@ use Rattle.nr_reduce.specs.Served.{Served, first_ready, next_call}
 use Rattle.nr_reduce.specs.Matched.{Matched}
 use Rattle.nr_laws.specs.Typed.{IsTyped}
 use Rattle.nr_laws.specs.Completion.{IsQuiescent, IsAwaitedStill, HasOutcome, CallsComplete}
-use Rattle.nr_laws.proofs.FrameContents.{FrameContent, numbered_segment, output_bytes, sends_in, requests_in}
+use Rattle.nr_laws.proofs.FrameContents.{FrameContent, written_segment, output_bytes, sends_in, requests_in}
 use Rattle.nr_laws.proofs.LinkInvariants.{Transit, TotalsAgree}
 use Rattle.nr_laws.proofs.StreamFrames.{AreWritableFrom, proper_frame, IsOf, frames_at, length_frames, spelled_concat}
 use Rattle.nr_laws.proofs.Writable.{IsOutput, stream_proper, stream_left}
@@ -37,7 +37,7 @@ use Rattle.nr_laws.proofs.AccountedRuns.{gone_in, accounts}
 
 are_frames : (opened : LinkParameters) (side : Side) (a : Awaited) (n r : ℕ) (ps : List FrameContent) → IsOf side a → AreWritableFrom a n r ps → AreFrames a (frames_at opened side n r ps)
 are_frames opened side a n r [] of h = tt
-are_frames opened side a n r (p ∷ ps) of h = (proper_frame opened side a (numbered_segment n r p) of h.0, are_frames opened side Fpdu (n + sends_in p) (r + requests_in p) ps tt h.1)
+are_frames opened side a n r (p ∷ ps) of h = (proper_frame opened side a (written_segment n r p) of h.0, are_frames opened side Fpdu (n + sends_in p) (r + requests_in p) ps tt h.1)
 
 split_none : (a : Awaited) → (split a []).frames ≡ []
 unfolding split

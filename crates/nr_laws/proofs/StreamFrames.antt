@@ -13,7 +13,7 @@ use Rattle.nr_wire.proofs.Splits.{split_frame, split_partial}
 use Rattle.nr_reduce.specs.declared.mark.LinkParameters.{LinkParameters}
 use Rattle.nr_laws.proofs.FirstHellos.{first_hello, first_hello_is}
 use Rattle.nr_laws.proofs.Brought.{IsWord, encoding_is}
-use Rattle.nr_laws.proofs.FrameContents.{FrameContent, numbered_segment, frame_bytes, output_bytes, sends_in, requests_in, total_of}
+use Rattle.nr_laws.proofs.FrameContents.{FrameContent, written_segment, frame_bytes, output_bytes, sends_in, requests_in, total_of}
 use Rattle.nr_laws.proofs.LaterFrames.{behind}
 
 -- ---- Pieces that are frames
@@ -27,21 +27,21 @@ IsWritableAs Fpdu (Some segment) = IsWord segment
 -- the first frame of a side is its hello, and no other; each other is a segment whose numbers are words
 abbrev pub AreWritableFrom : Awaited → (sends requests : ℕ) → List FrameContent → Type 0
 AreWritableFrom a n r [] = Unit {0}
-AreWritableFrom a n r (p ∷ ps) = IsWritableAs a (numbered_segment n r p) × AreWritableFrom Fpdu (n + sends_in p) (r + requests_in p) ps
+AreWritableFrom a n r (p ∷ ps) = IsWritableAs a (written_segment n r p) × AreWritableFrom Fpdu (n + sends_in p) (r + requests_in p) ps
 
 -- the frames of frames
 abbrev pub frames_at : LinkParameters → Side → (sends requests : ℕ) → List FrameContent → List (List ℕ)
 frames_at opened side n r [] = []
-frames_at opened side n r (p ∷ ps) = frame_bytes opened side (numbered_segment n r p) ∷ frames_at opened side (n + sends_in p) (r + requests_in p) ps
+frames_at opened side n r (p ∷ ps) = frame_bytes opened side (written_segment n r p) ∷ frames_at opened side (n + sends_in p) (r + requests_in p) ps
 
 pub spelled_concat : (opened : LinkParameters) (side : Side) (n r : ℕ) (ps : List FrameContent) → output_bytes opened side n r ps ≡ concat (frames_at opened side n r ps)
 spelled_concat opened side n r [] = refl
-spelled_concat opened side n r (p ∷ ps) = ap (λ (xs : List ℕ). frame_bytes opened side (numbered_segment n r p) ++ xs) (spelled_concat opened side (n + sends_in p) (r + requests_in p) ps)
+spelled_concat opened side n r (p ∷ ps) = ap (λ (xs : List ℕ). frame_bytes opened side (written_segment n r p) ++ xs) (spelled_concat opened side (n + sends_in p) (r + requests_in p) ps)
 
 pub spelled_append : (opened : LinkParameters) (side : Side) (n r : ℕ) (ps qs : List FrameContent) → output_bytes opened side n r (ps ++ qs) ≡ output_bytes opened side n r ps ++ output_bytes opened side (n + total_of sends_in ps) (r + total_of requests_in ps) qs
 spelled_append opened side n r [] qs = λ i. output_bytes opened side (sym (add-zero n) i) (sym (add-zero r) i) qs
 spelled_append opened side n r (p ∷ ps) qs =
-    let front = frame_bytes opened side (numbered_segment n r p) in
+    let front = frame_bytes opened side (written_segment n r p) in
     let more_n : n + sends_in p + total_of sends_in ps ≡ n + (sends_in p + total_of sends_in ps) = omega arith in
     let more_r : r + requests_in p + total_of requests_in ps ≡ r + (requests_in p + total_of requests_in ps) = omega arith in
     ap (λ (xs : List ℕ). front ++ xs)
@@ -54,7 +54,7 @@ frames_append opened side n r [] qs = λ i. frames_at opened side (sym (add-zero
 frames_append opened side n r (p ∷ ps) qs =
     let more_n : n + sends_in p + total_of sends_in ps ≡ n + (sends_in p + total_of sends_in ps) = omega arith in
     let more_r : r + requests_in p + total_of requests_in ps ≡ r + (requests_in p + total_of requests_in ps) = omega arith in
-    ap (λ (xs : List (List ℕ)). frame_bytes opened side (numbered_segment n r p) ∷ xs)
+    ap (λ (xs : List (List ℕ)). frame_bytes opened side (written_segment n r p) ∷ xs)
     (frames_append opened side (n + sends_in p) (r + requests_in p) ps qs
     ∙ (λ i. frames_at opened side (n + sends_in p) (r + requests_in p) ps ++ frames_at opened side (more_n i) (more_r i) qs))
 
@@ -109,10 +109,10 @@ front opened side a n r (p ∷ ps) x y of proper e =
     by (cases_lt (length x) (length frame)) (λ back is. front opened side Fpdu (n + sends_in p) (r + requests_in p) ps back y tt proper.1 is)
   where
     frame : List ℕ
-    frame = frame_bytes opened side (numbered_segment n r p)
+    frame = frame_bytes opened side (written_segment n r p)
 
     is_frame : IsFrame a frame
-    is_frame = proper_frame opened side a (numbered_segment n r p) of proper.0
+    is_frame = proper_frame opened side a (written_segment n r p) of proper.0
 
     more : List ℕ
     more = output_bytes opened side (n + sends_in p) (r + requests_in p) ps

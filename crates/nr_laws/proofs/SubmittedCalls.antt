@@ -6,14 +6,13 @@ use Rattle.nr_xdr.specs.Fields.{word_at}
 use Rattle.nr_wire.specs.Segment.{Segment}
 use Rattle.nr_link.specs.declared.end.End.{End as Stop}
 use Rattle.nr_link.specs.Frames.{Frame, is_hello}
-use Rattle.nr_link.specs.Ending.{frame_segment}
 use Rattle.nr_link.specs.ReceiveState.{ReadRequest, message_completed, read_request_of}
 use Rattle.nr_reduce.specs.declared.mark.LinkParameters.{LinkParameters}
 use Rattle.nr_reduce.specs.Events.{RunEvent}
 use Rattle.nr_reduce.specs.Events.RunEvent.{FrameReceived, CallSubmitted, MemoryRevoked, CallExecuted, QueueWritten, ServerTold}
 use Rattle.nr_reduce.specs.EndRules.{EndState, next_end_state, next_end_state_by, next_end_state_in}
 use Rattle.nr_reduce.specs.ClientState.{ClientState, OutstandingCall}
-use Rattle.nr_reduce.specs.Client.{client_rules, client_end, client_state_after, initial_client, outstanding_of, with_segment, with_message, with_request, revoked_call, with_hello, due_with_response}
+use Rattle.nr_reduce.specs.Client.{client_segment, client_rules, client_end, client_state_after, initial_client, outstanding_of, with_segment, with_message, with_request, revoked_call, with_hello, due_with_response}
 use Rattle.nr_reduce.proofs.Steps.{end_state_after_append}
 use Rattle.nr_laws.proofs.Outcomes.{client_by}
 use Rattle.nr_laws.specs.PlacedBytes.{IsSubmittedCall}
@@ -93,9 +92,9 @@ one_event opened es e h = by_ended (client_by opened es).ended
     by_event : (x : RunEvent) → e ≡ x → Each P (client_state_after opened k x).outstanding
     by_event (FrameReceived f) is = by_hello (is_hello f)
       where
-        by_hello : (b : Bool) → Each P (cond b (with_hello opened k f) (with_segment k f (frame_segment f))).outstanding
+        by_hello : (b : Bool) → Each P (cond b (with_hello opened k f) (with_segment k f (client_segment k f))).outstanding
         by_hello true = same
-        by_hello false = each_segment P k f (frame_segment f) same
+        by_hello false = each_segment P k f (client_segment k f) same
     by_event (CallSubmitted place a) is =
         each_append P k.outstanding (outstanding_of k a ∷ []) same
         (record { earlier = es; later = []; place = place; call = a; is_submitted = ap (λ (x : RunEvent). es ++ x ∷ []) is; own = refl }, tt)

@@ -11,7 +11,6 @@ use Rattle.nr_regions.specs.declared.right.Right.TheVariants.{Fetch, Fill}
 use Rattle.nr_header.specs.declared.header.ReadSegment.{ReadSegment}
 use Rattle.nr_link.specs.declared.end.End.{End as Stop}
 use Rattle.nr_link.specs.Frames.{is_hello}
-use Rattle.nr_link.specs.Ending.{frame_segment}
 use Rattle.nr_reduce.specs.declared.call.Call.{Call}
 use Rattle.nr_reduce.specs.declared.call.Form.{Form}
 use Rattle.nr_reduce.specs.declared.call.Submission.TheVariants as submissions
@@ -28,7 +27,7 @@ use Rattle.nr_reduce.specs.Events.RunEvent.{FrameReceived, CallSubmitted, Memory
 use Rattle.nr_reduce.specs.EndRules.{EndState, end_state_after, next_end_state_in}
 use Rattle.nr_reduce.specs.OfferedRegions.{Region, closed_if, regions_closed}
 use Rattle.nr_reduce.specs.ClientState.{ClientState, call_payload, plan_for}
-use Rattle.nr_reduce.specs.Client.{client_rules, client_end, client_state_after, outstanding_of, plan_or, region_of, with_segment, with_hello}
+use Rattle.nr_reduce.specs.Client.{client_segment, client_rules, client_end, client_state_after, outstanding_of, plan_or, region_of, with_segment, with_hello}
 use Rattle.nr_reduce.specs.Matched.{IsPrefixOf}
 use Rattle.nr_reduce.specs.Asked.{AskedMark, IsAccepted}
 use Rattle.nr_reduce.specs.Run.{client, grants_of, placed_bytes}
@@ -72,9 +71,9 @@ offers_event : (opened : LinkParameters) (stag : ℕ) (bytes : List ℕ) (k : Cl
 unfolding client_state_after
 offers_event opened stag bytes k (FrameReceived f) h = by (is_hello f)
   where
-    by : (b : Bool) → Offers stag bytes (cond b (with_hello opened k f) (with_segment k f (frame_segment f))).regions
+    by : (b : Bool) → Offers stag bytes (cond b (with_hello opened k f) (with_segment k f (client_segment k f))).regions
     by true = h
-    by false = frame_regions (λ (rs : List Region). Offers stag bytes rs) k f (λ test. offers_closed test f.end stag bytes k.regions) h (frame_segment f)
+    by false = frame_regions (λ (rs : List Region). Offers stag bytes rs) k f (λ test. offers_closed test f.end stag bytes k.regions) h (client_segment k f)
 offers_event opened stag bytes k (CallSubmitted p a) h = offers_left stag bytes k.regions (map (region_of a.xid p) (buffers k.stag (outstanding_of k a).plan)) h
 offers_event opened stag bytes k (MemoryRevoked p xid) h = offers_closed (λ r. eqb r.call xid) p stag bytes k.regions h
 offers_event opened stag bytes k (CallExecuted e) h = h

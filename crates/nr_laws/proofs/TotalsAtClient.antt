@@ -17,13 +17,13 @@ use Rattle.nr_reduce.specs.History.{AcceptedCall}
 use Rattle.nr_link.specs.Limits.{segment_max}
 use Rattle.nr_link.specs.Output.{msn_word, segment_count, segment_payload}
 use Rattle.nr_link.specs.Frames.{Frame, is_hello}
-use Rattle.nr_link.specs.ReceiveState.{read_request_in, begun_bytes}
-use Rattle.nr_link.specs.Ending.{frame_segment, frame_end, hello_end}
+use Rattle.nr_link.specs.ReceiveState.{read_request_in, begun_bytes, ReadRequest}
+use Rattle.nr_link.specs.Ending.{hello_end, frame_end_by}
 use Rattle.nr_reduce.specs.OfferedRegions.{region_grants}
 use Rattle.nr_reduce.specs.Events.RunEvent.{FrameReceived, CallSubmitted, QueueWritten}
 use Rattle.nr_reduce.specs.ClientState.{ClientState, OutstandingCall, is_sent, client_memory_at, initial_client_state as client_initial_state}
 use Rattle.nr_reduce.specs.ClientMessages.{reply_verdict, reply_by_header, by_call, answered_call}
-use Rattle.nr_reduce.specs.Client.{end_of_verdict, client_message_end, or_message_end, segment_message, client_readiness, client_end, client_state_after, with_segment, outstanding_of, segment_request, with_hello, call_output, call_ends, submitted_ends, response_output}
+use Rattle.nr_reduce.specs.Client.{client_segment, end_of_verdict, or_message_end, client_readiness, client_end, client_state_after, with_segment, outstanding_of, segment_request, with_hello, call_output, call_ends, submitted_ends, response_output, segment_names}
 use Rattle.nr_reduce.specs.ServerState.{ServerState, initial_server_state as server_initial_state}
 use Rattle.nr_laws.proofs.FrameContents.{FrameContent, Carries, total_of, sends_in, requests_in, responses_in, hellos_in, one_if_response, tagged_frame, tagged_frames, response_frames, client_frames, SentMessage, part_segment, last_segment, send_frames, calls_frames}
 use Rattle.nr_laws.proofs.FrameContents.FrameContent.{HelloFrame, PartFrame, SendFrame, RequestFrame, TaggedFrame}
@@ -31,13 +31,15 @@ use Rattle.nr_laws.proofs.LinkInvariants.{Transit, TotalsAgree, AreDistinct, Are
 use Rattle.nr_laws.proofs.Totals.{total_append, total_map_zero, length_fewer, any_found, any_first}
 use Rattle.nr_laws.proofs.Outputs.{message_of_call}
 use Rattle.nr_laws.proofs.SendFrames.{send_counts, sends_zero, sends_one, are_sends, are_all_sends, tagged_sends, queued_more, none_queued, at_front}
-use Rattle.nr_laws.proofs.TotalsAtServer.{segment_is}
 use Rattle.nr_laws.proofs.HeaderXid.{header_xid}
 use Rattle.nr_reduce.specs.Plans.{call_message}
 use Rattle.nr_reduce.specs.Written.{ends_waiting}
 use Rattle.nr_reduce.proofs.WholeWrotes.{ClientEnds, none_waiting}
 use Rattle.nr_laws.proofs.EndsWaiting.{waiting_append, all_waiting_lem, one_waiting, calls_above, calls_length, send_some, output_some}
 use Rattle.nr_reduce.proofs.Waiting.{or_message}
+use Rattle.nr_laws.proofs.NamedReplies.{message_end_in, stays_as_plain}
+use Rattle.nr_laws.proofs.ReadContents.{plain_is, message_end_is}
+use Rattle.nr_laws.proofs.PlainSegments.{plain_segment, plain_with, plain_asks}
 
 -- ---- A message that the client takes is under the xid of a call that is out
 
@@ -61,26 +63,29 @@ pub out_there : (k : ClientState) (f : Frame) (message : List ℕ) → end_of_ve
 unfolding reply_verdict
 out_there k f message e = out_header k f message (header_of message) refl e
 
-pub taken : (k : ClientState) (f : Frame) → is_hello f ≡ false → client_end k (FrameReceived f) ≡ None → client_message_end k f (segment_message k (frame_segment f)) ≡ None
+pub taken : (k : ClientState) (f : Frame) → is_hello f ≡ false → client_end k (FrameReceived f) ≡ None → message_end_in k f (client_segment k f) ≡ None
 unfolding client_end
 taken k f behind e =
-    or_message k f (frame_end (client_readiness k) (region_grants f.end k.regions) f)
-    ((λ i. cond (sym behind i) (hello_end (hello_of Responder f.bytes)) (or_message_end k f (frame_end (client_readiness k) (region_grants f.end k.regions) f))) ∙ e)
+    or_message k f (frame_end_by (client_readiness k) (region_grants f.end k.regions) f (client_segment k f))
+    ((λ i. cond (sym behind i) (hello_end (hello_of Responder f.bytes)) (or_message_end k f (frame_end_by (client_readiness k) (region_grants f.end k.regions) f (client_segment k f)))) ∙ e)
 
 -- ---- The client receives a message
 
-pub after_is_lem : (opened : LinkParameters) (k : ClientState) (f : Frame) (r : Result Segment ℕ) → is_hello f ≡ false → frame_segment f ≡ r → client_state_after opened k (FrameReceived f) ≡ with_segment k f r
+pub after_is_lem : (opened : LinkParameters) (k : ClientState) (f : Frame) (r : Result Segment ℕ) → is_hello f ≡ false → plain_segment k f ≡ r → client_state_after opened k (FrameReceived f) ≡ with_segment k f r
 unfolding client_state_after
-after_is_lem opened k f r behind is = λ i. cond (behind i) (with_hello opened k f) (with_segment k f (is i))
+after_is_lem opened k f r behind is =
+    (λ i. cond (behind i) (with_hello opened k f) (with_segment k f (client_segment k f))) ∙ sym (plain_with k f (client_segment k f)) ∙ ap (λ (x : Result Segment ℕ). with_segment k f x) is
 
-pub says_is : (opened : LinkParameters) (k : ClientState) (f : Frame) (r : Result Segment ℕ) → is_hello f ≡ false → frame_segment f ≡ r → client_frames opened k (FrameReceived f) ≡ response_frames k f.end (segment_request r)
+pub says_is : (opened : LinkParameters) (k : ClientState) (f : Frame) (r : Result Segment ℕ) → is_hello f ≡ false → plain_segment k f ≡ r → client_frames opened k (FrameReceived f) ≡ response_frames k f.end (segment_request r)
 unfolding client_frames
-says_is opened k f r behind is = λ i. cond (behind i) (calls_frames opened k.outstanding) (response_frames k f.end (segment_request (is i)))
+says_is opened k f r behind is =
+    (λ i. cond (behind i) (calls_frames opened k.outstanding) (response_frames k f.end (segment_request (client_segment k f))))
+    ∙ ap (λ (q : Option ReadRequest). response_frames k f.end q) (sym (plain_asks (client_segment k f)) ∙ ap (λ (x : Result Segment ℕ). segment_request x) is)
 
 abbrev pub down_one : Transit → List FrameContent → List FrameContent → Transit
 down_one w said rest = record { queued_up = w.queued_up ++ said; up = w.up; queued_down = w.queued_down; down = rest }
 
-totals_frame_lem : (opened : LinkParameters) (k : ClientState) (s : ServerState) (w : Transit) (f : Frame) (segment : Segment) (said rest : List FrameContent) → is_hello f ≡ false → frame_segment f ≡ Ok segment → response_frames k f.end (segment_request (Ok segment)) ≡ said
+totals_frame_lem : (opened : LinkParameters) (k : ClientState) (s : ServerState) (w : Transit) (f : Frame) (segment : Segment) (said rest : List FrameContent) → is_hello f ≡ false → plain_segment k f ≡ Ok segment → response_frames k f.end (segment_request (Ok segment)) ≡ said
     → TotalsAgree (with_segment k f (Ok segment)) s (down_one w said rest) → TotalsAgree (client_state_after opened k (FrameReceived f)) s (down_one w (client_frames opened k (FrameReceived f)) rest)
 totals_frame_lem opened k s w f segment said rest behind is says h =
     subst (λ (ps : List FrameContent). TotalsAgree (client_state_after opened k (FrameReceived f)) s (down_one w ps rest)) (sym (says_is opened k f (Ok segment) behind is ∙ says))
@@ -91,13 +96,14 @@ none_more : (begun : Option (List ℕ)) (ps qs : List FrameContent) → AreSends
 none_more begun ps qs h = queued_more begun ps qs [] h refl
 
 pub totals_send_down : (opened : LinkParameters) (k : ClientState) (s : ServerState) (w : Transit) (f : Frame) (message : SentMessage) (rest : List FrameContent) → TotalsAgree k s w → w.down ≡ SendFrame message ∷ rest
-    → Carries k.received.sends k.received.requests f (SendFrame message) → client_end k (FrameReceived f) ≡ None → AreDistinct (λ (o : OutstandingCall). o.xid) k.outstanding
+    → Carries k.invalidates k.received.sends k.received.requests f (SendFrame message) → client_end k (FrameReceived f) ≡ None → AreDistinct (λ (o : OutstandingCall). o.xid) k.outstanding
     → TotalsAgree (client_state_after opened k (FrameReceived f)) s (down_one w (client_frames opened k (FrameReceived f)) rest)
 totals_send_down opened k s w f message rest c first p stays apart =
     let segment : Segment = last_segment k.received.sends message in
-    let is : frame_segment f ≡ Ok segment = segment_is k.received.sends k.received.requests f (SendFrame message) segment p refl in
+    let is : plain_segment k f ≡ Ok segment = plain_is k f (SendFrame message) segment p refl in
     let whole : List ℕ = begun_bytes k.received.begun ++ message.payload in
-    let unended : end_of_verdict f (reply_verdict k f.end whole) ≡ None = ap (λ (r : Result Segment ℕ). client_message_end k f (segment_message k r)) (sym is) ∙ taken k f p.behind stays in
+    let unended : end_of_verdict f (reply_verdict k f.end whole) ≡ None =
+    stays_as_plain k f (segment_names (client_segment k f)) whole (sym (message_end_is k f segment is) ∙ taken k f p.behind stays) in
     let fewer = length_fewer (λ (o : OutstandingCall). o.xid) (word_at 0 whole) k.outstanding apart (out_there k f whole unended) in
     let front = at_front k.received.begun w.down w.queued_down (SendFrame message) rest first c.whole_down in
     let m : TotalsAgree (with_segment k f (Ok segment)) s (down_one w [] rest) = record {
@@ -119,13 +125,13 @@ totals_send_down opened k s w f message rest c first p stays apart =
     totals_frame_lem opened k s w f segment [] rest p.behind is refl m
 
 -- a segment of a Send that isn't its last
-pub totals_part_down : (opened : LinkParameters) (k : ClientState) (s : ServerState) (w : Transit) (f : Frame) (offset : ℕ) (payload : List ℕ) (rest : List FrameContent) → TotalsAgree k s w → w.down ≡ PartFrame offset payload ∷ rest
-    → Carries k.received.sends k.received.requests f (PartFrame offset payload)
+pub totals_part_down : (opened : LinkParameters) (k : ClientState) (s : ServerState) (w : Transit) (f : Frame) (named : Bool) (offset : ℕ) (payload : List ℕ) (rest : List FrameContent) → TotalsAgree k s w → w.down ≡ PartFrame named offset payload ∷ rest
+    → Carries k.invalidates k.received.sends k.received.requests f (PartFrame named offset payload)
     → TotalsAgree (client_state_after opened k (FrameReceived f)) s (down_one w (client_frames opened k (FrameReceived f)) rest)
-totals_part_down opened k s w f offset payload rest c first p =
+totals_part_down opened k s w f named offset payload rest c first p =
     let segment : Segment = part_segment k.received.sends offset payload in
-    let is : frame_segment f ≡ Ok segment = segment_is k.received.sends k.received.requests f (PartFrame offset payload) segment p refl in
-    let front = at_front k.received.begun w.down w.queued_down (PartFrame offset payload) rest first c.whole_down in
+    let is : plain_segment k f ≡ Ok segment = plain_is k f (PartFrame named offset payload) segment p refl in
+    let front = at_front k.received.begun w.down w.queued_down (PartFrame named offset payload) rest first c.whole_down in
     let m : TotalsAgree (with_segment k f (Ok segment)) s (down_one w [] rest) = record {
       hello = omega (arith, c.hello, ap (total_of hellos_in) first, total_append hellos_in w.queued_up []);
       calls_up = omega (arith, c.calls_up, total_append sends_in w.queued_up []);
@@ -173,11 +179,11 @@ abbrev pub request_payload : (sink at size stag to : ℕ) → List ℕ
 request_payload sink at size stag to = word sink ++ (hyper at ++ (word size ++ (word stag ++ hyper to)))
 
 pub totals_read_down : (opened : LinkParameters) (k : ClientState) (s : ServerState) (w : Transit) (f : Frame) (sink at size stag to : ℕ) (rest : List FrameContent) → TotalsAgree k s w → w.down ≡ RequestFrame sink at size stag to ∷ rest
-    → Carries k.received.sends k.received.requests f (RequestFrame sink at size stag to)
+    → Carries k.invalidates k.received.sends k.received.requests f (RequestFrame sink at size stag to)
     → TotalsAgree (client_state_after opened k (FrameReceived f)) s (down_one w (client_frames opened k (FrameReceived f)) rest)
 totals_read_down opened k s w f sink at size stag to rest c first p =
     let segment : Segment = Untagged true OPCODE_READ_REQUEST 0 QUEUE_READ_REQUEST (msn_word (k.received.requests + 1)) 0 (request_payload sink at size stag to) in
-    let is : frame_segment f ≡ Ok segment = segment_is k.received.sends k.received.requests f (RequestFrame sink at size stag to) segment p refl in
+    let is : plain_segment k f ≡ Ok segment = plain_is k f (RequestFrame sink at size stag to) segment p refl in
     let r = read_request_in (request_payload sink at size stag to) in
     let bytes = take r.size (drop r.to (client_memory_at k f.end r.stag)) in
     let said = tagged_frames OPCODE_READ_RESPONSE r.sink r.sink_to bytes in
@@ -205,11 +211,11 @@ totals_read_down opened k s w f sink at size stag to rest c first p =
 -- ---- The client receives a tagged segment
 
 pub totals_tagged_down : (opened : LinkParameters) (k : ClientState) (s : ServerState) (w : Transit) (f : Frame) (last : Bool) (opcode stag to : ℕ) (payload : List ℕ) (rest : List FrameContent) → TotalsAgree k s w → w.down ≡ TaggedFrame last opcode stag to payload ∷ rest
-    → Carries k.received.sends k.received.requests f (TaggedFrame last opcode stag to payload)
+    → Carries k.invalidates k.received.sends k.received.requests f (TaggedFrame last opcode stag to payload)
     → TotalsAgree (client_state_after opened k (FrameReceived f)) s (down_one w (client_frames opened k (FrameReceived f)) rest)
 totals_tagged_down opened k s w f last opcode stag to payload rest c first p =
     let segment : Segment = Tagged last opcode stag to payload in
-    let is : frame_segment f ≡ Ok segment = segment_is k.received.sends k.received.requests f (TaggedFrame last opcode stag to payload) segment p refl in
+    let is : plain_segment k f ≡ Ok segment = plain_is k f (TaggedFrame last opcode stag to payload) segment p refl in
     let m : TotalsAgree (with_segment k f (Ok segment)) s (down_one w [] rest) = record {
       hello = omega (arith, c.hello, ap (total_of hellos_in) first, total_append hellos_in w.queued_up []);
       calls_up = omega (arith, c.calls_up, total_append sends_in w.queued_up []);
@@ -242,11 +248,11 @@ totals_hello_down opened k s w f rest c first is =
     let said = calls_frames opened k.outstanding in
     let hello : hello_bit k.has_hello ≡ 0 = omega (arith, c.hello, ap (total_of hellos_in) first) in
     let before : calls_sent k ≡ 0 = ap (λ (b : Bool). cond b k.sends 0) (bit_of k.has_hello hello) in
-    let sends : total_of sends_in said ≡ length k.outstanding = sends_one sends_in (message_of_call opened) k.outstanding (λ offset payload. refl) (λ m. refl) in
+    let sends : total_of sends_in said ≡ length k.outstanding = sends_one sends_in (message_of_call opened) k.outstanding (λ named offset payload. refl) (λ m. refl) in
     let none_queued : total_of sends_in w.queued_up ≡ 0 = omega (arith, c.calls_up, before) in
     let all : length (call_ends opened k.due 1 k.outstanding) ≡ length k.outstanding = calls_length opened k.due 1 k.outstanding in
     let m : TotalsAgree (with_hello opened k f) s (down_one w said rest) = record {
-      hello = omega (arith, c.hello, hello, ap (total_of hellos_in) first, total_append hellos_in w.queued_up said, sends_zero hellos_in (message_of_call opened) k.outstanding (λ offset payload. refl) (λ m. refl));
+      hello = omega (arith, c.hello, hello, ap (total_of hellos_in) first, total_append hellos_in w.queued_up said, sends_zero hellos_in (message_of_call opened) k.outstanding (λ named offset payload. refl) (λ m. refl));
       calls_up = omega (arith, c.calls_up, before, c.messages_down, c.waiting, c.out, sends, total_append sends_in w.queued_up said);
       messages_down = omega (arith, c.messages_down, ap (total_of sends_in) first);
       sends = omega (arith, none_queued, all, sends, total_append sends_in w.queued_up said, c.sends, waiting_append k.written k.send_ends (call_ends opened k.due 1 k.outstanding), all_waiting_lem k.written (call_ends opened k.due 1 k.outstanding) (calls_above opened k.written k.due 1 k.outstanding c.within_up));
@@ -258,26 +264,26 @@ totals_hello_down opened k s w f rest c first is =
       waiting = c.waiting;
       whole_up = queued_more s.received.begun w.up w.queued_up said c.whole_up (are_all_sends (message_of_call opened) k.outstanding);
       whole_down = at_front k.received.begun w.down w.queued_down HelloFrame rest first c.whole_down;
-      reads = omega (arith, c.reads, ap (total_of requests_in) first, total_append responses_in w.queued_up said, sends_zero responses_in (message_of_call opened) k.outstanding (λ offset payload. refl) (λ m. refl));
-      responses = omega (arith, c.responses, total_append responses_in w.queued_up said, sends_zero responses_in (message_of_call opened) k.outstanding (λ offset payload. refl) (λ m. refl));
+      reads = omega (arith, c.reads, ap (total_of requests_in) first, total_append responses_in w.queued_up said, sends_zero responses_in (message_of_call opened) k.outstanding (λ named offset payload. refl) (λ m. refl));
+      responses = omega (arith, c.responses, total_append responses_in w.queued_up said, sends_zero responses_in (message_of_call opened) k.outstanding (λ named offset payload. refl) (λ m. refl));
     } in
-    subst (λ (b : Bool). TotalsAgree (cond b (with_hello opened k f) (with_segment k f (frame_segment f))) s (down_one w (cond b said (response_frames k f.end (segment_request (frame_segment f)))) rest)) (sym is) m
+    subst (λ (b : Bool). TotalsAgree (cond b (with_hello opened k f) (with_segment k f (client_segment k f))) s (down_one w (cond b said (response_frames k f.end (segment_request (client_segment k f)))) rest)) (sym is) m
 
 -- ---- The client accepts a call, and writes
 
 abbrev pub up_more : Transit → List FrameContent → Transit
 up_more w said = record { queued_up = w.queued_up ++ said; up = w.up; queued_down = w.queued_down; down = w.down }
 
-says_call : (b : Bool) (message : List ℕ) → total_of sends_in (cond b (send_frames message) []) ≡ hello_bit b
-says_call true message = send_counts sends_in 1 (λ offset payload. refl) (λ m. refl) message
+says_call : (b : Bool) (message : List ℕ) → total_of sends_in (cond b (send_frames None message) []) ≡ hello_bit b
+says_call true message = send_counts sends_in 1 (λ named offset payload. refl) (λ m. refl) None message
 says_call false message = refl
 
-says_no : (one : FrameContent → ℕ) (b : Bool) (message : List ℕ) → ((offset : ℕ) (payload : List ℕ) → one (PartFrame offset payload) ≡ 0) → ((m : SentMessage) → one (SendFrame m) ≡ 0) → total_of one (cond b (send_frames message) []) ≡ 0
-says_no one true message parts none = send_counts one 0 parts none message
+says_no : (one : FrameContent → ℕ) (b : Bool) (message : List ℕ) → ((named : Bool) (offset : ℕ) (payload : List ℕ) → one (PartFrame named offset payload) ≡ 0) → ((m : SentMessage) → one (SendFrame m) ≡ 0) → total_of one (cond b (send_frames None message) []) ≡ 0
+says_no one true message parts none = send_counts one 0 parts none None message
 says_no one false message parts none = refl
 
-says_sends : (b : Bool) (message : List ℕ) → AreSends None (cond b (send_frames message) [])
-says_sends true message = are_sends message
+says_sends : (b : Bool) (message : List ℕ) → AreSends None (cond b (send_frames None message) [])
+says_sends true message = are_sends None message
 says_sends false message = refl
 
 said_more : (b : Bool) (n : ℕ) → cond b (n + 1) 0 ≡ cond b n 0 + hello_bit b
@@ -289,9 +295,9 @@ pub totals_accepts : (opened : LinkParameters) (k : ClientState) (s : ServerStat
 unfolding client_state_after client_frames
 totals_accepts opened k s w place a c =
     let message = message_of_call opened (outstanding_of k a) in
-    let said = cond k.has_hello (send_frames message) [] in
+    let said = cond k.has_hello (send_frames None message) [] in
     record {
-      hello = omega (arith, c.hello, total_append hellos_in w.queued_up said, says_no hellos_in k.has_hello message (λ offset payload. refl) (λ m. refl));
+      hello = omega (arith, c.hello, total_append hellos_in w.queued_up said, says_no hellos_in k.has_hello message (λ named offset payload. refl) (λ m. refl));
       calls_up = omega (arith, c.calls_up, said_more k.has_hello k.sends, total_append sends_in w.queued_up said, says_call k.has_hello message);
       messages_down = c.messages_down;
       sends = omega (arith, c.sends, total_append sends_in w.queued_up said, says_call k.has_hello message, waiting_append k.written k.send_ends (submitted_ends opened k a), submitted_waits k.has_hello);
@@ -303,8 +309,8 @@ totals_accepts opened k s w place a c =
       waiting = c.waiting;
       whole_up = queued_more s.received.begun w.up w.queued_up said c.whole_up (says_sends k.has_hello message);
       whole_down = c.whole_down;
-      reads = omega (arith, c.reads, total_append responses_in w.queued_up said, says_no responses_in k.has_hello message (λ offset payload. refl) (λ m. refl));
-      responses = omega (arith, c.responses, total_append responses_in w.queued_up said, says_no responses_in k.has_hello message (λ offset payload. refl) (λ m. refl));
+      reads = omega (arith, c.reads, total_append responses_in w.queued_up said, says_no responses_in k.has_hello message (λ named offset payload. refl) (λ m. refl));
+      responses = omega (arith, c.responses, total_append responses_in w.queued_up said, says_no responses_in k.has_hello message (λ named offset payload. refl) (λ m. refl));
     }
   where
     one : List ℕ

@@ -18,7 +18,7 @@ use Rattle.nr_reduce.specs.ServerState.{ServerState, PendingCall, PendingRead, c
 use Rattle.nr_reduce.specs.ServerFrames.{FrameEffect, frame_effect, effect_in, message_effect, no_effect, ready_if_whole, with_verdict, with_refused_call, read_effect, response_effect, call_of_number, is_stream_read, with_access}
 use Rattle.nr_reduce.specs.ServerMessages.{Verdict, CallVerdict, verdict, by_payload, pending_payload, chunk_bytes}
 use Rattle.nr_reduce.specs.ServerReads.{open_reads, reads_of, regions_of, is_over}
-use Rattle.nr_reduce.specs.Server.{with_own_hello, effect_output, send_ends_from, execution_output, with_effect, newly_open_reads, server_state_after, offer_of, answer_of_target, received_by, response_bytes_after, tagged_accesses}
+use Rattle.nr_reduce.specs.Server.{with_own_hello, effect_output, send_ends_from, execution_output, with_effect, newly_open_reads, server_state_after, offer_of, answer_of_target, received_by, response_bytes_after, tagged_accesses, stag_named}
 use Rattle.nr_reduce.specs.ServerMessages.Verdict.{EndsLink, OtherVersion, BadChunks, MakesPending}
 use Rattle.nr_reduce.specs.ServerMessages.CallVerdict.{Refuses, IsReady}
 use Rattle.nr_reduce.specs.OfferedRegions.{regions_closed}
@@ -28,7 +28,7 @@ use Rattle.nr_header.specs.declared.header.ChunkLists.{ChunkLists}
 use Rattle.nr_rpc.specs.Reading.{call_of, target_of}
 use Rattle.nr_reduce.specs.History.{ExecutedCall}
 use Rattle.nr_reduce.specs.Holds.{Answer, answer_message, chunk_error, first_chunk, no_segments}
-use Rattle.nr_laws.proofs.FrameContents.{FrameContent, SentMessage, Carries, numbered_segment, part_segment, last_segment, send_frames, errors_frames, total_of, sends_in, requests_in, responses_in, hellos_in, one_if_response, effect_frames, request_frame, write_frames, answer_frames, tagged_frames, tagged_frame, server_frames}
+use Rattle.nr_laws.proofs.FrameContents.{FrameContent, SentMessage, Carries, part_segment, last_segment, send_frames, errors_frames, total_of, sends_in, requests_in, responses_in, hellos_in, one_if_response, effect_frames, request_frame, write_frames, answer_frames, tagged_frames, tagged_frame, server_frames}
 use Rattle.nr_laws.proofs.FrameContents.FrameContent.{HelloFrame, PartFrame, SendFrame, TaggedFrame}
 use Rattle.nr_laws.proofs.LinkInvariants.{Transit, TotalsAgree, AreDistinct, AreSends}
 use Rattle.nr_laws.proofs.Totals.{total_append, total_map_zero, total_map_one, others, length_fewer, any_found, length_newly}
@@ -37,6 +37,7 @@ use Rattle.nr_laws.proofs.EachEffect.{whole_rule}
 use Rattle.nr_laws.proofs.EndsWaiting.{waiting_append, all_waiting_lem, one_waiting, sends_above, sends_length, execution_some}
 use Rattle.nr_reduce.specs.Written.{ends_waiting}
 use Rattle.nr_reduce.proofs.WholeWrotes.{ServerEnds, none_waiting}
+use Rattle.nr_laws.proofs.ReadContents.{segment_is}
 
 -- ---- What a step counts: the calls and error messages of `new` Sends more, and how many reads stay open
 
@@ -114,17 +115,17 @@ shape_read k c_k place r (Some c) st kept same none apart is h =
 sends_said : (st : FrameEffect) → total_of sends_in (effect_frames st) ≡ length st.errors
 sends_said st =
     total_append sends_in (errors_frames st.errors) (map request_frame (newly_open_reads st))
-    ∙ omega (arith, sends_one sends_in (λ (m : List ℕ). m) st.errors (λ offset payload. refl) (λ x. refl), total_map_zero sends_in request_frame (newly_open_reads st) (λ x. refl))
+    ∙ omega (arith, sends_one sends_in (λ (m : List ℕ). m) st.errors (λ named offset payload. refl) (λ x. refl), total_map_zero sends_in request_frame (newly_open_reads st) (λ x. refl))
 
 pub reads_said : (st : FrameEffect) → total_of requests_in (effect_frames st) ≡ length (newly_open_reads st)
 reads_said st =
     total_append requests_in (errors_frames st.errors) (map request_frame (newly_open_reads st))
-    ∙ omega (arith, sends_zero requests_in (λ (m : List ℕ). m) st.errors (λ offset payload. refl) (λ x. refl), total_map_one requests_in request_frame (newly_open_reads st) (λ x. refl))
+    ∙ omega (arith, sends_zero requests_in (λ (m : List ℕ). m) st.errors (λ named offset payload. refl) (λ x. refl), total_map_one requests_in request_frame (newly_open_reads st) (λ x. refl))
 
 pub hello_said : (st : FrameEffect) → total_of hellos_in (effect_frames st) ≡ 0
 hello_said st =
     total_append hellos_in (errors_frames st.errors) (map request_frame (newly_open_reads st))
-    ∙ omega (arith, sends_zero hellos_in (λ (m : List ℕ). m) st.errors (λ offset payload. refl) (λ x. refl), total_map_zero hellos_in request_frame (newly_open_reads st) (λ x. refl))
+    ∙ omega (arith, sends_zero hellos_in (λ (m : List ℕ). m) st.errors (λ named offset payload. refl) (λ x. refl), total_map_zero hellos_in request_frame (newly_open_reads st) (λ x. refl))
 
 -- ---- Counts after a frame
 
@@ -196,6 +197,7 @@ with_by k f r st = record {
   low = k.low;
   up_max = k.up_max;
   down_max = k.down_max;
+  invalidates = k.invalidates;
 }
 
 pub after_is_lem : (opened : LinkParameters) (s : ServerState) (f : Frame) (r : Result Segment ℕ) → is_hello f ≡ false → frame_segment f ≡ r → server_state_after opened s (FrameReceived f) ≡ with_by s f r (effect_in s f r)
@@ -205,9 +207,6 @@ after_is_lem opened s f r behind is = λ i. cond (behind i) (with_own_hello open
 pub step_is : (s : ServerState) (f : Frame) (r : Result Segment ℕ) → frame_segment f ≡ r → frame_effect s f ≡ effect_in s f r
 unfolding frame_effect
 step_is s f r is = λ i. effect_in s f (is i)
-
-pub segment_is : (n r : ℕ) (f : Frame) (p : FrameContent) (segment : Segment) → Carries n r f p → numbered_segment n r p ≡ Some segment → frame_segment f ≡ Ok segment
-segment_is n r f p segment is e = is.reads ∙ ap (λ (s : Segment). Ok s) (same_Some _ _ (sym is.is_segment ∙ e))
 
 -- ---- The server receives a segment of a Send
 
@@ -221,7 +220,7 @@ totals_frame_lem opened k s w f segment rest behind is h =
     (subst (λ (t : ServerState). TotalsAgree k t (up_one w rest (effect_frames (effect_in s f (Ok segment))))) (sym (after_is_lem opened s f (Ok segment) behind is)) h)
 
 pub totals_send_up : (opened : LinkParameters) (k : ClientState) (s : ServerState) (w : Transit) (f : Frame) (message : SentMessage) (rest : List FrameContent) → TotalsAgree k s w → w.up ≡ SendFrame message ∷ rest
-    → Carries s.received.sends s.received.requests f (SendFrame message) → (frame_effect s f).refusal ≡ None
+    → Carries false s.received.sends s.received.requests f (SendFrame message) → (frame_effect s f).refusal ≡ None
     → TotalsAgree k (server_state_after opened s (FrameReceived f)) (record { queued_up = w.queued_up; up = rest; queued_down = w.queued_down ++ effect_frames (frame_effect s f); down = w.down })
 totals_send_up opened k s w f message rest c first p goes_on =
     let segment : Segment = last_segment s.received.sends message in
@@ -246,15 +245,15 @@ totals_send_up opened k s w f message rest c first p goes_on =
     } in
     totals_frame_lem opened k s w f segment rest p.behind is (totals_moved opened k s t w st rest 1 (length (open_reads s)) 0 c m front.2)
 
-pub totals_part_up : (opened : LinkParameters) (k : ClientState) (s : ServerState) (w : Transit) (f : Frame) (offset : ℕ) (payload : List ℕ) (rest : List FrameContent) → TotalsAgree k s w → w.up ≡ PartFrame offset payload ∷ rest
-    → Carries s.received.sends s.received.requests f (PartFrame offset payload)
+pub totals_part_up : (opened : LinkParameters) (k : ClientState) (s : ServerState) (w : Transit) (f : Frame) (named : Bool) (offset : ℕ) (payload : List ℕ) (rest : List FrameContent) → TotalsAgree k s w → w.up ≡ PartFrame named offset payload ∷ rest
+    → Carries false s.received.sends s.received.requests f (PartFrame named offset payload)
     → TotalsAgree k (server_state_after opened s (FrameReceived f)) (record { queued_up = w.queued_up; up = rest; queued_down = w.queued_down ++ effect_frames (frame_effect s f); down = w.down })
-totals_part_up opened k s w f offset payload rest c first p =
+totals_part_up opened k s w f named offset payload rest c first p =
     let segment : Segment = part_segment s.received.sends offset payload in
-    let is : frame_segment f ≡ Ok segment = segment_is s.received.sends s.received.requests f (PartFrame offset payload) segment p refl in
+    let is : frame_segment f ≡ Ok segment = segment_is s.received.sends s.received.requests f (PartFrame named offset payload) segment p refl in
     let st = effect_in s f (Ok segment) in
     let t = with_by s f (Ok segment) st in
-    let front = at_front s.received.begun w.up w.queued_up (PartFrame offset payload) rest first c.whole_up in
+    let front = at_front s.received.begun w.up w.queued_up (PartFrame named offset payload) rest first c.whole_up in
     let m : FrameTotals s t st w.up rest 0 (length (open_reads s)) 0 = record {
       shape = record { counted = omega arith; kept_is = refl; kept_there = omega arith };
       kept_gone = omega arith;
@@ -330,7 +329,7 @@ moves_tagged s f last opcode stag to payload up rest false is first few apart wi
 
 pub totals_tagged_up : (opened : LinkParameters) (k : ClientState) (s : ServerState) (w : Transit) (f : Frame) (last : Bool) (opcode stag to : ℕ) (payload : List ℕ) (rest : List FrameContent) → TotalsAgree k s w
     → AreDistinct (λ (c : PendingCall). c.number) s.calls → w.up ≡ TaggedFrame last opcode stag to payload ∷ rest
-    → Carries s.received.sends s.received.requests f (TaggedFrame last opcode stag to payload)
+    → Carries false s.received.sends s.received.requests f (TaggedFrame last opcode stag to payload)
     → TotalsAgree k (server_state_after opened s (FrameReceived f)) (record { queued_up = w.queued_up; up = rest; queued_down = w.queued_down ++ effect_frames (frame_effect s f); down = w.down })
 totals_tagged_up opened k s w f last opcode stag to payload rest c apart first p =
     let segment : Segment = Tagged last opcode stag to payload in
@@ -358,15 +357,16 @@ pub long_none : (one : FrameContent → ℕ) → ((last : Bool) (stag to : ℕ) 
 long_none one none true chunk bytes = fills_none one none chunk bytes
 long_none one none false chunk bytes = refl
 
-pub answer_counts : (one : FrameContent → ℕ) (n : ℕ) → ((last : Bool) (stag to : ℕ) (payload : List ℕ) → one (TaggedFrame last OPCODE_WRITE stag to payload) ≡ 0) → ((offset : ℕ) (payload : List ℕ) → one (PartFrame offset payload) ≡ 0) → ((message : SentMessage) → one (SendFrame message) ≡ n)
+pub answer_counts : (one : FrameContent → ℕ) (n : ℕ) → ((last : Bool) (stag to : ℕ) (payload : List ℕ) → one (TaggedFrame last OPCODE_WRITE stag to payload) ≡ 0) → ((named : Bool) (offset : ℕ) (payload : List ℕ) → one (PartFrame named offset payload) ≡ 0) → ((message : SentMessage) → one (SendFrame message) ≡ n)
     → (s : ServerState) (xid : ℕ) (offer : ChunkLists) (a : Option Answer) → total_of one (answer_frames s xid offer a) ≡ n
-answer_counts one n none parts is s xid offer None = send_counts one n parts is (chunk_error xid (credit_word s))
+answer_counts one n none parts is s xid offer None = send_counts one n parts is None (chunk_error xid (credit_word s))
 answer_counts one n none parts is s xid offer (Some a) =
     let moved = write_frames (first_chunk offer.write) a.moved in
     let long = cond a.long (write_frames (no_segments offer.reply) a.stream) [] in
+    let named = stag_named s.invalidates offer in
     let message = answer_message xid (credit_word s) offer a in
-    total_append one moved (long ++ send_frames message)
-    ∙ omega (arith, total_append one long (send_frames message), fills_none one none (first_chunk offer.write) a.moved, long_none one none a.long (no_segments offer.reply) a.stream, send_counts one n parts is message)
+    total_append one moved (long ++ send_frames named message)
+    ∙ omega (arith, total_append one long (send_frames named message), fills_none one none (first_chunk offer.write) a.moved, long_none one none a.long (no_segments offer.reply) a.stream, send_counts one n parts is named message)
 
 pub totals_executes : (opened : LinkParameters) (k : ClientState) (s : ServerState) (w : Transit) (e : ExecutedCall) → TotalsAgree k s w
     → AreDistinct (λ (c : PendingCall). c.xid) s.calls → list_any (λ (c : PendingCall). eqb c.xid e.xid) s.calls ≡ true
@@ -378,15 +378,15 @@ totals_executes opened k s w e c apart there =
     let said = answer_frames s e.xid offer answer in
     let fewer = length_fewer (λ (c : PendingCall). c.xid) e.xid s.calls apart there in
     record {
-      hello = omega (arith, c.hello, total_append hellos_in w.queued_down said, answer_counts hellos_in 0 (λ last stag to payload. refl) (λ offset payload. refl) (λ message. refl) s e.xid offer answer);
+      hello = omega (arith, c.hello, total_append hellos_in w.queued_down said, answer_counts hellos_in 0 (λ last stag to payload. refl) (λ named offset payload. refl) (λ message. refl) s e.xid offer answer);
       calls_up = c.calls_up;
-      messages_down = omega (arith, c.messages_down, total_append sends_in w.queued_down said, answer_counts sends_in 1 (λ last stag to payload. refl) (λ offset payload. refl) (λ message. refl) s e.xid offer answer);
+      messages_down = omega (arith, c.messages_down, total_append sends_in w.queued_down said, answer_counts sends_in 1 (λ last stag to payload. refl) (λ named offset payload. refl) (λ message. refl) s e.xid offer answer);
       sends = c.sends;
       messages = omega (
         arith,
         c.messages,
         total_append sends_in w.queued_down said,
-        answer_counts sends_in 1 (λ last stag to payload. refl) (λ offset payload. refl) (λ message. refl) s e.xid offer answer,
+        answer_counts sends_in 1 (λ last stag to payload. refl) (λ named offset payload. refl) (λ message. refl) s e.xid offer answer,
         waiting_append s.written s.message_ends ((s.due + length (execution_output s e)) ∷ []),
         one_waiting s.written (s.due + length (execution_output s e)) (omega (arith, c.within_down, execution_some s e)),
       );
@@ -397,7 +397,7 @@ totals_executes opened k s w e c apart there =
       waiting = omega (arith, c.waiting, fewer);
       whole_up = c.whole_up;
       whole_down = queued_more k.received.begun w.down w.queued_down said c.whole_down (answer_sends s e.xid offer answer);
-      reads = omega (arith, c.reads, total_append requests_in w.queued_down said, answer_counts requests_in 0 (λ last stag to payload. refl) (λ offset payload. refl) (λ message. refl) s e.xid offer answer);
+      reads = omega (arith, c.reads, total_append requests_in w.queued_down said, answer_counts requests_in 0 (λ last stag to payload. refl) (λ named offset payload. refl) (λ message. refl) s e.xid offer answer);
       responses = c.responses;
     }
 

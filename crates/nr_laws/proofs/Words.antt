@@ -16,12 +16,13 @@ use Rattle.nr_link.specs.Limits.{segment_max}
 use Rattle.nr_link.specs.Output.{segment_count, segment_payload}
 use Rattle.nr_reduce.specs.ServerState.{PendingRead}
 use Rattle.nr_reduce.specs.ChunkBytes.{one_write, write_segments, chunk_segments}
-use Rattle.nr_laws.specs.MessageSegments.{message_segment}
-use Rattle.nr_laws.proofs.SegmentedMessages.{segment_word}
-use Rattle.nr_laws.proofs.Outputs.{Output, IsShort, message_outputs, request_segment, terminate_segment, one_response, response_segments}
+use Rattle.nr_laws.specs.MessageSegments.{message_segment, named_segment}
+use Rattle.nr_laws.proofs.SegmentedMessages.{segment_word, named_word}
+use Rattle.nr_laws.proofs.Outputs.{Output, IsShort, message_outputs, request_segment, terminate_segment, one_response, response_segments, named_outputs}
 use Rattle.nr_laws.proofs.Outputs.Output.{AHello, ASegment}
 use Rattle.nr_laws.proofs.Brought.{IsWord, AreFrom}
 use Rattle.nr_laws.proofs.WritableOffers.{SegmentsFit}
+use Rattle.std.specs.Prelude.{IfSome}
 
 -- ---- One segment
 
@@ -53,6 +54,10 @@ range_words f a (suc n) h = (h a (omega arith) (omega arith), range_words f (a +
 -- a message with its cut
 pub message_words : (msn : ℕ) (message : List ℕ) → IsShort message → AreFrom Fpdu (message_outputs msn message)
 message_words msn message short = range_words (message_segment msn message) 0 (segment_count message) (λ i le lt. segment_word msn message i (omega (arith, lt)) (omega (arith, short)))
+
+pub named_words : (named : Option ℕ) (msn : ℕ) (message : List ℕ) → IsShort message → IfSome named (λ stag. stag < 2 ^ 32) → AreFrom Fpdu (named_outputs named msn message)
+named_words named msn message short h =
+    range_words (named_segment named msn message) 0 (segment_count message) (λ i le lt. named_word named msn message i (omega (arith, lt)) (omega (arith, short)) h)
 
 -- a range of bytes ends at 2 ^ 64 or before
 abbrev pub RangeEnds : ℕ → ℕ → Type 0

@@ -25,11 +25,13 @@ abbrev pub SidesAgree : Type 0
 SidesAgree = (opened : LinkParameters) (link : ℕ) (run : List Mark) (f g : Frame) → IsTyped run → MatchedSoFar opened link run →
     ReceivedHello link Initiator run f → ReceivedHello link Responder run g → client_agreement opened f ≡ server_agreement opened g
 
--- From its peer's hello on, each side plans and answers calls, and takes Sends, by the lengths that are agreed on.
+-- From its peer's hello on, each side plans and answers calls, and takes Sends, by what is agreed on.
 abbrev pub ClientGoesByAgreement : Type 0
 ClientGoesByAgreement = (opened : LinkParameters) (link : ℕ) (run : List Mark) (f : Frame) → IsTyped run → MatchedSoFar opened link run → ReceivedHello link Initiator run f →
-    ((client opened link run).state.up_max ≡ (client_agreement opened f).up) × ((client opened link run).state.down_max ≡ (client_agreement opened f).down)
+    ((client opened link run).state.up_max ≡ (client_agreement opened f).up) × (((client opened link run).state.down_max ≡ (client_agreement opened f).down)
+    × ((client opened link run).state.invalidates ≡ (client_agreement opened f).invalidates))
 
 abbrev pub ServerGoesByAgreement : Type 0
 ServerGoesByAgreement = (opened : LinkParameters) (link : ℕ) (run : List Mark) (g : Frame) → IsTyped run → MatchedSoFar opened link run → ReceivedHello link Responder run g →
-    ((server opened link run).state.up_max ≡ (server_agreement opened g).up) × ((server opened link run).state.down_max ≡ (server_agreement opened g).down)
+    ((server opened link run).state.up_max ≡ (server_agreement opened g).up) × (((server opened link run).state.down_max ≡ (server_agreement opened g).down)
+    × ((server opened link run).state.invalidates ≡ (server_agreement opened g).invalidates))

@@ -2,7 +2,7 @@
 use Rattle.std.specs.Prelude.{◌≡◌, ◌≢◌, ℕ, ◌+◌, List, [], ◌∷◌, ◌++◌, Option, None, Some, Contains, ◌⊎◌, ◌↔◌}
 use Rattle.nr_wire.specs.declared.hello.Side.TheVariants.{Responder}
 use Rattle.nr_rpc.specs.Reading.{call_of, target_of}
-use Rattle.nr_link.specs.Output.{send}
+use Rattle.nr_link.specs.Output.{send_by}
 use Rattle.nr_reduce.specs.declared.call.Call.{Call}
 use Rattle.nr_reduce.specs.declared.call.Form.TheVariants as forms
 use Rattle.nr_reduce.specs.declared.call.Outcome.{Outcome}
@@ -19,7 +19,7 @@ use Rattle.nr_reduce.specs.Plans.{lists_of}
 use Rattle.nr_reduce.specs.ChunkBytes.{IsNotGiven}
 use Rattle.nr_reduce.specs.Holds.{Answer, answer_writes, answer_message}
 use Rattle.nr_reduce.specs.ServerState.{credit_word}
-use Rattle.nr_reduce.specs.Server.{offer_of, answer_of_target}
+use Rattle.nr_reduce.specs.Server.{offer_of, answer_of_target, stag_named}
 use Rattle.nr_reduce.specs.Run.{client, server, output_due}
 use Rattle.nr_reduce.specs.OutcomesDue.{outcomes_due}
 use Rattle.nr_reduce.specs.Asked.{Asked, AskedSoFar}
@@ -104,14 +104,16 @@ abbrev pub answer_held : LinkParameters → ℕ → List Mark → ℕ → List �
 answer_held opened link before xid payload reply =
     answer_of_target (offer_of (server opened link before).state xid) (server opened link before).state.down_max reply (target_of (call_of payload))
 
--- the reply to an executed call goes out: its offer holds an answer, and what is due for the call is the answer's RDMA Writes and its Send
+-- the reply to an executed call goes out: its offer holds an answer, and what is due for the call is the answer's RDMA Writes and its Send,
+-- with Invalidate if that is agreed on and the offer has a segment
 pub record IsAnswered (opened : LinkParameters) (link : ℕ) (before : List Mark) (xid : ℕ) (moment : Moment) (payload : List ℕ) (place : ℕ) (reply : List ℕ) : Type 0 where
   pub answer : Answer
   pub is_held : answer_held opened link before xid payload reply ≡ Some answer
   pub due : output_due opened link Responder (before ++ marks.Execute link xid moment payload place reply ∷ [])
       ≡ output_due opened link Responder before
       ++ (answer_writes (offer_of (server opened link before).state xid) answer
-      ++ send ((server opened link before).state.messages_queued + 1) (answer_message xid (credit_word (server opened link before).state) (offer_of (server opened link before).state xid) answer))
+      ++ send_by (stag_named (server opened link before).state.invalidates (offer_of (server opened link before).state xid)) ((server opened link before).state.messages_queued + 1)
+      (answer_message xid (credit_word (server opened link before).state) (offer_of (server opened link before).state xid) answer))
 
 -- On every link, whatever its client sends, the reply to each executed call that adds an entry to the journal goes out.
 abbrev pub ChangesAreAnswered : Type 0

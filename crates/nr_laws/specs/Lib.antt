@@ -18,6 +18,7 @@ pub mod PlainLinks
 pub mod ServerRegions
 pub mod ClientRegions
 pub mod HandedBack
+pub mod Invalidated
 pub mod Sent
 pub mod SendsConvey
 pub mod SentCalls

@@ -77,7 +77,7 @@ pub fn sides_stay_bounded()
 
 /// On a matched link on which each side received the other's hello, both have agreed on the same lengths of Sends, and on whether a reply is a Send
 /// with Invalidate (RFC 5044 section 7.1; the terms in its private data are own). From then on each side plans calls, answers them and takes Sends
-/// by these lengths.
+/// by what is agreed on.
 pub fn sides_agree()
     ensures same { SidesAgree }
     ensures client { ClientGoesByAgreement }

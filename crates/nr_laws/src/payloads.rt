@@ -2,7 +2,7 @@
 
 ghost use Rattle.nr_laws.specs.AnswersConvey.{AnswersConvey};
 ghost use Rattle.nr_laws.specs.SendsConvey.{SendsConvey, OwnSendsConvey};
-ghost use Rattle.nr_laws.specs.MessageSegments.{SendIsItsSegments, SegmentsReadBack, MessageIsReceived, MessagesAreReceived, SegmentsBreakNoRule};
+ghost use Rattle.nr_laws.specs.MessageSegments.{SendIsItsSegments, SegmentsReadBack, LastSegmentNames, MessageIsReceived, MessagesAreReceived, SegmentsBreakNoRule};
 ghost use Rattle.nr_laws.specs.Payloads.{ExecutesHavePlans, PayloadsAreOwn};
 
 /// On a matched link a call that is executed was accepted before that, and goes out by a plan. The payload is exactly what the call's form
@@ -28,10 +28,12 @@ pub fn answers_convey()
 
 /// A message of any length goes as segments of at most 4096 bytes each (RFC 5041 section 5.2), each read as it was written. A side that has no Send
 /// begun receives from them exactly that message, complete with the last; and no segment breaks a rule of the link (RFC 5041 section 7), if the
-/// message has the next number, finds a receive and is no longer than a message may be.
+/// message has the next number, finds a receive and is no longer than a message may be. All of this is so of a Send with Invalidate, too, which names
+/// its STag in its last segment alone (RFC 5040 section 5.1).
 pub fn messages_in_segments()
     ensures sent { SendIsItsSegments }
     ensures read { SegmentsReadBack }
+    ensures names { LastSegmentNames }
     ensures received { MessageIsReceived }
     ensures in_order { MessagesAreReceived }
     ensures allowed { SegmentsBreakNoRule }

@@ -1,6 +1,6 @@
 -- What both sides of a link agree on by the private data of their hellos: how long a Send may be in each direction, and whether a reply is a
 -- Send with Invalidate. All of it is own.
-use Rattle.std.specs.Prelude.{◌≡◌, ℕ, ◌*◌, ◌≤◌, min, false, not, ◌&&◌, ◌==◌, if◌then◌else◌, List, [], Option, None, Some}
+use Rattle.std.specs.Prelude.{◌≡◌, ℕ, ◌*◌, ◌≤◌, min, Bool, false, not, ◌&&◌, ◌==◌, if◌then◌else◌, List, [], Option, None, Some}
 use Rattle.nr_wire.specs.Constants.{UNITS_MAX}
 use Rattle.nr_wire.specs.declared.terms.Terms.{Terms}
 use Rattle.nr_wire.specs.Terms.{terms_encoding, terms_in, units_byte}
@@ -8,9 +8,13 @@ use Rattle.nr_link.specs.declared.agreement.SideTerms.{SideTerms}
 use Rattle.nr_link.specs.declared.agreement.Agreement.{Agreement}
 use Rattle.nr_link.specs.Limits.{send_unit}
 
--- a side with these units, without a number, that makes and takes no Send with Invalidate
+-- a side with these units, without a number, and whether it makes or takes Sends with Invalidate
+abbrev pub terms_with : (units : ℕ) → (invalidates : Bool) → SideTerms
+terms_with units invalidates = record { units = units; number = 0; invalidates = invalidates }
+
+-- one that makes and takes none
 abbrev pub sized_terms : (units : ℕ) → SideTerms
-sized_terms units = record { units = units; number = 0; invalidates = false }
+sized_terms units = terms_with units false
 
 abbrev pub default_terms : SideTerms
 default_terms = sized_terms 1

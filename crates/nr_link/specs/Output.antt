@@ -1,8 +1,8 @@
 -- What a side writes, as the bytes of FPDUs: messages and accesses, cut into segments (RFC 5041 section 5.2; RFC 5040 section 5).
-use Rattle.std.specs.Prelude.{ℕ, ◌+◌, ◌-◌, ◌*◌, ◌/◌, ◌%◌, ◌^◌, max, Bool, true, ◌==◌, List, [], ◌++◌, length, take, drop}
+use Rattle.std.specs.Prelude.{ℕ, ◌+◌, ◌-◌, ◌*◌, ◌/◌, ◌%◌, ◌^◌, max, Bool, true, ◌==◌, if◌then◌else◌, List, [], ◌++◌, length, take, drop, Option, None, Some}
 use Rattle.std.specs.List.{flat_map, range_with_len}
 use Rattle.nr_xdr.specs.Item.{word, hyper}
-use Rattle.nr_wire.specs.Constants.{OPCODE_WRITE, OPCODE_READ_REQUEST, OPCODE_READ_RESPONSE, OPCODE_SEND, OPCODE_TERMINATE, QUEUE_SEND, QUEUE_READ_REQUEST, QUEUE_TERMINATE, FLAG_REJECT}
+use Rattle.nr_wire.specs.Constants.{OPCODE_WRITE, OPCODE_READ_REQUEST, OPCODE_READ_RESPONSE, OPCODE_SEND, OPCODE_SEND_INVALIDATE, OPCODE_TERMINATE, QUEUE_SEND, QUEUE_READ_REQUEST, QUEUE_TERMINATE, FLAG_REJECT}
 use Rattle.nr_wire.specs.declared.hello.Side.{Side}
 use Rattle.nr_wire.specs.declared.hello.Side.TheVariants.{Responder}
 use Rattle.nr_wire.specs.Hello.{hello_encoding}
@@ -29,6 +29,16 @@ msn_word n = n % 2 ^ 32
 -- the Send of a side that has this number, from 1 on
 unfoldable pub send : ℕ → List ℕ → List ℕ
 send msn message = cut (λ last offset payload. Untagged last OPCODE_SEND 0 QUEUE_SEND (msn_word msn) offset payload) message
+
+-- The Send with Invalidate that has this number (RFC 5040 section 5.1): its last segment has the STag in its first word.
+unfoldable pub send_invalidating : (msn stag : ℕ) → List ℕ → List ℕ
+send_invalidating msn stag message =
+    cut (λ last offset payload. Untagged last OPCODE_SEND_INVALIDATE (if last then stag else 0) QUEUE_SEND (msn_word msn) offset payload) message
+
+-- a Send, with Invalidate if there is an STag
+abbrev pub send_by : Option ℕ → ℕ → List ℕ → List ℕ
+send_by None msn message = send msn message
+send_by (Some stag) msn message = send_invalidating msn stag message
 
 -- an RDMA Write, and a Read Response, from an offset of a region on (RFC 5040 sections 4.3 and 4.5)
 unfoldable pub write : (stag to : ℕ) → List ℕ → List ℕ

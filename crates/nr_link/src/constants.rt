@@ -43,6 +43,9 @@ pub const REASON_LONG: u32 = 22;
 /// A client gets a message of another version of RPC-over-RDMA (RFC 8166 section 4.1).
 pub const REASON_VERSION: u32 = 23;
 
+/// A Send with Invalidate names an STag that was not given to the call which it answers.
+pub const REASON_INVALIDATED: u32 = 29;
+
 /// No STag is left for a chunk of a call.
 pub const REASON_STAGS: u32 = 30;
 

@@ -6,7 +6,8 @@ ghost use Rattle.nr_link.specs.KeptSends.{JudgedAlike, KeptAlike, MessagesAlike}
 ghost use Rattle.nr_link.specs.Reasons as reasons;
 
 use crate::constants::{
-    REASON_CALL, REASON_CHUNKS, REASON_HEAD, REASON_KIND, REASON_STAGS, REASON_VERSION, REASON_XID,
+    REASON_CALL, REASON_CHUNKS, REASON_HEAD, REASON_INVALIDATED, REASON_KIND, REASON_STAGS,
+    REASON_VERSION, REASON_XID,
 };
 
 /// A side may keep of a begun Send only the bytes that its receive has room for, if it counts those beyond: each segment ends the link
@@ -25,6 +26,7 @@ pub fn stop_reasons_numbered()
     ensures call { REASON_CALL ≡ reasons.REASON_CALL }
     ensures chunks { REASON_CHUNKS ≡ reasons.REASON_CHUNKS }
     ensures version { REASON_VERSION ≡ reasons.REASON_VERSION }
+    ensures invalidated { REASON_INVALIDATED ≡ reasons.REASON_INVALIDATED }
     ensures stags { REASON_STAGS ≡ reasons.REASON_STAGS }
 {}
 

@@ -9,12 +9,13 @@
 //! [`StdSource`] and [`StdSink`] are adapters over a reader and a writer of std. They count faults; their bytes are
 //! unknown. [`read_whole`] and [`write_whole`] move a complete input or output, and [`write_whole_vectored`] one of two pieces.
 //!
-//! [`Moment`] is a moment of a clock.
+//! [`Moment`] is a moment of a clock. [`raise_trim_threshold`] has the C library's allocator keep more free memory.
 //!
 //! The crate stands on no other crate of the project, and each crate above that reads or writes stands on it. It opens
 //! nothing: its callers hand in the source and the sink.
 #![tactic(auto)]
 
+mod allocating;
 mod byte_pipe;
 mod copying;
 mod mem_sink;
@@ -25,6 +26,7 @@ mod std_source;
 mod traits;
 mod whole;
 
+pub use allocating::raise_trim_threshold;
 pub use byte_pipe::Pipe;
 pub use mem_sink::MemSink;
 pub use mem_source::MemSource;

@@ -1,10 +1,10 @@
 -- The regions of a call are released: when a message of its xid comes, or when its memory is revoked.
-use Rattle.std.proofs.Common.{◌≡◌, ℕ, ◌-◌, ◌<◌, ◌⊎◌, Bool, true, false, cond, not, eqb, ltb, List, [], ◌∷◌, map, inl, inr, Option, None, Some, refl, sym, ap, subst, ◌∙◌, arith}
+use Rattle.std.proofs.Common.{◌≡◌, ℕ, ◌<◌, ◌⊎◌, Bool, true, false, cond, not, eqb, ltb, List, [], ◌∷◌, map, inl, inr, Option, None, Some, refl, sym, ap, subst, ◌∙◌, arith}
 use Rattle.std.specs.List.{AllByRecursion, filter}
 use Rattle.std.proofs.lemmas.Bool.{eqb-true, eq-eqb, cases_eq}
-use Rattle.nr_regions.specs.RegisteredMemory.{RegisteredMemory, live_region, held_region, after_release}
+use Rattle.nr_regions.specs.RegisteredMemory.{RegisteredMemory, NoneIsDead, live_region, held_region, after_release}
 use Rattle.nr_regions.specs.Access.{contents}
-use Rattle.nr_regions.proofs.Holding.{live_held, release_here, release_other}
+use Rattle.nr_regions.proofs.Holding.{release_other, live_release_here, live_release_other, none_dead_release}
 use Rattle.nr_reduce.specs.OfferedRegions.{Region, until_at, closed_if, regions_closed, region_grants}
 use Rattle.nr_reduce.specs.OfferedMemory.{region_at, held_if_open, registered_region, HoldsRegions, is_closed_by, ReleasesClosed}
 use Rattle.nr_reduce.specs.Written.{ends_written}
@@ -22,21 +22,30 @@ pub released_next : (stags : List ℕ) (m : RegisteredMemory) → (released_all 
 released_next [] m = refl
 released_next (stag ∷ stags) m = released_next stags (after_release m stag) ∙ release_next m stag
 
-none_stays : (stags : List ℕ) (m : RegisteredMemory) (stag : ℕ) → held_region m stag ≡ None → held_region (released_all m stags) stag ≡ None
+none_stays : (stags : List ℕ) (m : RegisteredMemory) (stag : ℕ) → live_region m stag ≡ None → live_region (released_all m stags) stag ≡ None
 none_stays [] m stag none = none
 none_stays (s ∷ stags) m stag none = none_stays stags (after_release m s) stag (elim (cases_eq stag s) [
-  | inl e ↦ ap (λ (x : ℕ). held_region (after_release m s) x) e ∙ release_here m s
-  | inr ne ↦ release_other m s stag ne ∙ none
+  | inl e ↦ ap (λ (x : ℕ). live_region (after_release m s) x) e ∙ live_release_here m s
+  | inr ne ↦ live_release_other m s stag ne ∙ none
 ])
 
-released_dead : (stags : List ℕ) (m : RegisteredMemory) (stag : ℕ) → IsAmong stag stags → held_region (released_all m stags) stag ≡ None
+released_dead : (stags : List ℕ) (m : RegisteredMemory) (stag : ℕ) → IsAmong stag stags → live_region (released_all m stags) stag ≡ None
 released_dead [] m stag is = absurd is
-released_dead (s ∷ stags) m stag (inl e) = none_stays stags (after_release m s) stag (ap (λ (x : ℕ). held_region (after_release m s) x) (sym e) ∙ release_here m s)
+released_dead (s ∷ stags) m stag (inl e) = none_stays stags (after_release m s) stag (ap (λ (x : ℕ). live_region (after_release m s) x) (sym e) ∙ live_release_here m s)
 released_dead (s ∷ stags) m stag (inr is) = released_dead stags (after_release m s) stag is
 
 pub released_other : (stags : List ℕ) (m : RegisteredMemory) (stag : ℕ) → (IsAmong stag stags → ⊥) → held_region (released_all m stags) stag ≡ held_region m stag
 released_other [] m stag never = refl
 released_other (s ∷ stags) m stag never = released_other stags (after_release m s) stag (λ is. never (inr is)) ∙ release_other m s stag (λ e. never (inl (sym e)))
+
+released_live : (stags : List ℕ) (m : RegisteredMemory) (stag : ℕ) → (IsAmong stag stags → ⊥) → live_region (released_all m stags) stag ≡ live_region m stag
+released_live [] m stag never = refl
+released_live (s ∷ stags) m stag never = released_live stags (after_release m s) stag (λ is. never (inr is)) ∙ live_release_other m s stag (λ e. never (inl (sym e)))
+
+-- a release lets no region die
+pub released_none_dead : (stags : List ℕ) (m : RegisteredMemory) → NoneIsDead m → NoneIsDead (released_all m stags)
+released_none_dead [] m none = none
+released_none_dead (s ∷ stags) m none = released_none_dead stags (after_release m s) (none_dead_release m s none)
 
 among_or_not : (x : ℕ) (xs : List ℕ) → IsAmong x xs ⊎ (IsAmong x xs → ⊥)
 among_or_not x [] = inr (λ is. is)
@@ -101,9 +110,9 @@ releases_closed calls next_xid k place m c keeps holds there stag = elim (among_
   | inl is ↦
       let o : IsRegionOpen k.regions c.xid stag = all_among (λ (s : ℕ). IsRegionOpen k.regions c.xid s) c.stags stag (all_among (OpensFor k.regions) calls c keeps.opens there) is in
       let closes : is_closed_by (of_call c.xid) (region_at k.regions stag) ≡ true = ap (is_closed_by (of_call c.xid)) o.there ∙ eq-eqb o.region.call c.xid o.own in
-      live_held (released_all m c.stags) stag ∙ released_dead c.stags m stag is ∙ ap (λ (b : Bool). cond b None (live_region m stag)) (sym closes)
+      released_dead c.stags m stag is ∙ ap (λ (b : Bool). cond b None (live_region m stag)) (sym closes)
   | inr never ↦
-      live_held (released_all m c.stags) stag ∙ released_other c.stags m stag never ∙ sym (live_held m stag) ∙ other never (region_at k.regions stag) refl
+      released_live c.stags m stag never ∙ other never (region_at k.regions stag) refl
 ]
   where
     other : (IsAmong stag c.stags → ⊥) → (x : Option Region) → region_at k.regions stag ≡ x → live_region m stag ≡ cond (is_closed_by (of_call c.xid) (region_at k.regions stag)) None (live_region m stag)
@@ -243,6 +252,7 @@ kept_alike k k2 (c ∷ cs) (o ∷ os) same is = (
     call = is.0.call;
     write = is.0.write;
     reply = is.0.reply;
+    given = is.0.given;
     stags = is.0.stags;
   },
   kept_alike k k2 cs os same is.1,

@@ -1,8 +1,8 @@
 -- A message is judged by what a client keeps as by what the client of a run knows.
-use Rattle.std.proofs.Common.{◌≡◌, ℕ, ◌+◌, Bool, true, false, cond, ◌&&◌, ◌||◌, eqb, leb, List, [], ◌∷◌, ◌++◌, length, take, drop, map, inl, inr, Option, None, Some, Result, Ok, Err, refl, sym, ap, subst, ◌∙◌}
+use Rattle.std.proofs.Common.{◌≡◌, ℕ, ◌+◌, Bool, true, false, cond, not, ◌&&◌, ◌||◌, eqb, leb, List, [], ◌∷◌, ◌++◌, length, take, drop, map, inl, inr, Option, None, Some, Result, Ok, Err, refl, sym, ap, subst, ◌∙◌}
 use Rattle.std.specs.Prelude.{is_none, IfSome}
 use Rattle.std.proofs.lemmas.Bool.{eqb-true}
-use Rattle.std.specs.List.{AllByRecursion, find, flat_map}
+use Rattle.std.specs.List.{AllByRecursion, find, flat_map, list_any}
 use Rattle.nr_header.specs.declared.fault.HeaderFault.{HeaderFault}
 use Rattle.nr_header.specs.declared.fault.HeaderFault.TheVariants as faults
 use Rattle.nr_header.specs.declared.header.RdmaSegment.{RdmaSegment}
@@ -13,7 +13,8 @@ use Rattle.nr_header.specs.declared.header.Header.{Header}
 use Rattle.nr_header.specs.Reading.{header_of}
 use Rattle.nr_regions.specs.declared.right.Right.{Right}
 use Rattle.nr_regions.specs.declared.right.Right.TheVariants.{Fetch, Fill}
-use Rattle.nr_regions.specs.RegisteredMemory.{RegisteredMemory, bytes_in}
+use Rattle.nr_regions.specs.RegisteredMemory.{Region as HeldRegion, RegisteredMemory, live_region, bytes_in}
+use Rattle.nr_regions.proofs.Holding.{live_parts}
 use Rattle.nr_regions.specs.Access.{contents}
 use Rattle.nr_reduce.specs.declared.call.Call.{Call}
 use Rattle.nr_reduce.specs.declared.outline.Plan.{Plan}
@@ -23,9 +24,10 @@ use Rattle.nr_reduce.specs.Chunks.{Bytes, joined_bytes, some_bytes, reply_moved,
 use Rattle.nr_reduce.specs.OfferedRegions.{Region, region_grants, region_bytes, region_bytes_by}
 use Rattle.nr_reduce.specs.OfferedMemory.{held_if_open, registered_region, HoldsRegions}
 use Rattle.nr_reduce.specs.ClientState.{OutstandingCall, ClientState, is_sent, client_memory_at}
-use Rattle.nr_reduce.specs.ClientMessages.{ReplyVerdict, reply_verdict, reply_by_payload, by_lists, reply_by_body, by_call, reply_by_header, answered_call}
-use Rattle.nr_reduce.specs.ClientMessages.ReplyVerdict.{GivesOutcome}
-use Rattle.nr_reduce.specs.KeptCalls.{KeptCall, IsKeptCall, AreKept, stags_unless, kept_payload, kept_lists, kept_body, kept_call, kept_by, kept_header, kept_verdict}
+use Rattle.nr_reduce.specs.ClientMessages.{ReplyVerdict, reply_verdict, reply_by_payload, by_lists, reply_by_body, by_call, reply_by_header, answered_call, call_in, names_another, invalidates_another, message_verdict}
+use Rattle.nr_reduce.specs.ClientMessages.ReplyVerdict.{EndsLink, GivesOutcome}
+use Rattle.nr_link.specs.Reasons.{REASON_INVALIDATED}
+use Rattle.nr_reduce.specs.KeptCalls.{KeptCall, IsKeptCall, AreKept, stags_unless, kept_payload, kept_lists, kept_body, kept_call, kept_by, kept_header, kept_verdict, kept_in, kept_names_another, kept_invalidates_another, kept_message_verdict}
 use Rattle.nr_reduce.specs.KeptClient.{IsAmong, IsRegionOpen, OpensFor, bytes_under}
 
 -- ---- The bytes under the STag of an open region
@@ -33,9 +35,12 @@ use Rattle.nr_reduce.specs.KeptClient.{IsAmong, IsRegionOpen, OpensFor, bytes_un
 pub open_bytes : (k : ClientState) (place : ℕ) (m : RegisteredMemory) (xid stag : ℕ) → HoldsRegions k.regions k.accesses_received place m → IsRegionOpen k.regions xid stag → bytes_under m stag ≡ client_memory_at k place stag
 unfolding region_bytes
 open_bytes k place m xid stag holds o =
-    ap bytes_in (holds stag)
-    ∙ ap (λ (x : Option Region). bytes_in (registered_region (region_grants place k.regions) k.accesses_received x)) o.there
-    ∙ ap (λ (u : Option ℕ). bytes_in (held_if_open u (record { right = o.region.right; buf = contents (region_grants place k.regions) o.region.stag o.region.bytes k.accesses_received }))) o.is_open
+    let region : HeldRegion = record { right = o.region.right; buf = contents (region_grants place k.regions) o.region.stag o.region.bytes k.accesses_received } in
+    let live : live_region m stag ≡ Some region =
+    holds stag
+    ∙ ap (λ (x : Option Region). registered_region (region_grants place k.regions) k.accesses_received x) o.there
+    ∙ ap (λ (u : Option ℕ). held_if_open u region) o.is_open in
+    ap bytes_in (live_parts m stag region live).1
     ∙ ap (λ (x : Option Region). region_bytes_by (region_grants place k.regions) k.accesses_received x) (sym o.there)
 
 -- ---- Memories that agree on a chunk convey the same by it
@@ -270,3 +275,28 @@ pub verdict_alike : (k : ClientState) (place : ℕ) (m : RegisteredMemory) (call
     HoldsRegions k.regions k.accesses_received place m → AllByRecursion (OpensFor k.regions) calls → kept_verdict calls (bytes_under m) message ≡ reply_verdict k place message
 unfolding kept_verdict reply_verdict
 verdict_alike k place m calls message is holds opens = header_alike k place m calls message (header_of message) is holds opens
+
+-- ---- A message that names an STag
+
+given_alike : (stag : ℕ) (bs : List Buffer) → list_any (λ s. eqb s stag) (map (λ b. b.stag) bs) ≡ list_any (λ b. eqb b.stag stag) bs
+given_alike stag [] = refl
+given_alike stag (b ∷ bs) = ap (λ (rest : Bool). eqb b.stag stag || rest) (given_alike stag bs)
+
+names_alike : (k : ClientState) (calls : List KeptCall) (stag : ℕ) (x : Option KeptCall) (y : Option OutstandingCall) → FoundAlike k calls k.outstanding x y → kept_names_another x stag ≡ names_another y stag
+names_alike k calls stag _ _ NoCall = refl
+names_alike k calls stag _ _ (ThisCall c o is among) =
+    ap not (ap (λ (given : List ℕ). list_any (λ s. eqb s stag) given) is.given ∙ given_alike stag (buffers o.stag o.plan))
+
+header_names : (k : ClientState) (calls : List KeptCall) (stag : ℕ) (r : Result Header HeaderFault) → AreKept k calls k.outstanding → kept_names_another (kept_in calls r) stag ≡ names_another (call_in k r) stag
+header_names k calls stag (Ok header) is = names_alike k calls stag (kept_by calls header.xid) (answered_call k header.xid) (found_alike k header.xid calls k.outstanding is)
+header_names k calls stag (Err fault) is = refl
+
+another_alike : (k : ClientState) (calls : List KeptCall) (named : Option ℕ) (message : List ℕ) → AreKept k calls k.outstanding → kept_invalidates_another calls named message ≡ invalidates_another k named message
+another_alike k calls None message is = refl
+another_alike k calls (Some stag) message is = header_names k calls stag (header_of message) is
+
+pub message_alike : (k : ClientState) (place : ℕ) (m : RegisteredMemory) (calls : List KeptCall) (named : Option ℕ) (message : List ℕ) → AreKept k calls k.outstanding →
+    HoldsRegions k.regions k.accesses_received place m → AllByRecursion (OpensFor k.regions) calls → kept_message_verdict calls (bytes_under m) named message ≡ message_verdict k place named message
+unfolding kept_message_verdict message_verdict
+message_alike k place m calls named message is holds opens =
+    λ i. cond (another_alike k calls named message is i) (EndsLink REASON_INVALIDATED) (verdict_alike k place m calls message is holds opens i)

@@ -6,7 +6,6 @@ use Rattle.nr_wire.specs.declared.hello.Side.TheVariants.{Initiator, Responder}
 use Rattle.nr_wire.specs.Segment.{Segment}
 use Rattle.nr_link.specs.declared.end.End.{End}
 use Rattle.nr_link.specs.Frames.{Frame, is_hello, frames_completed}
-use Rattle.nr_link.specs.Ending.{frame_segment}
 use Rattle.nr_link.specs.ReceiveState.{ReadRequest, message_completed, read_request_of}
 use Rattle.nr_reduce.specs.Hellos.{client_hello}
 use Rattle.nr_reduce.specs.declared.call.Submission.TheVariants as submissions
@@ -18,7 +17,7 @@ use Rattle.nr_reduce.specs.Events.{RunEvent, if_own, events_at, events_from, eve
 use Rattle.nr_reduce.specs.Events.RunEvent.{FrameReceived, CallSubmitted, MemoryRevoked, CallExecuted, QueueWritten, ServerTold}
 use Rattle.nr_reduce.specs.EndRules.{EndMachine, EndState, live, next_end_state_by, end_state_after, output_for_by, output_for_all}
 use Rattle.nr_reduce.specs.ClientState.{ClientState}
-use Rattle.nr_reduce.specs.Client.{client_rules, client_state_after, initial_client, due_with_response, with_hello, with_message, with_request, with_segment}
+use Rattle.nr_reduce.specs.Client.{client_rules, client_state_after, initial_client, due_with_response, with_hello, with_message, with_request, with_segment, client_segment}
 use Rattle.nr_reduce.specs.ServerState.{ServerState}
 use Rattle.nr_reduce.specs.Server.{server_rules, server_state_after, initial_server, with_effect, with_own_hello}
 use Rattle.nr_reduce.specs.ServerFrames.{frame_effect}
@@ -134,9 +133,9 @@ client_writes opened k (FrameReceived f) = by (is_hello f)
     by_segment (Err reason) = omega arith
     by_segment (Ok segment) = by_message (message_completed k.received segment) (due_with_response k f segment) (read_request_of segment)
 
-    by : (b : Bool) → (cond b (with_hello opened k f) (with_segment k f (frame_segment f))).written ≡ k.written + 0
+    by : (b : Bool) → (cond b (with_hello opened k f) (with_segment k f (client_segment k f))).written ≡ k.written + 0
     by true = omega arith
-    by false = by_segment (frame_segment f)
+    by false = by_segment (client_segment k f)
 client_writes opened k (CallSubmitted place a) = omega arith
 client_writes opened k (MemoryRevoked place xid) = omega arith
 client_writes opened k (CallExecuted call) = omega arith

@@ -1,10 +1,10 @@
 -- What a client keeps is enough to judge a message, to answer a Read Request, and to answer a call.
-use Rattle.std.proofs.Common.{◌≡◌, ℕ, ◌-◌, cond, leb, List, [], ◌∷◌, length, take, drop, Option, None, Some, Result, Ok, Err, refl, sym, ap, subst, ◌∙◌, arith}
+use Rattle.std.proofs.Common.{◌≡◌, ℕ, ◌-◌, Bool, false, cond, leb, List, [], ◌∷◌, length, take, drop, Option, None, Some, Result, Ok, Err, refl, sym, ap, subst, ◌∙◌, arith}
 use Rattle.std.specs.Ordering.{nat_cmp}
 use Rattle.std.specs.FinMap.{get-empty}
 use Rattle.nr_regions.specs.declared.denied.Denied.TheVariants as denied
 use Rattle.nr_regions.specs.declared.right.Right.TheVariants.{Fetch}
-use Rattle.nr_regions.specs.RegisteredMemory.{Region as HeldRegion, RegisteredMemory, Access, initial_memory, live_region, held_region, denial, denial_in, region_offer, bytes_in}
+use Rattle.nr_regions.specs.RegisteredMemory.{Region as HeldRegion, RegisteredMemory, Access, NoneIsDead, initial_memory, live_region, held_region, denial, denial_in, region_offer, bytes_in}
 use Rattle.nr_regions.specs.Access.{contents}
 use Rattle.nr_link.specs.declared.end.End.{End}
 use Rattle.nr_link.specs.Output.{read_response}
@@ -27,13 +27,22 @@ use Rattle.nr_reduce.specs.KeptCalls.{KeptCall, AreKept}
 use Rattle.nr_reduce.specs.KeptClient.{KeptClient, ClientKeeps, CallsKeep, MemoryKeeps, bytes_under, opened_client}
 use Rattle.nr_reduce.specs.StandingLaws.{KeptJudges, KeptResponds, KeptAnswers, KeptCounts, kept_answer_by_plan, kept_answer_if}
 use Rattle.nr_reduce.proofs.MemorySteps.{holds_later}
-use Rattle.nr_reduce.proofs.Conveying.{verdict_alike}
+use Rattle.nr_reduce.proofs.Conveying.{message_alike}
+use Rattle.nr_regions.proofs.Holding.{live_parts}
+use Rattle.std.specs.Prelude.{unwrap_or}
 
 -- ---- As it is opened
 
 memory_begins : (first_stag : ℕ) → HoldsRegions [] [] 0 (initial_memory first_stag)
 unfolding live_region held_region initial_memory
-memory_begins first_stag stag = get-empty nat_cmp stag
+memory_begins first_stag stag =
+    let flag = get-empty {X = Bool} nat_cmp stag in
+    let region = get-empty {X = HeldRegion} nat_cmp stag in
+    λ i. cond (unwrap_or (flag i) false) None (region i)
+
+none_begins : (first_stag : ℕ) → NoneIsDead (initial_memory first_stag)
+unfolding initial_memory
+none_begins first_stag stag = ap (λ (o : Option Bool). unwrap_or o false) (get-empty nat_cmp stag)
 
 next_begins : (first_stag : ℕ) → (initial_memory first_stag).next ≡ first_stag
 unfolding initial_memory
@@ -47,9 +56,10 @@ keeps_begins opened = record {
   grant = refl;
   up = refl;
   down = refl;
+  invalidates = refl;
   outstanding = refl;
   calls = λ lives. record { kept = tt; rising = tt; owned = λ stag r e is. absurd cc; opens = tt };
-  memory = λ lives. record { next = next_begins opened.first_stag; offered = tt; holds = memory_begins opened.first_stag; below = λ stag r e. absurd cc };
+  memory = λ lives. record { next = next_begins opened.first_stag; offered = tt; holds = memory_begins opened.first_stag; none_dead = none_begins opened.first_stag; below = λ stag r e. absurd cc };
   waits = tt;
   rising = tt;
   opens = tt;
@@ -60,10 +70,10 @@ keeps_begins opened = record {
 -- ---- Messages
 
 pub kept_judges : KeptJudges
-kept_judges opened kept k count place message keeps later =
+kept_judges opened kept k count place named message keeps later =
     let calls : CallsKeep kept.calls kept.next_xid k = keeps.calls refl in
     let memory : MemoryKeeps kept.memory k count = keeps.memory refl in
-    verdict_alike k place kept.memory kept.calls message calls.kept
+    message_alike k place kept.memory kept.calls named message calls.kept
     (holds_later k.regions k.accesses_received count place kept.memory later keeps.accesses memory.holds) keeps.opens
 
 -- ---- Read Requests
@@ -71,10 +81,14 @@ kept_judges opened kept k count place message keeps later =
 -- the bytes under an STag that may be read are those of the region
 reached : (k : ClientState) (place : ℕ) (m : RegisteredMemory) (a : Access) → HoldsRegions k.regions k.accesses_received place m → denial m a ≡ None → bytes_under m a.stag ≡ client_memory_at k place a.stag
 unfolding denial region_bytes
-reached k place m a holds allowed = by (region_at k.regions a.stag) refl
+reached k place m a holds allowed = held_of (live_region m a.stag) refl ∙ by (region_at k.regions a.stag) refl
   where
     dead : live_region m a.stag ≡ None → ⊥
     dead none = (let wrong : Some denied.NoStag ≡ None = ap (λ (o : Option HeldRegion). denial_in (region_offer o) a) (sym none) ∙ allowed in cc)
+
+    held_of : (o : Option HeldRegion) → live_region m a.stag ≡ o → bytes_under m a.stag ≡ bytes_in (live_region m a.stag)
+    held_of None none = absurd (dead none)
+    held_of (Some region) live = ap bytes_in ((live_parts m a.stag region live).1 ∙ sym live)
 
     held : (o : Option Region) → region_at k.regions a.stag ≡ o → live_region m a.stag ≡ registered_region (region_grants place k.regions) k.accesses_received o
     held o is = holds a.stag ∙ ap (λ (x : Option Region). registered_region (region_grants place k.regions) k.accesses_received x) is

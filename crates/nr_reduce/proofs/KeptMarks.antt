@@ -154,6 +154,7 @@ writes_ended opened kept k end count sent keeps = record {
   grant = keeps.grant;
   up = keeps.up;
   down = keeps.down;
+  invalidates = keeps.invalidates;
   outstanding = keeps.outstanding;
   calls = λ e. absurd cc;
   memory = λ e. absurd cc;

@@ -3,11 +3,11 @@
 use Rattle.std.proofs.Common.{◌≡◌, ◌≢◌, ℕ, ◌<◌, ◌≤◌, Bool, true, false, cond, ◌&&◌, eqb, leb, ltb, List, [], ◌∷◌, ◌++◌, length, map, Option, None, Some, refl, sym, ap, subst, ◌∙◌, arith, inl, inr}
 use Rattle.std.specs.Prelude.{IfSome}
 use Rattle.std.proofs.lemmas.Bool.{eqb-true, eq-eqb, ne_eqb, cases_eq, le-leb, le-ltb}
-use Rattle.nr_regions.specs.RegisteredMemory.{Region as HeldRegion, RegisteredMemory, Access, held_region, live_region, denial_in, region_offer, denial, after_register, bytes_after_write}
+use Rattle.nr_regions.specs.RegisteredMemory.{Region as HeldRegion, RegisteredMemory, Access, live_region, denial_in, region_offer, denial, after_register, bytes_after_write}
 use Rattle.nr_regions.specs.Access.{Grant, TaggedSegment, applies, grant_at, grant_offer, grant_denial, access_of_tagged, after_segment, contents}
 use Rattle.nr_regions.specs.Events.{after_event, after_arrival}
 use Rattle.nr_regions.specs.Events.MemoryEvent.{Arrive}
-use Rattle.nr_regions.proofs.Holding.{live_held, register_here, register_other, arrive_other}
+use Rattle.nr_regions.proofs.Holding.{live_register_here, live_register_other, live_arrive_other}
 use Rattle.nr_regions.proofs.Contents.{contents_are}
 use Rattle.nr_reduce.specs.OfferedRegions.{Region, until_or, region_grant, region_grants, until_at, closed_if, regions_closed}
 use Rattle.nr_reduce.specs.OfferedMemory.{region_at, AreOffered, AreReceived, held_if_open, registered_region, HoldsRegions, is_closed_by, ReleasesClosed}
@@ -94,7 +94,7 @@ dead_stays m r stag none = elim (cases_eq stag r.stag) [
   | inl e ↦
       let here : live_region m r.stag ≡ None = subst (λ (s : ℕ). live_region m s ≡ None) e none in
       ap (λ (o : Option HeldRegion). live_region (after_arrival (denial_in (region_offer o) (access_of_tagged r)) m r) stag) here ∙ none
-  | inr ne ↦ live_held (after_event m (Arrive r)) stag ∙ arrive_other m r stag ne ∙ sym (live_held m stag) ∙ none
+  | inr ne ↦ live_arrive_other m r stag ne ∙ none
 ]
 
 pub holds_access : (regions : List Region) (accesses_received : List TaggedSegment) (place : ℕ) (m : RegisteredMemory) (r : TaggedSegment) → AreOffered place regions → AreReceived place accesses_received →
@@ -113,13 +113,12 @@ holds_access regions accesses_received place m r fits received below lt holds st
     by_until x None u_is is live =
         let same : x.stag ≡ stag = stag_found regions stag x is in
         let buf : List ℕ = contents gs stag x.bytes accesses_received in
-        let there : held_region m stag ≡ Some (record { right = x.right; buf = buf }) =
-        sym (live_held m stag) ∙ live ∙ ap (λ (s : ℕ). Some (record { right = x.right; buf = contents gs s x.bytes accesses_received })) same in
+        let there : live_region m stag ≡ Some (record { right = x.right; buf = buf }) =
+        live ∙ ap (λ (s : ℕ). Some (record { right = x.right; buf = contents gs s x.bytes accesses_received })) same in
         let offers : grant_offer (found stag r.end gs) ≡ Some (x.right, length x.bytes) =
         granted place r.end stag regions fits lt ∙ ap offer_of is ∙ ap (λ (u : Option ℕ). offer_if_open u x.right (length x.bytes)) u_is in
         let sized : length buf ≡ length x.bytes = ap (λ (s : ℕ). length (contents gs s x.bytes accesses_received)) (sym same) ∙ region_length place r.end stag regions accesses_received x fits is in
-        live_held (after_event m (Arrive r)) stag
-        ∙ contents_are gs stag x.right (length x.bytes) (Arrive r ∷ []) m buf sized (below stag x is) there (tt, (λ e. offers), tt)
+        contents_are gs stag x.right (length x.bytes) (Arrive r ∷ []) m buf sized (below stag x is) there (tt, (λ e. offers), tt)
         ∙ ap (λ (b : List ℕ). Some (record { right = x.right; buf = b })) (sym (contents_append gs stag x.bytes accesses_received r))
         ∙ ap (λ (s : ℕ). Some (record { right = x.right; buf = contents gs s x.bytes (accesses_received ++ r ∷ []) })) (sym same)
 
@@ -281,7 +280,7 @@ holds_registered regions accesses_received place m r received fresh is_next from
     after = after_register m r.right r.bytes
 
     old : stag ≢ m.next → live_region after stag ≡ live_region m stag
-    old ne = live_held after stag ∙ register_other m r.right r.bytes stag ne ∙ sym (live_held m stag)
+    old ne = live_register_other m r.right r.bytes stag ne
 
     by : (o : Option Region) → region_at regions stag ≡ o → live_region m stag ≡ registered_region gs accesses_received (region_at regions stag) → live_region after stag ≡ registered_region hs accesses_received (region_at (regions ++ r ∷ []) stag)
     by (Some x) is live =
@@ -295,9 +294,8 @@ holds_registered regions accesses_received place m r received fresh is_next from
       | inl e ↦
           let same : r.stag ≡ stag = is_next ∙ sym e in
           let none : region_at regions r.stag ≡ None = ap (λ (s : ℕ). region_at regions s) same ∙ is in
-          live_held after stag
-          ∙ ap (λ (s : ℕ). held_region after s) e
-          ∙ register_here m r.right r.bytes
+          ap (λ (s : ℕ). live_region after s) e
+          ∙ live_register_here m r.right r.bytes
           ∙ ap (λ (b : List ℕ). Some (record { right = r.right; buf = b })) (sym (contents_none place hs r.stag r.bytes accesses_received (λ end le. none_offered place place end r.stag regions r none from le) received))
           ∙ ap (λ (u : Option ℕ). held_if_open u (record { right = r.right; buf = contents hs r.stag r.bytes accesses_received })) (sym is_open)
           ∙ ap (λ (b : Bool). registered_region hs accesses_received (cond b (Some r) None)) (sym (eq-eqb r.stag stag same))

@@ -6,7 +6,6 @@ use Rattle.nr_wire.specs.declared.hello.Side.TheVariants.{Initiator}
 use Rattle.nr_wire.specs.Segment.{Segment}
 use Rattle.nr_link.specs.ReceiveState.{ReadRequest, message_completed, read_request_of}
 use Rattle.nr_link.specs.Frames.{is_hello}
-use Rattle.nr_link.specs.Ending.{frame_segment}
 use Rattle.nr_reduce.specs.declared.mark.Mark.{Mark}
 use Rattle.nr_reduce.specs.declared.mark.LinkParameters.{LinkParameters}
 use Rattle.nr_reduce.specs.History.{CompletedCall}
@@ -14,7 +13,7 @@ use Rattle.nr_reduce.specs.Events.{RunEvent, events_at}
 use Rattle.nr_reduce.specs.Events.RunEvent.{FrameReceived, CallSubmitted, MemoryRevoked, CallExecuted, QueueWritten, ServerTold}
 use Rattle.nr_reduce.specs.EndRules.{EndState}
 use Rattle.nr_reduce.specs.ClientState.{ClientState}
-use Rattle.nr_reduce.specs.Client.{client_rules, client_state_after, outcomes_of, with_message, with_request, with_segment, with_hello, due_with_response}
+use Rattle.nr_reduce.specs.Client.{client_rules, client_state_after, outcomes_of, with_message, with_request, with_segment, with_hello, due_with_response, client_segment}
 use Rattle.nr_reduce.specs.ClientMessages.{reply_verdict}
 use Rattle.nr_reduce.specs.Run.{client}
 use Rattle.nr_reduce.specs.StandingLaws.{OutcomesStay}
@@ -35,9 +34,9 @@ outcome_kept opened c k (FrameReceived f) h = by (is_hello f)
     by_segment (Err reason) = h
     by_segment (Ok segment) = by_message (message_completed k.received segment) (due_with_response k f segment) (read_request_of segment)
 
-    by : (b : Bool) → Contains (cond b (with_hello opened k f) (with_segment k f (frame_segment f))).outcomes c
+    by : (b : Bool) → Contains (cond b (with_hello opened k f) (with_segment k f (client_segment k f))).outcomes c
     by true = h
-    by false = by_segment (frame_segment f)
+    by false = by_segment (client_segment k f)
 outcome_kept opened c k (CallSubmitted place a) h = h
 outcome_kept opened c k (MemoryRevoked place xid) h = h
 outcome_kept opened c k (CallExecuted call) h = h

@@ -9,7 +9,7 @@ use Rattle.nr_wire.specs.Segment.{Segment, encoding}
 use Rattle.nr_wire.specs.Segment.Segment.{Untagged}
 use Rattle.nr_link.specs.declared.end.End.{End}
 use Rattle.nr_link.specs.Frames.{is_hello}
-use Rattle.nr_link.specs.Ending.{frame_segment, final_output}
+use Rattle.nr_link.specs.Ending.{final_output}
 use Rattle.nr_link.specs.Output.{msn_word, cut, send, read_request}
 use Rattle.nr_link.specs.OutputItem.{OutputItem, item_encoding, items_encoding, is_send_item, is_response_item, one_if_true, item_ends, items_written, items_left}
 use Rattle.nr_link.specs.OutputItem.OutputItem.{LastItem}
@@ -22,7 +22,7 @@ use Rattle.nr_reduce.specs.EndRules.{EndMachine, EndState, live, next_end_state,
 use Rattle.nr_reduce.specs.Written.{ends_written, ends_waiting}
 use Rattle.nr_reduce.specs.Plans.{call_message}
 use Rattle.nr_reduce.specs.ClientState.{OutstandingCall, ClientState}
-use Rattle.nr_reduce.specs.Client.{client_rules, client_state_after, client_output, initial_client, call_output, calls_output, call_ends, response_output, segment_request, outstanding_of, due_with_response, with_hello, with_message, with_request, with_segment}
+use Rattle.nr_reduce.specs.Client.{client_rules, client_state_after, client_output, initial_client, call_output, calls_output, call_ends, response_output, segment_request, outstanding_of, due_with_response, with_hello, with_message, with_request, with_segment, client_segment}
 use Rattle.nr_reduce.specs.Run.{client, output_due}
 use Rattle.nr_reduce.specs.DueItems.{sent_call_item, sent_call_items, response_items, client_items_at, due_for_by, due_for_in, due_for_all, items_due, hello_due}
 use Rattle.nr_reduce.specs.OutputLaws.{ClientOutputIsItems, ClientBytes, ServerBytes, ClientCountsItems}
@@ -150,9 +150,9 @@ client_encoded opened k (FrameReceived f) = by (is_hello f)
     by_request None = refl
     by_request (Some r) = sym (append-nil (response_output k f.end (Some r)))
 
-    by : (b : Bool) → cond b (calls_output opened 1 k.outstanding) (response_output k f.end (segment_request (frame_segment f))) ≡ items_encoding (cond b (sent_call_items opened 1 k.outstanding) (response_items k f.end (segment_request (frame_segment f))))
+    by : (b : Bool) → cond b (calls_output opened 1 k.outstanding) (response_output k f.end (segment_request (client_segment k f))) ≡ items_encoding (cond b (sent_call_items opened 1 k.outstanding) (response_items k f.end (segment_request (client_segment k f))))
     by true = calls_encoded opened 1 k.outstanding
-    by false = by_request (segment_request (frame_segment f))
+    by false = by_request (segment_request (client_segment k f))
 client_encoded opened k (CallSubmitted place a) = by k.has_hello
   where
     by : (b : Bool) → cond b (call_output opened (k.sends + 1) (outstanding_of k a)) [] ≡ items_encoding (cond b (sent_call_item opened (k.sends + 1) (outstanding_of k a) ∷ []) [])
@@ -190,10 +190,10 @@ client_sends opened k (FrameReceived f) = by (is_hello f)
     by_segment (Err reason) = sym (append-nil k.send_ends)
     by_segment (Ok segment) = by_request (message_completed k.received segment) (due_with_response k f segment) (read_request_of segment)
 
-    by : (b : Bool) → (cond b (with_hello opened k f) (with_segment k f (frame_segment f))).send_ends
-        ≡ k.send_ends ++ item_ends is_send_item k.due (cond b (sent_call_items opened 1 k.outstanding) (response_items k f.end (segment_request (frame_segment f))))
+    by : (b : Bool) → (cond b (with_hello opened k f) (with_segment k f (client_segment k f))).send_ends
+        ≡ k.send_ends ++ item_ends is_send_item k.due (cond b (sent_call_items opened 1 k.outstanding) (response_items k f.end (segment_request (client_segment k f))))
     by true = ap (λ (ends : List ℕ). k.send_ends ++ ends) (calls_end opened k.due 1 k.outstanding)
-    by false = by_segment (frame_segment f)
+    by false = by_segment (client_segment k f)
 client_sends opened k (CallSubmitted place a) = by k.has_hello
   where
     one : List ℕ
@@ -221,10 +221,10 @@ client_responses opened k (FrameReceived f) = by (is_hello f)
     by_segment (Err reason) = sym (append-nil k.response_ends)
     by_segment (Ok segment) = by_request (message_completed k.received segment) (read_request_of segment)
 
-    by : (b : Bool) → (cond b (with_hello opened k f) (with_segment k f (frame_segment f))).response_ends
-        ≡ k.response_ends ++ item_ends is_response_item k.due (cond b (sent_call_items opened 1 k.outstanding) (response_items k f.end (segment_request (frame_segment f))))
+    by : (b : Bool) → (cond b (with_hello opened k f) (with_segment k f (client_segment k f))).response_ends
+        ≡ k.response_ends ++ item_ends is_response_item k.due (cond b (sent_call_items opened 1 k.outstanding) (response_items k f.end (segment_request (client_segment k f))))
     by true = sym (append-nil k.response_ends) ∙ ap (λ (ends : List ℕ). k.response_ends ++ ends) (sym (no_responses opened k.due 1 k.outstanding))
-    by false = by_segment (frame_segment f)
+    by false = by_segment (client_segment k f)
 client_responses opened k (CallSubmitted place a) = by k.has_hello
   where
     by : (b : Bool) → k.response_ends ≡ k.response_ends ++ item_ends is_response_item k.due (cond b (sent_call_item opened (k.sends + 1) (outstanding_of k a) ∷ []) [])

@@ -1,10 +1,9 @@
 -- The limits of Sends in each reachable state are from one unit to UNITS_MAX of them.
-use Rattle.std.proofs.Common.{◌≡◌, ℕ, Bool, true, false, cond, List, Option, None, Some, Result, Ok, Err, refl, sym, ◌∙◌, arith}
+use Rattle.std.proofs.Common.{◌≡◌, ℕ, Bool, true, false, cond, List, Option, None, Some, Result, Ok, Err, arith}
 use Rattle.nr_wire.specs.declared.hello.Side.TheVariants.{Initiator, Responder}
 use Rattle.nr_wire.specs.Segment.{Segment}
 use Rattle.nr_link.specs.Frames.{Frame, is_hello}
 use Rattle.nr_link.specs.ReceiveState.{ReadRequest, message_completed, read_request_of}
-use Rattle.nr_link.specs.Ending.{frame_segment}
 use Rattle.nr_reduce.specs.declared.mark.Mark.{Mark}
 use Rattle.nr_reduce.specs.declared.mark.LinkParameters.{LinkParameters}
 use Rattle.nr_reduce.specs.declared.call.Call.{Call}
@@ -19,7 +18,7 @@ use Rattle.nr_reduce.specs.Events.{RunEvent, events}
 use Rattle.nr_reduce.specs.Events.RunEvent.{FrameReceived, CallSubmitted, MemoryRevoked, CallExecuted, QueueWritten, ServerTold}
 use Rattle.nr_reduce.specs.EndRules.{end_state_after}
 use Rattle.nr_reduce.specs.ClientState.{ClientState, call_payload, plan_for}
-use Rattle.nr_reduce.specs.Client.{client_rules, client_state_after, initial_client, with_hello, with_message, with_request, with_segment, due_with_response}
+use Rattle.nr_reduce.specs.Client.{client_rules, client_state_after, initial_client, with_hello, with_message, with_request, with_segment, due_with_response, client_segment}
 use Rattle.nr_reduce.specs.ServerState.{ServerState}
 use Rattle.nr_reduce.specs.Server.{server_rules, server_state_after, initial_server, with_own_hello, with_effect}
 use Rattle.nr_reduce.specs.ServerFrames.{frame_effect}
@@ -55,9 +54,9 @@ client_event : (opened : LinkParameters) (k : ClientState) (e : RunEvent) → Cl
 unfolding client_state_after client_agreement
 client_event opened k (FrameReceived f) h = by (is_hello f)
   where
-    by : (b : Bool) → ClientLimits (cond b (with_hello opened k f) (with_segment k f (frame_segment f)))
+    by : (b : Bool) → ClientLimits (cond b (with_hello opened k f) (with_segment k f (client_segment k f)))
     by true = (let a = agreements_bounded (client_private opened) (private_of f) in record { up = a.0; down = a.1 })
-    by false = segment_limits k f (frame_segment f) h
+    by false = segment_limits k f (client_segment k f) h
 client_event opened k (CallSubmitted p a) h = record { up = h.up; down = h.down }
 client_event opened k (MemoryRevoked p xid) h = record { up = h.up; down = h.down }
 client_event opened k (CallExecuted e) h = h

@@ -22,7 +22,7 @@ use Rattle.nr_reduce.specs.Events.{RunEvent, events}
 use Rattle.nr_reduce.specs.Events.RunEvent.{FrameReceived, CallSubmitted, MemoryRevoked, CallExecuted, QueueWritten, ServerTold}
 use Rattle.nr_reduce.specs.EndRules.{EndMachine, EndState, next_end_state, next_end_state_by, next_end_state_in, end_state_after}
 use Rattle.nr_reduce.specs.ClientState.{ClientState}
-use Rattle.nr_reduce.specs.Client.{client_rules, client_state_after, initial_client, outstanding_of, region_of, with_message, with_request, with_segment, with_hello, due_with_response}
+use Rattle.nr_reduce.specs.Client.{client_rules, client_state_after, initial_client, outstanding_of, region_of, with_message, with_request, with_segment, with_hello, due_with_response, client_segment}
 use Rattle.nr_reduce.specs.ServerState.{ServerState, PendingCall, PendingRead, next_stag}
 use Rattle.nr_reduce.specs.ServerReads.{regions_from, regions_of, chunks_of, is_read, is_over}
 use Rattle.nr_reduce.specs.ServerMessages.{Verdict, CallVerdict, verdict, by_payload, pending_payload}
@@ -141,9 +141,9 @@ numbers_after : (opened : LinkParameters) (k : ClientState) (event : RunEvent) �
 unfolding client_state_after
 numbers_after opened k (FrameReceived f) h = by (is_hello f)
   where
-    by : (b : Bool) → ClientNumbers opened (cond b (with_hello opened k f) (with_segment k f (frame_segment f)))
+    by : (b : Bool) → ClientNumbers opened (cond b (with_hello opened k f) (with_segment k f (client_segment k f)))
     by true = numbers_same opened k (with_hello opened k f) refl refl h
-    by false = numbers_segment opened k f (frame_segment f) h
+    by false = numbers_segment opened k f (client_segment k f) h
 numbers_after opened k (CallSubmitted place a) h =
     let p : Plan = (outstanding_of k a).plan in
     let more = map (region_of a.xid place) (buffers k.stag p) in

@@ -20,12 +20,11 @@ use Rattle.nr_reduce.specs.PlainJournal.{PlainServer, entries_added, journal}
 use Rattle.nr_reduce.specs.AtEachMark.{AtEachMark}
 use Rattle.nr_link.specs.Frames.{Frame, is_hello}
 use Rattle.nr_link.specs.ReceiveState.{ReadRequest, message_completed, read_request_of}
-use Rattle.nr_link.specs.Ending.{frame_segment}
 use Rattle.nr_reduce.specs.Events.{RunEvent, if_own, events_at}
 use Rattle.nr_reduce.specs.EndRules.{EndState, end_state_after, next_end_state, next_end_state_by, next_end_state_in}
 use Rattle.nr_reduce.specs.Events.RunEvent.{FrameReceived, CallSubmitted, MemoryRevoked, CallExecuted, QueueWritten, ServerTold}
 use Rattle.nr_reduce.specs.ClientState.{ClientState}
-use Rattle.nr_reduce.specs.Client.{client_state_after, client_end, client_rules, with_message, with_request, with_segment, with_hello, due_with_response}
+use Rattle.nr_reduce.specs.Client.{client_state_after, client_end, client_rules, with_message, with_request, with_segment, with_hello, due_with_response, client_segment}
 use Rattle.nr_reduce.specs.Run.{client}
 use Rattle.nr_reduce.specs.Asked.{AskedMark, IsAccepted}
 use Rattle.nr_reduce.specs.Journal.{AtPlace, PlacedMark, Journaled}
@@ -108,9 +107,9 @@ segment_sends k f (Ok segment) = by (message_completed k.received segment) (read
     by (Some m) None = refl
     by (Some m) (Some q) = refl
 
-by_frame : (opened : LinkParameters) (k : ClientState) (f : Frame) (b : Bool) → k.next_xid ≤ (cond b (with_hello opened k f) (with_segment k f (frame_segment f))).next_xid
+by_frame : (opened : LinkParameters) (k : ClientState) (f : Frame) (b : Bool) → k.next_xid ≤ (cond b (with_hello opened k f) (with_segment k f (client_segment k f))).next_xid
 by_frame opened k f true = omega arith
-by_frame opened k f false = (let e = segment_next k f (frame_segment f) in omega (arith, e))
+by_frame opened k f false = (let e = segment_next k f (client_segment k f) in omega (arith, e))
 
 next_after : (opened : LinkParameters) (k : ClientState) (event : RunEvent) → k.next_xid ≤ (client_state_after opened k event).next_xid
 unfolding client_state_after

@@ -14,7 +14,6 @@ use Rattle.nr_regions.specs.declared.right.Kind.{Kind}
 use Rattle.nr_regions.specs.declared.right.Kind.TheVariants.{Write, Response}
 use Rattle.nr_link.specs.declared.end.End.{End as Stop}
 use Rattle.nr_link.specs.Frames.{Frame, is_hello}
-use Rattle.nr_link.specs.Ending.{frame_segment}
 use Rattle.nr_link.specs.ReceiveState.{ReadRequest, message_completed, read_request_of}
 use Rattle.nr_reduce.specs.declared.call.Call.{Call}
 use Rattle.nr_reduce.specs.declared.call.Form.{Form}
@@ -30,7 +29,7 @@ use Rattle.nr_reduce.specs.Events.{RunEvent, if_own, events_at}
 use Rattle.nr_reduce.specs.Events.RunEvent.{FrameReceived, CallSubmitted, MemoryRevoked, CallExecuted, QueueWritten, ServerTold}
 use Rattle.nr_reduce.specs.EndRules.{EndState, next_end_state_in, end_state_after}
 use Rattle.nr_reduce.specs.ClientState.{ClientState, call_payload, plan_for}
-use Rattle.nr_reduce.specs.Client.{client_rules, client_end, client_state_after, plan_or, outstanding_of, region_of, with_message, with_request, with_segment, with_hello, due_with_response}
+use Rattle.nr_reduce.specs.Client.{client_rules, client_end, client_state_after, plan_or, outstanding_of, region_of, with_message, with_request, with_segment, with_hello, due_with_response, client_segment}
 use Rattle.nr_reduce.specs.Run.{client, grants_of, placed_bytes}
 use Rattle.nr_reduce.specs.Asked.{IsAccepted}
 use Rattle.nr_reduce.proofs.Steps.{client_one}
@@ -127,9 +126,9 @@ chunk_after : (opened : LinkParameters) (stag : ℕ) (bytes : List ℕ) (k : Cli
 unfolding client_state_after
 chunk_after opened stag bytes k (FrameReceived f) h = by (is_hello f)
   where
-    by : (b : Bool) → KeepsChunk stag bytes (cond b (with_hello opened k f) (with_segment k f (frame_segment f)))
+    by : (b : Bool) → KeepsChunk stag bytes (cond b (with_hello opened k f) (with_segment k f (client_segment k f)))
     by true = chunk_same stag bytes k (with_hello opened k f) refl refl h
-    by false = chunk_segment stag bytes k f (frame_segment f) h
+    by false = chunk_segment stag bytes k f (client_segment k f) h
 chunk_after opened stag bytes k (CallSubmitted place a) h =
     let p : Plan = (outstanding_of k a).plan in
     record {

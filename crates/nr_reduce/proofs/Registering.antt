@@ -6,7 +6,8 @@ use Rattle.std.proofs.lemmas.Bool.{eqb-true, eq-eqb, ne_eqb}
 use Rattle.nr_regions.specs.declared.right.Right.{Right}
 use Rattle.nr_regions.specs.declared.right.Right.TheVariants.{Fetch, Fill}
 use Rattle.nr_regions.specs.Access.{TaggedSegment}
-use Rattle.nr_regions.specs.RegisteredMemory.{RegisteredMemory, after_register}
+use Rattle.nr_regions.specs.RegisteredMemory.{RegisteredMemory, NoneIsDead, after_register}
+use Rattle.nr_regions.proofs.Holding.{none_dead_register}
 use Rattle.nr_reduce.specs.declared.outline.Plan.{Plan}
 use Rattle.nr_reduce.specs.Plans.{Buffer, buffers, buffer_if, regions_needed, has_segment, one_if, total}
 use Rattle.nr_reduce.specs.OfferedRegions.{Region}
@@ -40,6 +41,7 @@ at_both (x ∷ xs) ys stag = by (eqb x.stag stag) (at_both xs ys stag)
 pub record Registers (regions : List Region) (accesses : List TaggedSegment) (place : ℕ) (m : RegisteredMemory) (next : ℕ) : Type 0 where
   pub offered : AreOffered place regions
   pub holds : HoldsRegions regions accesses place m
+  pub none_dead : NoneIsDead m
   pub below : AreBelow regions next
   pub next_is : m.next ≡ next
 
@@ -69,7 +71,7 @@ pub register_all : (xid place : ℕ) (accesses : List TaggedSegment) (bs : List 
     Registers regions accesses place m next → Registers (regions ++ map (region_of xid place) bs) accesses place (registered_all m bs) (next + length bs)
 register_all xid place accesses [] regions m next received numbered h =
     subst (λ (rs : List Region). Registers rs accesses place m (next + 0)) (sym (append-nil regions))
-    (record { offered = h.offered; holds = h.holds; below = λ stag r there. (let lt = h.below stag r there in omega (arith, lt)); next_is = h.next_is ∙ omega arith })
+    (record { offered = h.offered; holds = h.holds; none_dead = h.none_dead; below = λ stag r there. (let lt = h.below stag r there in omega (arith, lt)); next_is = h.next_is ∙ omega arith })
 register_all xid place accesses (b ∷ bs) regions m next received numbered h =
     let r : Region = region_of xid place b in
     let stag_is : r.stag ≡ m.next = numbered.0 ∙ sym h.next_is in
@@ -77,6 +79,7 @@ register_all xid place accesses (b ∷ bs) regions m next received numbered h =
     let one : Registers (regions ++ r ∷ []) accesses place (after_register m b.right b.bytes) (next + 1) = record {
       offered = offered_registered place regions r (omega arith) refl (ap (λ (n : ℕ). region_at regions n) stag_is ∙ fresh) h.offered;
       holds = holds_registered regions accesses place m r received fresh stag_is refl refl h.holds;
+      none_dead = none_dead_register m b.right b.bytes h.none_dead;
       below = below_one regions next r h.below numbered.0;
       next_is = next_after m b.right b.bytes ∙ ap (λ (n : ℕ). n + 1) h.next_is;
     } in

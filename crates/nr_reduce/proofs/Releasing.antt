@@ -6,7 +6,6 @@ use Rattle.std.proofs.lemmas.List.{length-map}
 use Rattle.nr_xdr.specs.Fields.{word_at}
 use Rattle.nr_regions.specs.RegisteredMemory.{RegisteredMemory, live_region, bytes_in}
 use Rattle.nr_regions.specs.Access.{contents}
-use Rattle.nr_regions.proofs.Holding.{live_held}
 use Rattle.nr_link.specs.declared.end.End.{End}
 use Rattle.nr_reduce.specs.declared.mark.LinkParameters.{LinkParameters}
 use Rattle.nr_reduce.specs.OfferedRegions.{Region, until_or, regions_closed, region_grants, region_bytes, region_bytes_by}
@@ -21,7 +20,7 @@ use Rattle.nr_reduce.specs.KeptClient.{KeptClient, ClientKeeps, CallsKeep, Memor
 use Rattle.nr_reduce.specs.StandingLaws.{KeptStays, KeptRevokes, KeptHandsBack, KeptCompletes}
 use Rattle.nr_reduce.proofs.OfferedMemory.{grants_from, contents_same, AreAlike, alike_offers}
 use Rattle.nr_reduce.proofs.MemorySteps.{holds_closed, holds_later, offered_closed, offered_later, received_later}
-use Rattle.nr_reduce.proofs.Closing.{of_call, releases_closed, below_closed, released_next, open_closed, closed_owner, released_other, all_without, rising_without, calls_closed, kept_alike}
+use Rattle.nr_reduce.proofs.Closing.{of_call, releases_closed, below_closed, released_next, released_none_dead, open_closed, closed_owner, released_other, all_without, rising_without, calls_closed, kept_alike}
 use Rattle.nr_reduce.proofs.Conveying.{all_among, open_bytes}
 use Rattle.nr_reduce.proofs.Keeping.{kept_count}
 
@@ -90,7 +89,7 @@ one_revoked : (k : ClientState) (xid : ℕ) (c : KeptCall) (o : OutstandingCall)
 one_revoked k xid c o is = subst (λ (n : ℕ). IsKeptCall k (revoked_if (eqb c.xid xid) c) (cond (eqb n xid) (record o { is_revoked = true }) o)) is.xid (by (eqb c.xid xid))
   where
     by : (b : Bool) → IsKeptCall k (revoked_if b c) (cond b (record o { is_revoked = true }) o)
-    by true = record { xid = is.xid; send = is.send; sent = is.sent; revoked = refl; call = tt; write = is.write; reply = is.reply; stags = refl }
+    by true = record { xid = is.xid; send = is.send; sent = is.sent; revoked = refl; call = tt; write = is.write; reply = is.reply; given = is.given; stags = refl }
     by false = is
 
 kept_revoked_lem : (k : ClientState) (xid : ℕ) (cs : List KeptCall) (os : List OutstandingCall) → AreKept k cs os → AreKept k (map (revoked_kept xid) cs) (map (revoked_call xid) os)
@@ -175,7 +174,7 @@ stags_still : (xid other : ℕ) (m : RegisteredMemory) (k : ClientState) (count 
     AllByRecursion (λ s. bytes_under m s ≡ client_memory_at k count s) stags → AllByRecursion (λ s. bytes_under (released_all m (stags_for xid calls)) s ≡ client_memory_at k count s) stags
 stags_still xid other m k count calls [] opens apart o h = tt
 stags_still xid other m k count calls (s ∷ stags) opens apart o h = (
-  ap bytes_in (live_held (released_all m (stags_for xid calls)) s ∙ released_other (stags_for xid calls) m s (not_its k.regions calls xid other s opens apart o.0) ∙ sym (live_held m s)) ∙ h.0,
+  ap bytes_in (released_other (stags_for xid calls) m s (not_its k.regions calls xid other s opens apart o.0)) ∙ h.0,
   stags_still xid other m k count calls stags opens apart o.1 h.1,
 )
 
@@ -249,6 +248,7 @@ kept_stays opened kept e count later keeps le = record {
   grant = keeps.grant;
   up = keeps.up;
   down = keeps.down;
+  invalidates = keeps.invalidates;
   outstanding = keeps.outstanding;
   calls = keeps.calls;
   memory = λ lives.
@@ -257,6 +257,7 @@ kept_stays opened kept e count later keeps le = record {
         next = memory.next;
         offered = offered_later count later e.state.regions le memory.offered;
         holds = holds_later e.state.regions e.state.accesses_received count later kept.memory le keeps.accesses memory.holds;
+        none_dead = memory.none_dead;
         below = memory.below;
       });
   waits = keeps.waits;
@@ -301,15 +302,16 @@ waits_revoked xid os (c ∷ cs) h = (by (eqb c.xid xid), waits_revoked xid os cs
     by false = h.0
 
 -- of a client that hasn't ended the memory of its calls is that of its open regions
-pub keeps_live : (opened : LinkParameters) (kept : KeptClient) (k : ClientState) (count : ℕ) → kept.ended ≡ None → kept.next_xid ≡ k.next_xid → kept.sends ≡ k.sends → kept.grant ≡ k.grant → kept.up_max ≡ k.up_max → kept.down_max ≡ k.down_max → kept.outstanding ≡ length k.outstanding →
+pub keeps_live : (opened : LinkParameters) (kept : KeptClient) (k : ClientState) (count : ℕ) → kept.ended ≡ None → kept.next_xid ≡ k.next_xid → kept.sends ≡ k.sends → kept.grant ≡ k.grant → kept.up_max ≡ k.up_max → kept.down_max ≡ k.down_max → kept.invalidates ≡ k.invalidates → kept.outstanding ≡ length k.outstanding →
     AreReceived count k.accesses_received → MemoryKeeps kept.memory k count → CallsKeep kept.calls kept.next_xid k → ClientKeeps opened kept (live k) count
-keeps_live opened kept k count ended xid sends grant up down outstanding accesses memory calls = record {
+keeps_live opened kept k count ended xid sends grant up down invalidates outstanding accesses memory calls = record {
   ended = ended;
   xid = xid;
   sends = sends;
   grant = grant;
   up = up;
   down = down;
+  invalidates = invalidates;
   outstanding = outstanding;
   calls = λ lives. calls;
   memory = λ lives. memory;
@@ -328,6 +330,7 @@ memory_closed xid count later calls next_xid k k2 m le keeps received memory sta
   holds = subst (λ (rs : List Region). HoldsRegions rs k2.accesses_received later (released_all m (stags_for xid calls))) (sym regions)
       (subst (λ (xs : List Rattle.nr_regions.specs.Access.TaggedSegment). HoldsRegions (regions_closed (of_call xid) later k.regions) xs later (released_all m (stags_for xid calls))) (sym accesses)
       (holds_closed (of_call xid) k.regions k.accesses_received count later m (released_all m (stags_for xid calls)) le received (releases_any calls next_xid xid k count m keeps memory.holds) memory.holds));
+  none_dead = released_none_dead (stags_for xid calls) m memory.none_dead;
   below = subst (λ (n : ℕ). Rattle.nr_reduce.specs.KeptClient.AreBelow k2.regions n) (sym stag)
       (subst (λ (rs : List Region). Rattle.nr_reduce.specs.KeptClient.AreBelow rs k.stag) (sym regions) (below_closed (of_call xid) later k.regions k.stag memory.below));
 }
@@ -336,7 +339,7 @@ revokes : (opened : LinkParameters) (kept : KeptClient) (k : ClientState) (count
 unfolding client_end client_state_after kept_revoked
 revokes opened kept k count xid keeps =
     let calls : CallsKeep kept.calls kept.next_xid k = keeps.calls refl in
-    keeps_live opened (kept_revoked kept xid) (client_state_after opened k (MemoryRevoked count xid)) count keeps.ended keeps.xid keeps.sends keeps.grant keeps.up keeps.down (keeps.outstanding ∙ sym (length-map k.outstanding (revoked_call xid))) keeps.accesses
+    keeps_live opened (kept_revoked kept xid) (client_state_after opened k (MemoryRevoked count xid)) count keeps.ended keeps.xid keeps.sends keeps.grant keeps.up keeps.down keeps.invalidates (keeps.outstanding ∙ sym (length-map k.outstanding (revoked_call xid))) keeps.accesses
     (memory_closed xid count count kept.calls kept.next_xid k (client_state_after opened k (MemoryRevoked count xid)) kept.memory (omega arith) calls keeps.accesses (keeps.memory refl) refl refl refl)
     (calls_revoked opened kept.calls kept.next_xid xid count k calls)
 
@@ -349,6 +352,7 @@ revokes_ended opened kept k end count xid keeps = record {
   grant = keeps.grant;
   up = keeps.up;
   down = keeps.down;
+  invalidates = keeps.invalidates;
   outstanding = keeps.outstanding;
   calls = λ e. absurd cc;
   memory = λ e. absurd cc;
@@ -379,6 +383,7 @@ kept_hands_back opened kept e end count xid ended keeps = record {
   grant = keeps.grant;
   up = keeps.up;
   down = keeps.down;
+  invalidates = keeps.invalidates;
   outstanding = keeps.outstanding;
   calls = λ lives. absurd (let wrong : Some end ≡ None = sym ended ∙ lives in cc);
   memory = λ lives. absurd (let wrong : Some end ≡ None = sym ended ∙ lives in cc);
@@ -396,6 +401,6 @@ kept_completes opened kept k count place message keeps le =
     let after : ClientState = with_message k place (Some message) in
     let closed : CallsKeep (without (word_at 0 message) kept.calls) kept.next_xid after =
     calls_closed kept.calls kept.next_xid (word_at 0 message) place k after (record { written = refl; ends = refl }) calls refl refl in
-    keeps_live opened (kept_completed kept message) after place keeps.ended keeps.xid keeps.sends refl keeps.up keeps.down (kept_count after (without (word_at 0 message) kept.calls) after.outstanding closed.kept) (received_later count place k.accesses_received le keeps.accesses)
+    keeps_live opened (kept_completed kept message) after place keeps.ended keeps.xid keeps.sends refl keeps.up keeps.down keeps.invalidates (kept_count after (without (word_at 0 message) kept.calls) after.outstanding closed.kept) (received_later count place k.accesses_received le keeps.accesses)
     (memory_closed (word_at 0 message) count place kept.calls kept.next_xid k after kept.memory le calls keeps.accesses (keeps.memory refl) refl refl refl)
     closed

@@ -8,9 +8,11 @@ use Rattle.nr_wire.specs.declared.hello.Side.TheVariants.{Responder}
 use Rattle.nr_link.specs.declared.end.End.{End}
 use Rattle.nr_link.specs.Frames.{Frame, is_hello}
 use Rattle.nr_link.specs.Ending.{final_output, rejection, last_output}
-use Rattle.nr_link.specs.Output.{msn_word, send, read_request, write}
-use Rattle.nr_link.specs.OutputItem.{OutputItem, items_encoding, is_send_item, item_ends}
-use Rattle.nr_link.specs.OutputItem.OutputItem.{SendItem, WriteItem, LastItem}
+use Rattle.nr_link.specs.Output.{cut, msn_word, send, send_by, send_invalidating, read_request, write}
+use Rattle.nr_wire.specs.Constants.{OPCODE_SEND_INVALIDATE, QUEUE_SEND}
+use Rattle.nr_wire.specs.Segment.Segment.{Untagged}
+use Rattle.nr_link.specs.OutputItem.{OutputItem, item_encoding, items_encoding, is_send_item, item_ends}
+use Rattle.nr_link.specs.OutputItem.OutputItem.{WriteItem, LastItem}
 use Rattle.nr_reduce.specs.Hellos.{server_hello}
 use Rattle.nr_reduce.specs.declared.mark.LinkParameters.{LinkParameters}
 use Rattle.nr_reduce.specs.History.{ExecutedCall}
@@ -19,8 +21,8 @@ use Rattle.nr_reduce.specs.Events.{RunEvent}
 use Rattle.nr_reduce.specs.Events.RunEvent.{FrameReceived, CallSubmitted, MemoryRevoked, CallExecuted, QueueWritten, ServerTold}
 use Rattle.nr_reduce.specs.ServerState.{PendingRead, ServerState, credit_word}
 use Rattle.nr_reduce.specs.ServerFrames.{frame_effect}
-use Rattle.nr_reduce.specs.Server.{server_state_after, server_output, sends_from, send_ends_from, requests_from, newly_open_reads, effect_output, offer_of, answer_of_target, answer_output, execution_output, with_effect, with_own_hello}
-use Rattle.nr_reduce.specs.DueItems.{message_items, request_items, effect_items, write_items, answer_items, execution_items, server_items_at, server_hello_at}
+use Rattle.nr_reduce.specs.Server.{server_state_after, server_output, sends_from, send_ends_from, requests_from, newly_open_reads, effect_output, offer_of, answer_of_target, answer_output, execution_output, stag_named, with_effect, with_own_hello}
+use Rattle.nr_reduce.specs.DueItems.{message_items, request_items, effect_items, send_item_by, write_items, answer_items, execution_items, server_items_at, server_hello_at}
 use Rattle.nr_reduce.proofs.WholeWrotes.{server_due}
 use Rattle.nr_reduce.proofs.OutputItems.{encoding_append, ends_append, send_word, request_word}
 
@@ -47,15 +49,31 @@ writes_encoded (s ∷ chunk) bytes = by (eqb (min s.length (length bytes)) 0) (w
     by true h = h
     by false h = ap (λ (bs : List ℕ). write s.handle s.offset (take s.length bytes) ++ bs) h
 
+-- a Send of either kind, with its number as a word
+send_by_word : (named : Option ℕ) (number : ℕ) (message : List ℕ) → send_by named number message ≡ item_encoding (send_item_by named number message)
+unfolding send_invalidating
+send_by_word None number message = send_word number message
+send_by_word (Some stag) number message =
+    let same : msn_word number ≡ msn_word (msn_word number) = omega arith in
+    ap (λ (m : ℕ). cut (λ last offset payload. Untagged last OPCODE_SEND_INVALIDATE (cond last stag 0) QUEUE_SEND m offset payload) message) same
+
+one_end : (due : ℕ) (named : Option ℕ) (number : ℕ) (message : List ℕ) →
+    (due + length (item_encoding (send_item_by named number message))) ∷ [] ≡ item_ends is_send_item due (send_item_by named number message ∷ [])
+one_end due None number message = refl
+one_end due (Some stag) number message = refl
+
 answer_encoded : (k : ServerState) (xid : ℕ) (offer : ChunkLists) (o : Option Answer) → answer_output k xid offer o ≡ items_encoding (answer_items k xid offer o)
 unfolding answer_writes
 answer_encoded k xid offer None =
     let error = chunk_error xid (credit_word k) in
     send_word (k.messages_queued + 1) error ∙ sym (append-nil (send (msn_word (k.messages_queued + 1)) error))
 answer_encoded k xid offer (Some a) =
-    (λ i. writes i ++ (send_word (k.messages_queued + 1) message ∙ sym (append-nil (send (msn_word (k.messages_queued + 1)) message))) i)
-    ∙ sym (encoding_append (moved ++ long a.long) (SendItem (msn_word (k.messages_queued + 1)) message ∷ []))
+    (λ i. writes i ++ (send_by_word named (k.messages_queued + 1) message ∙ sym (append-nil (item_encoding (send_item_by named (k.messages_queued + 1) message)))) i)
+    ∙ sym (encoding_append (moved ++ long a.long) (send_item_by named (k.messages_queued + 1) message ∷ []))
   where
+    named : Option ℕ
+    named = stag_named k.invalidates offer
+
     message : List ℕ
     message = answer_message xid (credit_word k) offer a
 
@@ -124,16 +142,20 @@ unfolding answer_writes
 answer_ends k xid offer None due = ap (λ (bs : List ℕ). (due + length bs) ∷ []) (send_word (k.messages_queued + 1) (chunk_error xid (credit_word k)))
 answer_ends k xid offer (Some a) due =
     let place = due + length (items_encoding (moved ++ long a.long)) in
-    let same : length (send (k.messages_queued + 1) message) ≡ length last = ap (λ (bs : List ℕ). length bs) (send_word (k.messages_queued + 1) message) in
-    ap (λ (n : ℕ). n ∷ []) (let e : due + length (answer_writes offer a ++ send (k.messages_queued + 1) message) ≡ place + length last = omega (arith, length-append (answer_writes offer a) (send (k.messages_queued + 1) message), ap (λ (bs : List ℕ). length bs) spelled, same) in e)
+    let same : length (send_by named (k.messages_queued + 1) message) ≡ length last = ap (λ (bs : List ℕ). length bs) (send_by_word named (k.messages_queued + 1) message) in
+    ap (λ (n : ℕ). n ∷ []) (let e : due + length (answer_writes offer a ++ send_by named (k.messages_queued + 1) message) ≡ place + length last = omega (arith, length-append (answer_writes offer a) (send_by named (k.messages_queued + 1) message), ap (λ (bs : List ℕ). length bs) spelled, same) in e)
     ∙ ap (λ (ends : List ℕ). ends ++ (place + length last) ∷ []) (sym none)
-    ∙ sym (ends_append is_send_item due (moved ++ long a.long) (SendItem (msn_word (k.messages_queued + 1)) message ∷ []))
+    ∙ ap (λ (ends : List ℕ). item_ends is_send_item due (moved ++ long a.long) ++ ends) (one_end place named (k.messages_queued + 1) message)
+    ∙ sym (ends_append is_send_item due (moved ++ long a.long) (send_item_by named (k.messages_queued + 1) message ∷ []))
   where
+    named : Option ℕ
+    named = stag_named k.invalidates offer
+
     message : List ℕ
     message = answer_message xid (credit_word k) offer a
 
     last : List ℕ
-    last = send (msn_word (k.messages_queued + 1)) message
+    last = item_encoding (send_item_by named (k.messages_queued + 1) message)
 
     moved : List OutputItem
     moved = write_items (first_chunk offer.write) a.moved

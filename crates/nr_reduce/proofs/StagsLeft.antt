@@ -6,7 +6,6 @@ use Rattle.nr_wire.specs.declared.hello.Side.TheVariants.{Initiator, Responder}
 use Rattle.nr_wire.specs.Segment.{Segment}
 use Rattle.nr_link.specs.declared.end.End.{End as Stop}
 use Rattle.nr_link.specs.Frames.{Frame, is_hello, frames_completed}
-use Rattle.nr_link.specs.Ending.{frame_segment}
 use Rattle.nr_link.specs.ReceiveState.{ReadRequest, message_completed, read_request_of}
 use Rattle.nr_reduce.specs.declared.call.Submission.TheVariants as submissions
 use Rattle.nr_reduce.specs.declared.mark.Mark.{Mark}
@@ -23,7 +22,7 @@ use Rattle.nr_reduce.specs.Events.{RunEvent, if_own, events_at, events}
 use Rattle.nr_reduce.specs.Events.RunEvent.{FrameReceived, CallSubmitted, MemoryRevoked, CallExecuted, QueueWritten, ServerTold}
 use Rattle.nr_reduce.specs.EndRules.{EndState, next_end_state, next_end_state_by, next_end_state_in, end_state_after}
 use Rattle.nr_reduce.specs.ClientState.{ClientState, call_payload, plan_for}
-use Rattle.nr_reduce.specs.Client.{client_rules, client_end, client_state_after, plan_or, with_message, with_request, with_segment, with_hello, due_with_response}
+use Rattle.nr_reduce.specs.Client.{client_rules, client_end, client_state_after, plan_or, with_message, with_request, with_segment, with_hello, due_with_response, client_segment}
 use Rattle.nr_reduce.specs.Run.{client}
 use Rattle.nr_reduce.specs.Asked.{AskedSoFar, AskedMark}
 use Rattle.nr_reduce.proofs.Steps.{client_one}
@@ -62,9 +61,9 @@ stag_after : (opened : LinkParameters) (k : ClientState) (event : RunEvent) → 
 unfolding client_state_after
 stag_after opened k (FrameReceived f) h = by (is_hello f)
   where
-    by : (b : Bool) → (cond b (with_hello opened k f) (with_segment k f (frame_segment f))).stag ≡ k.stag
+    by : (b : Bool) → (cond b (with_hello opened k f) (with_segment k f (client_segment k f))).stag ≡ k.stag
     by true = refl
-    by false = by_segment k f (frame_segment f)
+    by false = by_segment k f (client_segment k f)
 stag_after opened k (CallSubmitted place a) h = absurd h
 stag_after opened k (MemoryRevoked place xid) h = refl
 stag_after opened k (CallExecuted call) h = refl

@@ -7,7 +7,7 @@ use Rattle.nr_regions.specs.Access.{TaggedSegment, access_of_tagged}
 use Rattle.nr_regions.specs.declared.denied.Denied.{Denied}
 use Rattle.nr_regions.specs.Events.{after_event, after_arrival}
 use Rattle.nr_regions.specs.Events.MemoryEvent.{Arrive}
-use Rattle.nr_regions.proofs.Holding.{next_after_place}
+use Rattle.nr_regions.proofs.Holding.{next_after_place, none_dead_arrive}
 use Rattle.nr_reduce.specs.declared.mark.LinkParameters.{LinkParameters}
 use Rattle.nr_reduce.specs.declared.outline.Plan.{Plan}
 use Rattle.nr_reduce.specs.History.{AcceptedCall}
@@ -46,6 +46,7 @@ kept_stay k k2 (c ∷ cs) (o ∷ os) same is = (
     call = is.0.call;
     write = is.0.write;
     reply = is.0.reply;
+    given = is.0.given;
     stags = is.0.stags;
   },
   kept_stay k k2 cs os same is.1,
@@ -87,11 +88,12 @@ unfolding kept_placed
 kept_places opened kept k count access keeps lt =
     let memory : MemoryKeeps kept.memory k count = keeps.memory refl in
     let after : ClientState = record k { accesses_received = k.accesses_received ++ access ∷ [] } in
-    keeps_live opened (kept_placed kept access) after access.end keeps.ended keeps.xid keeps.sends keeps.grant keeps.up keeps.down keeps.outstanding (received_one count k.accesses_received access (omega (arith, lt)) keeps.accesses)
+    keeps_live opened (kept_placed kept access) after access.end keeps.ended keeps.xid keeps.sends keeps.grant keeps.up keeps.down keeps.invalidates keeps.outstanding (received_one count k.accesses_received access (omega (arith, lt)) keeps.accesses)
     (record {
       next = event_next kept.memory access ∙ memory.next;
       offered = offered_later count access.end k.regions (omega (arith, lt)) memory.offered;
       holds = holds_access k.regions k.accesses_received count kept.memory access memory.offered keeps.accesses (λ stag r there. (let low = memory.below stag r there in let next = memory.next in omega (arith, low, next))) lt memory.holds;
+      none_dead = none_dead_arrive kept.memory access memory.none_dead;
       below = memory.below;
     })
     (calls_same kept.calls kept.next_xid k access (keeps.calls refl))
@@ -111,6 +113,7 @@ sent_all k k2 sent (c ∷ cs) (o ∷ os) e is = (
     call = is.0.call;
     write = is.0.write;
     reply = is.0.reply;
+    given = is.0.given;
     stags = is.0.stags;
   },
   sent_all k k2 sent cs os e is.1,
@@ -144,8 +147,8 @@ kept_writes opened kept k count taken keeps =
     let memory : MemoryKeeps kept.memory k count = keeps.memory refl in
     let after : ClientState = record k { written = k.written + taken } in
     let sent : ℕ = ends_written (k.written + taken) k.send_ends in
-    keeps_live opened (kept_sent sent kept) after count keeps.ended keeps.xid keeps.sends keeps.grant keeps.up keeps.down keeps.outstanding keeps.accesses
-    (record { next = memory.next; offered = memory.offered; holds = memory.holds; below = memory.below })
+    keeps_live opened (kept_sent sent kept) after count keeps.ended keeps.xid keeps.sends keeps.grant keeps.up keeps.down keeps.invalidates keeps.outstanding keeps.accesses
+    (record { next = memory.next; offered = memory.offered; holds = memory.holds; none_dead = memory.none_dead; below = memory.below })
     (record {
       kept = sent_all k after sent kept.calls k.outstanding refl calls.kept;
       rising = rising_sent sent kept.calls kept.next_xid calls.rising;
@@ -163,8 +166,8 @@ kept_greets opened kept k f count keeps within =
     let later : AllByRecursion (λ end. k.written < end) (call_ends opened k.due 1 k.outstanding) = calls_later opened k.written k.due 1 k.outstanding within in
     let calls : CallsKeep kept.calls kept.next_xid k = keeps.calls refl in
     let memory : MemoryKeeps kept.memory k count = keeps.memory refl in
-    keeps_live opened (kept_greeted kept (client_agreement opened f)) (with_hello opened k f) count keeps.ended keeps.xid keeps.sends keeps.grant refl refl keeps.outstanding keeps.accesses
-    (record { next = memory.next; offered = memory.offered; holds = memory.holds; below = memory.below })
+    keeps_live opened (kept_greeted kept (client_agreement opened f)) (with_hello opened k f) count keeps.ended keeps.xid keeps.sends keeps.grant refl refl refl keeps.outstanding keeps.accesses
+    (record { next = memory.next; offered = memory.offered; holds = memory.holds; none_dead = memory.none_dead; below = memory.below })
     (record {
       kept = kept_stay k (with_hello opened k f) kept.calls k.outstanding (left_append k.written k.send_ends (call_ends opened k.due 1 k.outstanding) later) calls.kept;
       rising = calls.rising;
@@ -256,7 +259,7 @@ kept_submits opened kept k count a plan keeps next is within few =
     let o : OutstandingCall = outstanding_of k a in
     let plan_is : o.plan ≡ plan = planned k a plan is in
     let left : ends_written k.written (k.send_ends ++ submitted_ends opened k a) ≡ ends_written k.written k.send_ends = left_append k.written k.send_ends (submitted_ends opened k a) later in
-    let before : Registers k.regions k.accesses_received count kept.memory k.stag = record { offered = memory.offered; holds = memory.holds; below = memory.below; next_is = memory.next } in
+    let before : Registers k.regions k.accesses_received count kept.memory k.stag = record { offered = memory.offered; holds = memory.holds; none_dead = memory.none_dead; below = memory.below; next_is = memory.next } in
     let registered : Registers (k.regions ++ map (region_of a.xid count) (buffers k.stag plan)) k.accesses_received count (registered_all kept.memory (buffers k.stag plan)) (k.stag + length (buffers k.stag plan)) =
     register_all a.xid count k.accesses_received (buffers k.stag plan) k.regions kept.memory k.stag keeps.accesses (buffers_numbered k.stag plan) before in
     let all : Registers (k.regions ++ map (region_of a.xid count) (buffers k.stag o.plan)) k.accesses_received count (registered_all kept.memory (buffers kept.memory.next plan)) (k.stag + regions_needed o.plan) =
@@ -271,8 +274,9 @@ kept_submits opened kept k count a plan keeps next is within few =
       call = refl;
       write = λ i. (lists_of (memory.next i) (sym plan_is i)).write;
       reply = λ i. (lists_of (memory.next i) (sym plan_is i)).reply;
+      given = λ i. map (λ (b : Buffer). b.stag) (buffers (memory.next i) (sym plan_is i));
       stags = λ i. map (λ (b : Buffer). b.stag) (buffers (memory.next i) (sym plan_is i));
     } in
-    keeps_live opened (kept_submitted kept a.call plan) after count keeps.ended (ap (λ (n : ℕ). n + 1) keeps.xid) (ap (λ (n : ℕ). n + 1) keeps.sends) keeps.grant keeps.up keeps.down (ap (λ (n : ℕ). n + 1) keeps.outstanding ∙ sym (length-append k.outstanding (o ∷ []))) keeps.accesses
-    (record { next = all.next_is; offered = all.offered; holds = all.holds; below = all.below })
+    keeps_live opened (kept_submitted kept a.call plan) after count keeps.ended (ap (λ (n : ℕ). n + 1) keeps.xid) (ap (λ (n : ℕ). n + 1) keeps.sends) keeps.grant keeps.up keeps.down keeps.invalidates (ap (λ (n : ℕ). n + 1) keeps.outstanding ∙ sym (length-append k.outstanding (o ∷ []))) keeps.accesses
+    (record { next = all.next_is; offered = all.offered; holds = all.holds; none_dead = all.none_dead; below = all.below })
     (calls_submitted opened kept.calls kept.next_xid k count a (kept_of kept.next_xid kept.sends a.call plan kept.memory.next) calls memory.below left next own)

@@ -5,13 +5,13 @@ use Rattle.nr_wire.specs.Segment.Segment.{Tagged, Untagged}
 use Rattle.nr_regions.specs.Access.{TaggedSegment}
 use Rattle.nr_link.specs.declared.end.End.{End}
 use Rattle.nr_link.specs.Frames.{Frame}
-use Rattle.nr_link.specs.Ending.{frame_segment, kind_of}
+use Rattle.nr_link.specs.Ending.{kind_of}
 use Rattle.nr_link.specs.ReceiveState.{ReceiveState, ReadRequest, received_after, message_completed, read_request_of}
 use Rattle.nr_reduce.specs.declared.mark.LinkParameters.{LinkParameters}
 use Rattle.nr_reduce.specs.Events.RunEvent.{FrameReceived}
 use Rattle.nr_reduce.specs.EndRules.{next_end_state_by, live}
 use Rattle.nr_reduce.specs.ClientState.{ClientState}
-use Rattle.nr_reduce.specs.Client.{client_rules, client_state_after, with_message, with_request, with_segment, with_hello, due_with_response}
+use Rattle.nr_reduce.specs.Client.{client_rules, client_state_after, with_message, with_request, with_segment, with_hello, due_with_response, client_segment}
 use Rattle.nr_reduce.specs.KeptClient.{KeptClient, ClientKeeps, CallsKeep, MemoryKeeps, kept_placed, kept_by_message, kept_received}
 use Rattle.nr_reduce.specs.StandingLaws.{KeptTakes, KeptEnds}
 use Rattle.nr_reduce.proofs.Closing.{kept_alike}
@@ -25,8 +25,8 @@ same_keeps opened kept k count received due ends keeps =
     let calls : CallsKeep kept.calls kept.next_xid k = keeps.calls refl in
     let memory : MemoryKeeps kept.memory k count = keeps.memory refl in
     let after : ClientState = record k { received = received; due = due; response_ends = ends } in
-    keeps_live opened kept after count keeps.ended keeps.xid keeps.sends keeps.grant keeps.up keeps.down keeps.outstanding keeps.accesses
-    (record { next = memory.next; offered = memory.offered; holds = memory.holds; below = memory.below })
+    keeps_live opened kept after count keeps.ended keeps.xid keeps.sends keeps.grant keeps.up keeps.down keeps.invalidates keeps.outstanding keeps.accesses
+    (record { next = memory.next; offered = memory.offered; holds = memory.holds; none_dead = memory.none_dead; below = memory.below })
     (record {
       kept = kept_alike k after kept.calls k.outstanding (record { written = refl; ends = refl }) calls.kept;
       rising = calls.rising;
@@ -74,7 +74,7 @@ pub kept_takes : KeptTakes
 unfolding client_state_after
 kept_takes opened kept k count f segment keeps lt other is lives =
     subst (λ (x : Option End). ClientKeeps opened (kept_received kept k.received f segment) (next_end_state_by (client_rules opened) k (FrameReceived f) x) f.end) (sym lives)
-    (subst (λ (b : Bool). ClientKeeps opened (kept_received kept k.received f segment) (live (cond b (with_hello opened k f) (with_segment k f (frame_segment f)))) f.end) (sym other)
+    (subst (λ (b : Bool). ClientKeeps opened (kept_received kept k.received f segment) (live (cond b (with_hello opened k f) (with_segment k f (client_segment k f)))) f.end) (sym other)
     (subst (λ (r : Result Segment ℕ). ClientKeeps opened (kept_received kept k.received f segment) (live (with_segment k f r)) f.end) (sym is)
     (segment_keeps opened kept k count f segment keeps lt)))
 
@@ -88,6 +88,7 @@ kept_ends opened kept k end count event keeps is =
       grant = keeps.grant;
       up = keeps.up;
       down = keeps.down;
+      invalidates = keeps.invalidates;
       outstanding = keeps.outstanding;
       calls = λ lives. absurd (let wrong : Some end ≡ None = lives in cc);
       memory = λ lives. absurd (let wrong : Some end ≡ None = lives in cc);

@@ -17,7 +17,7 @@ use Rattle.nr_link.specs.Ending.{missing_access, end_of_fault, frame_segment, fr
 use Rattle.nr_reduce.specs.OfferedRegions.{region_grants}
 use Rattle.nr_reduce.specs.Events.{RunEvent}
 use Rattle.nr_reduce.specs.Events.RunEvent.{FrameReceived}
-use Rattle.nr_reduce.specs.Client.{client_end, or_message_end, client_readiness as client_ready, client_rules, initial_client}
+use Rattle.nr_reduce.specs.Client.{client_end, client_segment, or_message_end, client_readiness as client_ready, client_rules, initial_client}
 use Rattle.nr_reduce.specs.ClientState.{ClientState}
 use Rattle.nr_reduce.specs.Server.{server_end, or_refusal, server_readiness as server_ready, server_rules, initial_server}
 use Rattle.nr_reduce.specs.ServerState.{ServerState}
@@ -71,20 +71,20 @@ no_flaw f segment (Some (NoBuffer msn)) e = absurd cc
 no_flaw f segment (Some (AccessDenied why)) e = absurd cc
 no_flaw f segment (Some (PeerTerminated word)) e = absurd cc
 
-lacks_nothing : (ready : Option Denied → Readiness Denied) → ((o : Option Denied) → (ready o).missing ≡ o) → (grants : List Grant) (f : Frame) (segment : Segment) → frame_segment f ≡ Ok segment
-    → frame_end ready grants f ≡ None → missing_access grants f segment ≡ None
-unfolding frame_end
-lacks_nothing ready keeps grants f segment is e =
+lacks_nothing : (ready : Option Denied → Readiness Denied) → ((o : Option Denied) → (ready o).missing ≡ o) → (grants : List Grant) (f : Frame) (segment : Segment) (read : Result Segment ℕ) → read ≡ Ok segment
+    → frame_end_by ready grants f read ≡ None → missing_access grants f segment ≡ None
+lacks_nothing ready keeps grants f segment read is e =
     let by_piece : end_of_fault f segment (segment_reason (ready (missing_access grants f segment)) segment) ≡ None = ap (λ (r : Result Segment ℕ). frame_end_by ready grants f r) (sym is) ∙ e in
     sym (keeps (missing_access grants f segment)) ∙ no_fault_no_missing (ready (missing_access grants f segment)) segment (no_flaw f segment _ by_piece)
 
 -- What a client's peer reaches by a frame that doesn't end it is allowed by what the client offers at that frame.
-pub client_touched : (k : ClientState) (f : Frame) (segment : Segment) → is_hello f ≡ false → frame_segment f ≡ Ok segment → client_end k (FrameReceived f) ≡ None → missing_access (region_grants f.end k.regions) f segment ≡ None
+pub client_touched : (k : ClientState) (f : Frame) (segment : Segment) → is_hello f ≡ false → client_segment k f ≡ Ok segment → client_end k (FrameReceived f) ≡ None → missing_access (region_grants f.end k.regions) f segment ≡ None
 unfolding client_end
 client_touched k f segment later is e =
-    let others : or_message_end k f (frame_end (client_ready k) (region_grants f.end k.regions) f) ≡ None =
-    ap (λ (b : Bool). cond b (hello_end (hello_of Responder f.bytes)) (or_message_end k f (frame_end (client_ready k) (region_grants f.end k.regions) f))) (sym later) ∙ e in
-    lacks_nothing (client_ready k) (λ o. refl) (region_grants f.end k.regions) f segment is (by_end (frame_end (client_ready k) (region_grants f.end k.regions) f) others)
+    let ends : Option Stop = frame_end_by (client_ready k) (region_grants f.end k.regions) f (client_segment k f) in
+    let others : or_message_end k f ends ≡ None =
+    ap (λ (b : Bool). cond b (hello_end (hello_of Responder f.bytes)) (or_message_end k f ends)) (sym later) ∙ e in
+    lacks_nothing (client_ready k) (λ o. refl) (region_grants f.end k.regions) f segment (client_segment k f) is (by_end ends others)
   where
     by_end : (o : Option Stop) → or_message_end k f o ≡ None → o ≡ None
     by_end None e = refl
@@ -92,11 +92,11 @@ client_touched k f segment later is e =
 
 -- and a server's
 pub server_touched : (opened : LinkParameters) (k : ServerState) (f : Frame) (segment : Segment) → is_hello f ≡ false → frame_segment f ≡ Ok segment → server_end opened k (FrameReceived f) ≡ None → missing_access (region_grants f.end k.regions) f segment ≡ None
-unfolding server_end
+unfolding server_end frame_end
 server_touched opened k f segment later is e =
     let others : or_refusal k f (frame_end (server_ready opened k) (region_grants f.end k.regions) f) ≡ None =
     ap (λ (b : Bool). cond b (hello_end (hello_of Initiator f.bytes)) (or_refusal k f (frame_end (server_ready opened k) (region_grants f.end k.regions) f))) (sym later) ∙ e in
-    lacks_nothing (server_ready opened k) (λ o. refl) (region_grants f.end k.regions) f segment is (by_end (frame_end (server_ready opened k) (region_grants f.end k.regions) f) others)
+    lacks_nothing (server_ready opened k) (λ o. refl) (region_grants f.end k.regions) f segment (frame_segment f) is (by_end (frame_end (server_ready opened k) (region_grants f.end k.regions) f) others)
   where
     by_end : (o : Option Stop) → or_refusal k f o ≡ None → o ≡ None
     by_end None e = refl
@@ -108,7 +108,8 @@ allowed : (grants : List Grant) (f : Frame) (segment : Segment) (access : Access
 allowed grants f segment access own is none =
     (allowed_iff grants access f.end own).1 (ap (λ (o : Option Access). option_and_then (λ (a : Access). grant_denial grants a f.end) o) (sym is) ∙ none)
 
-pub client_allows : (opened : LinkParameters) (events : List RunEvent) (f : Frame) (segment : Segment) (access : Access) → is_hello f ≡ false → frame_segment f ≡ Ok segment → access_of segment ≡ Some access →
+pub client_allows : (opened : LinkParameters) (events : List RunEvent) (f : Frame) (segment : Segment) (access : Access) → is_hello f ≡ false →
+    client_segment (end_state_after (client_rules opened) (initial_client opened) events).state f ≡ Ok segment → access_of segment ≡ Some access →
     client_end (end_state_after (client_rules opened) (initial_client opened) events).state (FrameReceived f) ≡ None →
     Allowed (region_grants f.end (end_state_after (client_rules opened) (initial_client opened) events).state.regions) access f.end
 client_allows opened events f segment access later is accesses_received e =

@@ -13,7 +13,8 @@ use Rattle.nr_wire.specs.Hello.{hello_of}
 use Rattle.nr_wire.specs.Segment.{Segment}
 use Rattle.nr_link.specs.declared.end.End.{End as Stop}
 use Rattle.nr_link.specs.Frames.{Frame, is_hello, frames_completed}
-use Rattle.nr_link.specs.Ending.{frame_segment, frame_end, hello_end}
+use Rattle.nr_link.specs.Ending.{frame_end_by, hello_end}
+use Rattle.nr_link.specs.Reasons.{REASON_INVALIDATED}
 use Rattle.nr_link.specs.ReceiveState.{ReadRequest, message_completed, read_request_of}
 use Rattle.nr_reduce.specs.declared.call.Submission.TheVariants as submissions
 use Rattle.nr_reduce.specs.declared.mark.Mark.{Mark}
@@ -29,9 +30,9 @@ use Rattle.nr_reduce.specs.EndRules.{EndState, next_end_state, next_end_state_by
 use Rattle.nr_reduce.specs.OfferedRegions.{region_grants}
 use Rattle.nr_reduce.specs.ClientState.{OutstandingCall, ClientState, is_sent, plan_for}
 use Rattle.nr_reduce.specs.Written.{ends_written}
-use Rattle.nr_reduce.specs.ClientMessages.{ReplyVerdict, reply_verdict, reply_by_header, by_call}
+use Rattle.nr_reduce.specs.ClientMessages.{ReplyVerdict, reply_verdict, reply_by_header, by_call, invalidates_another, message_verdict}
 use Rattle.nr_reduce.specs.ClientMessages.ReplyVerdict.{EndsLink, GivesOutcome}
-use Rattle.nr_reduce.specs.Client.{client_rules, client_end, client_output, client_state_after, initial_client, client_readiness, or_message_end, client_message_end, end_of_verdict, segment_message, outstanding_of, call_output, calls_output, response_output, segment_request, revoked_call, submitted_output, with_message, with_request, with_segment, with_hello, due_with_response}
+use Rattle.nr_reduce.specs.Client.{client_rules, client_end, client_output, client_state_after, initial_client, client_readiness, or_message_end, client_message_end, end_of_verdict, segment_message, segment_names, outstanding_of, call_output, calls_output, response_output, segment_request, revoked_call, submitted_output, with_message, with_request, with_segment, with_hello, due_with_response, client_segment}
 use Rattle.nr_reduce.specs.Run.{client}
 use Rattle.nr_reduce.specs.Asked.{AskedSoFar, AskedMark}
 use Rattle.nr_reduce.specs.RunLaws.{numbered_on, outstanding_from, as_submitted}
@@ -105,12 +106,18 @@ end_some : (f : Frame) (v : ReplyVerdict) → Ends v → end_of_verdict f v ≡ 
 end_some f (EndsLink reason) h e = absurd cc
 end_some f (GivesOutcome xid outcome) h e = h
 
-no_message : (k : ClientState) (f : Frame) (o : Option (List ℕ)) → k.send_ends ≡ [] → client_message_end k f o ≡ None → o ≡ None
-unfolding reply_verdict
-no_message k f None h e = refl
-no_message k f (Some message) h e = absurd (end_some f (reply_verdict k f.end message) (verdict_ends k f.end message (header_of message) h) e)
+either_ends : (b : Bool) (v : ReplyVerdict) → Ends v → Ends (cond b (EndsLink REASON_INVALIDATED) v)
+either_ends true v h = tt
+either_ends false v h = h
 
-pub or_message : (k : ClientState) (f : Frame) (o : Option Stop) → or_message_end k f o ≡ None → client_message_end k f (segment_message k (frame_segment f)) ≡ None
+no_message : (k : ClientState) (f : Frame) (named : Option ℕ) (o : Option (List ℕ)) → k.send_ends ≡ [] → client_message_end k f named o ≡ None → o ≡ None
+unfolding reply_verdict message_verdict
+no_message k f named None h e = refl
+no_message k f named (Some message) h e =
+    absurd (end_some f (message_verdict k f.end named message)
+    (either_ends (invalidates_another k named message) (reply_verdict k f.end message) (verdict_ends k f.end message (header_of message) h)) e)
+
+pub or_message : (k : ClientState) (f : Frame) (o : Option Stop) → or_message_end k f o ≡ None → client_message_end k f (segment_names (client_segment k f)) (segment_message k (client_segment k f)) ≡ None
 or_message k f (Some end) e = absurd cc
 or_message k f None e = e
 
@@ -137,13 +144,13 @@ frame_waits : (opened : LinkParameters) (accepted : List AcceptedCall) (k : Clie
 unfolding client_end client_state_after
 frame_waits opened accepted k f stays w = by (is_hello f) stays
   where
-    by : (b : Bool) → cond b (hello_end (hello_of Responder f.bytes)) (or_message_end k f (frame_end (client_readiness k) (region_grants f.end k.regions) f)) ≡ None
-        → Waits opened accepted (cond b (with_hello opened k f) (with_segment k f (frame_segment f)))
+    by : (b : Bool) → cond b (hello_end (hello_of Responder f.bytes)) (or_message_end k f (frame_end_by (client_readiness k) (region_grants f.end k.regions) f (client_segment k f))) ≡ None
+        → Waits opened accepted (cond b (with_hello opened k f) (with_segment k f (client_segment k f)))
     by true e = λ hello. absurd cc
     by false e = λ hello. by_hello k.has_hello refl hello
       where
-        whole : k.send_ends ≡ [] → SameCalls k (with_segment k f (frame_segment f))
-        whole h = segment_same k f (frame_segment f) (no_message k f (segment_message k (frame_segment f)) h (or_message k f (frame_end (client_readiness k) (region_grants f.end k.regions) f) e))
+        whole : k.send_ends ≡ [] → SameCalls k (with_segment k f (client_segment k f))
+        whole h = segment_same k f (client_segment k f) (no_message k f (segment_names (client_segment k f)) (segment_message k (client_segment k f)) h (or_message k f (frame_end_by (client_readiness k) (region_grants f.end k.regions) f (client_segment k f)) e))
 
         keeps : (r : Result Segment ℕ) → (with_segment k f r).has_hello ≡ k.has_hello
         keeps (Err reason) = refl
@@ -157,9 +164,9 @@ frame_waits opened accepted k f stays w = by (is_hello f) stays
             keeps_message None = refl
             keeps_message (Some message) = refl
 
-        by_hello : (b : Bool) → k.has_hello ≡ b → (with_segment k f (frame_segment f)).has_hello ≡ false → Waiting opened accepted (with_segment k f (frame_segment f))
-        by_hello true is hello = (let t : true ≡ false = sym is ∙ sym (keeps (frame_segment f)) ∙ hello in absurd cc)
-        by_hello false is hello = same_waits opened accepted k (with_segment k f (frame_segment f)) (whole (w is).ends) w hello
+        by_hello : (b : Bool) → k.has_hello ≡ b → (with_segment k f (client_segment k f)).has_hello ≡ false → Waiting opened accepted (with_segment k f (client_segment k f))
+        by_hello true is hello = (let t : true ≡ false = sym is ∙ sym (keeps (client_segment k f)) ∙ hello in absurd cc)
+        by_hello false is hello = same_waits opened accepted k (with_segment k f (client_segment k f)) (whole (w is).ends) w hello
 
 submit_waits : (opened : LinkParameters) (accepted : List AcceptedCall) (k : ClientState) (place : ℕ) (a : AcceptedCall) → Waits opened accepted k → Waits opened (accepted ++ a ∷ []) (client_state_after opened k (CallSubmitted place a))
 unfolding client_state_after plan_for
@@ -308,7 +315,7 @@ hello_output opened k (Some end) f hello e = absurd cc
 hello_output opened k None f hello e = by (client_end k (FrameReceived f)) e
   where
     by : (why : Option Stop) → (next_end_state_by (client_rules opened) k (FrameReceived f) why).ended ≡ None → output_for_by (client_rules opened) k (FrameReceived f) why ≡ calls_output opened 1 k.outstanding
-    by None e = ap (λ (b : Bool). cond b (calls_output opened 1 k.outstanding) (response_output k f.end (segment_request (frame_segment f)))) hello
+    by None e = ap (λ (b : Bool). cond b (calls_output opened 1 k.outstanding) (response_output k f.end (segment_request (client_segment k f)))) hello
     by (Some end) e = absurd cc
 
 pub accepted_wait : (opened : LinkParameters) (link : ℕ) (run : List Mark) → AskedSoFar opened link run → (client opened link run).state.has_hello ≡ false →

@@ -6,7 +6,6 @@ use Rattle.std.proofs.lemmas.Bool.{le-leb, le-ltb}
 use Rattle.nr_wire.specs.Segment.{Segment}
 use Rattle.nr_link.specs.Output.{send}
 use Rattle.nr_link.specs.Frames.{Frame, is_hello}
-use Rattle.nr_link.specs.Ending.{frame_segment}
 use Rattle.nr_link.specs.ReceiveState.{ReadRequest, message_completed, read_request_of}
 use Rattle.nr_link.specs.SegmentFaults.{is_begun}
 use Rattle.nr_reduce.specs.Hellos.{server_hello}
@@ -16,7 +15,7 @@ use Rattle.nr_reduce.specs.Events.{RunEvent}
 use Rattle.nr_reduce.specs.Events.RunEvent.{FrameReceived, CallSubmitted, MemoryRevoked, CallExecuted, QueueWritten, ServerTold}
 use Rattle.nr_reduce.specs.Written.{ends_written, ends_waiting}
 use Rattle.nr_reduce.specs.ClientState.{OutstandingCall, ClientState, responses_owed}
-use Rattle.nr_reduce.specs.Client.{client_state_after, client_output, segment_request, response_output, calls_output, call_output, call_ends, submitted_output, submitted_ends, due_with_response, with_hello, with_message, with_request, with_segment}
+use Rattle.nr_reduce.specs.Client.{client_state_after, client_output, segment_request, response_output, calls_output, call_output, call_ends, submitted_output, submitted_ends, due_with_response, with_hello, with_message, with_request, with_segment, client_segment}
 use Rattle.nr_reduce.specs.ServerState.{ServerState, receives_in_use}
 use Rattle.nr_reduce.specs.ServerFrames.{frame_effect}
 use Rattle.nr_reduce.specs.Server.{server_state_after, server_output, sends_from, send_ends_from, with_effect, with_own_hello, requests_from, newly_open_reads, effect_output}
@@ -92,13 +91,13 @@ pub client_ends : (opened : LinkParameters) (k : ClientState) (event : RunEvent)
 unfolding client_state_after
 client_ends opened k (FrameReceived f) h = by (is_hello f)
   where
-    by : (b : Bool) → ClientEnds (cond b (with_hello opened k f) (with_segment k f (frame_segment f)))
+    by : (b : Bool) → ClientEnds (cond b (with_hello opened k f) (with_segment k f (client_segment k f)))
     by true = record {
       sends = within_append (k.due + length (calls_output opened 1 k.outstanding)) k.send_ends (call_ends opened k.due 1 k.outstanding)
           (within_more k.due (k.due + length (calls_output opened 1 k.outstanding)) k.send_ends (omega arith) h.sends) (calls_within opened k.due 1 k.outstanding);
       responses = within_more k.due (k.due + length (calls_output opened 1 k.outstanding)) k.response_ends (omega arith) h.responses;
     }
-    by false = ends_segment k f (frame_segment f) h
+    by false = ends_segment k f (client_segment k f) h
 client_ends opened k (CallSubmitted place a) h = record {
   sends = within_append after k.send_ends (submitted_ends opened k a) (within_more k.due after k.send_ends (omega arith) h.sends) (by k.has_hello);
   responses = within_more k.due after k.response_ends (omega arith) h.responses;
@@ -176,9 +175,9 @@ client_due opened k (FrameReceived f) = by (is_hello f)
     by_segment (Err reason) = omega arith
     by_segment (Ok segment) = by_request (message_completed k.received segment) (due_with_response k f segment) (read_request_of segment) refl
 
-    by : (b : Bool) → (cond b (with_hello opened k f) (with_segment k f (frame_segment f))).due ≡ k.due + length (cond b (calls_output opened 1 k.outstanding) (response_output k f.end (segment_request (frame_segment f))))
+    by : (b : Bool) → (cond b (with_hello opened k f) (with_segment k f (client_segment k f))).due ≡ k.due + length (cond b (calls_output opened 1 k.outstanding) (response_output k f.end (segment_request (client_segment k f))))
     by true = refl
-    by false = by_segment (frame_segment f)
+    by false = by_segment (client_segment k f)
 client_due opened k (CallSubmitted place a) = refl
 client_due opened k (MemoryRevoked place xid) = omega arith
 client_due opened k (CallExecuted call) = omega arith

@@ -7,7 +7,6 @@ use Rattle.nr_wire.specs.Segment.{Segment}
 use Rattle.nr_xdr.specs.Fields.{word_at}
 use Rattle.nr_link.specs.declared.end.End.{End}
 use Rattle.nr_link.specs.Frames.{Frame, is_hello, frames_completed}
-use Rattle.nr_link.specs.Ending.{frame_segment}
 use Rattle.nr_link.specs.ReceiveState.{ReadRequest, message_completed, read_request_of}
 use Rattle.nr_reduce.specs.declared.call.Call.{Call}
 use Rattle.nr_reduce.specs.declared.call.Form.{Form}
@@ -22,7 +21,7 @@ use Rattle.nr_reduce.specs.Events.{RunEvent, if_own, events_at, events}
 use Rattle.nr_reduce.specs.Events.RunEvent.{FrameReceived, CallSubmitted, MemoryRevoked, CallExecuted, QueueWritten, ServerTold}
 use Rattle.nr_reduce.specs.EndRules.{EndState, next_end_state, next_end_state_by, next_end_state_in, end_state_after}
 use Rattle.nr_reduce.specs.ClientState.{OutstandingCall, ClientState}
-use Rattle.nr_reduce.specs.Client.{client_rules, client_end, client_state_after, initial_client, outstanding_of, revoked_call, with_message, with_request, with_segment, with_hello, due_with_response}
+use Rattle.nr_reduce.specs.Client.{client_rules, client_end, client_state_after, initial_client, outstanding_of, revoked_call, with_message, with_request, with_segment, with_hello, due_with_response, client_segment}
 use Rattle.nr_reduce.specs.Run.{client}
 use Rattle.nr_reduce.specs.Asked.{AskedMark, IsAccepted}
 use Rattle.nr_reduce.specs.StandingLaws.{NextXidFollows, XidsFollow}
@@ -42,9 +41,9 @@ next_after : (opened : LinkParameters) (k : ClientState) (e : RunEvent) → Next
 unfolding client_state_after
 next_after opened k (FrameReceived f) h = by (is_hello f)
   where
-    by : (b : Bool) → NextFollows opened (cond b (with_hello opened k f) (with_segment k f (frame_segment f)))
+    by : (b : Bool) → NextFollows opened (cond b (with_hello opened k f) (with_segment k f (client_segment k f)))
     by true = h
-    by false = segment_follows opened k f (frame_segment f) h
+    by false = segment_follows opened k f (client_segment k f) h
 next_after opened k (CallSubmitted place a) h = omega (arith, h)
 next_after opened k (MemoryRevoked place xid) h = h
 next_after opened k (CallExecuted call) h = h
@@ -120,9 +119,9 @@ pub both_after : (opened : LinkParameters) (k : ClientState) (e : RunEvent) → 
 unfolding client_state_after
 both_after opened k (FrameReceived f) own h = by (is_hello f)
   where
-    by : (b : Bool) → BothFollow opened (cond b (with_hello opened k f) (with_segment k f (frame_segment f)))
+    by : (b : Bool) → BothFollow opened (cond b (with_hello opened k f) (with_segment k f (client_segment k f)))
     by true = h
-    by false = (segment_follows opened k f (frame_segment f) h.0, follow_segment opened k f (frame_segment f) h.1)
+    by false = (segment_follows opened k f (client_segment k f) h.0, follow_segment opened k f (client_segment k f) h.1)
 both_after opened k (CallSubmitted place a) own h =
     let next = h.0 in
     (omega (arith, next), follow_more opened.first_xid k.sends k.outstanding (outstanding_of k a) h.1 (let is : a.xid ≡ opened.first_xid + k.sends = omega (arith, own, next) in is) refl)

@@ -13,9 +13,9 @@ use Rattle.nr_reduce.specs.declared.outline.Plan.{Plan}
 use Rattle.nr_reduce.specs.Plans.{TooLarge, Buffer, regions_needed, buffers, call_message, inline_plan}
 use Rattle.nr_link.specs.Output.{send, read_response}
 use Rattle.nr_link.specs.Frames.{Frame, is_hello}
-use Rattle.nr_link.specs.ReceiveState.{received_after, message_completed, ReadRequest, read_request_of}
+use Rattle.nr_link.specs.ReceiveState.{received_after, message_completed, stag_invalidated, ReadRequest, read_request_of}
 use Rattle.nr_link.specs.SegmentFaults.{Readiness}
-use Rattle.nr_link.specs.Ending.{tagged_access, frame_segment, frame_end, hello_end, last_output}
+use Rattle.nr_link.specs.Ending.{tagged_access, frame_segment_with, frame_end_by, hello_end, last_output}
 use Rattle.nr_regions.specs.declared.denied.Denied.{Denied}
 use Rattle.nr_reduce.specs.OfferedRegions.{Region, region_grants, regions_closed}
 use Rattle.nr_reduce.specs.Events.{RunEvent}
@@ -23,7 +23,7 @@ use Rattle.nr_reduce.specs.Hellos.{client_agreement}
 use Rattle.nr_reduce.specs.EndRules.{EndMachine, EndState}
 use Rattle.nr_reduce.specs.Events.RunEvent.{FrameReceived, CallSubmitted, MemoryRevoked, CallExecuted, QueueWritten, ServerTold}
 use Rattle.nr_reduce.specs.ClientState.{OutstandingCall, ClientState, initial_client_state, responses_owed, call_payload, plan_for, client_memory_at}
-use Rattle.nr_reduce.specs.ClientMessages.{ReplyVerdict, reply_verdict}
+use Rattle.nr_reduce.specs.ClientMessages.{ReplyVerdict, reply_verdict, message_verdict}
 use Rattle.nr_reduce.specs.ClientMessages.ReplyVerdict.{EndsLink, GivesOutcome}
 use Rattle.nr_xdr.specs.Fields.{word_at}
 
@@ -44,21 +44,29 @@ abbrev pub end_of_verdict : Frame → ReplyVerdict → Option End
 end_of_verdict f (EndsLink reason) = Some (ends.Bad f.at reason)
 end_of_verdict f (GivesOutcome xid outcome) = None
 
-abbrev pub client_message_end : ClientState → Frame → Option (List ℕ) → Option End
-client_message_end k f None = None
-client_message_end k f (Some message) = end_of_verdict f (reply_verdict k f.end message)
+abbrev pub client_message_end : ClientState → Frame → Option ℕ → Option (List ℕ) → Option End
+client_message_end k f named None = None
+client_message_end k f named (Some message) = end_of_verdict f (message_verdict k f.end named message)
+
+-- a frame as a segment: whether it may be of a Send with Invalidate is agreed
+abbrev pub client_segment : ClientState → Frame → Result Segment ℕ
+client_segment k f = frame_segment_with k.invalidates f
 
 abbrev pub segment_message : ClientState → Result Segment ℕ → Option (List ℕ)
 segment_message k (Ok segment) = message_completed k.received segment
 segment_message k (Err reason) = None
 
+abbrev pub segment_names : Result Segment ℕ → Option ℕ
+segment_names (Ok segment) = stag_invalidated segment
+segment_names (Err reason) = None
+
 abbrev pub or_message_end : ClientState → Frame → Option End → Option End
 or_message_end k f (Some end) = Some end
-or_message_end k f None = client_message_end k f (segment_message k (frame_segment f))
+or_message_end k f None = client_message_end k f (segment_names (client_segment k f)) (segment_message k (client_segment k f))
 
 unfoldable pub client_end : ClientState → RunEvent → Option End
 client_end k (FrameReceived f) =
-    if is_hello f then hello_end (hello_of Responder f.bytes) else or_message_end k f (frame_end (client_readiness k) (region_grants f.end k.regions) f)
+    if is_hello f then hello_end (hello_of Responder f.bytes) else or_message_end k f (frame_end_by (client_readiness k) (region_grants f.end k.regions) f (client_segment k f))
 client_end k (CallSubmitted place a) = None
 client_end k (MemoryRevoked place xid) = None
 client_end k (CallExecuted call) = None
@@ -106,7 +114,7 @@ submitted_output opened k a = if k.has_hello then call_output opened (k.sends + 
 -- The output that is due for an event. A client sends no FPDU before the server's hello; the calls that were accepted before it
 -- are sent then (RFC 5044 section 7.1).
 unfoldable pub client_output : LinkParameters → ClientState → RunEvent → List ℕ
-client_output opened k (FrameReceived f) = if is_hello f then calls_output opened 1 k.outstanding else response_output k f.end (segment_request (frame_segment f))
+client_output opened k (FrameReceived f) = if is_hello f then calls_output opened 1 k.outstanding else response_output k f.end (segment_request (client_segment k f))
 client_output opened k (CallSubmitted place a) = submitted_output opened k a
 client_output opened k (MemoryRevoked place xid) = []
 client_output opened k (CallExecuted call) = []
@@ -170,13 +178,14 @@ with_hello opened k f = record k {
   send_ends = k.send_ends ++ call_ends opened k.due 1 k.outstanding;
   up_max = (client_agreement opened f).up;
   down_max = (client_agreement opened f).down;
+  invalidates = (client_agreement opened f).invalidates;
 }
 
 abbrev pub submitted_ends : LinkParameters → ClientState → AcceptedCall → List ℕ
 submitted_ends opened k a = if k.has_hello then (k.due + length (submitted_output opened k a)) ∷ [] else []
 
 unfoldable pub client_state_after : LinkParameters → ClientState → RunEvent → ClientState
-client_state_after opened k (FrameReceived f) = if is_hello f then with_hello opened k f else with_segment k f (frame_segment f)
+client_state_after opened k (FrameReceived f) = if is_hello f then with_hello opened k f else with_segment k f (client_segment k f)
 client_state_after opened k (CallSubmitted place a) = record k {
   next_xid = k.next_xid + 1;
   sends = k.sends + 1;

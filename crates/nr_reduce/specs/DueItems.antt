@@ -8,10 +8,10 @@ use Rattle.nr_wire.specs.declared.hello.Side.{Side}
 use Rattle.nr_wire.specs.declared.hello.Side.TheVariants.{Initiator, Responder}
 use Rattle.nr_link.specs.declared.end.End.{End}
 use Rattle.nr_link.specs.Frames.{is_hello}
-use Rattle.nr_link.specs.Ending.{frame_segment, rejection}
+use Rattle.nr_link.specs.Ending.{rejection}
 use Rattle.nr_link.specs.Output.{msn_word}
 use Rattle.nr_link.specs.OutputItem.{OutputItem}
-use Rattle.nr_link.specs.OutputItem.OutputItem.{SendItem, WriteItem, ReadRequestItem, ReadResponseItem, LastItem}
+use Rattle.nr_link.specs.OutputItem.OutputItem.{SendItem, SendInvalidateItem, WriteItem, ReadRequestItem, ReadResponseItem, LastItem}
 use Rattle.nr_link.specs.ReceiveState.{ReadRequest}
 use Rattle.nr_reduce.specs.declared.mark.Mark.{Mark}
 use Rattle.nr_reduce.specs.declared.mark.LinkParameters.{LinkParameters}
@@ -23,10 +23,10 @@ use Rattle.nr_reduce.specs.Events.RunEvent.{FrameReceived, CallSubmitted, Memory
 use Rattle.nr_reduce.specs.Hellos.{client_hello, server_hello}
 use Rattle.nr_reduce.specs.EndRules.{EndMachine, EndState, next_end_state}
 use Rattle.nr_reduce.specs.ClientState.{OutstandingCall, ClientState, client_memory_at}
-use Rattle.nr_reduce.specs.Client.{client_rules, initial_client, outstanding_of, segment_request}
+use Rattle.nr_reduce.specs.Client.{client_rules, initial_client, client_segment, outstanding_of, segment_request}
 use Rattle.nr_reduce.specs.ServerState.{PendingRead, ServerState, credit_word}
 use Rattle.nr_reduce.specs.ServerFrames.{FrameEffect, frame_effect}
-use Rattle.nr_reduce.specs.Server.{server_rules, initial_server, newly_open_reads, offer_of, answer_of_target}
+use Rattle.nr_reduce.specs.Server.{server_rules, initial_server, newly_open_reads, offer_of, answer_of_target, stag_named}
 
 -- ---- Of a client
 
@@ -42,7 +42,7 @@ response_items k place None = []
 response_items k place (Some r) = ReadResponseItem r.sink r.sink_to (take r.size (drop r.to (client_memory_at k place r.stag))) ∷ []
 
 unfoldable pub client_items_at : LinkParameters → ClientState → RunEvent → List OutputItem
-client_items_at opened k (FrameReceived f) = if is_hello f then sent_call_items opened 1 k.outstanding else response_items k f.end (segment_request (frame_segment f))
+client_items_at opened k (FrameReceived f) = if is_hello f then sent_call_items opened 1 k.outstanding else response_items k f.end (segment_request (client_segment k f))
 client_items_at opened k (CallSubmitted place a) = if k.has_hello then sent_call_item opened (k.sends + 1) (outstanding_of k a) ∷ [] else []
 client_items_at opened k (MemoryRevoked place xid) = []
 client_items_at opened k (CallExecuted call) = []
@@ -67,11 +67,16 @@ write_items [] bytes = []
 write_items (s ∷ chunk) bytes =
     (if min s.length (length bytes) == 0 then [] else WriteItem s.handle s.offset (take s.length bytes) ∷ []) ++ write_items chunk (drop s.length bytes)
 
+-- a Send, with Invalidate if there is an STag
+abbrev pub send_item_by : Option ℕ → ℕ → List ℕ → OutputItem
+send_item_by None number message = SendItem (msn_word number) message
+send_item_by (Some stag) number message = SendInvalidateItem (msn_word number) stag message
+
 abbrev pub answer_items : ServerState → ℕ → ChunkLists → Option Answer → List OutputItem
 answer_items k xid offer None = SendItem (msn_word (k.messages_queued + 1)) (chunk_error xid (credit_word k)) ∷ []
 answer_items k xid offer (Some a) =
     (write_items (first_chunk offer.write) a.moved ++ (if a.long then write_items (no_segments offer.reply) a.stream else []))
-    ++ SendItem (msn_word (k.messages_queued + 1)) (answer_message xid (credit_word k) offer a) ∷ []
+    ++ send_item_by (stag_named k.invalidates offer) (k.messages_queued + 1) (answer_message xid (credit_word k) offer a) ∷ []
 
 unfoldable pub execution_items : ServerState → ExecutedCall → List OutputItem
 execution_items k e =

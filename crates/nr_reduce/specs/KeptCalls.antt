@@ -1,6 +1,6 @@
 -- What a client keeps of its outstanding calls, and what it makes of a message by them.
-use Rattle.std.specs.Prelude.{◌≡◌, ℕ, Bool, true, false, ◌&&◌, ◌==◌, List, [], ◌∷◌, map, drop, Option, None, Some, is_none, IfSome, Result, Ok, Err}
-use Rattle.std.specs.List.{find}
+use Rattle.std.specs.Prelude.{◌≡◌, ℕ, Bool, true, false, not, ◌&&◌, ◌==◌, if◌then◌else◌, List, [], ◌∷◌, map, drop, Option, None, Some, is_none, IfSome, Result, Ok, Err}
+use Rattle.std.specs.List.{find, list_any}
 use Rattle.nr_header.specs.declared.fault.HeaderFault.{HeaderFault}
 use Rattle.nr_header.specs.declared.fault.HeaderFault.TheVariants as faults
 use Rattle.nr_header.specs.declared.header.ChunkLists.{ChunkLists}
@@ -8,7 +8,7 @@ use Rattle.nr_header.specs.declared.header.Body.{Body}
 use Rattle.nr_header.specs.declared.header.Body.TheVariants.{Msg, Nomsg, ErrVers, ErrChunk}
 use Rattle.nr_header.specs.declared.header.Header.{Header}
 use Rattle.nr_header.specs.Reading.{header_of}
-use Rattle.nr_link.specs.Reasons.{REASON_SHORT, REASON_KIND, REASON_CALL, REASON_CHUNKS, REASON_VERSION}
+use Rattle.nr_link.specs.Reasons.{REASON_SHORT, REASON_KIND, REASON_CALL, REASON_CHUNKS, REASON_VERSION, REASON_INVALIDATED}
 use Rattle.nr_reduce.specs.declared.call.Call.{Call}
 use Rattle.nr_reduce.specs.declared.call.Outcome.TheVariants as outcomes
 use Rattle.nr_reduce.specs.Plans.{Buffer, buffers, lists_of}
@@ -18,13 +18,15 @@ use Rattle.nr_reduce.specs.ClientMessages.{ReplyVerdict, reply_by_payload}
 use Rattle.nr_reduce.specs.ClientMessages.ReplyVerdict.{EndsLink, GivesOutcome}
 
 -- A call that is outstanding: the number of its Send on the link, and whether that has completely left; the call, until its memory is revoked; the lists that its reply
--- has to repeat; the STags of its regions, in the order in which they were offered, and none once they are released.
+-- has to repeat; the STags that it was given, in the order in which they were offered; those of its regions, and none once they are
+-- released.
 pub record KeptCall : Type 0 where
   pub xid : ℕ
   pub send : ℕ
   pub is_sent : Bool
   pub call : Option Call
   pub offered : ChunkLists
+  pub given : List ℕ
   pub stags : List ℕ
 
 abbrev pub stags_unless : Bool → List Buffer → List ℕ
@@ -40,6 +42,7 @@ pub record IsKeptCall (k : ClientState) (c : KeptCall) (o : OutstandingCall) : T
   pub call : IfSome c.call (λ call. call ≡ o.call)
   pub write : c.offered.write ≡ (lists_of o.stag o.plan).write
   pub reply : c.offered.reply ≡ (lists_of o.stag o.plan).reply
+  pub given : c.given ≡ map (λ b. b.stag) (buffers o.stag o.plan)
   pub stags : c.stags ≡ stags_unless o.is_revoked (buffers o.stag o.plan)
 
 abbrev pub AreKept : ClientState → List KeptCall → List OutstandingCall → Type 0
@@ -81,3 +84,38 @@ kept_header calls memory message (Err (faults.BadChunks at)) = EndsLink REASON_K
 
 unfoldable pub kept_verdict : List KeptCall → Bytes → List ℕ → ReplyVerdict
 kept_verdict calls memory message = kept_header calls memory message (header_of message)
+
+-- ---- A Send with Invalidate
+
+abbrev pub kept_in : List KeptCall → Result Header HeaderFault → Option KeptCall
+kept_in calls (Ok header) = kept_by calls header.xid
+kept_in calls (Err fault) = None
+
+-- the STag is one of those that the call was given
+abbrev pub kept_is_given : KeptCall → ℕ → Bool
+kept_is_given c stag = list_any (λ s. s == stag) c.given
+
+abbrev pub kept_names_another : Option KeptCall → ℕ → Bool
+kept_names_another None stag = false
+kept_names_another (Some c) stag = not (kept_is_given c stag)
+
+abbrev pub kept_invalidates_another : List KeptCall → Option ℕ → List ℕ → Bool
+kept_invalidates_another calls None message = false
+kept_invalidates_another calls (Some stag) message = kept_names_another (kept_in calls (header_of message)) stag
+
+-- the STag that dies before the rest of the message is judged: the one that it names, if it is that of a region of its call
+abbrev pub own_of : List ℕ → ℕ → Option ℕ
+own_of stags stag = if list_any (λ s. s == stag) stags then Some stag else None
+
+abbrev pub own_if : Option KeptCall → ℕ → Option ℕ
+own_if None stag = None
+own_if (Some c) stag = own_of c.stags stag
+
+abbrev pub kept_named : List KeptCall → Option ℕ → List ℕ → Option ℕ
+kept_named calls None message = None
+kept_named calls (Some stag) message = own_if (kept_in calls (header_of message)) stag
+
+-- the verdict on a message that names an STag, or none
+unfoldable pub kept_message_verdict : List KeptCall → Bytes → Option ℕ → List ℕ → ReplyVerdict
+kept_message_verdict calls memory named message =
+    if kept_invalidates_another calls named message then EndsLink REASON_INVALIDATED else kept_verdict calls memory message

@@ -2,7 +2,7 @@
 -- registered memory holds.
 use Rattle.std.specs.Prelude.{◌≡◌, ℕ, ◌+◌, ◌<◌, ◌⊎◌, ◌==◌, nat_lt, Bool, true, false, not, List, [], ◌∷◌, ◌++◌, length, map, Option, None, Some, IfSome, is_none}
 use Rattle.std.specs.List.{AllByRecursion, filter, find}
-use Rattle.nr_regions.specs.RegisteredMemory.{RegisteredMemory, initial_memory, live_region, after_register, after_release, bytes_in}
+use Rattle.nr_regions.specs.RegisteredMemory.{RegisteredMemory, initial_memory, held_region, NoneIsDead, after_register, after_release, bytes_in}
 use Rattle.nr_regions.specs.Access.{TaggedSegment}
 use Rattle.nr_regions.specs.Events.{after_event}
 use Rattle.nr_regions.specs.Events.MemoryEvent.{Arrive}
@@ -27,7 +27,7 @@ use Rattle.nr_reduce.specs.KeptCalls.{KeptCall, AreKept, stags_unless}
 
 -- Why the client ended, once it has; the xid that it gives next; how many Sends have a number; the credits that are granted; how many calls are outstanding; the calls
 -- among them that weren't handed back, in the order of their Submits; its registered memory; the maximum length of a Send in bytes,
--- towards the server and from it.
+-- towards the server and from it; whether a reply may be a Send with Invalidate.
 pub record KeptClient : Type 0 where
   pub ended : Option End
   pub next_xid : ℕ
@@ -38,10 +38,11 @@ pub record KeptClient : Type 0 where
   pub memory : RegisteredMemory
   pub up_max : ℕ
   pub down_max : ℕ
+  pub invalidates : Bool
 
 -- the bytes under an STag
 abbrev pub bytes_under : RegisteredMemory → ℕ → List ℕ
-bytes_under m stag = bytes_in (live_region m stag)
+bytes_under m stag = bytes_in (held_region m stag)
 
 -- every region has an STag below this
 abbrev pub AreBelow : List Region → ℕ → Type 0
@@ -82,11 +83,12 @@ pub record CallsKeep (calls : List KeptCall) (next : ℕ) (k : ClientState) : Ty
   pub owned : (stag : ℕ) (r : Region) → region_at k.regions stag ≡ Some r → r.until ≡ None → IsOwned calls r.call stag
   pub opens : AllByRecursion (OpensFor k.regions) calls
 
--- the memory holds exactly the open regions, after `count` bytes were received; each has an STag that was given
+-- the memory holds exactly the open regions, after `count` bytes were received, and none is dead; each has an STag that was given
 pub record MemoryKeeps (m : RegisteredMemory) (k : ClientState) (count : ℕ) : Type 0 where
   pub next : m.next ≡ k.stag
   pub offered : AreOffered count k.regions
   pub holds : HoldsRegions k.regions k.accesses_received count m
+  pub none_dead : NoneIsDead m
   pub below : AreBelow k.regions k.stag
 
 -- the memory has under each STag of a call what the client's region holds
@@ -115,6 +117,7 @@ pub record ClientKeeps (opened : LinkParameters) (kept : KeptClient) (e : EndSta
   pub grant : kept.grant ≡ e.state.grant
   pub up : kept.up_max ≡ e.state.up_max
   pub down : kept.down_max ≡ e.state.down_max
+  pub invalidates : kept.invalidates ≡ e.state.invalidates
   pub outstanding : kept.outstanding ≡ length e.state.outstanding
   pub calls : e.ended ≡ None → CallsKeep kept.calls kept.next_xid e.state
   pub memory : e.ended ≡ None → MemoryKeeps kept.memory e.state count
@@ -136,6 +139,7 @@ opened_client opened = record {
   memory = initial_memory opened.first_stag;
   up_max = send_unit;
   down_max = send_unit;
+  invalidates = false;
 }
 
 -- ---- What it keeps once regions are released
@@ -157,7 +161,7 @@ without xid calls = filter (λ c. not (c.xid == xid)) calls
 
 -- the memory of a call is revoked: its regions are released, and the call is handed back
 abbrev pub revoked_if : Bool → KeptCall → KeptCall
-revoked_if true c = record { xid = c.xid; send = c.send; is_sent = c.is_sent; call = None; offered = c.offered; stags = [] }
+revoked_if true c = record { xid = c.xid; send = c.send; is_sent = c.is_sent; call = None; offered = c.offered; given = c.given; stags = [] }
 revoked_if false c = c
 
 abbrev pub revoked_kept : ℕ → KeptCall → KeptCall
@@ -217,7 +221,15 @@ registered_all m (b ∷ bs) = registered_all (after_register m b.right b.bytes) 
 
 -- a call is accepted under the next xid, by this plan, and its Send has the next number
 abbrev pub kept_of : (xid send : ℕ) → Call → Plan → (stag : ℕ) → KeptCall
-kept_of xid send call plan stag = record { xid = xid; send = send; is_sent = false; call = Some call; offered = lists_of stag plan; stags = map (λ b. b.stag) (buffers stag plan) }
+kept_of xid send call plan stag = record {
+  xid = xid;
+  send = send;
+  is_sent = false;
+  call = Some call;
+  offered = lists_of stag plan;
+  given = map (λ b. b.stag) (buffers stag plan);
+  stags = map (λ b. b.stag) (buffers stag plan);
+}
 
 unfoldable pub kept_submitted : KeptClient → Call → Plan → KeptClient
 kept_submitted kept call plan = record kept {
@@ -230,4 +242,4 @@ kept_submitted kept call plan = record kept {
 
 -- with the server's hello: what is agreed
 unfoldable pub kept_greeted : KeptClient → Agreement → KeptClient
-kept_greeted kept a = record kept { up_max = a.up; down_max = a.down }
+kept_greeted kept a = record kept { up_max = a.up; down_max = a.down; invalidates = a.invalidates }

@@ -1,5 +1,5 @@
 -- A plan before it owns bytes, in the terms of the definitions.
-use Rattle.std.specs.Prelude.{◌≡◌, ℕ, ◌+◌, ◌≤◌, nat_le, if◌then◌else◌, List, [], ◌∷◌, length, Option, None, Some, option_map, IfSome, Result, Ok, Err, nat_lt}
+use Rattle.std.specs.Prelude.{◌≡◌, ℕ, ◌+◌, ◌≤◌, nat_le, if◌then◌else◌, List, [], length, Option, None, Some, option_map, IfSome, Result, Ok, Err, nat_lt}
 use Rattle.nr_header.specs.Constants.{HEADER_LEN_MIN}
 use Rattle.nr_header.specs.Length.{read_list_len}
 use Rattle.nr_reduce.specs.declared.call.Form.{Form}

@@ -8,7 +8,7 @@ use Rattle.nr_wire.specs.Segment.{Segment}
 use Rattle.nr_wire.specs.Segment.Segment.{Tagged, Untagged}
 use Rattle.nr_link.specs.declared.end.End.{End}
 use Rattle.nr_link.specs.Frames.{Frame, is_hello}
-use Rattle.nr_link.specs.Output.{send}
+use Rattle.nr_link.specs.Output.{send, send_by}
 use Rattle.nr_link.specs.Limits.{open_reads_max}
 use Rattle.nr_link.specs.ReceiveState.{message_completed}
 use Rattle.nr_header.specs.declared.header.ChunkLists.{ChunkLists}
@@ -41,14 +41,14 @@ use Rattle.nr_reduce.specs.OfferedRegions.{region_grants}
 use Rattle.nr_reduce.specs.declared.outline.Plan.{Plan}
 use Rattle.nr_reduce.specs.Plans.{regions_needed, call_message, lists_of, inline_stream, has_segment, read_stag}
 use Rattle.nr_reduce.specs.ClientState.{OutstandingCall, ClientState}
-use Rattle.nr_reduce.specs.Client.{client_rules, client_end, outstanding_of, calls_output, initial_client}
+use Rattle.nr_reduce.specs.Client.{client_rules, client_segment, client_end, outstanding_of, calls_output, initial_client}
 use Rattle.nr_reduce.specs.ServerState.{ServerState, ReadyCall, PendingCall, PendingRead, is_pending, credit_word}
 use Rattle.nr_reduce.specs.ServerReads.{open_reads}
 use Rattle.nr_reduce.specs.ServerMessages.{verdict, by_need, no_stream, call_xid, chunk_bytes, pending_payload}
 use Rattle.nr_reduce.specs.ServerFrames.{frame_effect, call_of_number, is_stream_read, with_access}
 use Rattle.nr_reduce.specs.Chunks.{is_read_chunk_of_item}
 use Rattle.nr_reduce.specs.ServerMessages.Verdict.{BadChunks, OtherVersion, MakesPending}
-use Rattle.nr_reduce.specs.Server.{server_rules, server_end, server_state_after, initial_server, offer_of, answer_of_target, newly_open_reads, sends_from, requests_from}
+use Rattle.nr_reduce.specs.Server.{server_rules, server_end, server_state_after, initial_server, offer_of, answer_of_target, newly_open_reads, sends_from, requests_from, stag_named}
 use Rattle.nr_reduce.specs.Events.RunEvent.{FrameReceived}
 use Rattle.nr_reduce.specs.Run.{client, server, output_due, grants_of, placed_bytes}
 use Rattle.nr_reduce.specs.Opening.{IsOpened}
@@ -195,7 +195,8 @@ GrantsHaveOwnStags = (opened : LinkParameters) (link : ℕ) (side : Side) (run :
 -- The access of a frame that doesn't end a side is allowed by what the side offers as the frame is received: after any events, if the
 -- frame is the next one. So each access before a side's end is allowed, and the first that isn't ends it.
 abbrev pub ClientAllows : Type 0
-ClientAllows = (opened : LinkParameters) (events : List RunEvent) (f : Frame) (segment : Segment) (access : Access) → is_hello f ≡ false → frame_segment f ≡ Ok segment → access_of segment ≡ Some access →
+ClientAllows = (opened : LinkParameters) (events : List RunEvent) (f : Frame) (segment : Segment) (access : Access) → is_hello f ≡ false →
+    client_segment (end_state_after (client_rules opened) (initial_client opened) events).state f ≡ Ok segment → access_of segment ≡ Some access →
     client_end (end_state_after (client_rules opened) (initial_client opened) events).state (FrameReceived f) ≡ None →
     Allowed (region_grants f.end (end_state_after (client_rules opened) (initial_client opened) events).state.regions) access f.end
 
@@ -315,14 +316,16 @@ abbrev pub PayloadIsConveyed : Type 0
 PayloadIsConveyed = (opened : LinkParameters) (link : ℕ) (before : List Mark) (xid : ℕ) (payload : List ℕ) → (h : IsExecuted opened link before xid payload) →
     WasConveyed opened (events link Responder before) (record { number = h.call.number; xid = xid; payload = payload })
 
--- It is answered by RDMA Writes and then one Send if the offer of the pending call of its xid holds the reply, else by ERR_CHUNK.
+-- It is answered by RDMA Writes and then one Send, which names an STag of the offer if that is agreed on, if the offer of the pending call
+-- of its xid holds the reply, else by ERR_CHUNK.
 abbrev pub ExecuteIsAnswered : Type 0
 ExecuteIsAnswered = (opened : LinkParameters) (link : ℕ) (run : List Mark) (xid : ℕ) (moment : Moment) (payload : List ℕ) (place : ℕ) (reply : List ℕ) → IsExecuted opened link run xid payload →
     ((a : Answer) → answer_of_target (offer_of (server opened link run).state xid) (server opened link run).state.down_max reply (target_of (call_of payload)) ≡ Some a →
     output_due opened link Responder (run ++ marks.Execute link xid moment payload place reply ∷ [])
     ≡ output_due opened link Responder run
     ++ (answer_writes (offer_of (server opened link run).state xid) a
-    ++ send ((server opened link run).state.messages_queued + 1) (answer_message xid (credit_word (server opened link run).state) (offer_of (server opened link run).state xid) a)))
+    ++ send_by (stag_named (server opened link run).state.invalidates (offer_of (server opened link run).state xid)) ((server opened link run).state.messages_queued + 1)
+    (answer_message xid (credit_word (server opened link run).state) (offer_of (server opened link run).state xid) a)))
     × (answer_of_target (offer_of (server opened link run).state xid) (server opened link run).state.down_max reply (target_of (call_of payload)) ≡ None →
     output_due opened link Responder (run ++ marks.Execute link xid moment payload place reply ∷ [])
     ≡ output_due opened link Responder run

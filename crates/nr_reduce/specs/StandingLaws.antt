@@ -12,7 +12,6 @@ use Rattle.nr_link.specs.declared.end.End.{End}
 use Rattle.nr_link.specs.declared.end.End.TheVariants as ends
 use Rattle.nr_link.specs.Output.{read_response}
 use Rattle.nr_link.specs.Frames.{Frame, is_hello}
-use Rattle.nr_link.specs.Ending.{frame_segment}
 use Rattle.nr_wire.specs.Segment.{Segment}
 use Rattle.nr_link.specs.Input.{InputState, input_of, initial_input, input_frames, input_after}
 use Rattle.nr_link.specs.ReceiveState.{ReadRequest, nothing_received}
@@ -34,8 +33,8 @@ use Rattle.nr_reduce.specs.Events.RunEvent.{FrameReceived, CallSubmitted, Memory
 use Rattle.nr_reduce.specs.EndRules.{EndMachine, EndState, live, next_end_state, end_state_after, output_for_all}
 use Rattle.nr_reduce.specs.ClientState.{OutstandingCall, ClientState, call_payload, plan_for}
 use Rattle.nr_reduce.specs.OfferedRegions.{Region}
-use Rattle.nr_reduce.specs.Client.{client_rules, client_end, response_output, region_of, with_message, with_hello}
-use Rattle.nr_reduce.specs.ClientMessages.{reply_verdict}
+use Rattle.nr_reduce.specs.Client.{client_rules, client_segment, client_end, response_output, region_of, with_message, with_hello}
+use Rattle.nr_reduce.specs.ClientMessages.{message_verdict}
 use Rattle.nr_reduce.specs.ServerState.{ServerState}
 use Rattle.nr_reduce.specs.Server.{server_rules, initial_server}
 use Rattle.nr_reduce.specs.Run.{client, server, output_due}
@@ -43,7 +42,7 @@ use Rattle.nr_reduce.specs.SubmitAnswer.{unless_spent, submit_answer}
 use Rattle.nr_reduce.specs.Matched.{IsPrefixOf}
 use Rattle.nr_reduce.specs.Asked.{IsAll, AskedSoFar}
 use Rattle.nr_reduce.specs.Served.{ServedSoFar}
-use Rattle.nr_reduce.specs.KeptCalls.{kept_verdict}
+use Rattle.nr_reduce.specs.KeptCalls.{kept_message_verdict}
 use Rattle.nr_reduce.specs.KeptClient.{KeptClient, ClientKeeps, bytes_under, opened_client, kept_revoked, kept_handed_back, kept_completed, kept_placed, kept_received, kept_sent, kept_submitted, kept_greeted}
 use Rattle.nr_reduce.specs.Standing.{input_events, ClientRepresents, ClientRunsOut, ServerRepresents, ServerRunsOut}
 
@@ -149,8 +148,8 @@ ServerQueueIsDue = (opened : LinkParameters) (link : ℕ) (end : EndState Server
 
 -- By what it keeps it judges a message as the client does, also one that is completed further on.
 abbrev pub KeptJudges : Type 0
-KeptJudges = (opened : LinkParameters) (kept : KeptClient) (k : ClientState) (count place : ℕ) (message : List ℕ) → ClientKeeps opened kept (live k) count → count ≤ place →
-    kept_verdict kept.calls (bytes_under kept.memory) message ≡ reply_verdict k place message
+KeptJudges = (opened : LinkParameters) (kept : KeptClient) (k : ClientState) (count place : ℕ) (named : Option ℕ) (message : List ℕ) → ClientKeeps opened kept (live k) count → count ≤ place →
+    kept_message_verdict kept.calls (bytes_under kept.memory) named message ≡ message_verdict k place named message
 
 -- It answers a Read Request that is allowed with the bytes that the client's region holds.
 abbrev pub KeptResponds : Type 0
@@ -209,7 +208,7 @@ KeptPlaces = (opened : LinkParameters) (kept : KeptClient) (k : ClientState) (co
 -- after each complete frame later than the hello that doesn't end the client,
 abbrev pub KeptTakes : Type 0
 KeptTakes = (opened : LinkParameters) (kept : KeptClient) (k : ClientState) (count : ℕ) (f : Frame) (segment : Segment) → ClientKeeps opened kept (live k) count → count < f.end →
-    is_hello f ≡ false → frame_segment f ≡ Ok segment → client_end k (FrameReceived f) ≡ None →
+    is_hello f ≡ false → client_segment k f ≡ Ok segment → client_end k (FrameReceived f) ≡ None →
     ClientKeeps opened (kept_received kept k.received f segment) (next_end_state (client_rules opened) (live k) (FrameReceived f)) f.end
 
 -- after an event that ends the client, with the reason,

@@ -1,16 +1,17 @@
 -- A region that stays open holds what was registered, with the payload of each allowed tagged segment over it.
 use Rattle.std.proofs.Common.{◌≡◌, ◌≢◌, ℕ, zero, suc, ◌+◌, ◌<◌, ◌≤◌, Bool, true, false, cond, eqb, ltb, leb, List, [], ◌∷◌, length, Option, None, Some, refl, sym, ap, ◌∙◌, ◌↔◌, inl, inr, arith}
-use Rattle.std.specs.Prelude.{Contains, find, is_none, ◌&&◌}
+use Rattle.std.specs.Prelude.{Contains, find, is_none, ◌&&◌, All}
+use Rattle.std.proofs.lemmas.List.Elements.{All-head, All-tail}
 use Rattle.std.proofs.lemmas.Bool.{ltb-true, leb-true, eqb-true, eq-eqb, ne_eqb, cases_eq, and_parts, and_from, lt-ltb, le-leb, le-ltb, ltb-false}
 use Rattle.nr_regions.specs.declared.right.Right.{Right}
 use Rattle.nr_regions.specs.declared.right.Right.TheVariants.{Fetch, Fill, Sink}
 use Rattle.nr_regions.specs.declared.denied.Denied.{Denied}
 use Rattle.nr_regions.specs.declared.denied.Denied.TheVariants.{NoStag, Bounds, Right as WrongRight}
-use Rattle.nr_regions.specs.RegisteredMemory.{Region, RegisteredMemory, Access, held_region, live_region, same_right, denial_in, region_offer, denial, after_register, after_release, bytes_after_write}
+use Rattle.nr_regions.specs.RegisteredMemory.{RegisteredMemory, Access, held_region, live_region, same_right, denial_in, region_offer, denial, after_register, after_release, after_invalidate, bytes_after_write}
 use Rattle.nr_regions.specs.Access.{Grant, applies, grant_at, grant_offer, grant_denial, Allowed, HasOwnStag, HaveOwnStags, TaggedSegment, access_of_tagged, after_segment, contents}
-use Rattle.nr_regions.specs.Events.{MemoryEvent, after_arrival, after_event, after_events, tagged_segments, IsGranted, StaysOpen}
-use Rattle.nr_regions.specs.Events.MemoryEvent.{Register, Release, Arrive}
-use Rattle.nr_regions.proofs.Holding.{register_other, release_here, release_other, arrive_other, arrive_here, next_arrive, buf_after, length_buf_after}
+use Rattle.nr_regions.specs.Events.{MemoryEvent, after_event, after_events, tagged_segments, IsNoReleaseOf, IsGranted, StaysOpen, DeadUntilReleased}
+use Rattle.nr_regions.specs.Events.MemoryEvent.{Register, Release, Invalidate, Arrive}
+use Rattle.nr_regions.proofs.Holding.{register_other, release_other, arrive_other, arrive_here, next_arrive, buf_after, length_buf_after, live_register_other, live_release_here, live_release_other, live_invalidate_here, live_invalidate_other, live_arrive_other, none_arrive, invalidate_held, next_invalidate}
 
 -- memory denies what the grants do, if both offer the same
 pub same_denial : (grants : List Grant) (m : RegisteredMemory) (access : Access) (end : ℕ) → region_offer (live_region m access.stag) ≡ grant_offer (grant_at grants access.stag end) → denial m access ≡ grant_denial grants access end
@@ -35,33 +36,35 @@ pub after_other : (grants : List Grant) (stag : ℕ) (buf : List ℕ) (r : Tagge
 after_other grants stag buf r ne = ap (λ (b : Bool). cond (b && is_none (grant_denial grants (access_of_tagged r) r.end)) (bytes_after_write buf r.to r.payload) buf) (ne_eqb r.stag stag ne)
 
 after_one : (grants : List Grant) (stag : ℕ) (right : Right) (len : ℕ) (r : TaggedSegment) (m : RegisteredMemory) (buf : List ℕ) → length buf ≡ len
-    → held_region m stag ≡ Some (record { right = right; buf = buf }) → IsGranted grants stag right len (Arrive r)
-    → (held_region (after_event m (Arrive r)) stag ≡ Some (record { right = right; buf = after_segment grants stag buf r })) × (length (after_segment grants stag buf r) ≡ len)
+    → live_region m stag ≡ Some (record { right = right; buf = buf }) → IsGranted grants stag right len (Arrive r)
+    → (live_region (after_event m (Arrive r)) stag ≡ Some (record { right = right; buf = after_segment grants stag buf r })) × (length (after_segment grants stag buf r) ≡ len)
 after_one grants stag right len r m buf is there granted =
     elim (cases_eq r.stag stag) [
       | inl e ↦
           let offer_is = granted e ∙ ap (λ (n : ℕ). Some (right, n)) (sym is) in
           let bytes = after_here grants stag right buf r e offer_is in
-          let here = arrive_here m r right buf (ap (held_region m) e ∙ there) in (
-            ap (held_region (after_event m (Arrive r))) (sym e) ∙ here ∙ ap (λ (b : List ℕ). Some (record { right = right; buf = b })) bytes,
+          let here = arrive_here m r right buf (ap (live_region m) e ∙ there) in (
+            ap (live_region (after_event m (Arrive r))) (sym e) ∙ here ∙ ap (λ (b : List ℕ). Some (record { right = right; buf = b })) bytes,
             ap length (sym bytes) ∙ length_buf_after right buf r ∙ is,
           )
       | inr ne ↦
           let bytes = after_other grants stag buf r ne in (
-            arrive_other m r stag (λ e. ne (sym e)) ∙ there ∙ ap (λ (b : List ℕ). Some (record { right = right; buf = b })) (sym bytes),
+            live_arrive_other m r stag (λ e. ne (sym e)) ∙ there ∙ ap (λ (b : List ℕ). Some (record { right = right; buf = b })) (sym bytes),
             ap length bytes ∙ is,
           )
     ]
 
 pub contents_are : (grants : List Grant) (stag : ℕ) (right : Right) (len : ℕ) (events : List MemoryEvent) (m : RegisteredMemory) (buf : List ℕ) → length buf ≡ len → stag < m.next
-    → held_region m stag ≡ Some (record { right = right; buf = buf }) → StaysOpen grants stag right len events
-    → held_region (after_events m events) stag ≡ Some (record { right = right; buf = contents grants stag buf (tagged_segments events) })
+    → live_region m stag ≡ Some (record { right = right; buf = buf }) → StaysOpen grants stag right len events
+    → live_region (after_events m events) stag ≡ Some (record { right = right; buf = contents grants stag buf (tagged_segments events) })
 unfolding after_event after_register after_release
 contents_are grants stag right len [] m buf is given there open_ = there
 contents_are grants stag right len (Register other b ∷ events) m buf is given there open_ =
-    contents_are grants stag right len events (after_register m other b) buf is (omega arith) (register_other m other b stag (λ e. omega arith) ∙ there) open_.2
+    contents_are grants stag right len events (after_register m other b) buf is (omega arith) (live_register_other m other b stag (λ e. omega arith) ∙ there) open_.2
 contents_are grants stag right len (Release other ∷ events) m buf is given there open_ =
-    contents_are grants stag right len events (after_release m other) buf is given (release_other m other stag (λ e. open_.0 (sym e)) ∙ there) open_.2
+    contents_are grants stag right len events (after_release m other) buf is given (live_release_other m other stag (λ e. open_.0 (sym e)) ∙ there) open_.2
+contents_are grants stag right len (Invalidate other ∷ events) m buf is given there open_ =
+    contents_are grants stag right len events (after_invalidate m other) buf is (omega (arith, given, next_invalidate m other)) (live_invalidate_other m other stag (λ e. open_.0 (sym e)) ∙ there) open_.2
 contents_are grants stag right len (Arrive r ∷ events) m buf is given there open_ =
     let next = after_one grants stag right len r m buf is there open_.1 in
     contents_are grants stag right len events (after_event m (Arrive r)) (after_segment grants stag buf r) next.1 (omega (arith, next_arrive m r)) next.0 open_.2
@@ -71,6 +74,7 @@ pub next_after_event : (m : RegisteredMemory) (event : MemoryEvent) → m.next �
 unfolding after_event after_register after_release
 next_after_event m (Register right buf) = omega arith
 next_after_event m (Release stag) = omega arith
+next_after_event m (Invalidate stag) = omega (arith, next_invalidate m stag)
 next_after_event m (Arrive r) = omega (arith, next_arrive m r)
 
 pub next_after_events : (events : List MemoryEvent) (m : RegisteredMemory) → m.next ≤ (after_events m events).next
@@ -200,28 +204,56 @@ allowed_iff grants access end own = (
 
 -- ---- An STag that is no longer live
 
-none_placed : (m : RegisteredMemory) (s : TaggedSegment) → held_region m s.stag ≡ None → held_region (after_event m (Arrive s)) s.stag ≡ None
-unfolding after_event denial live_region
-none_placed m s none =
-    let no : denial_in (region_offer (held_region m s.stag)) (access_of_tagged s) ≡ Some NoStag = ap (λ (o : Option Region). denial_in (region_offer o) (access_of_tagged s)) none in
-    ap (λ (d : Option Denied). held_region (after_arrival d m s) s.stag) no ∙ none
+none_placed : (m : RegisteredMemory) (s : TaggedSegment) → live_region m s.stag ≡ None → live_region (after_event m (Arrive s)) s.stag ≡ None
+none_placed m s none = ap (λ (n : RegisteredMemory). live_region n s.stag) (none_arrive m s none) ∙ none
 
-dead_by : (m : RegisteredMemory) (stag : ℕ) (event : MemoryEvent) → stag < m.next → held_region m stag ≡ None → held_region (after_event m event) stag ≡ None
+dead_by : (m : RegisteredMemory) (stag : ℕ) (event : MemoryEvent) → stag < m.next → live_region m stag ≡ None → live_region (after_event m event) stag ≡ None
 unfolding after_event
-dead_by m stag (Register right buf) lt none = register_other m right buf stag (λ e. omega arith) ∙ none
+dead_by m stag (Register right buf) lt none = live_register_other m right buf stag (λ e. omega arith) ∙ none
 dead_by m stag (Release other) lt none =
     elim (cases_eq stag other) [
-      | inl e ↦ rw e (release_here m other)
-      | inr ne ↦ release_other m other stag ne ∙ none
+      | inl e ↦ rw e (live_release_here m other)
+      | inr ne ↦ live_release_other m other stag ne ∙ none
+    ]
+dead_by m stag (Invalidate other) lt none =
+    elim (cases_eq stag other) [
+      | inl e ↦ rw e (live_invalidate_here m other)
+      | inr ne ↦ live_invalidate_other m other stag ne ∙ none
     ]
 dead_by m stag (Arrive s) lt none =
     elim (cases_eq stag s.stag) [
-      | inl e ↦ rw e (none_placed m s (ap (held_region m) (sym e) ∙ none))
-      | inr ne ↦ arrive_other m s stag ne ∙ none
+      | inl e ↦ rw e (none_placed m s (ap (live_region m) (sym e) ∙ none))
+      | inr ne ↦ live_arrive_other m s stag ne ∙ none
     ]
 
 -- an STag that was given and is not live never is again
-pub stays_closed : (events : List MemoryEvent) (m : RegisteredMemory) (stag : ℕ) → stag < m.next → held_region m stag ≡ None → held_region (after_events m events) stag ≡ None
+pub stays_closed : (events : List MemoryEvent) (m : RegisteredMemory) (stag : ℕ) → stag < m.next → live_region m stag ≡ None → live_region (after_events m events) stag ≡ None
 stays_closed [] m stag lt none = none
 stays_closed (event ∷ events) m stag lt none =
     stays_closed events (after_event m event) stag (omega (arith, next_after_event m event)) (dead_by m stag event lt none)
+
+-- ---- A region that is not live keeps its bytes until it is released
+
+bytes_kept : (m : RegisteredMemory) (stag : ℕ) (event : MemoryEvent) → stag < m.next → live_region m stag ≡ None → IsNoReleaseOf stag event → held_region (after_event m event) stag ≡ held_region m stag
+unfolding after_event
+bytes_kept m stag (Register right buf) lt none s = register_other m right buf stag (λ e. omega arith)
+bytes_kept m stag (Release other) lt none s = release_other m other stag (λ e. s (sym e))
+bytes_kept m stag (Invalidate other) lt none s = invalidate_held m other stag
+bytes_kept m stag (Arrive r) lt none s =
+    elim (cases_eq stag r.stag) [
+      | inl e ↦ ap (λ (n : RegisteredMemory). held_region n stag) (none_arrive m r (ap (live_region m) (sym e) ∙ none))
+      | inr ne ↦ arrive_other m r stag ne
+    ]
+
+all_kept : (m : RegisteredMemory) (stag : ℕ) (events : List MemoryEvent) → stag < m.next → live_region m stag ≡ None → All (IsNoReleaseOf stag) events → held_region (after_events m events) stag ≡ held_region m stag
+all_kept m stag [] lt none s = refl
+all_kept m stag (event ∷ events) lt none s =
+    all_kept (after_event m event) stag events (omega (arith, next_after_event m event)) (dead_by m stag event lt none) (All-tail (IsNoReleaseOf stag) event events s)
+    ∙ bytes_kept m stag event lt none (All-head (IsNoReleaseOf stag) event events s)
+
+pub dead_until_released : DeadUntilReleased
+dead_until_released m stag events lt s =
+    let n = after_invalidate m stag in
+    let given : stag < n.next = omega (arith, next_invalidate m stag) in
+    let none = live_invalidate_here m stag in
+    (stays_closed events n stag given none, all_kept n stag events given none s ∙ invalidate_held m stag stag)

@@ -6,11 +6,11 @@ use Rattle.std.proofs.lemmas.List.Elements.{All-head, All-tail}
 use Rattle.nr_regions.specs.declared.right.Right.{Right}
 use Rattle.nr_regions.specs.declared.denied.Denied.{Denied}
 use Rattle.nr_regions.specs.declared.denied.Denied.TheVariants.{NoStag}
-use Rattle.nr_regions.specs.RegisteredMemory.{RegisteredMemory, after_register, bytes_after_write, bytes_in, denial_in, held_region}
+use Rattle.nr_regions.specs.RegisteredMemory.{RegisteredMemory, after_register, bytes_after_write, bytes_in, denial_in, held_region, live_region}
 use Rattle.nr_regions.specs.Access.{Grant, applies, grant_at, grant_offer, grant_denial, with_ends, TaggedSegment, access_of_tagged, after_segment, contents}
 use Rattle.nr_regions.specs.Events.{MemoryEvent, IsRegisteredAt, IsReleasedAt, after_event, after_events, tagged_segments}
-use Rattle.nr_regions.specs.Events.MemoryEvent.{Register, Release, Arrive}
-use Rattle.nr_regions.proofs.Holding.{register_here}
+use Rattle.nr_regions.specs.Events.MemoryEvent.{Register, Release, Invalidate, Arrive}
+use Rattle.nr_regions.proofs.Holding.{live_parts, live_register_here}
 use Rattle.nr_regions.proofs.Contents.{after_other, applies_is, contents_are}
 
 -- ---- Streams in parts
@@ -19,6 +19,7 @@ tagged_segments_append : (xs ys : List MemoryEvent) → tagged_segments (xs ++ y
 tagged_segments_append [] ys = refl
 tagged_segments_append (Register right buf ∷ xs) ys = tagged_segments_append xs ys
 tagged_segments_append (Release stag ∷ xs) ys = tagged_segments_append xs ys
+tagged_segments_append (Invalidate stag ∷ xs) ys = tagged_segments_append xs ys
 tagged_segments_append (Arrive s ∷ xs) ys = ap (λ (segments : List TaggedSegment). s ∷ segments) (tagged_segments_append xs ys)
 
 contents_append : (grants : List Grant) (stag : ℕ) (buf : List ℕ) (xs ys : List TaggedSegment) → contents grants stag buf (xs ++ ys) ≡ contents grants stag (contents grants stag buf xs) ys
@@ -130,10 +131,10 @@ unfolding after_event
 registers m right buf = refl
 
 region_at_release : (grants : List Grant) (m : RegisteredMemory) (until : ℕ) (right : Right) (buf : List ℕ) (between after : List MemoryEvent) → IsReleasedAt grants m.next right (length buf) until between after
-    → held_region (after_events m (Register right buf ∷ between)) m.next ≡ Some (record { right = right; buf = contents grants m.next buf (tagged_segments between) })
+    → live_region (after_events m (Register right buf ∷ between)) m.next ≡ Some (record { right = right; buf = contents grants m.next buf (tagged_segments between) })
 region_at_release grants m until right buf between after is =
-    ap (λ (k : RegisteredMemory). held_region (after_events k between) m.next) (registers m right buf)
-    ∙ contents_are grants m.next right (length buf) between (after_register m right buf) buf refl (given m right buf) (register_here m right buf) is.stays_open
+    ap (λ (k : RegisteredMemory). live_region (after_events k between) m.next) (registers m right buf)
+    ∙ contents_are grants m.next right (length buf) between (after_register m right buf) buf refl (given m right buf) (live_register_here m right buf) is.stays_open
 
 pub contents_of_stream : (grants : List Grant) (start : RegisteredMemory) (from until : ℕ) (right : Right) (buf : List ℕ) (before between after : List MemoryEvent)
     → IsRegisteredAt grants (after_events start before).next from before → IsReleasedAt grants (after_events start before).next right (length buf) until between after
@@ -142,7 +143,7 @@ pub contents_of_stream : (grants : List Grant) (start : RegisteredMemory) (from 
 contents_of_stream grants start from until right buf before between after begins ends =
     let m = after_events start before in
     ap (λ (k : RegisteredMemory). bytes_in (held_region k m.next)) (after_events_append start before (Register right buf ∷ between))
-    ∙ ap bytes_in (region_at_release grants m until right buf between after ends)
+    ∙ ap bytes_in (live_parts (after_events m (Register right buf ∷ between)) m.next (record { right = right; buf = contents grants m.next buf (tagged_segments between) }) (region_at_release grants m until right buf between after ends)).1
     ∙ contents_to_release grants m.next until right (length buf) buf between after ends
     ∙ contents_from_register grants m.next from buf before (Register right buf ∷ (between ++ Release m.next ∷ after)) begins
 

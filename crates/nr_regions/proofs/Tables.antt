@@ -1,5 +1,5 @@
 -- The code's map changes as its finite maps do.
-use Rattle.std.proofs.Common.{◌≡◌, ℕ, Bool, true, false, cond, List, [], ◌∷◌, Option, None, Some, IfSome, option_map, length, refl, sym, ap, ◌∙◌, subst, inl, inr}
+use Rattle.std.proofs.Common.{◌≡◌, ℕ, Bool, true, false, cond, List, [], ◌∷◌, Option, None, Some, IfSome, option_map, unwrap_or, length, refl, sym, ap, ◌∙◌, subst, inl, inr}
 use Rattle.std.specs.Prelude.{nat_eq}
 use Rattle.std.proofs.lemmas.Bool.{cases_eq}
 use Rattle.std.specs.Ordering.{nat_cmp, eq_by_cmp}
@@ -11,8 +11,12 @@ use Rattle.std.specs.FinMap.{FinMap, empty, find, from_entries, get, insert, rem
 use Rattle.nr_regions.specs.declared.held.HeldBuffer.{HeldBuffer}
 use Rattle.nr_regions.specs.RegisteredMemory.{Region, Access, bytes_after_write, denial_in, region_offer}
 use Rattle.nr_regions.specs.Windows.{BufferParts}
-use Rattle.nr_regions.specs.Table.{table, outsides, region_of, outside_of, mapped, mapped_entries}
+use Rattle.nr_regions.specs.declared.denied.Denied.TheVariants.{NoStag}
+use Rattle.nr_regions.specs.Table.{table, outsides, dead_flags, region_of, outside_of, is_dead_of, live_in, live_offer, not_live, mapped, mapped_entries}
 use Rattle.nr_regions.proofs.Holding.{get_insert_here, get_insert_other}
+
+abbrev no_region : Option Region
+no_region = None
 
 turned : (stag q : ℕ) → nat_eq stag q ≡ eq_by_cmp nat_cmp q stag
 turned stag q = sym (unsigned_tied stag q) ∙ (eq_by_cmp_equiv nat_cmp_total).symm stag q
@@ -73,23 +77,84 @@ module _ {S X : Type 0} (f : HeldBuffer → X) where
       ∙ (λ i. cond (turned stag q i) None (sym (get_mapped m q) i))
       ∙ sym (get-remove nat_cmp_total (mapped f m) stag q))
 
+same_none : (b : Bool) → cond b None no_region ≡ None
+same_none true = refl
+same_none false = refl
+
+-- the STag of an access isn't asked
+denied_by : (access : Access) (b : Bool) (held : HeldBuffer) → denial_in (cond b None (Some (held.right, length held.window.bytes))) (record access { stag = 0 })
+    ≡ denial_in (region_offer (cond b None (Some (region_of held)))) access
+denied_by access true held = refl
+denied_by access false held = refl
+
 module _ {S : Type 0} where
+  -- what a peer reaches under the STag of a buffer that is found, and of none
+  live_found : (m : HashMap ℕ HeldBuffer S) (stag : ℕ) (held : HeldBuffer) → hash.get nat_eq m stag ≡ Some held
+      → live_in (dead_flags m) (table m) stag ≡ cond held.is_dead None (Some (region_of held))
+  live_found m stag held e =
+      let flag = get_mapped is_dead_of m stag ∙ ap (option_map is_dead_of) e in
+      let region = get_mapped region_of m stag ∙ ap (option_map region_of) e in
+      λ i. cond (unwrap_or (flag i) false) None (region i)
+
+  live_nowhere : (m : HashMap ℕ HeldBuffer S) (stag : ℕ) → hash.get nat_eq m stag ≡ None → live_in (dead_flags m) (table m) stag ≡ None
+  live_nowhere m stag e =
+      ap (λ (o : Option Region). cond (unwrap_or (get (dead_flags m) stag) false) None o) (get_mapped region_of m stag ∙ ap (option_map region_of) e)
+      ∙ same_none (unwrap_or (get (dead_flags m) stag) false)
+
+  -- why an access is denied
+  pub denied_held : (m : HashMap ℕ HeldBuffer S) (stag : ℕ) (access : Access) (held : HeldBuffer) → hash.get nat_eq m stag ≡ Some held
+      → denial_in (live_offer held) (record access { stag = 0 }) ≡ denial_in (region_offer (live_in (dead_flags m) (table m) stag)) access
+  denied_held m stag access held e =
+      denied_by access held.is_dead held ∙ ap (λ (o : Option Region). denial_in (region_offer o) access) (sym (live_found m stag held e))
+
+  pub denied_none : (m : HashMap ℕ HeldBuffer S) (stag : ℕ) (access : Access) → hash.get nat_eq m stag ≡ None
+      → denial_in None access ≡ denial_in (region_offer (live_in (dead_flags m) (table m) stag)) access
+  denied_none m stag access e = ap (λ (o : Option Region). denial_in (region_offer o) access) (sym (live_nowhere m stag e))
+
+  -- a live region that is found
+  pub alive_found : (m : HashMap ℕ HeldBuffer S) (stag : ℕ) (held : HeldBuffer) → hash.get nat_eq m stag ≡ Some held → held.is_dead ≡ false
+      → live_in (dead_flags m) (table m) stag ≡ Some (region_of held)
+  alive_found m stag held e alive = live_found m stag held e ∙ ap (λ (b : Bool). cond b None (Some (region_of held))) alive
+
+  -- the fact of such a region
+  pub if_found : (m : HashMap ℕ HeldBuffer S) (stag : ℕ) (held : HeldBuffer) (P : Region → Type 0) → hash.get nat_eq m stag ≡ Some held → held.is_dead ≡ false
+      → P (region_of held) → IfSome (live_in (dead_flags m) (table m) stag) P
+  if_found m stag held P e alive h = subst (λ (o : Option Region). IfSome o P) (sym (alive_found m stag held e alive)) h
+
+  -- why an STag can't be invalidated
+  pub not_live_held : (m : HashMap ℕ HeldBuffer S) (stag : ℕ) (held : HeldBuffer) → hash.get nat_eq m stag ≡ Some held → held.is_dead ≡ true
+      → not_live (live_in (dead_flags m) (table m) stag) ≡ Some NoStag
+  not_live_held m stag held e dead =
+      ap not_live (live_found m stag held e ∙ ap (λ (b : Bool). cond b None (Some (region_of held))) dead)
+
+  pub not_live_none : (m : HashMap ℕ HeldBuffer S) (stag : ℕ) → hash.get nat_eq m stag ≡ None → not_live (live_in (dead_flags m) (table m) stag) ≡ Some NoStag
+  not_live_none m stag e = ap not_live (live_nowhere m stag e)
+
+  pub live_alive : (m : HashMap ℕ HeldBuffer S) (stag : ℕ) (held : HeldBuffer) → hash.get nat_eq m stag ≡ Some held → held.is_dead ≡ false
+      → not_live (live_in (dead_flags m) (table m) stag) ≡ None
+  live_alive m stag held e alive = ap not_live (alive_found m stag held e alive)
+
+  -- what stays of a buffer that is put back
+  pub mapped_over : {X : Type 0} (f : HeldBuffer → X) (m n : HashMap ℕ HeldBuffer S) (stag : ℕ) (held w : HeldBuffer) → hash.get nat_eq m stag ≡ Some held
+      → ChangedAt m n stag (Some w) → f w ≡ f held → mapped f n ≡ mapped f m
+  mapped_over f m n stag held w e c same =
+      mapped_put f m n stag w c ∙ ap (insert (mapped f m) stag) same ∙ insert_same (mapped f m) stag (f held) (get_mapped f m stag ∙ ap (option_map f) e)
+
   -- some bytes over those of the region that is found
   pub table_write_over : (m n : HashMap ℕ HeldBuffer S) (stag at : ℕ) (bytes : List ℕ) (window : BufferParts) (held : HeldBuffer) → hash.get nat_eq m stag ≡ Some held
-      → window ≡ record held.window { bytes = bytes_after_write held.window.bytes at bytes } → ChangedAt m n stag (Some (record { right = held.right; window = window }))
-      → IfSome (get (table m) stag) (λ r. table n ≡ insert (table m) stag (record { right = r.right; buf = bytes_after_write r.buf at bytes }))
-  table_write_over m n stag at bytes window held e is c =
-      subst (λ (o : Option Region). IfSome o (λ r. table n ≡ insert (table m) stag (record { right = r.right; buf = bytes_after_write r.buf at bytes })))
-      (sym (get_mapped region_of m stag ∙ ap (option_map region_of) e))
-      (mapped_put region_of m n stag (record { right = held.right; window = window }) c
+      → held.is_dead ≡ false → window ≡ record held.window { bytes = bytes_after_write held.window.bytes at bytes } → ChangedAt m n stag (Some (record { right = held.right; window = window; is_dead = held.is_dead }))
+      → IfSome (live_in (dead_flags m) (table m) stag) (λ r. table n ≡ insert (table m) stag (record { right = r.right; buf = bytes_after_write r.buf at bytes }))
+  table_write_over m n stag at bytes window held e alive is c =
+      if_found m stag held (λ r. table n ≡ insert (table m) stag (record { right = r.right; buf = bytes_after_write r.buf at bytes })) e alive
+      (mapped_put region_of m n stag (record { right = held.right; window = window; is_dead = held.is_dead }) c
       ∙ ap (λ (w : BufferParts). insert (table m) stag (record { right = held.right; buf = w.bytes })) is)
 
   -- the bytes outside of it stay
   pub outsides_write_over : (m n : HashMap ℕ HeldBuffer S) (stag at : ℕ) (bytes : List ℕ) (window : BufferParts) (held : HeldBuffer) → hash.get nat_eq m stag ≡ Some held
-      → window ≡ record held.window { bytes = bytes_after_write held.window.bytes at bytes } → ChangedAt m n stag (Some (record { right = held.right; window = window }))
+      → window ≡ record held.window { bytes = bytes_after_write held.window.bytes at bytes } → ChangedAt m n stag (Some (record { right = held.right; window = window; is_dead = held.is_dead }))
       → outsides n ≡ outsides m
   outsides_write_over m n stag at bytes window held e is c =
-      mapped_put outside_of m n stag (record { right = held.right; window = window }) c
+      mapped_put outside_of m n stag (record { right = held.right; window = window; is_dead = held.is_dead }) c
       ∙ ap (λ (w : BufferParts). insert (outsides m) stag w.outside) is
       ∙ insert_same (outsides m) stag held.window.outside (get_mapped outside_of m stag ∙ ap (option_map outside_of) e)
 
@@ -98,18 +163,3 @@ module _ {S : Type 0} where
       → ChangedAt m n stag (Some held) → mapped f n ≡ mapped f m
   mapped_again f m n stag held e c =
       mapped_put f m n stag held c ∙ insert_same (mapped f m) stag (f held) (get_mapped f m stag ∙ ap (option_map f) e)
-
-  -- why an access is denied
-  pub denied_held : (m : HashMap ℕ HeldBuffer S) (stag : ℕ) (access : Access) (held : HeldBuffer) → hash.get nat_eq m stag ≡ Some held
-      → denial_in (Some (held.right, length held.window.bytes)) access ≡ denial_in (region_offer (get (table m) stag)) access
-  denied_held m stag access held e =
-      ap (λ (o : Option Region). denial_in (region_offer o) access) (sym (get_mapped region_of m stag ∙ ap (option_map region_of) e))
-
-  pub denied_none : (m : HashMap ℕ HeldBuffer S) (stag : ℕ) (access : Access) → hash.get nat_eq m stag ≡ None
-      → denial_in None access ≡ denial_in (region_offer (get (table m) stag)) access
-  denied_none m stag access e =
-      ap (λ (o : Option Region). denial_in (region_offer o) access) (sym (get_mapped region_of m stag ∙ ap (option_map region_of) e))
-
-  -- the fact of a region that is found
-  pub if_found : (m : HashMap ℕ HeldBuffer S) (stag : ℕ) (held : HeldBuffer) (P : Region → Type 0) → hash.get nat_eq m stag ≡ Some held → P (region_of held) → IfSome (get (table m) stag) P
-  if_found m stag held P e h = subst (λ (o : Option Region). IfSome o P) (sym (get_mapped region_of m stag ∙ ap (option_map region_of) e)) h

@@ -1,5 +1,5 @@
 -- What the fields of `Regions` keep at each change, with the sum of the lengths held.
-use Rattle.std.proofs.Common.{◌≡◌, ℕ, ◌+◌, ◌-◌, ◌^◌, ◌<◌, ◌≤◌, true, false, cond, List, [], ◌∷◌, map, length, Option, None, Some, IfSome, is_some, Result, Ok, Err, OnOk, OnErr, refl, sym, ap, subst, ◌∙◌, inl, inr, arith}
+use Rattle.std.proofs.Common.{◌≡◌, ℕ, ◌+◌, ◌-◌, ◌^◌, ◌<◌, ◌≤◌, Bool, true, false, cond, List, [], ◌∷◌, map, length, Option, None, Some, IfSome, is_some, unwrap_or, Result, Ok, Err, OnOk, OnErr, refl, sym, ap, subst, ◌∙◌, inl, inr, arith}
 use Rattle.std.specs.List.{sum_by}
 use Rattle.std.proofs.lemmas.Bool.{cases_eq}
 use Rattle.std.proofs.lemmas.List.{nil_from_length}
@@ -10,9 +10,10 @@ use Rattle.std.specs.Ordering.{nat_cmp, is_eq}
 use Rattle.std.specs.Cmp.{nat_cmp_total}
 use Rattle.std.specs.FinMap.{FinMap, empty, entries, find, put, get, insert, remove, same_map, nat_cmp-IsAntisymmetric, entries-insert, get-entries, get-empty, len-empty, len-entries}
 use Rattle.std.specs.FinMap.Entries.{by_order}
-use Rattle.nr_regions.specs.RegisteredMemory.{Region, Outside, RegionTable, RegisteredMemory, Claim, IsHeld, after_place, after_place_in, bytes_after_write, held_region, live_region}
+use Rattle.nr_regions.specs.RegisteredMemory.{Region, Outside, RegionTable, RegisteredMemory, Claim, IsHeld, after_invalidate, after_invalidate_by, after_place, after_place_in, bytes_after_write, held_region, live_region}
 use Rattle.nr_regions.specs.declared.denied.Denied.{Denied}
-use Rattle.nr_regions.specs.Table.{IsTotal, region_len}
+use Rattle.std.specs.Result.{result_err}
+use Rattle.nr_regions.specs.Table.{IsTotal, live_in, not_live, region_len}
 use Rattle.nr_regions.proofs.Holding.{get_insert_here, get_insert_other, get_remove_here, get_remove_other, length_bytes_after_write}
 
 module _ {X : Type 0} (size : X → ℕ) where
@@ -122,40 +123,63 @@ module _ {X : Type 0} (size : X → ℕ) where
     bytes_fit = s.bytes_fit;
   }
 
--- the map after an access, by what was found under its STag
-abbrev Placed : Result Unit Denied → (held after : FinMap nat_cmp Region) → (stag to : ℕ) → List ℕ → Type 0
-Placed r held after stag to payload =
-    OnOk r (IfSome (get held stag) (λ region. after ≡ insert held stag (record { right = region.right; buf = bytes_after_write region.buf to payload })))
+abbrev no_region : Option Region
+no_region = None
 
-pub sound_placed : (r : Result Unit Denied) (next bytes : ℕ) (held after : FinMap nat_cmp Region) (stag to : ℕ) (payload : List ℕ) → IsTotal region_len next bytes held
-    → OnOk r (is_some (get held stag) ≡ true) → OnOk r (IfSome (get held stag) (λ region. to + length payload ≤ length region.buf))
-    → Placed r held after stag to payload → OnErr r (after ≡ held) → IsTotal region_len next bytes after
-sound_placed (Err denied) next bytes held after stag to payload s found le is err = subst (λ (m : FinMap nat_cmp Region). IsTotal region_len next bytes m) (sym err) s
-sound_placed (Ok _) next bytes held after stag to payload s found le is err = by (get held stag) refl found le is
+-- the map after an access, by what was found under its STag
+abbrev Placed : Result Unit Denied → (dead : FinMap nat_cmp Bool) → (held after : FinMap nat_cmp Region) → (stag to : ℕ) → List ℕ → Type 0
+Placed r dead held after stag to payload =
+    OnOk r (IfSome (live_in dead held stag) (λ region. after ≡ insert held stag (record { right = region.right; buf = bytes_after_write region.buf to payload })))
+
+held_by : (b : Bool) (o : Option Region) (region : Region) → cond b None o ≡ Some region → o ≡ Some region
+held_by true o region e = absurd (let wrong : no_region ≡ Some region = e in cc)
+held_by false o region e = e
+
+live_is_held : (dead : FinMap nat_cmp Bool) (held : FinMap nat_cmp Region) (stag : ℕ) (region : Region) → live_in dead held stag ≡ Some region → get held stag ≡ Some region
+live_is_held dead held stag region e = held_by (unwrap_or (get dead stag) false) (get held stag) region e
+
+pub sound_placed : (r : Result Unit Denied) (next bytes : ℕ) (dead : FinMap nat_cmp Bool) (held after : FinMap nat_cmp Region) (stag to : ℕ) (payload : List ℕ) → IsTotal region_len next bytes held
+    → OnOk r (is_some (live_in dead held stag) ≡ true) → OnOk r (IfSome (live_in dead held stag) (λ region. to + length payload ≤ length region.buf))
+    → Placed r dead held after stag to payload → OnErr r (after ≡ held) → IsTotal region_len next bytes after
+sound_placed (Err denied) next bytes dead held after stag to payload s found le is err = subst (λ (m : FinMap nat_cmp Region). IsTotal region_len next bytes m) (sym err) s
+sound_placed (Ok _) next bytes dead held after stag to payload s found le is err = by (live_in dead held stag) refl found le is
   where
-    by : (o : Option Region) → get held stag ≡ o → is_some o ≡ true → IfSome o (λ region. to + length payload ≤ length region.buf)
+    by : (o : Option Region) → live_in dead held stag ≡ o → is_some o ≡ true → IfSome o (λ region. to + length payload ≤ length region.buf)
         → IfSome o (λ region. after ≡ insert held stag (record { right = region.right; buf = bytes_after_write region.buf to payload })) → IsTotal region_len next bytes after
     by None e f l i = absurd cc
     by (Some region) e f l i =
         let w : Region = record { right = region.right; buf = bytes_after_write region.buf to payload } in
         subst (λ (m : FinMap nat_cmp Region). IsTotal region_len next bytes m) (sym i)
-        (sound_change region_len next bytes held stag region w s e (length_bytes_after_write region.buf to payload l))
+        (sound_change region_len next bytes held stag region w s (live_is_held dead held stag region e) (length_bytes_after_write region.buf to payload l))
 
-pub placed_memory : (r : Result Unit Denied) (next : ℕ) (held after : FinMap nat_cmp Region) (stag to : ℕ) (payload : List ℕ)
-    → OnOk r (is_some (get held stag) ≡ true) → Placed r held after stag to payload
-    → OnOk r (◌≡◌ {A = RegisteredMemory} (record { next = next; held = after }) (after_place (record { next = next; held = held }) stag to payload))
+pub placed_memory : (r : Result Unit Denied) (next : ℕ) (dead after_dead : FinMap nat_cmp Bool) (held after : FinMap nat_cmp Region) (stag to : ℕ) (payload : List ℕ)
+    → OnOk r (is_some (live_in dead held stag) ≡ true) → Placed r dead held after stag to payload → after_dead ≡ dead
+    → OnOk r (◌≡◌ {A = RegisteredMemory} (record { next = next; held = after; dead = after_dead }) (after_place (record { next = next; held = held; dead = dead }) stag to payload))
 unfolding after_place live_region held_region
-placed_memory (Err denied) next held after stag to payload found is = tt
-placed_memory (Ok _) next held after stag to payload found is = by (get held stag) found is
+placed_memory (Err denied) next dead after_dead held after stag to payload found is same = tt
+placed_memory (Ok _) next dead after_dead held after stag to payload found is same = by (live_in dead held stag) found is
   where
     by : (o : Option Region) → is_some o ≡ true
         → IfSome o (λ region. after ≡ insert held stag (record { right = region.right; buf = bytes_after_write region.buf to payload }))
-        → ◌≡◌ {A = RegisteredMemory} (record { next = next; held = after }) (after_place_in o (record { next = next; held = held }) stag to payload)
+        → ◌≡◌ {A = RegisteredMemory} (record { next = next; held = after; dead = after_dead }) (after_place_in o (record { next = next; held = held; dead = dead }) stag to payload)
     by None f i = absurd cc
-    by (Some region) f i = λ t. record { next = next; held = i t }
+    by (Some region) f i = λ t. record { next = next; held = i t; dead = same t }
+
+-- the memory after an Invalidate
+pub died_memory : (r : Result Unit Denied) (next : ℕ) (dead after_dead : FinMap nat_cmp Bool) (held after : FinMap nat_cmp Region) (stag : ℕ) → result_err r ≡ not_live (live_in dead held stag)
+    → OnOk r (after_dead ≡ insert dead stag true) → after ≡ held
+    → OnOk r (◌≡◌ {A = RegisteredMemory} (record { next = next; held = after; dead = after_dead }) (after_invalidate (record { next = next; held = held; dead = dead }) stag))
+unfolding after_invalidate live_region held_region
+died_memory (Err denied) next dead after_dead held after stag exact is same = tt
+died_memory (Ok _) next dead after_dead held after stag exact is same = by (live_in dead held stag) exact
+  where
+    by : (o : Option Region) → None ≡ not_live o
+        → ◌≡◌ {A = RegisteredMemory} (record { next = next; held = after; dead = after_dead }) (after_invalidate_by o (record { next = next; held = held; dead = dead }) stag)
+    by None e = absurd cc
+    by (Some region) e = λ t. record { next = next; held = same t; dead = is t }
 
 -- what a claim on the table's memory says of the map
-pub held_there : {outside : FinMap nat_cmp Outside} (held : FinMap nat_cmp Region) (next room : ℕ) (t : RegionTable) (claim : Claim) (h : IsHeld t.memory claim)
-    → ◌≡◌ {A = RegionTable} (record { memory = record { next = next; held = held }; room = room; outside = outside }) t → get held claim.stag ≡ Some h.region
+pub held_there : {outside : FinMap nat_cmp Outside} {dead : FinMap nat_cmp Bool} (held : FinMap nat_cmp Region) (next room : ℕ) (t : RegionTable) (claim : Claim) (h : IsHeld t.memory claim)
+    → ◌≡◌ {A = RegionTable} (record { memory = record { next = next; held = held; dead = dead }; room = room; outside = outside }) t → get held claim.stag ≡ Some h.region
 unfolding held_region
 held_there held next room t claim h is = ap (λ (k : RegionTable). get k.memory.held claim.stag) is ∙ h.there

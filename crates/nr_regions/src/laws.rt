@@ -1,20 +1,24 @@
 //! Laws of registered memory, in the terms of the contracts of [`Regions`](crate::Regions).
 
-ghost use Rattle.std.specs.Prelude.{◌≡◌, ℕ, ◌<◌, ◌≤◌, ◌↔◌, List, ◌∷◌, ◌++◌, None, Some, All, length};
+ghost use Rattle.std.specs.Prelude.{◌≡◌, ◌≢◌, ℕ, ◌<◌, ◌≤◌, ◌↔◌, List, ◌∷◌, ◌++◌, None, Some, All, length};
 ghost use Rattle.nr_regions.specs.Access.{Allowed, Grant, HaveOwnStags, TaggedSegment, contents, grant_at, grant_denial, grant_offer, with_ends};
-ghost use Rattle.nr_regions.specs.RegisteredMemory.{Access, Claim, IsHeld, RegisteredMemory, after_register, after_release, bytes_in, claim_of, denial, held_region, live_region, region_offer};
-ghost use Rattle.nr_regions.specs.Events.{MemoryEvent, IsNoReleaseOf, IsRegisteredAt, IsReleasedAt, StaysOpen, after_event, after_events, tagged_segments};
+ghost use Rattle.nr_regions.specs.RegisteredMemory.{Access, Claim, IsHeld, RegisteredMemory, after_invalidate, after_register, after_release, bytes_in, claim_of, denial, held_region, live_region, region_offer};
+ghost use Rattle.nr_regions.specs.Events.{MemoryEvent, DeadUntilReleased, IsNoReleaseOf, IsRegisteredAt, IsReleasedAt, StaysOpen, after_event, after_events, tagged_segments};
 ghost use Rattle.nr_regions.specs.Events.MemoryEvent.{Register, Release};
 
 use crate::right::Right;
 
-/// A region is held from `register` until its STag is released, whatever else happens.
+/// A region is held from `register` until its STag is released, whatever else happens. One that was invalidated is held too.
 pub fn held_until_release()
     ensures begins { (m : RegisteredMemory) (right : Right) (buf : List ℕ) → IsHeld (after_register m right buf) (claim_of m buf) }
     ensures lasts { (m : RegisteredMemory) (claim : Claim) (event : MemoryEvent) → IsHeld m claim → IsNoReleaseOf claim.stag event →
         IsHeld (after_event m event) claim }
     // From its release on the STag is invalid.
     ensures dead { (m : RegisteredMemory) (stag : ℕ) → live_region (after_release m stag) stag ≡ None }
+    // A region that was invalidated is closed until its release, and keeps its bytes.
+    ensures invalidated { DeadUntilReleased }
+    // No other region is touched by it.
+    ensures invalidates_one { (m : RegisteredMemory) (stag other : ℕ) → other ≢ stag → live_region (after_invalidate m stag) other ≡ live_region m other }
     // An STag that was given and is invalid stays invalid.
     ensures stays_closed { (m : RegisteredMemory) (stag : ℕ) (events : List MemoryEvent) → stag < m.next → live_region m stag ≡ None →
         live_region (after_events m events) stag ≡ None }

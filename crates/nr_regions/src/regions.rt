@@ -3,14 +3,14 @@
 ghost use Rattle.std.specs.Prelude.{◌≡◌, ◌+◌, ◌^◌, ◌<◌, ◌≤◌, ◌↔◌, length, is_some, true, IsOk, IfOk, IfErr, OnOk, OnErr, IsErrAnd, ◌≢◌};
 ghost use Rattle.std.specs.FinMap.{empty, get, insert, remove};
 ghost use Rattle.std.specs.Result.{result_err};
-ghost use Rattle.nr_regions.specs.RegisteredMemory.{IsHeld, after_place, after_register, after_release, bytes_at, bytes_held, bytes_in, buffer_around, claim_of, denial, denial_in, held_region, initial_memory, nothing_outside, outside_at, outside_held, outside_window, region_offer, right_for, stags_left, window_bytes, Claim};
-ghost use Rattle.nr_regions.specs.Table.{table, outsides, region_of};
+ghost use Rattle.nr_regions.specs.RegisteredMemory.{IsHeld, after_invalidate, after_place, after_register, after_release, bytes_at, bytes_held, bytes_in, buffer_around, claim_of, denial, denial_in, held_region, initial_memory, invalidate_denial, live_region, nothing_outside, outside_at, outside_held, outside_window, region_offer, right_for, stags_left, window_bytes, Claim};
+ghost use Rattle.nr_regions.specs.Table.{table, outsides, dead_flags, live_in, region_of};
 
 use crate::denied::{Denied, Why};
 use crate::held::HeldBuffer;
 use crate::registration::Registration;
 use crate::right::{Kind, Right};
-use crate::table::{look_up, make_room, no_regions, put, take_out, write_allowed};
+use crate::table::{look_up, make_room, mark_dead, no_regions, put, take_out, write_allowed};
 use crate::window::Window;
 use nr_xdr::{Memory, Octets};
 use std::alloc::Global;
@@ -42,9 +42,9 @@ impl Model for Regions {
     ghost coded = { table_code };
 
     ghost use Rattle.std.specs.HashMap.{spare};
-    ghost use Rattle.nr_regions.specs.Table.{table, outsides, AreTotal};
+    ghost use Rattle.nr_regions.specs.Table.{table, outsides, dead_flags, AreTotal};
 
-    ghost view = { λ r. record { memory = record { next = r.next; held = table r.held }; room = spare r.held; outside = outsides r.held } };
+    ghost view = { λ r. record { memory = record { next = r.next; held = table r.held; dead = dead_flags r.held }; room = spare r.held; outside = outsides r.held } };
 
     ghost invariant = { λ r. AreTotal r.next r.bytes r.bytes_outside r.held };
 }
@@ -58,8 +58,8 @@ fn check_access(
     len: u64,
 ) -> Result<&HeldBuffer, Denied>
     ensures exact { result_err result
-        ≡ denial_in (region_offer (get (table held.now) stag)) (record { right = right; stag = stag; to = to; len = len }) }
-    ensures found { IfOk result (λ found. get (table held.now) stag ≡ Some (region_of found.now)) }
+        ≡ denial_in (region_offer (live_in (dead_flags held.now) (table held.now) stag)) (record { right = right; stag = stag; to = to; len = len }) }
+    ensures found { IfOk result (λ found. live_in (dead_flags held.now) (table held.now) stag ≡ Some (region_of found.now)) }
     ensures within { IfOk result (λ found. to + len ≤ length found.now.window.bytes) }
 {
     match look_up(held, stag) {
@@ -241,9 +241,24 @@ impl Regions {
         let stag = self.next as u32;
         let len = window.len() as u64;
         let outside = window.outside_len();
-        match put(&mut self.held, stag, HeldBuffer { right, window }) {
+        match put(
+            &mut self.held,
+            stag,
+            HeldBuffer {
+                right,
+                window,
+                is_dead: false,
+            },
+        ) {
             Err(e) => {
-                let (_, HeldBuffer { right: _, window }) = e.value;
+                let (
+                    _,
+                    HeldBuffer {
+                        right: _,
+                        window,
+                        is_dead: _,
+                    },
+                ) = e.value;
                 Err((window, Why::Memory))
             }
             Ok(()) => {
@@ -297,11 +312,53 @@ impl Regions {
     {
         self.bytes -= u128::from(registration.len());
         match take_out(&mut self.held, registration.stag()) {
-            Some(HeldBuffer { right: _, window }) => {
+            Some(
+                HeldBuffer {
+                    right: _,
+                    window,
+                    is_dead: _,
+                },
+            ) => {
                 self.bytes_outside -= window.outside_len() as u128;
                 window
             }
             None => unreachable!(),
+        }
+    }
+
+    /// Lets the region under an STag die, as the peer's Send with Invalidate asks (RFC 5040 section 5.1): from then on no peer reaches it,
+    /// and it is held, with its bytes, until it is released. `NoStag` if and only if no live region has the STag; then nothing changes.
+    /// Takes no memory.
+    pub fn invalidate(&mut self, stag: u32) -> Result<(), Denied>
+        ensures exact { result_err result ≡ invalidate_denial self.old.memory stag }
+        ensures ok { OnOk result (self.new.memory ≡ after_invalidate self.old.memory stag) }
+        ensures err { OnErr result (self.new.memory ≡ self.old.memory) }
+        ensures room { self.new.room ≡ self.old.room }
+        ensures keeps { (claim : Claim) → IsHeld self.old.memory claim → IsHeld self.new.memory claim }
+        ensures outside { self.new.outside ≡ self.old.outside }
+    {
+        self.invalidate_inner(stag)
+    }
+
+    #[tactic(auto, unfolding(crate::specs::RegisteredMemory::live_region, crate::specs::RegisteredMemory::held_region, crate::specs::RegisteredMemory::after_invalidate))]
+    fn invalidate_inner(&mut self, stag: u32) -> Result<(), Denied>
+        ensures exact { result_err result ≡ invalidate_denial self.old.memory stag }
+        ensures ok { OnOk result (self.new.memory ≡ after_invalidate self.old.memory stag) }
+        ensures err { OnErr result (self.new.memory ≡ self.old.memory) }
+        ensures room { self.new.room ≡ self.old.room }
+        ensures outside { self.new.outside ≡ self.old.outside }
+    {
+        mark_dead(&mut self.held, stag)
+    }
+
+    /// Whether a peer reaches a region by this STag. Takes no memory.
+    #[tactic(auto, unfolding(crate::specs::RegisteredMemory::live_region, crate::specs::RegisteredMemory::held_region))]
+    pub fn is_live(&self, stag: u32) -> bool
+        ensures { result ≡ is_some (live_region self.now.memory stag) }
+    {
+        match look_up(&self.held, stag) {
+            Some(found) => !found.is_dead,
+            None => false,
         }
     }
 

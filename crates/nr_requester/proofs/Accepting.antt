@@ -165,7 +165,7 @@ counts_as_client opened link h run s =
     (let c = kept_counts opened (kept_client h.state) (client opened link run) (length (bytes_received link Initiator run)) s.keeps.kept.keeps in (c.0, c.1.0))
 
 pub agrees_as_client : AgreesAsClient
-agrees_as_client opened link h run s = (s.keeps.kept.keeps.up, s.keeps.kept.keeps.down)
+agrees_as_client opened link h run s = (s.keeps.kept.keeps.up, (s.keeps.kept.keeps.down, s.keeps.kept.keeps.invalidates))
 
 pub end_as_client : EndAsClient
 end_as_client opened link h run s = s.keeps.kept.keeps.ended

@@ -5,7 +5,6 @@ use Rattle.std.specs.List.{AllByRecursion}
 use Rattle.std.proofs.lemmas.Bool.{lt-ltb}
 use Rattle.std.proofs.lemmas.List.{length-take}
 use Rattle.nr_regions.specs.RegisteredMemory.{RegisteredMemory, Claim, Region, IsHeld, bytes_in}
-use Rattle.nr_regions.proofs.Holding.{live_held}
 use Rattle.nr_endpoint.specs.EndpointState.{EndpointState}
 use Rattle.nr_endpoint.specs.LinkState.{LinkState, LinkSide}
 use Rattle.nr_reduce.specs.declared.call.Call.{Call}
@@ -136,7 +135,7 @@ outcome_small (founds.Version low high) room o is = (let same : 0 ≡ outcome_by
 
 -- the buffers under a call's regions are as long as these
 buffer_len_is : (m : RegisteredMemory) (c : Claim) → IsHeld m c → buffer_len (buffer_under m (Some c)) ≡ c.len
-buffer_len_is m c h = ap (λ (r : Option Region). length (bytes_in r)) (live_held m c.stag ∙ h.there) ∙ h.len
+buffer_len_is m c h = ap (λ (r : Option Region). length (bytes_in r)) h.there ∙ h.len
 
 buffers_small : (m : RegisteredMemory) (read write reply : Option Claim) → AreHeldFrom m 0 (call_claims (record { read = read; write = write; reply = reply })) →
     buffers_len (buffers_under m (record { read = read; write = write; reply = reply })) ≡ claims_len (record { read = read; write = write; reply = reply })

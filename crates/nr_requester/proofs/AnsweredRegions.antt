@@ -9,7 +9,7 @@ use Rattle.nr_regions.specs.RegisteredMemory.{denial_in, bytes_after_write}
 use Rattle.nr_regions.specs.Access.{Grant, TaggedSegment, applies, grant_at, grant_offer, grant_denial, access_of_tagged, after_segment, contents}
 use Rattle.nr_link.specs.declared.end.End.{End}
 use Rattle.nr_link.specs.Frames.{Frame, is_hello}
-use Rattle.nr_link.specs.Ending.{frame_segment, tagged_access}
+use Rattle.nr_link.specs.Ending.{tagged_access}
 use Rattle.nr_link.specs.ReceiveState.{ReadRequest, message_completed, read_request_of}
 use Rattle.nr_xdr.specs.Fields.{word_at}
 use Rattle.nr_reduce.specs.declared.mark.LinkParameters.{LinkParameters}
@@ -21,7 +21,7 @@ use Rattle.nr_reduce.specs.Events.{RunEvent}
 use Rattle.nr_reduce.specs.Events.RunEvent.{FrameReceived, CallSubmitted, MemoryRevoked, CallExecuted, QueueWritten, ServerTold}
 use Rattle.nr_reduce.specs.EndRules.{EndState, live, next_end_state, next_end_state_by, next_end_state_in, end_state_after}
 use Rattle.nr_reduce.specs.ClientState.{ClientState, client_memory_at}
-use Rattle.nr_reduce.specs.Client.{client_rules, client_end, client_state_after, outstanding_of, region_of, with_message, with_request, with_segment, with_hello, due_with_response}
+use Rattle.nr_reduce.specs.Client.{client_rules, client_segment, client_end, client_state_after, outstanding_of, region_of, with_message, with_request, with_segment, with_hello, due_with_response}
 use Rattle.nr_reduce.specs.StandingLaws.{StagsFrom}
 use Rattle.nr_reduce.proofs.OfferedMemory.{found, grants_from, none_found_lem, contents_same}
 use Rattle.nr_reduce.proofs.Placing.{segment_next}
@@ -266,9 +266,9 @@ module _ (opened : LinkParameters) (k : ClientState) (count : ℕ) (f : Frame) (
   unfolding client_state_after
   state_still a h = by (is_hello f)
     where
-      by : (b : Bool) → StillHolds (cond b (with_hello opened k f) (with_segment k f (frame_segment f))).next_xid (cond b (with_hello opened k f) (with_segment k f (frame_segment f))) a
+      by : (b : Bool) → StillHolds (cond b (with_hello opened k f) (with_segment k f (client_segment k f))).next_xid (cond b (with_hello opened k f) (with_segment k f (client_segment k f))) a
       by true = still_by k.next_xid (with_hello opened k f).next_xid k (with_hello opened k f) a (omega arith) refl refl h
-      by false = segment_still (frame_segment f) a h
+      by false = segment_still (client_segment k f) a h
 
   -- after a frame, also one that ends the client
   pub frame_still : (a : AnsweredCall) → StillHolds k.next_xid k a →
@@ -367,12 +367,12 @@ no_access k f (Tagged last opcode stag to payload) message e = absurd cc
 no_access k f (Untagged last opcode w queue msn offset payload) message e = refl
 
 pub completed_still : (opened : LinkParameters) (k : ClientState) (count : ℕ) (f : Frame) (segment : Segment) (message : List ℕ) (a : AnsweredCall) → AreOffered count k.regions → AreReceived count k.accesses_received → a.xid < k.next_xid → a.xid ≡ word_at 0 message →
-    client_end k (FrameReceived f) ≡ None → is_hello f ≡ false → frame_segment f ≡ Ok segment → message_completed k.received segment ≡ Some message → buffers_in a.buffers ≡ region_contents k f.end a.xid →
+    client_end k (FrameReceived f) ≡ None → is_hello f ≡ false → client_segment k f ≡ Ok segment → message_completed k.received segment ≡ Some message → buffers_in a.buffers ≡ region_contents k f.end a.xid →
     StillHolds (next_end_state (client_rules opened) (live k) (FrameReceived f)).state.next_xid (next_end_state (client_rules opened) (live k) (FrameReceived f)).state a
 unfolding client_state_after
 completed_still opened k count f segment message a offered received lt own goes hello is completes held =
     subst (λ (why : Option End). StillHolds (next_end_state_by (client_rules opened) k (FrameReceived f) why).state.next_xid (next_end_state_by (client_rules opened) k (FrameReceived f) why).state a) (sym goes)
-    (subst (λ (b : Bool). StillHolds (cond b (with_hello opened k f) (with_segment k f (frame_segment f))).next_xid (cond b (with_hello opened k f) (with_segment k f (frame_segment f))) a) (sym hello)
+    (subst (λ (b : Bool). StillHolds (cond b (with_hello opened k f) (with_segment k f (client_segment k f))).next_xid (cond b (with_hello opened k f) (with_segment k f (client_segment k f))) a) (sym hello)
     (subst (λ (s : Result Segment ℕ). StillHolds (with_segment k f s).next_xid (with_segment k f s) a) (sym is) here))
   where
     after : ClientState

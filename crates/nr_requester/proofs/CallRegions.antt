@@ -7,7 +7,6 @@ use Rattle.nr_wire.specs.declared.hello.Side.TheVariants.{Initiator, Responder}
 use Rattle.nr_wire.specs.Segment.{Segment}
 use Rattle.nr_link.specs.declared.end.End.{End}
 use Rattle.nr_link.specs.Frames.{Frame, is_hello, frames_completed}
-use Rattle.nr_link.specs.Ending.{frame_segment}
 use Rattle.nr_link.specs.ReceiveState.{ReadRequest, message_completed, read_request_of}
 use Rattle.nr_reduce.specs.declared.call.Submission.TheVariants as submissions
 use Rattle.nr_reduce.specs.declared.mark.Mark.{Mark}
@@ -22,7 +21,7 @@ use Rattle.nr_reduce.specs.Events.{RunEvent, if_own, events_at, events}
 use Rattle.nr_reduce.specs.Events.RunEvent.{FrameReceived, CallSubmitted, MemoryRevoked, CallExecuted, QueueWritten, ServerTold}
 use Rattle.nr_reduce.specs.EndRules.{EndState, next_end_state, next_end_state_by, next_end_state_in, end_state_after}
 use Rattle.nr_reduce.specs.ClientState.{ClientState, OutstandingCall}
-use Rattle.nr_reduce.specs.Client.{client_rules, client_end, client_state_after, outstanding_of, region_of, revoked_call, with_message, with_request, with_segment, with_hello, due_with_response}
+use Rattle.nr_reduce.specs.Client.{client_rules, client_segment, client_end, client_state_after, outstanding_of, region_of, revoked_call, with_message, with_request, with_segment, with_hello, due_with_response}
 use Rattle.nr_reduce.specs.Run.{client}
 use Rattle.nr_reduce.specs.Asked.{AskedSoFar, AskedMark}
 use Rattle.nr_reduce.proofs.Placing.{segment_next}
@@ -173,9 +172,9 @@ segment_offers next k f (Ok segment) h =
     let m = request_offers next (with_message k f.end (message_completed k.received segment)) (due_with_response k f segment) (read_request_of segment)
     (message_offers next k f.end (message_completed k.received segment) h) in record { before = m.before; calls = m.calls }
 
-frame_offers : (opened : LinkParameters) (next : ℕ) (k : ClientState) (f : Frame) (b : Bool) → CallsOffer next k → CallsOffer next (cond b (with_hello opened k f) (with_segment k f (frame_segment f)))
+frame_offers : (opened : LinkParameters) (next : ℕ) (k : ClientState) (f : Frame) (b : Bool) → CallsOffer next k → CallsOffer next (cond b (with_hello opened k f) (with_segment k f (client_segment k f)))
 frame_offers opened next k f true h = record { before = h.before; calls = h.calls }
-frame_offers opened next k f false h = segment_offers next k f (frame_segment f) h
+frame_offers opened next k f false h = segment_offers next k f (client_segment k f) h
 
 -- no Submit is among some events
 abbrev pub SubmitsNothing : RunEvent → Type 0
@@ -194,14 +193,14 @@ SubmitNothing (event ∷ es) = SubmitsNothing event × SubmitNothing es
 abbrev pub Offers : LinkParameters → ClientState → Type 0
 Offers opened k = CallsOffer k.next_xid k
 
-frame_next : (opened : LinkParameters) (k : ClientState) (f : Frame) (b : Bool) → (cond b (with_hello opened k f) (with_segment k f (frame_segment f))).next_xid ≡ k.next_xid
+frame_next : (opened : LinkParameters) (k : ClientState) (f : Frame) (b : Bool) → (cond b (with_hello opened k f) (with_segment k f (client_segment k f))).next_xid ≡ k.next_xid
 frame_next opened k f true = refl
-frame_next opened k f false = segment_next k f (frame_segment f)
+frame_next opened k f false = segment_next k f (client_segment k f)
 
 pub event_offers : (opened : LinkParameters) (k : ClientState) (event : RunEvent) → SubmitsNothing event → Offers opened k → Offers opened (client_state_after opened k event)
 unfolding client_state_after
 event_offers opened k (FrameReceived f) none h =
-    let after : ClientState = cond (is_hello f) (with_hello opened k f) (with_segment k f (frame_segment f)) in
+    let after : ClientState = cond (is_hello f) (with_hello opened k f) (with_segment k f (client_segment k f)) in
     subst (λ (n : ℕ). CallsOffer n after) (sym (frame_next opened k f (is_hello f))) (frame_offers opened k.next_xid k f (is_hello f) h)
 event_offers opened k (CallSubmitted place a) none h = absurd none
 event_offers opened k (MemoryRevoked place xid) none h = record {

@@ -10,17 +10,17 @@ use Rattle.nr_link.specs.Frames.{Frame}
 use Rattle.nr_link.specs.ReceiveState.{ReceiveState, is_send, message_completed}
 use Rattle.nr_link.specs.SegmentFaults.{Readiness, SegmentReason, segment_reason, first_fault, reason_if, next_msn, next_offset, is_begun, no_buffer, missing_fault, is_malformed, is_too_many, message_length_is, terminate_fault}
 use Rattle.nr_link.specs.SegmentFaults.SegmentReason.{NoBuffer}
-use Rattle.nr_link.specs.Ending.{end_of_fault, frame_end, frame_end_by, frame_segment, missing_access}
+use Rattle.nr_link.specs.Ending.{end_of_fault, frame_end_by, frame_segment_with, missing_access}
 use Rattle.nr_link.proofs.BegunSends.{judged_alike}
-use Rattle.nr_endpoint.specs.Hellos.{receive_length_for}
+use Rattle.nr_endpoint.specs.Hellos.{receive_length_for, takes_invalidate}
 use Rattle.nr_endpoint.specs.LinkState.{LinkState}
 use Rattle.nr_endpoint.specs.ReceiveQueue.{sends_begun}
-use Rattle.nr_endpoint.specs.Judging.{next_frame, with_frame, expected_response, readiness}
+use Rattle.nr_endpoint.specs.Judging.{next_frame, next_segment, with_frame, expected_response, readiness}
 use Rattle.nr_endpoint.proofs.GrantLaws.{grants_end_alike}
 use Rattle.nr_reduce.specs.declared.mark.LinkParameters.{LinkParameters}
 use Rattle.nr_reduce.specs.OfferedRegions.{region_grants}
 use Rattle.nr_reduce.specs.ClientState.{ClientState, responses_owed}
-use Rattle.nr_reduce.specs.Client.{client_readiness}
+use Rattle.nr_reduce.specs.Client.{client_readiness, client_segment}
 use Rattle.nr_reduce.specs.KeptClient.{MemoryKeeps}
 use Rattle.nr_reduce.proofs.MemorySteps.{denied_alike}
 use Rattle.nr_requester.specs.Standing.{LinkKeeps}
@@ -77,12 +77,17 @@ frame_alike opened s k grants f (Ok segment) keeps =
     ap (λ (x : Option (SegmentReason Denied)). end_of_fault f segment x) (readiness_alike opened s k (missing_access grants f segment) segment keeps)
 frame_alike opened s k grants f (Err reason) keeps = refl
 
+-- the next frame is read as the client reads it
+pub segments_alike : (opened : LinkParameters) (s : LinkState) (k : ClientState) (frame : List ℕ) → LinkKeeps opened s k → s.agreed.invalidates ≡ k.invalidates → next_segment s frame ≡ client_segment k (next_frame s frame)
+segments_alike opened s k frame keeps agrees =
+    (λ i. frame_segment_with (takes_invalidate (keeps.side i) s.agreed) (next_frame s frame)) ∙ ap (λ (b : Bool). frame_segment_with b (next_frame s frame)) agrees
+
 -- A frame ends the side of the link exactly if, and as, it ends the client for other causes than its message.
-pub ends_alike : (opened : LinkParameters) (s : LinkState) (k : ClientState) (count : ℕ) (frame : List ℕ) → s.ended ≡ None → LinkKeeps opened s k → MemoryKeeps s.memory k count → count < (next_frame s frame).end →
-    (with_frame s Fpdu frame).ended ≡ frame_end (client_readiness k) (region_grants (next_frame s frame).end k.regions) (next_frame s frame)
-unfolding frame_end
-ends_alike opened s k count frame lives keeps memory lt =
+pub ends_alike : (opened : LinkParameters) (s : LinkState) (k : ClientState) (count : ℕ) (frame : List ℕ) → s.ended ≡ None → LinkKeeps opened s k → s.agreed.invalidates ≡ k.invalidates → MemoryKeeps s.memory k count → count < (next_frame s frame).end →
+    (with_frame s Fpdu frame).ended ≡ frame_end_by (client_readiness k) (region_grants (next_frame s frame).end k.regions) (next_frame s frame) (client_segment k (next_frame s frame))
+ends_alike opened s k count frame lives keeps agrees memory lt =
     let f = next_frame s frame in
     let grants = region_grants f.end k.regions in
     grants_end_alike s grants frame lives (λ access. denied_alike k.regions k.accesses_received count f.end s.memory access memory.offered memory.holds lt)
-    ∙ frame_alike opened s k grants f (frame_segment f) keeps
+    ∙ frame_alike opened s k grants f (next_segment s frame) keeps
+    ∙ ap (λ (r : Result Segment ℕ). frame_end_by (client_readiness k) grants f r) (segments_alike opened s k frame keeps agrees)

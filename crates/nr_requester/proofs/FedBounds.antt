@@ -1,12 +1,15 @@
 -- What a step on a piece leaves within its bounds.
 use Rattle.std.proofs.Common.{◌≡◌, ℕ, ◌≤◌, ◌⊎◌, inl, inr, Bool, true, false, cond, eqb, List, [], length, Option, None, Some, Result, Ok, Err, refl, sym, ap, subst, ◌∙◌, arith}
 use Rattle.std.specs.Prelude.{is_some}
-use Rattle.nr_regions.specs.RegisteredMemory.{RegisteredMemory, after_place}
+use Rattle.nr_regions.specs.RegisteredMemory.{Region, RegisteredMemory, held_region, after_place}
+use Rattle.nr_regions.specs.Table.{IsTotal}
+use Rattle.std.specs.FinMap.{FinMap}
+use Rattle.std.specs.Ordering.{nat_cmp}
 use Rattle.nr_wire.specs.Constants.{OPCODE_READ_RESPONSE, OPCODE_READ_REQUEST}
 use Rattle.nr_wire.specs.declared.stream.Awaited.{Awaited}
 use Rattle.nr_wire.specs.declared.stream.Awaited.TheVariants.{Hello as HelloFrom, Fpdu}
 use Rattle.nr_wire.specs.Hello.{Hello, hello_of}
-use Rattle.nr_wire.specs.Segment.{Segment, segment_of}
+use Rattle.nr_wire.specs.Segment.{Segment}
 use Rattle.nr_wire.specs.Segment.Segment.{Tagged, Untagged}
 use Rattle.nr_link.specs.declared.end.End.{End}
 use Rattle.nr_link.specs.declared.end.End.TheVariants as ends
@@ -15,13 +18,17 @@ use Rattle.nr_link.specs.ReceiveState.{ReadRequest, read_request_in}
 use Rattle.nr_endpoint.specs.EndpointState.{EndpointState}
 use Rattle.nr_endpoint.specs.SendQueue.{SendQueue, with_end}
 use Rattle.nr_endpoint.specs.LinkState.{LinkState, LinkSide, has_ended}
-use Rattle.nr_endpoint.specs.Judging.{segment_end, next_frame, with_end_of, with_frame, with_segment_by, with_fpdu, with_peer_hello, with_effect, with_read_request, with_read_response}
+use Rattle.nr_endpoint.specs.Judging.{segment_end, next_frame, next_segment, with_end_of, with_frame, with_segment_by, with_fpdu, with_peer_hello, with_effect, with_read_request, with_read_response}
 use Rattle.nr_endpoint.specs.Calls.{after_call}
 use Rattle.nr_endpoint.specs.Calls.Call.{FeedOne, NextEvent, Post, Stop, OutOfMemory}
 use Rattle.nr_endpoint.proofs.AlongFrames.{feed_one_keeps}
 use Rattle.nr_requester.specs.declared.answer.AnsweredCall.{AnsweredCall}
 use Rattle.nr_requester.specs.declared.outstanding.OutstandingCall.{OutstandingCall}
-use Rattle.nr_requester.specs.HeldBytes.{QueueFits, IsCount, in_bytes, claims_total, unsent, IsBounded}
+use Rattle.nr_requester.specs.HeldBytes.{QueueFits, RegionsFit, RegionsHave, region_max, region_size, IsCount, in_bytes, claims_total, unsent, IsBounded}
+use Rattle.nr_requester.specs.AfterPiece.{dead_memory}
+use Rattle.nr_requester.specs.Buffers.{with_memory}
+use Rattle.nr_requester.specs.Fed.{StopsDead}
+use Rattle.nr_requester.proofs.DeadRegions.{dead_next, dead_map, dead_region}
 use Rattle.nr_requester.proofs.OutputBounds.{ended_fits}
 use Rattle.nr_requester.proofs.OutsideBounds.{same_outside}
 use Rattle.nr_requester.proofs.FrameBounds.{Fits, end_fits, fed_one_fits}
@@ -64,10 +71,29 @@ hello_sends q s f (Err reason) h = end_sends q s (ends.Bad f.at reason) h
 
 frame_sends : (q : SendQueue) (a : Awaited) (s : LinkState) (frame : List ℕ) → has_ended s ≡ false → SameSends q s.send_queue → SameSends q (with_frame s a frame).send_queue
 frame_sends q (HelloFrom side) s frame live h = hello_sends q s (next_frame s frame) (hello_of side frame) h
-frame_sends q Fpdu s frame live h = fpdu_sends q s (next_frame s frame) (segment_of frame) h
+frame_sends q Fpdu s frame live h = fpdu_sends q s (next_frame s frame) (next_segment s frame) h
 
 fed_sends : (link : LinkSide) (piece : List ℕ) → SameSends link.state.send_queue (after_call link (FeedOne piece)).state.send_queue
 fed_sends link piece = feed_one_keeps (λ a s. SameSends link.state.send_queue s.send_queue) (frame_sends link.state.send_queue) link piece (refl, refl)
+
+-- a region that dies is as long as before
+dead_fits : (size : ℕ → ℕ) (own : Option ℕ) (s : LinkState) (len total : ℕ) → Fits size len total s → Fits size len total (record s { memory = dead_memory own s.memory })
+dead_fits size own s len total f = (
+  record {
+    side = f.0.side;
+    receives = f.0.receives;
+    receive_length = f.0.receive_length;
+    receive = f.0.receive;
+    up = f.0.up;
+    down = f.0.down;
+    hello = f.0.hello;
+    queue = f.0.queue;
+    responses = f.0.responses;
+    regions = λ stag region there. f.0.regions stag region (sym (dead_region own s.memory stag) ∙ there);
+  },
+  subst (λ (n : ℕ). IsTotal (region_size size) n total (dead_memory own s.memory).held) (sym (dead_next own s.memory))
+      (subst (λ (held : FinMap nat_cmp Region). IsTotal (region_size size) s.memory.next total held) (sym (dead_map own s.memory)) f.1),
+)
 
 -- its regions have what is counted of those of these calls
 abbrev FitsFor : ℕ → List OutstandingCall → LinkState → Type 0
@@ -165,3 +191,18 @@ module _ (len sent sends next : ℕ) (calls : List OutstandingCall) (answers : L
       to_state after (ap (λ (l : LinkSide). l.state) is ∙ ap (λ (o : Option End). cond (is_some o) s after) lives) refl
       (λ size counts. end_fits size s (ends.Bad s.last reason) len (claims_total size calls) (going lives) (here size counts)) (end_sends s.send_queue s (ends.Bad s.last reason) (refl, refl))
   stop_bounded reason lives (inr is) = out_bounded lives is
+
+  -- a region dies, or none
+  pub dead_bounded : (own : Option ℕ) → e2.link ≡ with_memory (dead_memory own e.link.state.memory) e.link → IsBounded len sent sends next e2 calls answers
+  dead_bounded own is =
+      to_state (record e.link.state { memory = dead_memory own e.link.state.memory }) (ap (λ (l : LinkSide). l.state) is) (dead_next own e.link.state.memory)
+      (λ size counts. dead_fits size own e.link.state len (claims_total size calls) (here size counts)) (refl, refl)
+
+  pub stop_dead_bounded : (own : Option ℕ) (reason : ℕ) → e.link.state.ended ≡ None → StopsDead own reason e.link e2.link → IsBounded len sent sends next e2 calls answers
+  unfolding after_call
+  stop_dead_bounded own reason lives (inl is) =
+      let s : LinkState = e.link.state in
+      let after : LinkState = with_end_of (ends.Bad s.last reason) s in
+      to_state (record after { memory = dead_memory own s.memory }) (ap (λ (l : LinkSide). l.state) is ∙ ap (λ (o : Option End). record (cond (is_some o) s after) { memory = dead_memory own s.memory }) lives) (dead_next own s.memory)
+      (λ size counts. dead_fits size own after len (claims_total size calls) (end_fits size s (ends.Bad s.last reason) len (claims_total size calls) (going lives) (here size counts))) (end_sends s.send_queue s (ends.Bad s.last reason) (refl, refl))
+  stop_dead_bounded own reason lives (inr is) = out_bounded lives is

@@ -11,7 +11,7 @@ use Rattle.nr_header.specs.declared.header.Body.{Body}
 use Rattle.nr_header.specs.declared.header.Body.TheVariants.{Msg, Nomsg, ErrVers, ErrChunk}
 use Rattle.nr_header.specs.declared.header.Header.{Header}
 use Rattle.nr_header.specs.Reading.{header_of, header_by, body_by, error_by}
-use Rattle.nr_link.specs.Reasons.{REASON_XID}
+use Rattle.nr_link.specs.Reasons.{REASON_XID, REASON_INVALIDATED}
 use Rattle.nr_rpc.specs.declared.head.ReplyHead.{ReplyHead}
 use Rattle.nr_rpc.specs.Reading.{reply_of}
 use Rattle.nr_reduce.specs.declared.call.Call.{Call}
@@ -22,7 +22,7 @@ use Rattle.nr_reduce.specs.Chunks.{Bytes, answers_offer, reply_conveyed}
 use Rattle.nr_reduce.specs.ClientState.{ClientState, OutstandingCall}
 use Rattle.nr_reduce.specs.ClientMessages.{ReplyVerdict, reply_xid, reply_by_head, reply_by_payload}
 use Rattle.nr_reduce.specs.ClientMessages.ReplyVerdict.{EndsLink, GivesOutcome}
-use Rattle.nr_reduce.specs.KeptCalls.{KeptCall, IsKeptCall, AreKept, stags_unless, kept_payload, kept_lists, kept_body, kept_call as by_kept_call, kept_by, kept_header, kept_verdict}
+use Rattle.nr_reduce.specs.KeptCalls.{KeptCall, IsKeptCall, AreKept, stags_unless, kept_payload, kept_lists, kept_body, kept_call as by_kept_call, kept_by, kept_header, kept_verdict, kept_invalidates_another, kept_message_verdict}
 use Rattle.nr_requester.specs.RequesterState.{StoredCall, stags_of, kept_call}
 use Rattle.nr_requester.specs.CallRegions.{call_stags, OffersPlan}
 use Rattle.nr_requester.specs.AfterPiece.{call_of}
@@ -179,3 +179,12 @@ verdict_call sent calls memory message xid outcome e = by (header_of message) re
     by (Err (faults.Version version)) is e = absurd cc
     by (Err (faults.Kind kind)) is e = absurd cc
     by (Err (faults.BadChunks at)) is e = absurd cc
+
+-- a message that gives an outcome names no STag of another call
+pub named_fine : (calls : List KeptCall) (memory : Bytes) (named : Option ℕ) (message : List ℕ) (xid : ℕ) (outcome : Option Outcome) → kept_message_verdict calls memory named message ≡ GivesOutcome xid outcome → kept_verdict calls memory message ≡ GivesOutcome xid outcome
+unfolding kept_message_verdict
+named_fine calls memory named message xid outcome e = by (kept_invalidates_another calls named message) e
+  where
+    by : (b : Bool) → cond b (EndsLink REASON_INVALIDATED) (kept_verdict calls memory message) ≡ GivesOutcome xid outcome → kept_verdict calls memory message ≡ GivesOutcome xid outcome
+    by true e = absurd cc
+    by false e = e

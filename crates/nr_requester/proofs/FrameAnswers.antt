@@ -7,7 +7,7 @@ use Rattle.nr_xdr.specs.Fields.{word_at}
 use Rattle.nr_regions.specs.RegisteredMemory.{RegisteredMemory, Claim}
 use Rattle.nr_link.specs.declared.end.End.{End}
 use Rattle.nr_link.specs.Frames.{Frame}
-use Rattle.nr_link.specs.ReceiveState.{message_completed}
+use Rattle.nr_link.specs.ReceiveState.{message_completed, stag_invalidated}
 use Rattle.nr_endpoint.specs.declared.offering.Claims.{Claims}
 use Rattle.nr_reduce.specs.declared.call.Call.{Call}
 use Rattle.nr_reduce.specs.declared.call.Outcome.{Outcome}
@@ -18,20 +18,21 @@ use Rattle.nr_reduce.specs.Events.RunEvent.{FrameReceived}
 use Rattle.nr_reduce.specs.EndRules.{EndState, next_end_state, next_end_state_by, end_state_after, live}
 use Rattle.nr_reduce.specs.OfferedRegions.{Region}
 use Rattle.nr_reduce.specs.ClientState.{ClientState, client_memory_at}
-use Rattle.nr_reduce.specs.ClientMessages.{reply_verdict}
+use Rattle.nr_reduce.specs.ClientMessages.{message_verdict}
 use Rattle.nr_reduce.specs.ClientMessages.ReplyVerdict.{GivesOutcome}
-use Rattle.nr_reduce.specs.Client.{client_rules, initial_client, outcomes_of}
+use Rattle.nr_reduce.specs.Client.{client_rules, client_segment, initial_client, outcomes_of}
+use Rattle.nr_reduce.specs.KeptCalls.{kept_verdict}
 use Rattle.nr_reduce.specs.KeptClient.{ClientKeeps, bytes_under, HoldsFor, AreRising}
 use Rattle.nr_reduce.specs.OfferedMemory.{AreOffered}
 use Rattle.nr_reduce.proofs.Releasing.{kept_stays}
 use Rattle.nr_reduce.proofs.Steps.{end_state_after_append, ended_stays}
 use Rattle.nr_requester.specs.declared.answer.AnsweredCall.{AnsweredCall}
-use Rattle.nr_requester.specs.RequesterState.{RequesterState, StoredCall, awaited_call, stag_of, stags_of, kept_call, kept_client}
+use Rattle.nr_requester.specs.RequesterState.{RequesterState, StoredCall, awaited_call, stag_of, stags_of, kept_call, kept_calls, kept_client}
 use Rattle.nr_requester.specs.CallRegions.{OffersPlan}
 use Rattle.nr_requester.specs.KeptAnswers.{client_by, completed_of, one_buffer, buffers_in, region_contents, HandsBack, StillHolds, IsAsked, KeepsAnswers}
 use Rattle.nr_requester.specs.AfterPiece.{buffer_under, buffers_under, answered_as, answer_to, call_of}
 use Rattle.nr_requester.proofs.CallRegions.{SubmitNothing, Offers, all_offer}
-use Rattle.nr_requester.proofs.FoundCalls.{found_one, found_xid, stags_in_state, IsOfCall, verdict_call}
+use Rattle.nr_requester.proofs.FoundCalls.{found_one, found_xid, stags_in_state, IsOfCall, verdict_call, named_fine}
 use Rattle.nr_requester.proofs.AnswerSteps.{all_as, all_append, all_filter, filter_append, back_more, Still, quiet_more}
 use Rattle.nr_requester.proofs.AnsweredRegions.{frame_still, completed_still}
 use Rattle.nr_requester.specs.OpenCalls.{call_with}
@@ -147,7 +148,7 @@ module _ (opened : LinkParameters) (r after : RequesterState) (k : ClientState) 
     tickets = all_as asked (λ (a : AcceptedCall) t e. (
         (λ i. is_some (call_with (find (λ (x : StoredCall). eqb x.xid a.xid) (c.outstanding i)) (find (λ (b : AnsweredCall). eqb b.xid a.xid) (answered i))))
         ∙ moved_open r.side.memory xid a.xid d r.outstanding r.answered c.outcome of.found
-        (λ same awaited. gives_some r.sent r.outstanding (bytes_under r.side.memory) c.message c.xid c.outcome c.verdict (due_calls due xid r.outstanding (ap due (sym same) ∙ e) h.awaited))
+        (λ same awaited. gives_some r.sent r.outstanding (bytes_under r.side.memory) c.message c.xid c.outcome plain (due_calls due xid r.outstanding (ap due (sym same) ∙ e) h.awaited))
         (t e)
         )) h.tickets;
     to_come = λ x at. h.to_come x (omega (arith, at, next));
@@ -157,8 +158,11 @@ module _ (opened : LinkParameters) (r after : RequesterState) (k : ClientState) 
       xid : ℕ
       xid = word_at 0 c.message
 
+      plain : kept_verdict (kept_calls r) (bytes_under r.side.memory) c.message ≡ GivesOutcome c.xid c.outcome
+      plain = named_fine (kept_calls r) (bytes_under r.side.memory) (stag_invalidated c.segment) c.message c.xid c.outcome c.verdict
+
       of : IsOfCall r.outstanding c.message c.xid
-      of = verdict_call r.sent r.outstanding (bytes_under r.side.memory) c.message c.xid c.outcome c.verdict
+      of = verdict_call r.sent r.outstanding (bytes_under r.side.memory) c.message c.xid c.outcome plain
 
       d : StoredCall
       d = of.call
@@ -226,9 +230,9 @@ module _ (opened : LinkParameters) (r after : RequesterState) (k : ClientState) 
           happened = refl;
           stays = ap (λ (x : EndState ClientState). (next_end_state (client_rules opened) x (FrameReceived f)).ended) (sym is) ∙ ap (λ (x : Option End). (next_end_state_by (client_rules opened) k (FrameReceived f) x).ended) c.stays;
           after_hello = c.after_hello;
-          is_segment = c.is_segment;
+          is_segment = ap (λ (x : ClientState). client_segment x f) (sym state_is) ∙ c.is_segment;
           completes = ap (λ (x : ClientState). message_completed x.received c.segment) (sym state_is) ∙ c.completes;
-          verdict = ap (λ (x : ClientState). reply_verdict x f.end c.message) (sym state_is) ∙ c.judged_alike ∙ (λ i. GivesOutcome (sym d_xid i) (g i));
+          verdict = ap (λ (x : ClientState). message_verdict x f.end (stag_invalidated c.segment) c.message) (sym state_is) ∙ c.judged_alike ∙ (λ i. GivesOutcome (sym d_xid i) (g i));
           held = held_now (ap (λ (x : Option Call). is_some x) (some_call d.is_forgotten call d.call e)) ∙ (λ i. region_contents (state_is i) f.end d.xid);
         },
         tt,

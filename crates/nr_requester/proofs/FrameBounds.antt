@@ -7,7 +7,7 @@ use Rattle.nr_regions.specs.declared.denied.Denied.{Denied}
 use Rattle.nr_regions.specs.declared.denied.Denied.TheVariants.{NoStag}
 use Rattle.nr_regions.specs.declared.right.Kind.{Kind}
 use Rattle.nr_regions.specs.RegisteredMemory.{Region, RegisteredMemory, Access, held_region, live_region, region_offer, denial_in, denial, bytes_in, bytes_at, bytes_after_write, after_place, after_place_in, right_for}
-use Rattle.nr_regions.proofs.Holding.{live_held, within, get_insert_here, get_insert_other, length_bytes_after_write}
+use Rattle.nr_regions.proofs.Holding.{live_parts, within, get_insert_here, get_insert_other, length_bytes_after_write}
 use Rattle.nr_regions.proofs.Totals.{sound_change}
 use Rattle.nr_wire.specs.Constants.{OPCODE_READ_RESPONSE, OPCODE_READ_REQUEST}
 use Rattle.nr_wire.specs.declared.hello.Side.{Side}
@@ -15,7 +15,7 @@ use Rattle.nr_wire.specs.declared.hello.Side.TheVariants.{Initiator, Responder}
 use Rattle.nr_wire.specs.declared.stream.Awaited.{Awaited}
 use Rattle.nr_wire.specs.declared.stream.Awaited.TheVariants.{Hello as HelloFrom, Fpdu}
 use Rattle.nr_wire.specs.Hello.{Hello, hello_of}
-use Rattle.nr_wire.specs.Segment.{Segment, segment_of}
+use Rattle.nr_wire.specs.Segment.{Segment}
 use Rattle.nr_wire.specs.Segment.Segment.{Tagged, Untagged}
 use Rattle.nr_link.specs.declared.end.End.{End}
 use Rattle.nr_link.specs.declared.end.End.TheVariants as ends
@@ -30,7 +30,7 @@ use Rattle.nr_link.specs.Agreement.{IsSendLimit}
 use Rattle.nr_link.proofs.Agreements.{agreements_bounded}
 use Rattle.nr_endpoint.specs.Hellos.{own_private, side_agreement}
 use Rattle.nr_endpoint.specs.LinkState.{LinkState, LinkSide, has_ended}
-use Rattle.nr_endpoint.specs.Judging.{segment_end, next_frame, with_end_of, with_frame, with_segment_by, with_fpdu, with_peer_hello, with_effect, with_read_request, with_read_response, reply_hello, fetch_access}
+use Rattle.nr_endpoint.specs.Judging.{segment_end, next_frame, next_segment, with_end_of, with_frame, with_segment_by, with_fpdu, with_peer_hello, with_effect, with_read_request, with_read_response, reply_hello, fetch_access}
 use Rattle.nr_endpoint.specs.SegmentEnds.{RequestIsFine, denied_if, tagged_end}
 use Rattle.nr_endpoint.specs.Calls.{after_call}
 use Rattle.nr_endpoint.specs.Calls.Call.{FeedOne}
@@ -81,12 +81,13 @@ same_region : (x y : Region) → Some x ≡ Some y → x ≡ y
 same_region x y e = ap (or_region x) e
 
 -- an access that is allowed leaves the lengths of the regions
-placed_by : (size : ℕ → ℕ) (m : RegisteredMemory) (stag to : ℕ) (kind : Kind) (payload : List ℕ) (total : ℕ) (o : Option Region) → held_region m stag ≡ o →
+placed_by : (size : ℕ → ℕ) (m : RegisteredMemory) (stag to : ℕ) (kind : Kind) (payload : List ℕ) (total : ℕ) (o : Option Region) → live_region m stag ≡ o →
     denial_in (region_offer o) (record { right = right_for kind; stag = stag; to = to; len = length payload }) ≡ None → RegionsFit m → RegionsHave size m total →
     RegionsFit (after_place_in o m stag to payload) × RegionsHave size (after_place_in o m stag to payload) total
 unfolding held_region
-placed_by size m stag to kind payload total None there allowed fit have = absurd (let wrong : denied NoStag ≡ None = allowed in cc)
-placed_by size m stag to kind payload total (Some region) there allowed fit have =
+placed_by size m stag to kind payload total None is allowed fit have = absurd (let wrong : denied NoStag ≡ None = allowed in cc)
+placed_by size m stag to kind payload total (Some region) is allowed fit have =
+    let there = (live_parts m stag region is).1 in
     let after : Region = record { right = region.right; buf = bytes_after_write region.buf to payload } in
     let len : length after.buf ≡ length region.buf = length_bytes_after_write region.buf to payload (within region.right region.buf (record { kind = kind; stag = stag; to = to; payload = payload; end = 0 }) allowed) in (
       λ q r e. elim (cases_eq q stag) [
@@ -100,7 +101,7 @@ placed_by size m stag to kind payload total (Some region) there allowed fit have
 placed_fits : (size : ℕ → ℕ) (m : RegisteredMemory) (stag to : ℕ) (kind : Kind) (payload : List ℕ) (total : ℕ) → denial m (record { right = right_for kind; stag = stag; to = to; len = length payload }) ≡ None → RegionsFit m → RegionsHave size m total →
     RegionsFit (after_place m stag to payload) × RegionsHave size (after_place m stag to payload) total
 unfolding denial after_place
-placed_fits size m stag to kind payload total allowed fit have = placed_by size m stag to kind payload total (live_region m stag) (sym (live_held m stag)) allowed fit have
+placed_fits size m stag to kind payload total allowed fit have = placed_by size m stag to kind payload total (live_region m stag) refl allowed fit have
 
 -- ---- A segment that doesn't end the side
 
@@ -140,11 +141,11 @@ read_fits size s last n true len total f = (
 read_fits size s last n false len total f = f
 
 reached_short : (m : RegisteredMemory) (access : Access) → RegionsFit m → length (bytes_at m access) ≤ region_max
-reached_short m access fit = by (live_region m access.stag) (sym (live_held m access.stag))
+reached_short m access fit = by (live_region m access.stag) refl
   where
-    by : (o : Option Region) → held_region m access.stag ≡ o → length (take access.len (drop access.to (bytes_in o))) ≤ region_max
-    by None there = omega (arith, length-take {A = ℕ} access.len (drop access.to []), length-drop {A = ℕ} access.to [])
-    by (Some region) there = omega (arith, length-take access.len (drop access.to region.buf), length-drop access.to region.buf, fit access.stag region there)
+    by : (o : Option Region) → live_region m access.stag ≡ o → length (take access.len (drop access.to (bytes_in o))) ≤ region_max
+    by None is = omega (arith, length-take {A = ℕ} access.len (drop access.to []), length-drop {A = ℕ} access.to [])
+    by (Some region) is = omega (arith, length-take access.len (drop access.to region.buf), length-drop access.to region.buf, fit access.stag region (live_parts m access.stag region is).1)
 
 -- the queue after a Read Request
 record QueueLeft (q : SendQueue) : Type 0 where
@@ -233,7 +234,7 @@ hello_fits size s f (Err reason) len total live h = end_fits size s (ends.Bad f.
 
 frame_fits : (size : ℕ → ℕ) (len total : ℕ) (a : Awaited) (s : LinkState) (frame : List ℕ) → has_ended s ≡ false → Fits size len total s → Fits size len total (with_frame s a frame)
 frame_fits size len total (HelloFrom side) s frame live h = hello_fits size s (next_frame s frame) (hello_of side frame) len total live h
-frame_fits size len total Fpdu s frame live h = fpdu_fits size s (next_frame s frame) (segment_of frame) len total live refl h
+frame_fits size len total Fpdu s frame live h = fpdu_fits size s (next_frame s frame) (next_segment s frame) len total live refl h
 
 -- one step on a piece
 pub fed_one_fits : (size : ℕ → ℕ) (len total : ℕ) (link : LinkSide) (piece : List ℕ) → Fits size len total link.state → Fits size len total (after_call link (FeedOne piece)).state

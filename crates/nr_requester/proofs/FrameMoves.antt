@@ -1,36 +1,38 @@
 -- What a frame of the server's stream moves of a requester: records, and lemmas on the client's side of a frame.
 use Rattle.std.proofs.Common.{◌≡◌, ℕ, ◌+◌, ◌≤◌, ◌⊎◌, inl, Bool, true, false, cond, not, eqb, ltb, List, [], ◌∷◌, ◌++◌, length, map, Option, None, Some, Result, Ok, Err, refl, sym, ap, subst, ◌∙◌, arith, append_assoc, length-append}
+use Rattle.std.specs.List.{AllByRecursion}
 use Rattle.std.proofs.lemmas.List.{append-nil, length-map}
 use Rattle.std.proofs.lemmas.Bool.{ltb-false}
 use Rattle.nr_xdr.specs.Fields.{word_at}
 use Rattle.nr_wire.specs.declared.hello.Side.{Side}
 use Rattle.nr_wire.specs.declared.hello.Side.TheVariants.{Initiator, Responder}
 use Rattle.nr_wire.specs.Hello.{hello_of}
-use Rattle.nr_wire.specs.Segment.{Segment, segment_of}
+use Rattle.nr_wire.specs.Segment.{Segment}
 use Rattle.nr_wire.specs.Segment.Segment.{Untagged}
 use Rattle.nr_regions.specs.declared.denied.Denied.{Denied}
+use Rattle.nr_regions.specs.RegisteredMemory.{RegisteredMemory}
 use Rattle.nr_link.specs.declared.end.End.{End}
 use Rattle.nr_link.specs.declared.end.End.TheVariants as ends
-use Rattle.nr_link.specs.Reasons.{REASON_MSN, REASON_OFFSET, REASON_FORM, REASON_REQUESTS, REASON_SHORT, REASON_LONG}
+use Rattle.nr_link.specs.Reasons.{REASON_MSN, REASON_OFFSET, REASON_FORM, REASON_REQUESTS, REASON_SHORT, REASON_LONG, REASON_INVALIDATED}
 use Rattle.nr_link.specs.Frames.{Frame, is_hello}
-use Rattle.nr_link.specs.ReceiveState.{ReadRequest, is_send, message_completed, read_request_of}
+use Rattle.nr_link.specs.ReceiveState.{ReadRequest, is_send, message_completed, stag_invalidated, read_request_of}
 use Rattle.nr_link.specs.SegmentFaults.{Readiness, SegmentReason, segment_reason, first_fault, missing_fault, reason_if, next_msn, next_offset, no_buffer, is_malformed, is_too_many, message_length_is, terminate_fault}
-use Rattle.nr_link.specs.Ending.{frame_segment, frame_end, frame_end_by, hello_end, missing_access, final_output, end_of_fault}
+use Rattle.nr_link.specs.Ending.{frame_end_by, hello_end, missing_access, final_output, end_of_fault}
 use Rattle.nr_endpoint.specs.LinkState.{LinkState}
 use Rattle.nr_endpoint.specs.SendQueue.{SendQueue, writable, with_end}
-use Rattle.nr_endpoint.specs.Judging.{with_fpdu, with_segment_by, with_effect, with_end_of, after_frame, segment_end}
+use Rattle.nr_endpoint.specs.Judging.{next_segment, with_fpdu, with_segment_by, with_effect, with_end_of, after_frame, segment_end}
 use Rattle.nr_endpoint.proofs.EndLaws.{effect_ended}
 use Rattle.nr_reduce.specs.declared.mark.LinkParameters.{LinkParameters}
 use Rattle.nr_reduce.specs.declared.call.Outcome.{Outcome}
 use Rattle.nr_reduce.specs.OfferedRegions.{region_grants}
 use Rattle.nr_reduce.specs.Events.RunEvent.{FrameReceived}
 use Rattle.nr_reduce.specs.EndRules.{EndState, next_end_state, next_end_state_by, output_for, output_for_by, live}
-use Rattle.nr_reduce.specs.ClientState.{ClientState}
-use Rattle.nr_reduce.specs.ClientMessages.{reply_verdict}
-use Rattle.nr_reduce.specs.ClientMessages.ReplyVerdict.{GivesOutcome}
-use Rattle.nr_reduce.specs.Client.{client_rules, client_end, client_output, client_state_after, client_readiness, client_message_end, segment_message, or_message_end, with_segment, with_message, with_request, with_hello, due_with_response, response_output, segment_request, calls_output, credits_of_word, outcomes_of}
-use Rattle.nr_reduce.specs.KeptCalls.{KeptCall, kept_verdict}
-use Rattle.nr_reduce.specs.KeptClient.{KeptClient, ClientKeeps, bytes_under, released_all, without, kept_completed, stags_for as kept_stags}
+use Rattle.nr_reduce.specs.ClientState.{ClientState, client_memory_at}
+use Rattle.nr_reduce.specs.ClientMessages.{invalidates_another, message_verdict, reply_verdict}
+use Rattle.nr_reduce.specs.ClientMessages.ReplyVerdict.{EndsLink, GivesOutcome}
+use Rattle.nr_reduce.specs.Client.{client_rules, client_segment, segment_names, client_end, client_output, client_state_after, client_readiness, client_message_end, segment_message, or_message_end, with_segment, with_message, with_request, with_hello, due_with_response, response_output, segment_request, calls_output, credits_of_word, outcomes_of}
+use Rattle.nr_reduce.specs.KeptCalls.{KeptCall, kept_message_verdict}
+use Rattle.nr_reduce.specs.KeptClient.{KeptClient, ClientKeeps, HoldsFor, bytes_under, released_all, without, kept_completed, stags_for as kept_stags}
 use Rattle.nr_reduce.proofs.Touches.{AreNone, all_none, no_flaw}
 use Rattle.nr_reduce.proofs.WholeWrotes.{client_due}
 use Rattle.nr_reduce.proofs.Releasing.{kept_stays}
@@ -68,10 +70,10 @@ pub record Completes (opened : LinkParameters) (r after : RequesterState) (k nex
   pub outcome : Option Outcome
   pub stays : client_end k (FrameReceived f) ≡ None
   pub after_hello : is_hello f ≡ false
-  pub is_segment : frame_segment f ≡ Ok segment
+  pub is_segment : client_segment k f ≡ Ok segment
   pub completes : message_completed k.received segment ≡ Some message
-  pub verdict : kept_verdict (kept_calls r) (bytes_under r.side.memory) message ≡ GivesOutcome xid outcome
-  pub judged_alike : reply_verdict k f.end message ≡ GivesOutcome xid outcome
+  pub verdict : kept_message_verdict (kept_calls r) (bytes_under r.side.memory) (stag_invalidated segment) message ≡ GivesOutcome xid outcome
+  pub judged_alike : message_verdict k f.end (stag_invalidated segment) message ≡ GivesOutcome xid outcome
   pub answered : after.answered ≡ r.answered ++ answer_to r.side.memory (call_of (word_at 0 message) r.outstanding) outcome
   pub outstanding : after.outstanding ≡ without_call (word_at 0 message) r.outstanding
   pub outcomes : next.outcomes ≡ k.outcomes ++ outcomes_of (GivesOutcome xid outcome)
@@ -87,19 +89,59 @@ pub record FrameTaken (opened : LinkParameters) (r : RequesterState) (k : Client
   pub next_xid : after.next_xid ≡ r.next_xid
   pub moves : Moves opened r after k (next_end_state (client_rules opened) (live k) (FrameReceived f)).state f
 
+-- a message that gives an outcome names no STag of another call
+pub verdict_fine : (k : ClientState) (place : ℕ) (named : Option ℕ) (message : List ℕ) (xid : ℕ) (outcome : Option Outcome) → message_verdict k place named message ≡ GivesOutcome xid outcome → reply_verdict k place message ≡ GivesOutcome xid outcome
+unfolding message_verdict
+verdict_fine k place named message xid outcome e = by (invalidates_another k named message) e
+  where
+    by : (b : Bool) → cond b (EndsLink REASON_INVALIDATED) (reply_verdict k place message) ≡ GivesOutcome xid outcome → reply_verdict k place message ≡ GivesOutcome xid outcome
+    by true e = absurd cc
+    by false e = e
+
 -- ---- A frame that ends the client, and one that doesn't
 
+-- of a client that has ended the memory counts by what it holds
+pub kept_dead : (opened : LinkParameters) (kept : KeptClient) (e : EndState ClientState) (end : End) (count : ℕ) (m : RegisteredMemory) → e.ended ≡ Some end → ((stag : ℕ) → bytes_under m stag ≡ bytes_under kept.memory stag) → ClientKeeps opened kept e count →
+    ClientKeeps opened (record kept { memory = m }) e count
+kept_dead opened kept e end count m is same k = record {
+  ended = k.ended;
+  xid = k.xid;
+  sends = k.sends;
+  grant = k.grant;
+  up = k.up;
+  down = k.down;
+  invalidates = k.invalidates;
+  outstanding = k.outstanding;
+  calls = k.calls;
+  memory = λ none. absurd (let wrong : Some end ≡ None = sym is ∙ none in cc);
+  waits = k.waits;
+  rising = k.rising;
+  opens = k.opens;
+  accesses = k.accesses;
+  holds = all kept.calls k.holds;
+}
+  where
+    under : (stags : List ℕ) → AllByRecursion (λ stag. bytes_under kept.memory stag ≡ client_memory_at e.state count stag) stags → AllByRecursion (λ stag. bytes_under m stag ≡ client_memory_at e.state count stag) stags
+    under [] h = tt
+    under (stag ∷ stags) h = (same stag ∙ h.0, under stags h.1)
+
+    all : (cs : List KeptCall) → AllByRecursion (HoldsFor kept.memory e.state count) cs → AllByRecursion (HoldsFor m e.state count) cs
+    all [] h = tt
+    all (c ∷ cs) h = (under c.stags h.0, all cs h.1)
+
 pub taken_ended : (opened : LinkParameters) (r : RequesterState) (k : ClientState) (count : ℕ) (f : Frame) (after : RequesterState) (end : End) → KeepsLiveClient opened r k count → client_end k (FrameReceived f) ≡ Some end →
-    kept_client after ≡ record (kept_client r) { ended = Some end } → after.wished ≡ r.wished → count ≤ f.end → queue_of after ≡ queue_of r ++ final_output end →
+    (m : RegisteredMemory) → ((stag : ℕ) → bytes_under m stag ≡ bytes_under r.side.memory stag) →
+    kept_client after ≡ record (kept_client r) { ended = Some end; memory = m } → after.wished ≡ r.wished → count ≤ f.end → queue_of after ≡ queue_of r ++ final_output end →
     after.next_xid ≡ r.next_xid → after.answered ≡ r.answered → after.outstanding ≡ r.outstanding → FrameTaken opened r k f after
-taken_ended opened r k count f after end keeps is kept wished le queue next answered outstanding =
+taken_ended opened r k count f after end keeps is m same kept wished le queue next answered outstanding =
     let e : EndState ClientState = next_end_state (client_rules opened) (live k) (FrameReceived f) in
     let ended : e.ended ≡ Some end = ap (λ (x : Option End). (next_end_state_by (client_rules opened) k (FrameReceived f) x).ended) is in
     let side_ended : after.side.ended ≡ Some end = ap (λ (x : KeptClient). x.ended) kept in
     record {
       keeps = record {
         client = subst (λ (x : KeptClient). ClientKeeps opened x e f.end) (sym kept)
-            (kept_stays opened (record (kept_client r) { ended = Some end }) e count f.end (kept_ends opened (kept_client r) k end count (FrameReceived f) keeps.client is) le);
+            (kept_dead opened (record (kept_client r) { ended = Some end }) e end f.end m ended same
+            (kept_stays opened (record (kept_client r) { ended = Some end }) e count f.end (kept_ends opened (kept_client r) k end count (FrameReceived f) keeps.client is) le));
         wished = wished ∙ keeps.wished;
         live_one = λ none. absurd (let wrong : Some end ≡ None = sym ended ∙ none in cc);
       };
@@ -124,9 +166,9 @@ written_still opened k f = by (is_hello f)
     by_segment (Err reason) = refl
     by_segment (Ok segment) = by_message (message_completed k.received segment) (due_with_response k f segment) (read_request_of segment)
 
-    by : (b : Bool) → (cond b (with_hello opened k f) (with_segment k f (frame_segment f))).written ≡ k.written
+    by : (b : Bool) → (cond b (with_hello opened k f) (with_segment k f (client_segment k f))).written ≡ k.written
     by true = refl
-    by false = by_segment (frame_segment f)
+    by false = by_segment (client_segment k f)
 
 pub taken_live : (opened : LinkParameters) (r : RequesterState) (k : ClientState) (count : ℕ) (f : Frame) (after : RequesterState) → KeepsLiveClient opened r k count → client_end k (FrameReceived f) ≡ None →
     ClientKeeps opened (kept_client after) (next_end_state (client_rules opened) (live k) (FrameReceived f)) f.end → LinkKeeps opened after.side (client_state_after opened k (FrameReceived f)) → after.sent ≡ r.sent → after.side.send_queue.sends_left ≡ r.side.send_queue.sends_left →
@@ -180,15 +222,15 @@ ended_shape s f (Err reason) end lives is = (let same : ends.Bad f.at reason ≡
 -- what doesn't end it
 pub record Lives (s : LinkState) (f : Frame) (frame : List ℕ) : Type 0 where
   pub segment : Segment
-  pub is_segment : segment_of frame ≡ Ok segment
+  pub is_segment : next_segment s frame ≡ Ok segment
   pub none : segment_end s f segment ≡ None
-  pub shape : with_fpdu f (segment_of frame) s ≡ after_frame f (with_effect segment s)
+  pub shape : with_fpdu f (next_segment s frame) s ≡ after_frame f (with_effect segment s)
 
 pub none_ended : (s : LinkState) (f : Frame) (segment : Segment) (e : Option End) → (with_segment_by f segment e s).ended ≡ None → e ≡ None
 none_ended s f segment None is = refl
 none_ended s f segment (Some end) is = absurd cc
 
-pub lives_by_lem : (s : LinkState) (f : Frame) (frame : List ℕ) (r : Result Segment ℕ) → segment_of frame ≡ r → (with_fpdu f r s).ended ≡ None → Lives s f frame
+pub lives_by_lem : (s : LinkState) (f : Frame) (frame : List ℕ) (r : Result Segment ℕ) → next_segment s frame ≡ r → (with_fpdu f r s).ended ≡ None → Lives s f frame
 unfolding with_fpdu
 lives_by_lem s f frame (Ok segment) is none =
     let e : segment_end s f segment ≡ None = none_ended s f segment (segment_end s f segment) none in
@@ -204,18 +246,18 @@ lives_by_lem s f frame (Err reason) is none = absurd cc
 
 pub record Reads (opened : LinkParameters) (k : ClientState) (f : Frame) (segment : Segment) : Type 0 where
   pub later : is_hello f ≡ false
-  pub is_segment : frame_segment f ≡ Ok segment
-  pub end : client_end k (FrameReceived f) ≡ client_message_end k f (message_completed k.received segment)
+  pub is_segment : client_segment k f ≡ Ok segment
+  pub end : client_end k (FrameReceived f) ≡ client_message_end k f (stag_invalidated segment) (message_completed k.received segment)
   pub output : client_output opened k (FrameReceived f) ≡ response_output k f.end (read_request_of segment)
   pub state : client_state_after opened k (FrameReceived f) ≡ with_segment k f (Ok segment)
 
-pub reads : (opened : LinkParameters) (k : ClientState) (f : Frame) (segment : Segment) → is_hello f ≡ false → frame_segment f ≡ Ok segment → frame_end (client_readiness k) (region_grants f.end k.regions) f ≡ None → Reads opened k f segment
+pub reads : (opened : LinkParameters) (k : ClientState) (f : Frame) (segment : Segment) → is_hello f ≡ false → client_segment k f ≡ Ok segment → frame_end_by (client_readiness k) (region_grants f.end k.regions) f (client_segment k f) ≡ None → Reads opened k f segment
 unfolding client_end client_output client_state_after
 reads opened k f segment later is none = record {
   later = later;
   is_segment = is;
   end = (λ i. cond (later i) (hello_end (hello_of Responder f.bytes)) (or_message_end k f (none i)))
-      ∙ ap (λ (r : Result Segment ℕ). client_message_end k f (segment_message k r)) is;
+      ∙ ap (λ (r : Result Segment ℕ). client_message_end k f (segment_names r) (segment_message k r)) is;
   output = (λ i. cond (later i) (calls_output opened 1 k.outstanding) (response_output k f.end (segment_request (is i))));
   state = (λ i. cond (later i) (with_hello opened k f) (with_segment k f (is i)));
 }
@@ -241,9 +283,9 @@ message_segment k f segment message whole =
     by (Some q) = refl
 
 -- a message is no longer than its receive
-pub not_long : (k : ClientState) (f : Frame) (last : Bool) (opcode w queue msn offset : ℕ) (payload message : List ℕ) → frame_segment f ≡ Ok (Untagged last opcode w queue msn offset payload) →
-    frame_end (client_readiness k) (region_grants f.end k.regions) f ≡ None → message_completed k.received (Untagged last opcode w queue msn offset payload) ≡ Some message → length message ≤ k.down_max
-unfolding frame_end segment_reason
+pub not_long : (k : ClientState) (f : Frame) (last : Bool) (opcode w queue msn offset : ℕ) (payload message : List ℕ) → client_segment k f ≡ Ok (Untagged last opcode w queue msn offset payload) →
+    frame_end_by (client_readiness k) (region_grants f.end k.regions) f (client_segment k f) ≡ None → message_completed k.received (Untagged last opcode w queue msn offset payload) ≡ Some message → length message ≤ k.down_max
+unfolding segment_reason
 not_long k f last opcode w queue msn offset payload message is none whole =
     let segment : Segment = Untagged last opcode w queue msn offset payload in
     let r : Readiness Denied = client_readiness k (missing_access (region_grants f.end k.regions) f segment) in
@@ -278,13 +320,13 @@ without_alike sent xid (c ∷ cs) = by (eqb c.xid xid) (without_alike sent xid c
     by true rest = rest
     by false rest = ap (λ (xs : List KeptCall). kept_call sent c ∷ xs) rest
 
-pub completed_is : (r : RequesterState) (message : List ℕ) (xid : ℕ) (outcome : Option Outcome) (s : LinkState) → s.ended ≡ r.side.ended → s.memory ≡ r.side.memory → s.agreed ≡ r.side.agreed → kept_completed (kept_client r) message ≡ kept_client (judged r s message (GivesOutcome xid outcome))
+pub completed_is : (r : RequesterState) (message : List ℕ) (xid : ℕ) (outcome : Option Outcome) (s : LinkState) → s.ended ≡ r.side.ended → released_all s.memory (stags_for (word_at 0 message) r.outstanding) ≡ released_all r.side.memory (stags_for (word_at 0 message) r.outstanding) → s.agreed ≡ r.side.agreed → kept_completed (kept_client r) message ≡ kept_client (judged r s message (GivesOutcome xid outcome))
 unfolding kept_completed
 completed_is r message xid outcome s ended memory agreed =
     let x : ℕ = word_at 0 message in
     let calls = without_alike r.sent x r.outstanding in
     let count : length (without x (kept_calls r)) ≡ length (without_call x r.outstanding) = ap (λ (xs : List KeptCall). length xs) calls ∙ length-map (without_call x r.outstanding) (kept_call r.sent) in
-    let stags : released_all r.side.memory (kept_stags x (kept_calls r)) ≡ released_all s.memory (stags_for x r.outstanding) = (λ i. released_all (sym memory i) (stags_alike r.sent x r.outstanding i)) in
+    let stags : released_all r.side.memory (kept_stags x (kept_calls r)) ≡ released_all s.memory (stags_for x r.outstanding) = ap (λ (ss : List ℕ). released_all r.side.memory ss) (stags_alike r.sent x r.outstanding) ∙ sym memory in
     λ i. record {
       ended = sym ended i;
       next_xid = r.next_xid;
@@ -295,4 +337,5 @@ completed_is r message xid outcome s ended memory agreed =
       memory = stags i;
       up_max = (sym agreed i).up;
       down_max = (sym agreed i).down;
+      invalidates = (sym agreed i).invalidates;
     }

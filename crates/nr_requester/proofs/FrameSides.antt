@@ -12,7 +12,7 @@ use Rattle.nr_regions.specs.RegisteredMemory.{RegisteredMemory, denial, right_fo
 use Rattle.nr_link.specs.Reasons.{REASON_RESPONSE, REASON_MSN, REASON_OFFSET, REASON_FORM, REASON_REQUESTS, REASON_LONG, REASON_SHORT}
 use Rattle.nr_link.specs.Frames.{Frame}
 use Rattle.nr_link.specs.Output.{msn_word, read_response}
-use Rattle.nr_link.specs.ReceiveState.{ReceiveState, ReadRequest, is_send, received_after, message_completed, read_request_in, read_request_of}
+use Rattle.nr_link.specs.ReceiveState.{ReceiveState, ReadRequest, is_send, received_after, message_completed, stag_invalidated, read_request_in, read_request_of}
 use Rattle.nr_link.specs.SegmentFaults.{ExpectedResponse, Readiness, SegmentReason, segment_reason, first_fault, missing_fault, reason_if, is_expected, is_unexpected, next_msn, next_offset, no_buffer, is_malformed, is_too_many, message_length_is, terminate_fault}
 use Rattle.nr_link.specs.Ending.{kind_of}
 use Rattle.nr_endpoint.specs.Hellos.{receive_length_for}
@@ -150,7 +150,7 @@ link_untagged opened s k f last opcode w queue msn offset payload keeps later so
       receive = ap (λ (r : ReceiveState). cond (takes_receive r segment) (s.receive_queue.free - 1) s.receive_queue.free + sends_begun (received_after k.received segment).begun) keeps.received
           ∙ receive_part (receive_length_for opened.client) k.received s.receive_queue.free segment keeps.receive none;
       none_lent = keeps.none_lent;
-      none_waits = ap (λ (r : ReceiveState). s.receive_queue.deliveries ++ message_deliveries (s.receive_queue.received.sends + 1) (message_completed r segment)) keeps.received ∙ none_told (receive_length_for opened.client) k.received (s.receive_queue.received.sends + 1) s.receive_queue.deliveries segment keeps.none_waits none;
+      none_waits = ap (λ (r : ReceiveState). s.receive_queue.deliveries ++ message_deliveries (s.receive_queue.received.sends + 1) (stag_invalidated segment) (message_completed r segment)) keeps.received ∙ none_told (receive_length_for opened.client) k.received (s.receive_queue.received.sends + 1) s.receive_queue.deliveries segment keeps.none_waits none;
       no_reads = keeps.no_reads;
       number = left.last_send ∙ keeps.number ∙ ap msn_word (sym same.sends);
       waiting = λ e. not_greeted k greeted (sym same.has_hello ∙ e);

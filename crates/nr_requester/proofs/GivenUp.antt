@@ -10,14 +10,14 @@ use Rattle.nr_reduce.specs.declared.mark.Mark.TheVariants as marks
 use Rattle.nr_requester.specs.declared.answer.AnsweredCall.{AnsweredCall}
 use Rattle.nr_requester.specs.declared.outstanding.OutstandingCall.{OutstandingCall}
 use Rattle.nr_requester.specs.RequesterState.{StoredCall, RequesterSide, stags_of, awaited_call}
-use Rattle.nr_requester.specs.AfterCalls.{no_claims, without_answer, revoked_if, forgotten_if, stags_in, after_revoke, after_forget}
+use Rattle.nr_requester.specs.AfterCalls.{no_claims, without_answer, revoked_if, forgotten_if, stags_in, live_count, after_revoke, after_forget}
 use Rattle.nr_requester.specs.AfterPiece.{buffers_under}
 use Rattle.nr_requester.specs.Buffers.{with_memory}
 use Rattle.nr_requester.specs.HeldClaims.{call_claims, all_claims, AreHeldFrom, OffersOwn}
 use Rattle.nr_requester.specs.OpenCalls.{open_call, call_with, buffers_with, buffers_of}
 use Rattle.nr_requester.specs.Standing.{RequesterRepresents, RequesterRunsOut, StandsOn, StaysOut, StopsRevoked}
 use Rattle.nr_requester.specs.Views.{HasRoom, RequesterInvariant, IsAnswered, AreRising, stored_view, given_up, forgot, requester_view, side_view}
-use Rattle.nr_requester.specs.CountedMarks.{one_mark_more}
+use Rattle.nr_requester.specs.CountedMarks.{one_mark_more, with_releases}
 use Rattle.nr_requester.specs.HeldBytes.{NothingOutside, LinkFits, IsCount, RegionsHave, xid_of, send_of, CountsFit, in_bytes, claims_size, claims_total, CallFits, AnswerFits, RequesterBounds}
 use Rattle.nr_requester.proofs.Releases.{all_released, held_middle, stags_are_of}
 use Rattle.nr_requester.proofs.RegionBounds.{Both, bytes_count, released_both}
@@ -36,7 +36,7 @@ forget_leaves c = refl
 
 -- any call: these have one
 pub given : (calls : List OutstandingCall) (at : ℕ) → OutstandingCall
-given calls at = get_or calls at (record { xid = 0; send = 0; call = None; is_forgotten = false; offered = record { read = []; write = []; reply = None }; claims = no_claims; room = record { bytes = []; len = 0 } })
+given calls at = get_or calls at (record { xid = 0; send = 0; call = None; is_forgotten = false; offered = record { read = []; write = []; reply = None }; given = record { read = None; write = None; reply = None }; claims = no_claims; room = record { bytes = []; len = 0 } })
 
 -- ---- The regions of a call are released
 
@@ -210,82 +210,85 @@ taken_within e len sends next xid calls answers answers2 w are =
 -- ---- As contracts see it
 
 -- an outstanding call is revoked,
-pub given_up_view : (link link2 : LinkSide) (sent wished sends next grant xid n : ℕ) (calls calls2 : List OutstandingCall) (answers : List AnsweredCall) (d : OutstandingCall) (staging staging2 : List ℕ) (marks marks2 : ℕ) → AreRising calls next → AllByRecursion (IsAnswered next calls) answers → n < length calls → (get_or calls n d).xid ≡ xid →
+pub given_up_view : (link link2 : LinkSide) (sent wished sends next grant releases releases2 xid n : ℕ) (calls calls2 : List OutstandingCall) (answers : List AnsweredCall) (d : OutstandingCall) (staging staging2 : List ℕ) (marks marks2 : ℕ) → AreRising calls next → AllByRecursion (IsAnswered next calls) answers → n < length calls → (get_or calls n d).xid ≡ xid →
     link2 ≡ with_memory (released_all link.state.memory (stags_of (get_or calls n d).claims)) link → calls2 ≡ set calls n (given_up (get_or calls n d)) → staging2 ≡ staging → marks2 ≡ one_mark_more marks →
-    side_view staging2 marks2 (requester_view link2 sent wished sends next grant calls2 answers) ≡ after_revoke (side_view staging marks (requester_view link sent wished sends next grant calls answers)) xid
+    releases2 ≡ with_releases (live_count link.state.memory (stags_of (get_or calls n d).claims)) releases →
+    side_view staging2 marks2 (requester_view link2 sent wished sends next grant calls2 answers releases2) ≡ after_revoke (side_view staging marks (requester_view link sent wished sends next grant calls answers releases)) xid
 unfolding after_revoke
-given_up_view link link2 sent wished sends next grant xid n calls calls2 answers d staging staging2 marks marks2 rise apart lt own link_is are stages counts =
+given_up_view link link2 sent wished sends next grant releases releases2 xid n calls calls2 answers d staging staging2 marks marks2 rise apart lt own link_is are stages counts releases_are =
     let c : OutstandingCall = get_or calls n d in
     let found = found_at next xid n calls d rise lt own in
     let none : answers ≡ without_answer xid answers = sym (none_taken xid answers (subst (λ (x : ℕ). AllByRecursion (λ (a : AnsweredCall). a.xid ≢ x) answers) own (others_answered next n calls d answers lt apart))) in
     let out : map stored_view calls2 ≡ map (changed_by revoked_if xid) (map stored_view calls) = ap (map stored_view) are ∙ one_changed revoked_if revoke_leaves next xid n calls (given_up c) d refl rise lt own in
-    (λ i. side_view (stages i) (counts i) (record (requester_view (link_is i) sent wished sends next grant calls answers) {
-      state = record (requester_view (link_is i) sent wished sends next grant calls answers).state { outstanding = out i; answered = none i };
+    (λ i. side_view (stages i) (counts i) (record (requester_view (link_is i) sent wished sends next grant calls answers releases) {
+      state = record (requester_view (link_is i) sent wished sends next grant calls answers releases).state { outstanding = out i; answered = none i; local_releases = releases_are i };
     }))
-    ∙ (λ i. side_view staging (one_mark_more marks) (record (requester_view link sent wished sends next grant calls answers) {
-      state = record (requester_view link sent wished sends next grant calls answers).state {
+    ∙ (λ i. side_view staging (one_mark_more marks) (record (requester_view link sent wished sends next grant calls answers releases) {
+      state = record (requester_view link sent wished sends next grant calls answers releases).state {
         side = record link.state { memory = released_all link.state.memory (stags_in (sym found i)) };
         outstanding = map (changed_by revoked_if xid) (map stored_view calls);
         answered = without_answer xid answers;
+        local_releases = with_releases (live_count link.state.memory (stags_in (sym found i))) releases;
       };
     }))
 
 -- and one that was answered;
-pub revoked_view : (link : LinkSide) (sent wished sends next grant xid : ℕ) (calls : List OutstandingCall) (answers answers2 : List AnsweredCall) (staging : List ℕ) (marks marks2 : ℕ) → ((k : ℕ) (d : OutstandingCall) → k < length calls → (get_or calls k d).xid ≢ xid) → answers2 ≡ without_answer xid answers → marks2 ≡ one_mark_more marks →
-    side_view staging marks2 (requester_view link sent wished sends next grant calls answers2) ≡ after_revoke (side_view staging marks (requester_view link sent wished sends next grant calls answers)) xid
+pub revoked_view : (link : LinkSide) (sent wished sends next grant releases xid : ℕ) (calls : List OutstandingCall) (answers answers2 : List AnsweredCall) (staging : List ℕ) (marks marks2 : ℕ) → ((k : ℕ) (d : OutstandingCall) → k < length calls → (get_or calls k d).xid ≢ xid) → answers2 ≡ without_answer xid answers → marks2 ≡ one_mark_more marks →
+    side_view staging marks2 (requester_view link sent wished sends next grant calls answers2 releases) ≡ after_revoke (side_view staging marks (requester_view link sent wished sends next grant calls answers releases)) xid
 unfolding after_revoke
-revoked_view link sent wished sends next grant xid calls answers answers2 staging marks marks2 none are counts =
+revoked_view link sent wished sends next grant releases xid calls answers answers2 staging marks marks2 none are counts =
     let no_stags = ap stags_in (none_found xid calls none) in
     let out : map stored_view calls ≡ map (changed_by revoked_if xid) (map stored_view calls) = sym (none_changed revoked_if revoke_leaves xid calls none) in
-    λ i. side_view staging (counts i) (record (requester_view link sent wished sends next grant calls answers) {
-      state = record (requester_view link sent wished sends next grant calls answers).state {
+    λ i. side_view staging (counts i) (record (requester_view link sent wished sends next grant calls answers releases) {
+      state = record (requester_view link sent wished sends next grant calls answers releases).state {
         side = record link.state { memory = released_all link.state.memory (sym no_stags i) };
         outstanding = out i;
         answered = are i;
+        local_releases = with_releases (live_count link.state.memory (sym no_stags i)) releases;
       };
     })
 
 -- an outstanding call is forgotten,
-pub forgot_view : (link : LinkSide) (sent wished sends next grant xid n : ℕ) (calls calls2 : List OutstandingCall) (answers : List AnsweredCall) (d : OutstandingCall) (staging : List ℕ) (marks marks2 : ℕ) → AreRising calls next → AllByRecursion (IsAnswered next calls) answers → n < length calls → (get_or calls n d).xid ≡ xid →
+pub forgot_view : (link : LinkSide) (sent wished sends next grant releases xid n : ℕ) (calls calls2 : List OutstandingCall) (answers : List AnsweredCall) (d : OutstandingCall) (staging : List ℕ) (marks marks2 : ℕ) → AreRising calls next → AllByRecursion (IsAnswered next calls) answers → n < length calls → (get_or calls n d).xid ≡ xid →
     calls2 ≡ set calls n (forgot (get_or calls n d)) → marks2 ≡ one_mark_more marks →
-    side_view staging marks2 (requester_view link sent wished sends next grant calls2 answers) ≡ after_forget (side_view staging marks (requester_view link sent wished sends next grant calls answers)) xid
+    side_view staging marks2 (requester_view link sent wished sends next grant calls2 answers releases) ≡ after_forget (side_view staging marks (requester_view link sent wished sends next grant calls answers releases)) xid
 unfolding after_forget
-forgot_view link sent wished sends next grant xid n calls calls2 answers d staging marks marks2 rise apart lt own are counts =
+forgot_view link sent wished sends next grant releases xid n calls calls2 answers d staging marks marks2 rise apart lt own are counts =
     let c : OutstandingCall = get_or calls n d in
     let none : answers ≡ without_answer xid answers = sym (none_taken xid answers (subst (λ (x : ℕ). AllByRecursion (λ (a : AnsweredCall). a.xid ≢ x) answers) own (others_answered next n calls d answers lt apart))) in
     let out : map stored_view calls2 ≡ map (changed_by forgotten_if xid) (map stored_view calls) = ap (map stored_view) are ∙ one_changed forgotten_if forget_leaves next xid n calls (forgot c) d refl rise lt own in
-    λ i. side_view staging (counts i) (record (requester_view link sent wished sends next grant calls answers) {
-      state = record (requester_view link sent wished sends next grant calls answers).state { outstanding = out i; answered = none i };
+    λ i. side_view staging (counts i) (record (requester_view link sent wished sends next grant calls answers releases) {
+      state = record (requester_view link sent wished sends next grant calls answers releases).state { outstanding = out i; answered = none i };
     })
 
 -- and an answer is taken
-pub taken_view : (link : LinkSide) (sent wished sends next grant xid : ℕ) (calls : List OutstandingCall) (answers answers2 : List AnsweredCall) (staging : List ℕ) (marks marks2 : ℕ) → ((k : ℕ) (d : OutstandingCall) → k < length calls → (get_or calls k d).xid ≢ xid) → answers2 ≡ without_answer xid answers → marks2 ≡ one_mark_more marks →
-    side_view staging marks2 (requester_view link sent wished sends next grant calls answers2) ≡ after_forget (side_view staging marks (requester_view link sent wished sends next grant calls answers)) xid
+pub taken_view : (link : LinkSide) (sent wished sends next grant releases xid : ℕ) (calls : List OutstandingCall) (answers answers2 : List AnsweredCall) (staging : List ℕ) (marks marks2 : ℕ) → ((k : ℕ) (d : OutstandingCall) → k < length calls → (get_or calls k d).xid ≢ xid) → answers2 ≡ without_answer xid answers → marks2 ≡ one_mark_more marks →
+    side_view staging marks2 (requester_view link sent wished sends next grant calls answers2 releases) ≡ after_forget (side_view staging marks (requester_view link sent wished sends next grant calls answers releases)) xid
 unfolding after_forget
-taken_view link sent wished sends next grant xid calls answers answers2 staging marks marks2 none are counts =
+taken_view link sent wished sends next grant releases xid calls answers answers2 staging marks marks2 none are counts =
     let out : map stored_view calls ≡ map (changed_by forgotten_if xid) (map stored_view calls) = sym (none_changed forgotten_if forget_leaves xid calls none) in
-    λ i. side_view staging (counts i) (record (requester_view link sent wished sends next grant calls answers) {
-      state = record (requester_view link sent wished sends next grant calls answers).state { outstanding = out i; answered = are i };
+    λ i. side_view staging (counts i) (record (requester_view link sent wished sends next grant calls answers releases) {
+      state = record (requester_view link sent wished sends next grant calls answers releases).state { outstanding = out i; answered = are i };
     })
 
 -- ---- What is handed back
 
-pub call_is : (link : LinkSide) (sent wished sends next grant xid n : ℕ) (calls : List OutstandingCall) (answers : List AnsweredCall) (d : OutstandingCall) → AreRising calls next → n < length calls → (get_or calls n d).xid ≡ xid →
-    open_call xid (requester_view link sent wished sends next grant calls answers).state ≡ awaited_call (stored_view (get_or calls n d))
-call_is link sent wished sends next grant xid n calls answers d rise lt own = ap (λ (x : Option StoredCall). call_with x (find (λ (a : AnsweredCall). eqb a.xid xid) answers)) (found_at next xid n calls d rise lt own)
+pub call_is : (link : LinkSide) (sent wished sends next grant releases xid n : ℕ) (calls : List OutstandingCall) (answers : List AnsweredCall) (d : OutstandingCall) → AreRising calls next → n < length calls → (get_or calls n d).xid ≡ xid →
+    open_call xid (requester_view link sent wished sends next grant calls answers releases).state ≡ awaited_call (stored_view (get_or calls n d))
+call_is link sent wished sends next grant releases xid n calls answers d rise lt own = ap (λ (x : Option StoredCall). call_with x (find (λ (a : AnsweredCall). eqb a.xid xid) answers)) (found_at next xid n calls d rise lt own)
 
-pub buffers_of_one : (link : LinkSide) (sent wished sends next grant xid n : ℕ) (calls : List OutstandingCall) (answers : List AnsweredCall) (d : OutstandingCall) → AreRising calls next → n < length calls → (get_or calls n d).xid ≡ xid →
-    buffers_of xid (requester_view link sent wished sends next grant calls answers).state ≡ buffers_under link.state.memory (get_or calls n d).claims
-buffers_of_one link sent wished sends next grant xid n calls answers d rise lt own = ap (λ (x : Option StoredCall). buffers_with link.state.memory x (find (λ (a : AnsweredCall). eqb a.xid xid) answers)) (found_at next xid n calls d rise lt own)
+pub buffers_of_one : (link : LinkSide) (sent wished sends next grant releases xid n : ℕ) (calls : List OutstandingCall) (answers : List AnsweredCall) (d : OutstandingCall) → AreRising calls next → n < length calls → (get_or calls n d).xid ≡ xid →
+    buffers_of xid (requester_view link sent wished sends next grant calls answers releases).state ≡ buffers_under link.state.memory (get_or calls n d).claims
+buffers_of_one link sent wished sends next grant releases xid n calls answers d rise lt own = ap (λ (x : Option StoredCall). buffers_with link.state.memory x (find (λ (a : AnsweredCall). eqb a.xid xid) answers)) (found_at next xid n calls d rise lt own)
 
 -- if it isn't outstanding
-pub call_answered : (link : LinkSide) (sent wished sends next grant xid : ℕ) (calls : List OutstandingCall) (answers : List AnsweredCall) (answer : Option AnsweredCall) → ((k : ℕ) (d : OutstandingCall) → k < length calls → (get_or calls k d).xid ≢ xid) →
-    find (λ (a : AnsweredCall). eqb a.xid xid) answers ≡ answer → open_call xid (requester_view link sent wished sends next grant calls answers).state ≡ call_with None answer
-call_answered link sent wished sends next grant xid calls answers answer none is = λ i. call_with (none_found xid calls none i) (is i)
+pub call_answered : (link : LinkSide) (sent wished sends next grant releases xid : ℕ) (calls : List OutstandingCall) (answers : List AnsweredCall) (answer : Option AnsweredCall) → ((k : ℕ) (d : OutstandingCall) → k < length calls → (get_or calls k d).xid ≢ xid) →
+    find (λ (a : AnsweredCall). eqb a.xid xid) answers ≡ answer → open_call xid (requester_view link sent wished sends next grant calls answers releases).state ≡ call_with None answer
+call_answered link sent wished sends next grant releases xid calls answers answer none is = λ i. call_with (none_found xid calls none i) (is i)
 
-pub buffers_answered : (link : LinkSide) (sent wished sends next grant xid : ℕ) (calls : List OutstandingCall) (answers : List AnsweredCall) (answer : Option AnsweredCall) → ((k : ℕ) (d : OutstandingCall) → k < length calls → (get_or calls k d).xid ≢ xid) →
-    find (λ (a : AnsweredCall). eqb a.xid xid) answers ≡ answer → buffers_of xid (requester_view link sent wished sends next grant calls answers).state ≡ buffers_with link.state.memory None answer
-buffers_answered link sent wished sends next grant xid calls answers answer none is = λ i. buffers_with link.state.memory (none_found xid calls none i) (is i)
+pub buffers_answered : (link : LinkSide) (sent wished sends next grant releases xid : ℕ) (calls : List OutstandingCall) (answers : List AnsweredCall) (answer : Option AnsweredCall) → ((k : ℕ) (d : OutstandingCall) → k < length calls → (get_or calls k d).xid ≢ xid) →
+    find (λ (a : AnsweredCall). eqb a.xid xid) answers ≡ answer → buffers_of xid (requester_view link sent wished sends next grant calls answers releases).state ≡ buffers_with link.state.memory None answer
+buffers_answered link sent wished sends next grant releases xid calls answers answer none is = λ i. buffers_with link.state.memory (none_found xid calls none i) (is i)
 
 -- ---- A mark more
 

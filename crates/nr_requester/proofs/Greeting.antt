@@ -14,7 +14,7 @@ use Rattle.nr_link.specs.declared.end.End.{End}
 use Rattle.nr_link.specs.declared.end.End.TheVariants as ends
 use Rattle.nr_link.specs.Frames.{Frame, is_hello}
 use Rattle.nr_link.specs.Output.{terminate_message}
-use Rattle.nr_link.specs.Ending.{frame_segment, frame_end, hello_end, final_output, rejection}
+use Rattle.nr_link.specs.Ending.{frame_end_by, hello_end, final_output, rejection}
 use Rattle.nr_endpoint.specs.Hellos.{own_private, side_agreement, received_max, receive_length_for}
 use Rattle.nr_endpoint.specs.LinkState.{LinkState}
 use Rattle.nr_endpoint.specs.SendQueue.{writable, with_hello as queue_hello, with_end}
@@ -28,7 +28,7 @@ use Rattle.nr_reduce.specs.OfferedRegions.{region_grants}
 use Rattle.nr_reduce.specs.Events.RunEvent.{FrameReceived}
 use Rattle.nr_reduce.specs.EndRules.{EndState, next_end_state, next_end_state_by, live}
 use Rattle.nr_reduce.specs.ClientState.{ClientState}
-use Rattle.nr_reduce.specs.Client.{client_rules, client_end, client_output, client_state_after, calls_output, call_ends, or_message_end, client_readiness, with_hello, with_segment, response_output, segment_request}
+use Rattle.nr_reduce.specs.Client.{client_rules, client_segment, client_end, client_output, client_state_after, calls_output, call_ends, or_message_end, client_readiness, with_hello, with_segment, response_output, segment_request}
 use Rattle.nr_reduce.specs.KeptClient.{KeptClient, ClientKeeps, kept_greeted}
 use Rattle.nr_reduce.proofs.Releasing.{kept_stays}
 use Rattle.nr_reduce.proofs.Submits.{kept_greets}
@@ -62,7 +62,7 @@ agrees_as opened s f private side terms said = λ i. side_agreement (side i) (ow
 kept_as : (opened : LinkParameters) (r : RequesterState) (f : Frame) (own private : List ℕ) → side_agreement r.side.side own private ≡ client_agreement opened f →
     kept_greeted (kept_client r) (client_agreement opened f) ≡ kept_client (record r { side = after_frame f (with_agreement own private r.side) })
 unfolding kept_greeted
-kept_as opened r f own private agrees = λ i. record (kept_client r) { up_max = (sym agrees i).up; down_max = (sym agrees i).down }
+kept_as opened r f own private agrees = λ i. record (kept_client r) { up_max = (sym agrees i).up; down_max = (sym agrees i).down; invalidates = (sym agrees i).invalidates }
 
 link_greeted : (opened : LinkParameters) (s : LinkState) (k : ClientState) (f : Frame) (private : List ℕ) (agreed : Agreement) (most : ℕ) → most ≡ (client_agreement opened f).down → most ≤ receive_length_for opened.client → LinkKeeps opened s k → 0 < f.end → k.has_hello ≡ false →
     LinkKeeps opened (after_frame f (record s { has_hello = true; send_queue = queue_hello [] s.send_queue; private = private; agreed = agreed; message_max = most })) (with_hello opened k f)
@@ -120,13 +120,13 @@ hello_taken opened r k count frame keeps lt first = by (hello_of Responder frame
     no_hello = link.greeted ∙ ap not is_first
 
     end_is : (x : Result Hello ℕ) → hello_of Responder frame ≡ x → client_end k (FrameReceived f) ≡ hello_end x
-    end_is x e = (λ i. cond (is_first i) (hello_end (e i)) (or_message_end k f (frame_end (client_readiness k) (region_grants f.end k.regions) f)))
+    end_is x e = (λ i. cond (is_first i) (hello_end (e i)) (or_message_end k f (frame_end_by (client_readiness k) (region_grants f.end k.regions) f (client_segment k f))))
 
     output_is : client_output opened k (FrameReceived f) ≡ calls_output opened 1 k.outstanding
-    output_is = ap (λ (b : Bool). cond b (calls_output opened 1 k.outstanding) (response_output k f.end (segment_request (frame_segment f)))) is_first
+    output_is = ap (λ (b : Bool). cond b (calls_output opened 1 k.outstanding) (response_output k f.end (segment_request (client_segment k f)))) is_first
 
     state_is : client_state_after opened k (FrameReceived f) ≡ with_hello opened k f
-    state_is = ap (λ (b : Bool). cond b (with_hello opened k f) (with_segment k f (frame_segment f))) is_first
+    state_is = ap (λ (b : Bool). cond b (with_hello opened k f) (with_segment k f (client_segment k f))) is_first
 
     by : (x : Result Hello ℕ) → hello_of Responder frame ≡ x → FrameTaken opened r k f (record r { side = with_peer_hello f x r.side })
     by (Ok hello) e =
@@ -156,7 +156,7 @@ hello_taken opened r k count frame keeps lt first = by (hello_of Responder frame
         refl (inl (record { answered = refl; outstanding = refl; outcomes = ap (λ (x : ClientState). x.outcomes) state_is }))
     by (Err reason) e =
         let end : End = ends.Bad 0 reason in
-        taken_ended opened r k count f (record r { side = with_end_of (ends.Bad f.at reason) r.side }) end keeps (end_is (Err reason) e)
+        taken_ended opened r k count f (record r { side = with_end_of (ends.Bad f.at reason) r.side }) end keeps (end_is (Err reason) e) r.side.memory (λ stag. refl)
         (ap (λ (n : ℕ). record (kept_client r) { ended = Some (ends.Bad n reason) }) first) refl (omega (arith, lt))
         (no_last r.side.has_hello (link.has_hello ∙ no_hello)
         ∙ sym (append-nil (queue_of r)) ∙ ap (λ (xs : List ℕ). queue_of r ++ xs) (sym (no_output reason 0 (hello_reason r.side frame reason keeps.client.ended e))))

@@ -22,13 +22,13 @@ use Rattle.nr_requester.proofs.Tickets.{AreApart, own_gone, other_found, others_
 
 -- ---- Of one call
 
-pub remaining_is : (link : LinkSide) (sent wished sends next grant xid n : ℕ) (calls : List OutstandingCall) (answers : List AnsweredCall) (d : OutstandingCall) → AreRising calls next → n < length calls → (get_or calls n d).xid ≡ xid →
-    remaining_call xid (requester_view link sent wished sends next grant calls answers).state ≡ (get_or calls n d).call
-remaining_is link sent wished sends next grant xid n calls answers d rise lt own = ap (λ (x : Option StoredCall). remains_with x (find (λ (a : AnsweredCall). eqb a.xid xid) answers)) (found_at next xid n calls d rise lt own)
+pub remaining_is : (link : LinkSide) (sent wished sends next grant releases xid n : ℕ) (calls : List OutstandingCall) (answers : List AnsweredCall) (d : OutstandingCall) → AreRising calls next → n < length calls → (get_or calls n d).xid ≡ xid →
+    remaining_call xid (requester_view link sent wished sends next grant calls answers releases).state ≡ (get_or calls n d).call
+remaining_is link sent wished sends next grant releases xid n calls answers d rise lt own = ap (λ (x : Option StoredCall). remains_with x (find (λ (a : AnsweredCall). eqb a.xid xid) answers)) (found_at next xid n calls d rise lt own)
 
-pub remaining_answered : (link : LinkSide) (sent wished sends next grant xid : ℕ) (calls : List OutstandingCall) (answers : List AnsweredCall) (answer : Option AnsweredCall) → ((k : ℕ) (d : OutstandingCall) → k < length calls → (get_or calls k d).xid ≢ xid) →
-    find (λ (a : AnsweredCall). eqb a.xid xid) answers ≡ answer → remaining_call xid (requester_view link sent wished sends next grant calls answers).state ≡ remains_with None answer
-remaining_answered link sent wished sends next grant xid calls answers answer none is = λ i. remains_with (none_found xid calls none i) (is i)
+pub remaining_answered : (link : LinkSide) (sent wished sends next grant releases xid : ℕ) (calls : List OutstandingCall) (answers : List AnsweredCall) (answer : Option AnsweredCall) → ((k : ℕ) (d : OutstandingCall) → k < length calls → (get_or calls k d).xid ≢ xid) →
+    find (λ (a : AnsweredCall). eqb a.xid xid) answers ≡ answer → remaining_call xid (requester_view link sent wished sends next grant calls answers releases).state ≡ remains_with None answer
+remaining_answered link sent wished sends next grant releases xid calls answers answer none is = λ i. remains_with (none_found xid calls none i) (is i)
 
 pub remains_answered : (answer : Option AnsweredCall) → is_some (remains_with None answer) ≡ true → is_some answer ≡ true
 remains_answered None h = absurd cc
@@ -81,9 +81,9 @@ none_below None h = refl
 none_below (Some c) h = absurd (h refl)
 
 -- the least of the calls, and that of the answers
-module _ (link : LinkSide) (sent wished sends next grant : ℕ) (items : List OutstandingCall) (answers : List AnsweredCall) (call answer : Option ℕ) where
+module _ (link : LinkSide) (sent wished sends next grant : ℕ) (items : List OutstandingCall) (answers : List AnsweredCall) (releases : ℕ) (call answer : Option ℕ) where
   abbrev r : RequesterState
-  r = (requester_view link sent wished sends next grant items answers).state
+  r = (requester_view link sent wished sends next grant items answers releases).state
 
   abbrev pub CallsFrom : Type 0
   CallsFrom = (k : ℕ) (d : OutstandingCall) → k < length items → is_some (get_or items k d).call ≡ true → IsLeast call (get_or items k d).xid

@@ -111,10 +111,10 @@ one_answer answers i sum n all a lt is of so_far =
 
 -- ---- Both
 
-pub held_is : (e : EndpointState) (len sends next sent wished grant kept more rooms waits : ℕ) (calls : List OutstandingCall) (answers : List AnsweredCall) (rest : ℕ) (r : RequesterState) → (requester_view e.link sent wished sends next grant calls answers).state ≡ r → RequesterBounds len e sends next calls answers →
+pub held_is : (e : EndpointState) (len sends next sent wished grant releases kept more rooms waits : ℕ) (calls : List OutstandingCall) (answers : List AnsweredCall) (rest : ℕ) (r : RequesterState) → (requester_view e.link sent wished sends next grant calls answers releases).state ≡ r → RequesterBounds len e sends next calls answers →
     kept ≡ bytes_kept e → more ≡ calls_bytes (map stored_view calls) → rooms ≡ rooms_bytes len (map stored_view calls) → waits ≡ end_size * length e.link.state.send_queue.send_ends → rest ≡ answers_bytes answers → kept + more + rooms + waits + rest ≡ bytes_held_by r
 unfolding bytes_held_by
-held_is e len sends next sent wished grant kept more rooms waits calls answers rest r is w kept_is more_is rooms_is waits_is rest_is =
+held_is e len sends next sent wished grant releases kept more rooms waits calls answers rest r is w kept_is more_is rooms_is waits_is rest_is =
     let here : FPDU_MAX + bytes_of e.link.state + calls_bytes (map stored_view calls) + rooms_bytes e.link.state.receive_queue.receive_length (map stored_view calls) + end_size * length e.link.state.send_queue.send_ends + answers_bytes answers ≡ bytes_held_by r =
     ap bytes_held_by is in
     let same : rooms_bytes e.link.state.receive_queue.receive_length (map stored_view calls) ≡ rooms_bytes len (map stored_view calls) = ap (λ (n : ℕ). rooms_bytes n (map stored_view calls)) w.link.receive_length in

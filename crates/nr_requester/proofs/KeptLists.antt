@@ -149,10 +149,10 @@ all_open r (a ∷ answers) apart found = (answered_open r a.xid a apart found.0,
 
 -- ---- All
 
-pub lists_fit : (e : EndpointState) (len sent wished sends next grant : ℕ) (calls : List OutstandingCall) (answers : List AnsweredCall) (room : ℕ) →
-    RequesterInvariant len e.link next grant calls answers room → RequesterBounds len e sends next calls answers → ListsFit (requester_view e.link sent wished sends next grant calls answers).state
-lists_fit e len sent wished sends next grant calls answers room i w =
-    let r : RequesterState = (requester_view e.link sent wished sends next grant calls answers).state in
+pub lists_fit : (e : EndpointState) (len sent wished sends next grant releases : ℕ) (calls : List OutstandingCall) (answers : List AnsweredCall) (room : ℕ) →
+    RequesterInvariant len e.link next grant calls answers room → RequesterBounds len e sends next calls answers → ListsFit (requester_view e.link sent wished sends next grant calls answers releases).state
+lists_fit e len sent wished sends next grant releases calls answers room i w =
+    let r : RequesterState = (requester_view e.link sent wished sends next grant calls answers releases).state in
     let count : length (map stored_view calls) ≡ length calls = length-map calls stored_view in
     record {
       outstanding = omega (arith, i.few, count);

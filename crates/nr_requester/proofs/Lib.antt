@@ -63,3 +63,6 @@ pub mod FedBounds
 pub mod AnswerBounds
 pub mod StepBounds
 pub mod KeptLists
+pub mod NamedRegions
+pub mod DeadRegions
+pub mod CountedReleases

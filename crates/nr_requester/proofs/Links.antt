@@ -101,7 +101,7 @@ sent_by opened s k o number =
     (ap (λ (n : ℕ). msn_word (msn_word (n + 1))) number ∙ ap msn_word (next_word k.sends) ∙ word_word (k.sends + 1))
 
 message_sent : (opened : LinkParameters) (s : LinkState) (k : ClientState) (a : AcceptedCall) (plan : Plan) → s.send_queue.last_send ≡ msn_word k.sends → plan_for k a.xid a.call a.form ≡ Ok plan →
-    send_output s.send_queue (call_message a.xid opened.wished k.stag plan) ≡ call_output opened (k.sends + 1) (outstanding_of k a)
+    send_output s.send_queue None (call_message a.xid opened.wished k.stag plan) ≡ call_output opened (k.sends + 1) (outstanding_of k a)
 message_sent opened s k a plan number is =
     ap (λ (p : Plan). send (next_number s.send_queue.last_send) (call_message a.xid opened.wished k.stag p)) (sym (planned k a plan is)) ∙ sent_by opened s k (outstanding_of k a) number
 
@@ -126,7 +126,7 @@ module _ (opened : LinkParameters) (s : LinkState) (k : ClientState) (count : �
   abbrev pub message : List ℕ
   message = call_message a.xid opened.wished k.stag plan
 
-  queued : send_output s.send_queue message ≡ out
+  queued : send_output s.send_queue None message ≡ out
   queued = message_sent opened s k a plan keeps.number is
 
   abbrev pub k2 : ClientState
@@ -182,10 +182,10 @@ module _ (opened : LinkParameters) (s : LinkState) (k : ClientState) (count : �
             ∙ ap (λ (n : ℕ). calls_output opened 1 k.outstanding ++ call_output opened n o) (let many : length (call_ends opened k.due 1 k.outstanding) ≡ k.sends = ap (λ (b : Bool). length (sends_ends b opened k)) (sym none) ∙ keeps.numbered in omega (arith, many, ends_many opened k.due 1 k.outstanding))
             ∙ sym (output_append opened 1 k.outstanding o);
         none_due = λ none. (λ i. k.send_ends ++ cond (none i) ((k.due + length (cond (none i) out [])) ∷ []) []) ∙ append-nil k.send_ends ∙ keeps.none_due none;
-        sends = subst (λ (xs : List ℕ). HasEnds k.written (length s.send_queue.hello) xs (s.send_queue.send_ends ++ length (s.send_queue.fpdus ++ send_output s.send_queue message) ∷ [])) (sym ends_are)
+        sends = subst (λ (xs : List ℕ). HasEnds k.written (length s.send_queue.hello) xs (s.send_queue.send_ends ++ length (s.send_queue.fpdus ++ send_output s.send_queue None message) ∷ [])) (sym ends_are)
             (subst (λ (xs : List ℕ). HasEnds k.written (length s.send_queue.hello) (all_ends k.has_hello ++ (k.written + length s.send_queue.hello + length s.send_queue.fpdus + length out) ∷ []) (s.send_queue.send_ends ++ length (s.send_queue.fpdus ++ xs) ∷ [])) (sym queued) more);
         responses = keeps.responses;
-        left = (let l = keeps.left in omega (arith, l, length-append s.send_queue.send_ends (length (s.send_queue.fpdus ++ send_output s.send_queue message) ∷ [])));
+        left = (let l = keeps.left in omega (arith, l, length-append s.send_queue.send_ends (length (s.send_queue.fpdus ++ send_output s.send_queue None message) ∷ [])));
         numbered = ap (λ (xs : List ℕ). length xs) ends_are ∙ (let n = keeps.numbered in omega (arith, n, length-append (all_ends k.has_hello) ((k.written + length s.send_queue.hello + length s.send_queue.fpdus + length out) ∷ [])));
         greeted = keeps.greeted;
       }

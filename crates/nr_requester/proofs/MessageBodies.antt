@@ -15,17 +15,18 @@ use Rattle.nr_header.specs.declared.header.HeaderFields.{HeaderFields}
 use Rattle.nr_header.specs.ReadInto.{body_with}
 use Rattle.nr_header.specs.Reading.{header_of, header_by, body_by, error_by, version1_of, in_lists}
 use Rattle.nr_regions.specs.RegisteredMemory.{RegisteredMemory, Claim, IsHeld}
-use Rattle.nr_link.specs.Reasons.{REASON_CALL, REASON_CHUNKS}
+use Rattle.nr_link.specs.Reasons.{REASON_CALL, REASON_CHUNKS, REASON_INVALIDATED}
 use Rattle.nr_endpoint.specs.declared.offering.Claims.{Claims}
 use Rattle.nr_reduce.specs.declared.call.Call.{Call}
 use Rattle.nr_reduce.specs.Chunks.{Bytes, returns, returns_each, returns_stream, answers_offer, reply_conveyed, reply_stream, reply_moved, fills_first, returns_none}
-use Rattle.nr_reduce.specs.ClientMessages.ReplyVerdict.{GivesOutcome}
-use Rattle.nr_reduce.specs.KeptCalls.{KeptCall, kept_payload, kept_lists, kept_body, kept_call as by_kept_call, kept_by, kept_header, kept_verdict}
+use Rattle.nr_reduce.specs.ClientMessages.{ReplyVerdict}
+use Rattle.nr_reduce.specs.ClientMessages.ReplyVerdict.{EndsLink, GivesOutcome}
+use Rattle.nr_reduce.specs.KeptCalls.{KeptCall, kept_payload, kept_lists, kept_body, kept_call as by_kept_call, kept_by, kept_in, kept_header, kept_verdict, kept_names_another, kept_invalidates_another, own_if, kept_named, kept_message_verdict}
 use Rattle.nr_requester.specs.declared.outstanding.OutstandingCall.{OutstandingCall}
 use Rattle.nr_requester.specs.HeldClaims.{AreHeldFrom, claim_list, call_claims, all_claims, IsChunkOf, IsWriteOf, IsReplyOf, IsOfferOf, OffersOwn}
 use Rattle.nr_requester.specs.Judged.{header_reason, ComesBack, WriteComesBack, ReplyComesBack, by_stream, SameCall, SameCalls, kept_view, kept_views, Ends, Brings, outcome_by, LiesWithin}
 use Rattle.nr_requester.specs.declared.replies.Found.{Found}
-use Rattle.nr_requester.specs.Views.{HasRoom}
+use Rattle.nr_requester.specs.Views.{HasRoom, given_stags, names_another, own_named}
 use Rattle.nr_requester.proofs.Releases.{held_middle, held_one}
 use Rattle.std.proofs.lemmas.List.{take_at}
 use Rattle.nr_requester.proofs.Taken.{same_length}
@@ -153,9 +154,41 @@ not_short message le =
     subst (λ (b : Bool). cond b (Err faults.Short) (header_by (word_at 0 message) (word_at 8 message) (body_by (error_by (word_at 12 message) message) (word_at 4 message) (word_at 12 message) message)) ≢ Err faults.Short)
     (sym (le-ltb (length message) 16 le)) (header_short (word_at 0 message) (word_at 8 message) _ (body_short (error_by (word_at 12 message) message) (word_at 4 message) (word_at 12 message) message))
 
-pub bad_header : (calls : List KeptCall) (memory : Bytes) (message : List ℕ) (fault : HeaderFault) (reason : ℕ) → 16 ≤ length message → header_of message ≡ Err fault → reason ≡ header_reason fault → Ends (kept_verdict calls memory message) reason
+-- a message that names no STag of another call is judged by its header
+plain : (calls : List KeptCall) (memory : Bytes) (named : Option ℕ) (message : List ℕ) → kept_invalidates_another calls named message ≡ false → kept_message_verdict calls memory named message ≡ kept_verdict calls memory message
+unfolding kept_message_verdict
+plain calls memory named message e = ap (λ (b : Bool). cond b (EndsLink REASON_INVALIDATED) (kept_verdict calls memory message)) e
+
+plain_bad : (calls : List KeptCall) (named : Option ℕ) (message : List ℕ) (fault : HeaderFault) → header_of message ≡ Err fault → kept_invalidates_another calls named message ≡ false
+plain_bad calls None message fault is = refl
+plain_bad calls (Some stag) message fault is = ap (λ (r : Result Header HeaderFault). kept_names_another (kept_in calls r) stag) is
+
+plain_none : (calls : List KeptCall) (named : Option ℕ) (message : List ℕ) (h : Header) → header_of message ≡ Ok h → kept_by calls h.xid ≡ None → kept_invalidates_another calls named message ≡ false
+plain_none calls None message h is none = refl
+plain_none calls (Some stag) message h is none = ap (λ (r : Result Header HeaderFault). kept_names_another (kept_in calls r) stag) is ∙ ap (λ (o : Option KeptCall). kept_names_another o stag) none
+
+-- whether it names one of another call, if it answers this one
+another_call : (calls : List KeptCall) (named : Option ℕ) (message : List ℕ) (h : Header) (c : KeptCall) → header_of message ≡ Ok h → kept_by calls h.xid ≡ Some c → kept_invalidates_another calls named message ≡ names_another c.given named
+another_call calls None message h c is one = refl
+another_call calls (Some stag) message h c is one = ap (λ (r : Result Header HeaderFault). kept_names_another (kept_in calls r) stag) is ∙ ap (λ (o : Option KeptCall). kept_names_another o stag) one
+
+-- the STag whose region dies
+pub own_bad : (calls : List KeptCall) (named : Option ℕ) (message : List ℕ) (fault : HeaderFault) → header_of message ≡ Err fault → kept_named calls named message ≡ None
+own_bad calls None message fault is = refl
+own_bad calls (Some stag) message fault is = ap (λ (r : Result Header HeaderFault). own_if (kept_in calls r) stag) is
+
+pub own_none : (calls : List KeptCall) (named : Option ℕ) (message : List ℕ) (h : Header) → header_of message ≡ Ok h → kept_by calls h.xid ≡ None → kept_named calls named message ≡ None
+own_none calls None message h is none = refl
+own_none calls (Some stag) message h is none = ap (λ (r : Result Header HeaderFault). own_if (kept_in calls r) stag) is ∙ ap (λ (o : Option KeptCall). own_if o stag) none
+
+pub own_call : (calls : List KeptCall) (named : Option ℕ) (message : List ℕ) (h : Header) (c : KeptCall) → header_of message ≡ Ok h → kept_by calls h.xid ≡ Some c → kept_named calls named message ≡ own_named c.stags named
+own_call calls None message h c is one = refl
+own_call calls (Some stag) message h c is one = ap (λ (r : Result Header HeaderFault). own_if (kept_in calls r) stag) is ∙ ap (λ (o : Option KeptCall). own_if o stag) one
+
+pub bad_header : (calls : List KeptCall) (memory : Bytes) (named : Option ℕ) (message : List ℕ) (fault : HeaderFault) (reason : ℕ) → 16 ≤ length message → header_of message ≡ Err fault → reason ≡ header_reason fault → Ends (kept_message_verdict calls memory named message) reason
 unfolding kept_verdict
-bad_header calls memory message fault reason le is why = subst (λ (n : ℕ). Ends (kept_verdict calls memory message) n) (sym why) (by fault is)
+bad_header calls memory named message fault reason le is why =
+    subst (λ (v : ReplyVerdict). Ends v reason) (sym (plain calls memory named message (plain_bad calls named message fault is))) (subst (λ (n : ℕ). Ends (kept_verdict calls memory message) n) (sym why) (by fault is))
   where
     by : (x : HeaderFault) → header_of message ≡ Err x → Ends (kept_verdict calls memory message) (header_reason x)
     by faults.Short e = absurd (not_short message le e)
@@ -163,13 +196,22 @@ bad_header calls memory message fault reason le is why = subst (λ (n : ℕ). En
     by (faults.Kind kind) e = (ap (kept_header calls memory message) e, inl refl)
     by (faults.BadChunks at) e = (ap (kept_header calls memory message) e, inl refl)
 
-pub no_call : (calls : List KeptCall) (memory : Bytes) (message : List ℕ) (h : Header) → header_of message ≡ Ok h → kept_by calls h.xid ≡ None → Ends (kept_verdict calls memory message) REASON_CALL
+pub no_call : (calls : List KeptCall) (memory : Bytes) (named : Option ℕ) (message : List ℕ) (h : Header) → header_of message ≡ Ok h → kept_by calls h.xid ≡ None → Ends (kept_message_verdict calls memory named message) REASON_CALL
 unfolding kept_verdict
-no_call calls memory message h is none = (ap (kept_header calls memory message) is ∙ ap (by_kept_call memory message h.body) none, inr (inr (inr (inl refl))))
+no_call calls memory named message h is none =
+    (plain calls memory named message (plain_none calls named message h is none) ∙ ap (kept_header calls memory message) is ∙ ap (by_kept_call memory message h.body) none, inr (inr (inr (inl refl))))
 
-pub by_call : (calls : List KeptCall) (memory : Bytes) (message : List ℕ) (h : Header) (c : KeptCall) → header_of message ≡ Ok h → kept_by calls h.xid ≡ Some c → kept_verdict calls memory message ≡ kept_body c memory message h.body
+-- it names an STag of another call
+pub named_call : (calls : List KeptCall) (memory : Bytes) (named : Option ℕ) (message : List ℕ) (h : Header) (c : KeptCall) → header_of message ≡ Ok h → kept_by calls h.xid ≡ Some c → names_another c.given named ≡ true → Ends (kept_message_verdict calls memory named message) REASON_INVALIDATED
+unfolding kept_message_verdict
+named_call calls memory named message h c is one another =
+    (ap (λ (b : Bool). cond b (EndsLink REASON_INVALIDATED) (kept_verdict calls memory message)) (another_call calls named message h c is one ∙ another), inr (inr (inr (inr (inr (inr (inl refl)))))))
+
+pub by_call : (calls : List KeptCall) (memory : Bytes) (named : Option ℕ) (message : List ℕ) (h : Header) (c : KeptCall) → header_of message ≡ Ok h → kept_by calls h.xid ≡ Some c → names_another c.given named ≡ false →
+    kept_message_verdict calls memory named message ≡ kept_body c memory message h.body
 unfolding kept_verdict
-by_call calls memory message h c is one = ap (kept_header calls memory message) is ∙ ap (by_kept_call memory message h.body) one
+by_call calls memory named message h c is one own =
+    plain calls memory named message (another_call calls named message h c is one ∙ own) ∙ ap (kept_header calls memory message) is ∙ ap (by_kept_call memory message h.body) one
 
 -- ---- One of several calls
 
@@ -210,10 +252,14 @@ set_here (c ∷ cs) zero x d lt = refl
 set_here (c ∷ cs) (suc n) x d lt = set_here cs n x d (omega (arith, lt))
 
 -- the call at a place, whatever is given for places beyond
-same_get : (cs : List OutstandingCall) (at : ℕ) (d e : OutstandingCall) → at < length cs → get_or cs at d ≡ get_or cs at e
+pub same_get : (cs : List OutstandingCall) (at : ℕ) (d e : OutstandingCall) → at < length cs → get_or cs at d ≡ get_or cs at e
 same_get [] at d e lt = absurd (omega (arith, lt))
 same_get (c ∷ cs) zero d e lt = refl
 same_get (c ∷ cs) (suc n) d e lt = same_get cs n d e (omega (arith, lt))
+
+-- a message names no STag of another call, whatever is given for places beyond
+pub own_given : (cs : List OutstandingCall) (at : ℕ) (d e : OutstandingCall) (named : Option ℕ) (r : Bool) → at < length cs → r ≡ names_another (given_stags (get_or cs at e).given) named → r ≡ false → names_another (given_stags (get_or cs at d).given) named ≡ false
+own_given cs at d e named r lt is own = ap (λ (x : OutstandingCall). names_another (given_stags x.given) named) (same_get cs at d e lt) ∙ sym is ∙ own
 
 abbrev sent_of : Option KeptCall → Bool
 sent_of None = true
@@ -229,11 +275,11 @@ found_sent (c ∷ cs) xid y is = by (eqb c.xid xid && c.is_sent) refl (λ e. fou
     by false here rest e = rest e
 
 -- a call was judged by the body of its message
-pub brings_lem : (sent : ℕ) (cs : List OutstandingCall) (memory : Bytes) (message : List ℕ) (h : Header) (at : ℕ) (x d0 : OutstandingCall) (f : Found) → at < length cs → header_of message ≡ Ok h → kept_by (kept_views sent cs) h.xid ≡ Some (kept_view sent (get_or cs at d0)) →
-    kept_body (kept_view sent (get_or cs at d0)) memory message h.body ≡ GivesOutcome (get_or cs at d0).xid (outcome_by f x.room.bytes) → LiesWithin f x.room.bytes → Brings sent cs (slice_set cs at x) memory message at f
-brings_lem sent cs memory message h at x d0 f lt is one body fits = record {
+pub brings_lem : (sent : ℕ) (cs : List OutstandingCall) (memory : Bytes) (named : Option ℕ) (message : List ℕ) (h : Header) (at : ℕ) (x d0 : OutstandingCall) (f : Found) → at < length cs → header_of message ≡ Ok h → kept_by (kept_views sent cs) h.xid ≡ Some (kept_view sent (get_or cs at d0)) →
+    kept_body (kept_view sent (get_or cs at d0)) memory message h.body ≡ GivesOutcome (get_or cs at d0).xid (outcome_by f x.room.bytes) → LiesWithin f x.room.bytes → names_another (kept_view sent (get_or cs at d0)).given named ≡ false → Brings sent cs (slice_set cs at x) memory named message at f
+brings_lem sent cs memory named message h at x d0 f lt is one body fits own = record {
   within = (let len = set_length cs at x in omega (arith, len, lt));
-  verdict = λ d. by_call (kept_views sent cs) memory message h (kept_view sent (get_or cs at d0)) is one ∙ body
+  verdict = λ d. by_call (kept_views sent cs) memory named message h (kept_view sent (get_or cs at d0)) is one own ∙ body
       ∙ (λ i. GivesOutcome (same_get cs at d0 d lt i).xid (outcome_by f (sym (set_here cs at x d lt) i).room.bytes));
   fits = λ d. subst (λ (y : OutstandingCall). LiesWithin f y.room.bytes) (sym (set_here cs at x d lt)) fits;
   sent = λ d. subst (λ (y : OutstandingCall). y.send < sent) (same_get cs at d0 d lt) (ltb-true (get_or cs at d0).send sent (found_sent (kept_views sent cs) h.xid (kept_view sent (get_or cs at d0)) one));

@@ -1,6 +1,6 @@
 -- What is made of the event that waits, for the code.
-use Rattle.std.proofs.Common.{◌≡◌, ℕ, zero, suc, ◌<◌, ◌⊎◌, inl, inr, cond, List, [], ◌∷◌, length, drop, map, Option, None, Some, refl, sym, ap, subst, ◌∙◌, arith}
-use Rattle.std.specs.Prelude.{get_or, is_some}
+use Rattle.std.proofs.Common.{◌≡◌, ℕ, zero, suc, ◌<◌, ◌⊎◌, inl, inr, cond, List, [], ◌∷◌, length, drop, map, Option, None, Some, Result, Ok, Err, refl, sym, ap, subst, ◌∙◌, arith}
+use Rattle.std.specs.Prelude.{get_or, is_some, IfOk, IfErr}
 use Rattle.nr_regions.specs.RegisteredMemory.{RegisteredMemory}
 use Rattle.nr_link.specs.declared.end.End.{End}
 use Rattle.nr_link.specs.declared.end.End.TheVariants as ends
@@ -15,12 +15,23 @@ use Rattle.nr_reduce.specs.ClientMessages.ReplyVerdict.{EndsLink, GivesOutcome}
 use Rattle.nr_xdr.specs.Fields.{word_at}
 use Rattle.nr_reduce.specs.KeptClient.{released_all}
 use Rattle.nr_requester.specs.AfterCalls.{stags_for}
+use Rattle.nr_requester.specs.AfterPiece.{dead_memory}
 use Rattle.nr_requester.specs.Buffers.{with_memory}
 use Rattle.nr_requester.specs.Views.{stored_view}
 use Rattle.nr_requester.specs.declared.answer.AnsweredCall.{AnsweredCall}
 use Rattle.nr_requester.specs.declared.outstanding.OutstandingCall.{OutstandingCall}
 use Rattle.nr_requester.specs.Judged.{SameCalls}
-use Rattle.nr_requester.specs.Fed.{OneWaits, CallsSound, JudgesTo}
+use Rattle.nr_requester.specs.Fed.{OneWaits, CallsSound, StopsDead, JudgesTo}
+use Rattle.nr_requester.specs.HeldClaims.{AreHeldFrom, all_claims}
+use Rattle.nr_requester.proofs.DeadRegions.{dead_sound}
+
+-- what holds of a result, of its value
+
+pub found_ok : {A E : Type 0} (P : A → Type 0) (r : Result A E) (a : A) → r ≡ Ok a → IfOk r P → P a
+found_ok {A} {E} P r a is h = subst (λ (x : Result A E). IfOk x P) is h
+
+pub found_err : {A E : Type 0} (P : E → Type 0) (r : Result A E) (e : E) → r ≡ Err e → IfErr r P → P e
+found_err {A} {E} P r e is h = subst (λ (x : Result A E). IfErr x P) is h
 
 -- ---- What calls on the link leave
 
@@ -48,17 +59,24 @@ pub next_ended : (l : LinkSide) → (after_call l NextEvent).state.ended ≡ l.s
 unfolding after_call
 next_ended l = refl
 
-pub next_lent : (l : LinkSide) (number : ℕ) (message : List ℕ) → l.state.receive_queue.deliveries ≡ MessageReceived number None message ∷ [] → 0 < (after_call l NextEvent).state.receive_queue.lent
+pub next_lent : (l : LinkSide) (number : ℕ) (named : Option ℕ) (message : List ℕ) → l.state.receive_queue.deliveries ≡ MessageReceived number named message ∷ [] → 0 < (after_call l NextEvent).state.receive_queue.lent
 unfolding after_call
-next_lent l number message is = (let one : lent_for l.state.receive_queue.deliveries ≡ 1 = ap lent_for is in omega (arith, one))
+next_lent l number named message is = (let one : lent_for l.state.receive_queue.deliveries ≡ 1 = ap lent_for is in omega (arith, one))
 
 pub stop_memory : (l link2 : LinkSide) (reason : ℕ) → l.state.ended ≡ None → (link2 ≡ after_call l (Stop reason)) ⊎ (link2 ≡ after_call l OutOfMemory) → link2.state.memory ≡ l.state.memory
 unfolding after_call
 stop_memory l link2 reason lives (inl is) = ap (λ (x : LinkSide). x.state.memory) is ∙ ap (λ (e : Option End). (cond (is_some e) l.state (with_end_of (ends.Bad l.state.last reason) l.state)).memory) lives
 stop_memory l link2 reason lives (inr is) = ap (λ (x : LinkSide). x.state.memory) is ∙ ap (λ (e : Option End). (cond (is_some e) l.state (record l.state { ended = Some ends.Memory })).memory) lives
 
-pub stop_on : (l m link2 : LinkSide) (reason : ℕ) → m ≡ l → (link2 ≡ after_call m (Stop reason)) ⊎ (link2 ≡ after_call m OutOfMemory) → (link2 ≡ after_call l (Stop reason)) ⊎ (link2 ≡ after_call l OutOfMemory)
-stop_on l m link2 reason same h = subst (λ (x : LinkSide). (link2 ≡ after_call x (Stop reason)) ⊎ (link2 ≡ after_call x OutOfMemory)) same h
+-- the side is stopped, and a region dies, or none
+pub stop_on : (own : Option ℕ) (l m link2 : LinkSide) (reason : ℕ) → m ≡ l → StopsDead own reason m link2 → StopsDead own reason l link2
+stop_on own l m link2 reason same h = subst (λ (x : LinkSide). StopsDead own reason x link2) same h
+
+pub stop_sound : (own : Option ℕ) (l link2 : LinkSide) (reason len next room : ℕ) (calls : List OutstandingCall) (answers : List AnsweredCall) → l.state.ended ≡ None → StopsDead own reason l link2 → CallsSound len l.state.memory next calls answers room → CallsSound len link2.state.memory next calls answers room
+stop_sound own l link2 reason len next room calls answers lives (inl is) s =
+    subst (λ (m : RegisteredMemory). CallsSound len m next calls answers room) (sym (ap (λ (x : LinkSide). x.state.memory) is)) (dead_sound own len l.state.memory next room calls answers s)
+stop_sound own l link2 reason len next room calls answers lives (inr is) s =
+    subst (λ (m : RegisteredMemory). CallsSound len m next calls answers room) (sym (stop_memory l link2 reason lives (inr is))) s
 
 -- ---- The event
 
@@ -67,17 +85,23 @@ first_message [] = []
 first_message (MessageReceived number invalidated message ∷ events) = message
 first_message (ReadDone ∷ events) = []
 
+abbrev first_named : List DeliveredEvent → Option ℕ
+first_named [] = None
+first_named (MessageReceived number invalidated message ∷ events) = invalidated
+first_named (ReadDone ∷ events) = None
+
 -- the message that waits is the one that the link delivers
-pub record Waits (link : LinkSide) (message : List ℕ) : Type 0 where
+pub record Waits (link : LinkSide) (named : Option ℕ) (message : List ℕ) : Type 0 where
   pub number : ℕ
-  pub is : link.state.receive_queue.deliveries ≡ MessageReceived number None message ∷ []
+  pub is : link.state.receive_queue.deliveries ≡ MessageReceived number named message ∷ []
   pub rest : link.rest ≡ []
 
-pub message_waits : (link : LinkSide) (number : ℕ) (invalidated : Option ℕ) (message : List ℕ) (more : List DeliveredEvent) → (link.state.receive_queue.deliveries ≡ []) ⊎ OneWaits link → link.state.receive_queue.deliveries ≡ MessageReceived number invalidated message ∷ more → Waits link message
+pub message_waits : (link : LinkSide) (number : ℕ) (invalidated : Option ℕ) (message : List ℕ) (more : List DeliveredEvent) → (link.state.receive_queue.deliveries ≡ []) ⊎ OneWaits link → link.state.receive_queue.deliveries ≡ MessageReceived number invalidated message ∷ more → Waits link invalidated message
 message_waits link number invalidated message more (inl none) e = absurd (let wrong : [] ≡ MessageReceived number invalidated message ∷ more = sym none ∙ e in cc)
 message_waits link number invalidated message more (inr w) e =
     let same : w.message ≡ message = ap first_message (sym w.is ∙ e) in
-    record { number = w.number; is = w.is ∙ ap (λ (m : List ℕ). MessageReceived w.number None m ∷ []) same; rest = w.rest }
+    let names : w.named ≡ invalidated = ap first_named (sym w.is ∙ e) in
+    record { number = w.number; is = w.is ∙ (λ i. MessageReceived w.number (names i) (same i) ∷ []); rest = w.rest }
 
 abbrev pub IsQuiet : LinkSide → Type 0
 IsQuiet l = (l.state.receive_queue.deliveries ≡ []) × ((l.state.receive_queue.lent ≡ 0) × (l.state.reads ≡ []))
@@ -88,7 +112,7 @@ end_quiet p l2 reason e q (inl same) = subst IsQuiet (sym (same ∙ ap (λ (o : 
 end_quiet p l2 reason e q (inr same) = subst IsQuiet (sym (same ∙ ap (λ (o : Option End). record { awaited = p.awaited; rest = []; state = cond (is_some o) p.state (record p.state { ended = Some ends.Memory }) }) e)) q
 
 -- after it was taken
-module _ (l : LinkSide) (lives : l.state.ended ≡ None) (number : ℕ) (message : List ℕ) (is : l.state.receive_queue.deliveries ≡ MessageReceived number None message ∷ []) (none_lent : l.state.receive_queue.lent ≡ 0) (no_reads : l.state.reads ≡ []) where
+module _ (l : LinkSide) (lives : l.state.ended ≡ None) (number : ℕ) (named : Option ℕ) (message : List ℕ) (is : l.state.receive_queue.deliveries ≡ MessageReceived number named message ∷ []) (none_lent : l.state.receive_queue.lent ≡ 0) (no_reads : l.state.reads ≡ []) where
   abbrev posted_side : LinkSide
   posted_side = after_call (after_call l NextEvent) Post
 
@@ -109,13 +133,14 @@ module _ (l : LinkSide) (lives : l.state.ended ≡ None) (number : ℕ) (message
   unfolding after_call
   posted_lives = lives
 
-  ended_quiet : (l2 : LinkSide) (reason : ℕ) → (l2 ≡ after_call posted_side (Stop reason)) ⊎ (l2 ≡ after_call posted_side OutOfMemory) → IsQuiet l2
-  ended_quiet l2 reason h = end_quiet posted_side l2 reason posted_lives posted_quiet h
+  ended_quiet : (own : Option ℕ) (l2 : LinkSide) (reason : ℕ) → StopsDead own reason posted_side l2 → IsQuiet l2
+  ended_quiet own l2 reason (inl is) = subst IsQuiet (sym is) (end_quiet posted_side (after_call posted_side (Stop reason)) reason posted_lives posted_quiet (inl refl))
+  ended_quiet own l2 reason (inr is) = end_quiet posted_side l2 reason posted_lives posted_quiet (inr is)
 
-  pub judged_quiet : (v : ReplyVerdict) (l1 l2 : LinkSide) (calls calls2 : List OutstandingCall) (answers answers2 : List AnsweredCall) (grant grant2 : ℕ) → l1 ≡ after_call l NextEvent → JudgesTo v message l1 l2 calls calls2 answers answers2 grant grant2 → IsQuiet l2
-  judged_quiet (EndsLink reason) l1 l2 calls calls2 answers answers2 grant grant2 next j = ended_quiet l2 reason (stop_on posted_side (after_call l1 Post) l2 reason (ap (λ (x : LinkSide). after_call x Post) next) j.0)
-  judged_quiet (GivesOutcome xid outcome) l1 l2 calls calls2 answers answers2 grant grant2 next j =
-      let m : RegisteredMemory = released_all l1.state.memory (stags_for (word_at 0 message) (map stored_view calls)) in
+  pub judged_quiet : (v : ReplyVerdict) (own : Option ℕ) (l1 l2 : LinkSide) (calls calls2 : List OutstandingCall) (answers answers2 : List AnsweredCall) (grant grant2 releases releases2 : ℕ) → l1 ≡ after_call l NextEvent → JudgesTo v own message l1 l2 calls calls2 answers answers2 grant grant2 releases releases2 → IsQuiet l2
+  judged_quiet (EndsLink reason) own l1 l2 calls calls2 answers answers2 grant grant2 releases releases2 next j = ended_quiet own l2 reason (stop_on own posted_side (after_call l1 Post) l2 reason (ap (λ (x : LinkSide). after_call x Post) next) j.0)
+  judged_quiet (GivesOutcome xid outcome) own l1 l2 calls calls2 answers answers2 grant grant2 releases releases2 next j =
+      let m : RegisteredMemory = released_all (dead_memory own l1.state.memory) (stags_for (word_at 0 message) (map stored_view calls)) in
       memory_quiet m l2 (j.0 ∙ ap (λ (x : LinkSide). with_memory m (after_call x Post)) next)
 
 -- ---- The calls

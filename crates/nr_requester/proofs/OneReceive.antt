@@ -1,11 +1,11 @@
 -- The one receive of a requester, segment by segment.
-use Rattle.std.proofs.Common.{◌≡◌, ℕ, ◌+◌, ◌-◌, ◌≤◌, Bool, true, false, cond, not, ◌&&◌, eqb, List, [], ◌∷◌, ◌++◌, length, drop, Option, None, Some, refl, sym, ap, ◌∙◌, arith}
+use Rattle.std.proofs.Common.{◌≡◌, ℕ, ◌+◌, ◌-◌, ◌≤◌, Bool, true, false, cond, not, ◌&&◌, ◌||◌, eqb, List, [], ◌∷◌, ◌++◌, length, drop, Option, None, Some, refl, sym, ap, ◌∙◌, arith}
 use Rattle.std.proofs.lemmas.Bool.{eqb-true}
-use Rattle.nr_wire.specs.Constants.{OPCODE_SEND, OPCODE_READ_REQUEST}
+use Rattle.nr_wire.specs.Constants.{OPCODE_SEND, OPCODE_SEND_INVALIDATE, OPCODE_READ_REQUEST}
 use Rattle.nr_wire.specs.Segment.{Segment}
 use Rattle.nr_wire.specs.Segment.Segment.{Tagged, Untagged}
 use Rattle.nr_link.specs.KeptSends.{begun_within, received_within}
-use Rattle.nr_link.specs.ReceiveState.{ReceiveState, is_send, begun_bytes, received_after, send_continued, message_completed, read_request_in, read_request_of}
+use Rattle.nr_link.specs.ReceiveState.{ReceiveState, is_send, begun_bytes, received_after, send_continued, message_completed, stag_invalidated, read_request_in, read_request_of}
 use Rattle.nr_link.specs.SegmentFaults.{is_begun}
 use Rattle.nr_link.proofs.BegunSends.{kept_alike, messages_alike}
 use Rattle.nr_endpoint.specs.ReceiveQueue.{ReceiveQueue, DeliveredEvent, sends_begun, takes_receive, message_deliveries, with_segment, delivered, posted, lent_for}
@@ -46,8 +46,8 @@ message_none len h (Untagged last opcode w queue msn offset payload) none = by (
     by true is = absurd cc
     by false is = refl
 
-pub none_told : (len : ℕ) (h : ReceiveState) (number : ℕ) (deliveries : List DeliveredEvent) (segment : Segment) → deliveries ≡ [] → message_completed h segment ≡ None → deliveries ++ message_deliveries number (message_completed (received_within len h) segment) ≡ []
-none_told len h number deliveries segment none is = λ i. none i ++ message_deliveries number (message_none len h segment is i)
+pub none_told : (len : ℕ) (h : ReceiveState) (number : ℕ) (deliveries : List DeliveredEvent) (segment : Segment) → deliveries ≡ [] → message_completed h segment ≡ None → deliveries ++ message_deliveries number (stag_invalidated segment) (message_completed (received_within len h) segment) ≡ []
+none_told len h number deliveries segment none is = λ i. none i ++ message_deliveries number (stag_invalidated segment) (message_none len h segment is i)
 
 -- ---- A message
 
@@ -62,14 +62,16 @@ pub message_at : (len : ℕ) (h : ReceiveState) (segment : Segment) (message : L
 message_at len h (Tagged last opcode stag to payload) message is le = absurd cc
 message_at len h (Untagged last opcode w queue msn offset payload) message is le = by (is_send opcode) refl last refl
   where
-    other : (b : Bool) → eqb opcode OPCODE_SEND ≡ b → b ≡ true → eqb opcode OPCODE_READ_REQUEST ≡ false
-    other true e t = (let three : opcode ≡ 3 = eqb-true opcode 3 e in ap (λ (n : ℕ). eqb n OPCODE_READ_REQUEST) three)
-    other false e t = absurd cc
+    -- a Send of either kind is no Read Request
+    other : (a b : Bool) → eqb opcode OPCODE_SEND ≡ a → eqb opcode OPCODE_SEND_INVALIDATE ≡ b → (a || b) ≡ true → eqb opcode OPCODE_READ_REQUEST ≡ false
+    other true b e f t = (let three : opcode ≡ 3 = eqb-true opcode 3 e in ap (λ (n : ℕ). eqb n OPCODE_READ_REQUEST) three)
+    other false true e f t = (let four : opcode ≡ 4 = eqb-true opcode 4 f in ap (λ (n : ℕ). eqb n OPCODE_READ_REQUEST) four)
+    other false false e f t = absurd cc
 
     by : (b : Bool) → is_send opcode ≡ b → (l : Bool) → last ≡ l → MessageAt len h (Untagged last opcode w queue msn offset payload) message
     by true send true whole = record {
       whole = messages_alike len h (Untagged last opcode w queue msn offset payload) message is le;
-      no_request = ap (λ (b : Bool). cond b (Some (read_request_in payload)) None) (other (is_send opcode) refl send);
+      no_request = ap (λ (b : Bool). cond b (Some (read_request_in payload)) None) (other (eqb opcode OPCODE_SEND) (eqb opcode OPCODE_SEND_INVALIDATE) refl refl send);
       begun = λ i. (cond (send i) (send_continued h (whole i) payload) (cond (eqb opcode OPCODE_READ_REQUEST) (record { sends = h.sends; begun = h.begun; requests = h.requests + 1 }) h)).begun;
       takes = (λ i. send i && not (begun_is len h.begun i));
     }
@@ -95,13 +97,13 @@ pub is_freed : (len : ℕ) (q : ReceiveQueue) (h : ReceiveState) (segment : Segm
 unfolding after_message with_segment
 is_freed len q h segment message length_is received free lent none m =
     let takes : takes_receive q.received segment ≡ not (is_begun h.begun) = ap (λ (r : ReceiveState). takes_receive r segment) received ∙ m.takes in
-    let told_is : q.deliveries ++ message_deliveries (q.received.sends + 1) (message_completed q.received segment) ≡ MessageReceived (q.received.sends + 1) None message ∷ [] =
-    (λ i. none i ++ message_deliveries (q.received.sends + 1) (message_completed (received i) segment)) ∙ ap (message_deliveries (q.received.sends + 1)) m.whole in
+    let told_is : q.deliveries ++ message_deliveries (q.received.sends + 1) (stag_invalidated segment) (message_completed q.received segment) ≡ MessageReceived (q.received.sends + 1) (stag_invalidated segment) message ∷ [] =
+    (λ i. none i ++ message_deliveries (q.received.sends + 1) (stag_invalidated segment) (message_completed (received i) segment)) ∙ ap (message_deliveries (q.received.sends + 1) (stag_invalidated segment)) m.whole in
     record {
       receive_length = length_is;
       received = received_next len q h segment length_is received;
       receive =
           (λ i. (cond (takes i) (q.free - 1) q.free + 1) + sends_begun (m.begun i)) ∙ (let one = freed q.free h.begun free in omega (arith, one));
-      none_lent = (let one : lent_for (q.deliveries ++ message_deliveries (q.received.sends + 1) (message_completed q.received segment)) ≡ 1 = ap lent_for told_is in omega (arith, lent, one));
+      none_lent = (let one : lent_for (q.deliveries ++ message_deliveries (q.received.sends + 1) (stag_invalidated segment) (message_completed q.received segment)) ≡ 1 = ap lent_for told_is in omega (arith, lent, one));
       none_waits = ap (λ (ns : List DeliveredEvent). drop 1 ns) told_is;
     }

@@ -21,7 +21,7 @@ use Rattle.nr_endpoint.proofs.FedBytes.{fed_one_within}
 use Rattle.nr_endpoint.proofs.Pieces.{step_taken, feeding_none, some_taken, IsBehindFrame, behind}
 use Rattle.nr_reduce.specs.ClientMessages.{ReplyVerdict}
 use Rattle.nr_reduce.specs.ClientMessages.ReplyVerdict.{EndsLink, GivesOutcome}
-use Rattle.nr_reduce.specs.KeptCalls.{kept_verdict}
+use Rattle.nr_reduce.specs.KeptCalls.{kept_named, kept_message_verdict}
 use Rattle.nr_reduce.specs.KeptClient.{bytes_under}
 use Rattle.nr_reduce.specs.declared.mark.LinkParameters.{LinkParameters}
 use Rattle.nr_reduce.specs.declared.mark.Mark.{Mark}
@@ -31,7 +31,7 @@ use Rattle.nr_requester.specs.CountedMarks.{has_bytes, marks_if}
 use Rattle.nr_requester.proofs.CountedMarks.{some_bytes}
 use Rattle.nr_requester.specs.OpenCalls.{KeepsTickets}
 use Rattle.nr_requester.specs.Standing.{StandsOn, RequesterRepresents, RequesterRunsOut}
-use Rattle.nr_requester.specs.AfterPiece.{judged, with_deliveries, unless_ended, requester_ended, after_frame, after_piece, after_fed, RanOut}
+use Rattle.nr_requester.specs.AfterPiece.{with_dead, judged, with_deliveries, unless_ended, requester_ended, after_frame, after_piece, after_fed, RanOut}
 use Rattle.nr_requester.specs.Fed.{one_step, StepOut, IsStep, QueuesOutput, bytes_fed, taken_by, late_marks, TakesFrames, RequesterRanOutAt}
 use Rattle.nr_requester.proofs.Stepping.{link_of, told_of, step_fed, piece_rest}
 use Rattle.nr_requester.proofs.RunOut.{fed_out}
@@ -43,9 +43,9 @@ use Rattle.nr_requester.proofs.AllMarks.{piece_runs_out}
 -- an event leaves the offset after the last frame
 with_deliveries_place : (r : RequesterState) (s : LinkState) (ns : List DeliveredEvent) → (with_deliveries r s ns).side.place ≡ s.place
 with_deliveries_place r s [] = refl
-with_deliveries_place r s (MessageReceived number invalidated message ∷ ns) = by (kept_verdict (kept_calls r) (bytes_under s.memory) message)
+with_deliveries_place r s (MessageReceived number invalidated message ∷ ns) = by (kept_message_verdict (kept_calls r) (bytes_under s.memory) invalidated message)
   where
-    by : (v : ReplyVerdict) → (judged r s message v).side.place ≡ s.place
+    by : (v : ReplyVerdict) → (judged r (with_dead (kept_named (kept_calls r) invalidated message) s) message v).side.place ≡ s.place
     by (EndsLink reason) = refl
     by (GivesOutcome xid outcome) = refl
 with_deliveries_place r s (ReadDone ∷ ns) = refl
@@ -57,9 +57,9 @@ told_place r s (Some end) = refl
 -- it doesn't end a side out of memory
 with_deliveries_end : (r : RequesterState) (s : LinkState) (ns : List DeliveredEvent) → s.ended ≡ None → (with_deliveries r s ns).side.ended ≢ Some ends.Memory
 with_deliveries_end r s [] e = λ m. (let wrong : None ≡ Some ends.Memory = sym e ∙ m in cc)
-with_deliveries_end r s (MessageReceived number invalidated message ∷ ns) e = by (kept_verdict (kept_calls r) (bytes_under s.memory) message)
+with_deliveries_end r s (MessageReceived number invalidated message ∷ ns) e = by (kept_message_verdict (kept_calls r) (bytes_under s.memory) invalidated message)
   where
-    by : (v : ReplyVerdict) → (judged r s message v).side.ended ≢ Some ends.Memory
+    by : (v : ReplyVerdict) → (judged r (with_dead (kept_named (kept_calls r) invalidated message) s) message v).side.ended ≢ Some ends.Memory
     by (EndsLink reason) = λ m. cc
     by (GivesOutcome xid outcome) = λ m. (let wrong : None ≡ Some ends.Memory = sym e ∙ m in cc)
 with_deliveries_end r s (ReadDone ∷ ns) e = λ m. (let wrong : None ≡ Some ends.Memory = sym e ∙ m in cc)

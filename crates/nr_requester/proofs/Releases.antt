@@ -3,7 +3,7 @@ use Rattle.std.proofs.Common.{◌≡◌, ℕ, ◌+◌, ◌<◌, ◌≤◌, List,
 use Rattle.std.specs.Prelude.{IfSome, ◌≢◌}
 use Rattle.std.specs.List.{flat_map}
 use Rattle.nr_regions.specs.RegisteredMemory.{RegisteredMemory, Claim, Region, IsHeld, bytes_in, after_release}
-use Rattle.nr_regions.proofs.Holding.{release_other, live_held}
+use Rattle.nr_regions.proofs.Holding.{release_other}
 use Rattle.nr_endpoint.specs.declared.offering.Claims.{Claims}
 use Rattle.nr_reduce.specs.KeptClient.{bytes_under, released_all}
 use Rattle.nr_requester.specs.RequesterState.{stag_of, stags_of}
@@ -21,7 +21,7 @@ still_held : (m : RegisteredMemory) (s : ℕ) (c : Claim) → c.stag ≢ s → I
 still_held m s c ne h = record { region = h.region; there = release_other m s c.stag ne ∙ h.there; len = h.len; given = (let g = h.given in let n = release_next m s in omega (arith, g, n)) }
 
 pub bytes_still : (m : RegisteredMemory) (s q : ℕ) → q ≢ s → bytes_under (after_release m s) q ≡ bytes_under m q
-bytes_still m s q ne = ap (λ (r : Option Region). bytes_in r) (live_held (after_release m s) q ∙ release_other m s q ne ∙ sym (live_held m q))
+bytes_still m s q ne = ap (λ (r : Option Region). bytes_in r) (release_other m s q ne)
 
 pub from_lower : (m : RegisteredMemory) (low lower : ℕ) (cs : List Claim) → lower ≤ low → AreHeldFrom m low cs → AreHeldFrom m lower cs
 from_lower m low lower [] le h = omega (arith, le, h)

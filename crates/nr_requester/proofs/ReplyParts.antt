@@ -7,7 +7,6 @@ use Rattle.nr_rpc.specs.declared.head.ReplyHead.{ReplyHead}
 use Rattle.nr_rpc.proofs.Replies.{reply_begins, begins_reply}
 use Rattle.nr_header.specs.declared.header.RdmaSegment.{RdmaSegment}
 use Rattle.nr_regions.specs.RegisteredMemory.{RegisteredMemory, Claim, IsHeld, held_region, live_region, bytes_in}
-use Rattle.nr_regions.proofs.Holding.{live_held}
 use Rattle.nr_reduce.specs.declared.fault.Mismatch.{Mismatch}
 use Rattle.nr_reduce.specs.declared.fault.Mismatch.TheVariants as mismatches
 use Rattle.nr_reduce.specs.declared.item.Item.{Item}
@@ -29,7 +28,7 @@ filled_bytes m claim back bytes c is len =
     let b = came_back (bytes_under m) claim.stag c.1.0 back c.1.1.1 in
     let most = b.1 in
     let all = c.1.1.0 in (
-      b.0 ∙ ap (λ (r : Option Rattle.nr_regions.specs.RegisteredMemory.Region). take (chunk_total back) (bytes_in r)) (live_held m claim.stag) ∙ ap (λ (x : List ℕ). take (chunk_total back) x) (sym is),
+      b.0 ∙ ap (λ (x : List ℕ). take (chunk_total back) x) (sym is),
       omega (arith, most, all, len),
     )
 

@@ -54,7 +54,10 @@ counts_out_lem opened link h stopped run out = (out.out.keeps.outstanding, out.o
 pub agrees_out_lem : AgreesOut
 agrees_out_lem opened link h stopped run out = (
   out.out.keeps.up ∙ sym (ap (λ (e : EndState ClientState). e.state.up_max) out.same),
-  out.out.keeps.down ∙ sym (ap (λ (e : EndState ClientState). e.state.down_max) out.same),
+  (
+    out.out.keeps.down ∙ sym (ap (λ (e : EndState ClientState). e.state.down_max) out.same),
+    out.out.keeps.invalidates ∙ sym (ap (λ (e : EndState ClientState). e.state.invalidates) out.same),
+  ),
 )
 
 pub refuses_out : RefusesOut

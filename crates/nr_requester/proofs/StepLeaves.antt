@@ -7,7 +7,7 @@ use Rattle.nr_wire.specs.declared.stream.Awaited.{Awaited}
 use Rattle.nr_wire.specs.declared.stream.Awaited.TheVariants.{Fpdu, Hello as HelloFrom}
 use Rattle.nr_wire.specs.Feeding.{feeding_after_step}
 use Rattle.nr_wire.specs.Hello.{Hello, hello_of}
-use Rattle.nr_wire.specs.Segment.{Segment, segment_of}
+use Rattle.nr_wire.specs.Segment.{Segment}
 use Rattle.nr_wire.specs.Segment.Segment.{Tagged, Untagged}
 use Rattle.nr_wire.specs.Stream.{is_whole, frame_len}
 use Rattle.nr_wire.proofs.Feedings.{feeding_after_step-whole, feeding_after_step-partial}
@@ -16,11 +16,11 @@ use Rattle.nr_regions.proofs.Holding.{held_after_place, next_after_place}
 use Rattle.nr_link.specs.declared.end.End.{End}
 use Rattle.nr_link.specs.Frames.{Frame}
 use Rattle.nr_link.specs.Ending.{kind_of}
-use Rattle.nr_link.specs.ReceiveState.{ReceiveState, ReadRequest, is_send, begun_bytes, message_completed, read_request_in, read_request_of}
+use Rattle.nr_link.specs.ReceiveState.{ReceiveState, ReadRequest, is_send, begun_bytes, message_completed, stag_invalidated, read_request_in, read_request_of}
 use Rattle.nr_endpoint.specs.LinkState.{LinkState, LinkSide, has_ended}
 use Rattle.nr_endpoint.specs.ReceiveQueue.{message_deliveries, with_segment as received_segment}
 use Rattle.nr_endpoint.specs.ReceiveQueue.DeliveredEvent.{MessageReceived}
-use Rattle.nr_endpoint.specs.Judging.{with_frame, with_peer_hello, with_fpdu, with_segment_by, with_effect, with_end_of, with_read_response, with_read_request, after_frame, segment_end, next_frame}
+use Rattle.nr_endpoint.specs.Judging.{with_frame, with_peer_hello, with_fpdu, with_segment_by, with_effect, with_end_of, with_read_response, with_read_request, after_frame, segment_end, next_frame, next_segment}
 use Rattle.nr_endpoint.specs.Calls.{after_call}
 use Rattle.nr_endpoint.specs.Calls.Call.{FeedOne}
 use Rattle.nr_requester.specs.HeldClaims.{AreHeldFrom}
@@ -29,8 +29,9 @@ use Rattle.nr_requester.proofs.FrameSides.{TaggedFine, tagged_fine}
 -- a message that a frame delivered: nothing else of the side changed that its owner knows of
 pub record Delivers (s t : LinkState) : Type 0 where
   pub number : ℕ
+  pub named : Option ℕ
   pub message : List ℕ
-  pub is : t.receive_queue.deliveries ≡ MessageReceived number None message ∷ []
+  pub is : t.receive_queue.deliveries ≡ MessageReceived number named message ∷ []
   pub memory : t.memory ≡ s.memory
   pub queue : t.send_queue ≡ s.send_queue
   pub hello : t.has_hello ≡ s.has_hello
@@ -75,11 +76,12 @@ untagged_waits s f last opcode w queue msn offset payload quiet = by (message_co
 
     by : (o : Option (List ℕ)) → message_completed s.receive_queue.received segment ≡ o →
         ((after_frame f (with_effect segment s)).receive_queue.deliveries ≡ []) ⊎ Delivers s (after_frame f (with_effect segment s))
-    by None e = inl (λ i. quiet i ++ message_deliveries number (e i))
+    by None e = inl (λ i. quiet i ++ message_deliveries number (stag_invalidated segment) (e i))
     by (Some message) e = inr (record {
       number = number;
+      named = stag_invalidated segment;
       message = message;
-      is = λ i. quiet i ++ message_deliveries number (e i);
+      is = λ i. quiet i ++ message_deliveries number (stag_invalidated segment) (e i);
       memory = refl;
       queue = none_asked (read_request_of segment) (no_request s.receive_queue.received last opcode w queue msn offset payload message e);
       hello = refl;
@@ -127,7 +129,7 @@ by_hello s f (Err reason) lives quiet none = end_leaves s _ quiet none
 
 pub frame_leaves : (s : LinkState) (a : Awaited) (frame : List ℕ) → s.ended ≡ None → s.receive_queue.deliveries ≡ [] → s.reads ≡ [] → Leaves s (with_frame s a frame)
 frame_leaves s (HelloFrom side) frame lives quiet none = by_hello s (next_frame s frame) (hello_of side frame) lives quiet none
-frame_leaves s Fpdu frame lives quiet none = by_segment s (next_frame s frame) (segment_of frame) lives quiet none
+frame_leaves s Fpdu frame lives quiet none = by_segment s (next_frame s frame) (next_segment s frame) lives quiet none
 
 same_leaves : (s : LinkState) → s.receive_queue.deliveries ≡ [] → s.reads ≡ [] → Leaves s s
 same_leaves s quiet none = record { held = λ c h. h; next = refl; lent = refl; reads = none; ended = λ e. quiet; waits = λ e. inl quiet }

@@ -57,18 +57,18 @@ module _ (link link2 : LinkSide) (piece : List ℕ) (e : Result ℕ End) (f : Fe
   by_queues m lives = f.queues (same_error ∙ ap the_error m) lives
 
 -- the side ended by the frame
-pub err_step : (link link2 : LinkSide) (len sent wished sends next grant room : ℕ) (items : List OutstandingCall) (answers : List AnsweredCall) (piece : List ℕ) (e : Result ℕ End) (end : End) → FedOne link link2 piece e → link2.state.ended ≡ Some end → link.state.ended ≡ None →
-    RequesterInvariant len link next grant items answers room → IsStep (requester_view link sent wished sends next grant items answers) piece (requester_view link2 sent wished sends next grant items answers)
-err_step link link2 len sent wished sends next grant room items answers piece e end f is lives s = by end is (by_other link link2 piece e f end is) (by_memory link link2 piece e f end is) (λ m. by_whole link link2 piece e f end is m (ap (λ (x : Option End). is_some x) lives)) (λ m. by_queues link link2 piece e f end is m (ap (λ (x : Option End). is_some x) lives))
+pub err_step : (link link2 : LinkSide) (len sent wished sends next grant releases room : ℕ) (items : List OutstandingCall) (answers : List AnsweredCall) (piece : List ℕ) (e : Result ℕ End) (end : End) → FedOne link link2 piece e → link2.state.ended ≡ Some end → link.state.ended ≡ None →
+    RequesterInvariant len link next grant items answers room → IsStep (requester_view link sent wished sends next grant items answers releases) piece (requester_view link2 sent wished sends next grant items answers releases)
+err_step link link2 len sent wished sends next grant releases room items answers piece e end f is lives s = by end is (by_other link link2 piece e f end is) (by_memory link link2 piece e f end is) (λ m. by_whole link link2 piece e f end is m (ap (λ (x : Option End). is_some x) lives)) (λ m. by_queues link link2 piece e f end is m (ap (λ (x : Option End). is_some x) lives))
   where
     h : RequesterFeeding
-    h = requester_view link sent wished sends next grant items answers
+    h = requester_view link sent wished sends next grant items answers releases
 
     after : RequesterFeeding
-    after = requester_view link2 sent wished sends next grant items answers
+    after = requester_view link2 sent wished sends next grant items answers releases
 
     on : (x : End) → link2.state.ended ≡ Some x → link2 ≡ after_call link (FeedOne piece) → IsStep h piece after
-    on x ended same = step_ended h piece lives s.none_waits s.no_reads after x (ap (λ (l : LinkSide). requester_view l sent wished sends next grant items answers) same) (ap (λ (l : LinkSide). l.state.ended) (sym same) ∙ ended)
+    on x ended same = step_ended h piece lives s.none_waits s.no_reads after x (ap (λ (l : LinkSide). requester_view l sent wished sends next grant items answers releases) same) (ap (λ (l : LinkSide). l.state.ended) (sym same) ∙ ended)
 
     by : (x : End) → link2.state.ended ≡ Some x → (x ≢ ends.Memory → link2 ≡ after_call link (FeedOne piece)) → (x ≡ ends.Memory → link2 ≡ after_call link OutOfMemory) → (x ≡ ends.Memory → makes_whole link piece ≡ true) → (x ≡ ends.Memory → QueuesOutput link piece) → IsStep h piece after
     by ends.Memory ended other memory whole queues = step_out h piece lives s.none_waits s.no_reads after link2 refl (memory refl) (whole refl) (queues refl)
@@ -81,13 +81,13 @@ pub err_sound : (link link2 : LinkSide) (len next grant room : ℕ) (items : Lis
 err_sound link link2 len next grant room items answers piece e end f is lives s = ended_sound link link2 piece len next grant room items answers end s lives is (by_other link link2 piece e f end is) (by_memory link link2 piece e f end is)
 
 -- it went on, and took what came
-pub ok_step : (link link1 link2 : LinkSide) (len sent wished sends next grant grant2 room n : ℕ) (items items2 : List OutstandingCall) (answers answers2 : List AnsweredCall) (piece : List ℕ) → FedOne link link1 piece (Ok n) → link.state.ended ≡ None → RequesterInvariant len link next grant items answers room →
-    TakesDeliveries (requester_view link1 sent wished sends next grant items answers) (requester_view link2 sent wished sends next grant2 items2 answers2) → IsStep (requester_view link sent wished sends next grant items answers) piece (requester_view link2 sent wished sends next grant2 items2 answers2)
-ok_step link link1 link2 len sent wished sends next grant grant2 room n items items2 answers answers2 piece f lives s told =
+pub ok_step : (link link1 link2 : LinkSide) (len sent wished sends next grant releases grant2 releases2 room n : ℕ) (items items2 : List OutstandingCall) (answers answers2 : List AnsweredCall) (piece : List ℕ) → FedOne link link1 piece (Ok n) → link.state.ended ≡ None → RequesterInvariant len link next grant items answers room →
+    TakesDeliveries (requester_view link1 sent wished sends next grant items answers releases) (requester_view link2 sent wished sends next grant2 items2 answers2 releases2) → IsStep (requester_view link sent wished sends next grant items answers releases) piece (requester_view link2 sent wished sends next grant2 items2 answers2 releases2)
+ok_step link link1 link2 len sent wished sends next grant releases grant2 releases2 room n items items2 answers answers2 piece f lives s told =
     let o = ok_state link link1 piece n f in
-    step_told (requester_view link sent wished sends next grant items answers) piece lives s.none_waits s.no_reads (requester_view link2 sent wished sends next grant2 items2 answers2)
+    step_told (requester_view link sent wished sends next grant items answers releases) piece lives s.none_waits s.no_reads (requester_view link2 sent wished sends next grant2 items2 answers2 releases2)
     (ap (λ (l : LinkSide). l.state.ended) (sym o.0) ∙ o.1)
-    (subst (λ (l : LinkSide). TakesDeliveries (requester_view l sent wished sends next grant items answers) (requester_view link2 sent wished sends next grant2 items2 answers2)) o.0 told)
+    (subst (λ (l : LinkSide). TakesDeliveries (requester_view l sent wished sends next grant items answers releases) (requester_view link2 sent wished sends next grant2 items2 answers2 releases2)) o.0 told)
 
 pub ok_ready : (link link1 : LinkSide) (len next grant room n : ℕ) (items : List OutstandingCall) (answers : List AnsweredCall) (piece : List ℕ) → FedOne link link1 piece (Ok n) → link.state.ended ≡ None → RequesterInvariant len link next grant items answers room → link1.state.receive_queue.receive_length ≡ len → IsReady link1 items answers room
 ok_ready link link1 len next grant room n items answers piece f lives s receive = (let o = ok_state link link1 piece n f in ready_lem link link1 piece len next grant room items answers s lives o.0 o.1 receive)

@@ -21,15 +21,18 @@ use Rattle.nr_endpoint.specs.Calls.Call.{FeedOne, NextEvent, Post, Stop, OutOfMe
 use Rattle.nr_reduce.specs.Client.{credits_of_word}
 use Rattle.nr_reduce.specs.ClientMessages.{ReplyVerdict}
 use Rattle.nr_reduce.specs.ClientMessages.ReplyVerdict.{EndsLink, GivesOutcome}
-use Rattle.nr_reduce.specs.KeptCalls.{kept_verdict}
+use Rattle.nr_reduce.specs.KeptCalls.{kept_named, kept_message_verdict}
 use Rattle.nr_reduce.specs.KeptClient.{bytes_under, released_all}
 use Rattle.nr_xdr.specs.Fields.{word_at}
 use Rattle.nr_requester.specs.declared.answer.AnsweredCall.{AnsweredCall}
 use Rattle.nr_requester.specs.declared.outstanding.OutstandingCall.{OutstandingCall}
 use Rattle.nr_requester.specs.RequesterState.{RequesterState, RequesterFeeding, kept_calls}
-use Rattle.nr_requester.specs.AfterPiece.{taken, judged, with_deliveries, unless_ended, requester_ended, after_frame, RanOut}
+use Rattle.nr_requester.specs.AfterCalls.{stags_for, live_count}
+use Rattle.nr_requester.specs.Buffers.{with_memory}
+use Rattle.nr_requester.specs.CountedMarks.{with_releases}
+use Rattle.nr_requester.specs.AfterPiece.{taken, dead_memory, with_dead, without_call, answer_to, call_of, judged, with_deliveries, unless_ended, requester_ended, after_frame, RanOut}
 use Rattle.nr_requester.specs.Judged.{kept_views}
-use Rattle.nr_requester.specs.Fed.{OneWaits, CallsSound, IsReady, JudgesTo, with_deliveries_side, TakesDeliveries, one_step, StepOut, IsStep}
+use Rattle.nr_requester.specs.Fed.{OneWaits, CallsSound, IsReady, StopsDead, JudgesTo, with_deliveries_side, TakesDeliveries, one_step, StepOut, IsStep}
 use Rattle.nr_requester.specs.Views.{RequesterInvariant, stored_view, requester_view}
 use Rattle.nr_requester.proofs.Stepping.{link_of, told_of, step_fed}
 use Rattle.nr_requester.proofs.StepLeaves.{Delivers, Leaves, StepLeaves, step_leaves, held_still}
@@ -43,15 +46,15 @@ module _ (link0 : LinkSide) (lives : link0.state.ended ≡ None) where
   abbrev s : LinkState
   s = link0.state
 
-  stop_is : (reason : ℕ) → after_call (after_call (after_call link0 NextEvent) Post) (Stop reason) ≡ record { awaited = link0.awaited; rest = []; state = with_end_of (ends.Bad s.last reason) (taken s) }
+  stop_is : (own : Option ℕ) (reason : ℕ) → with_memory (dead_memory own s.memory) (after_call (after_call (after_call link0 NextEvent) Post) (Stop reason)) ≡ record { awaited = link0.awaited; rest = []; state = with_end_of (ends.Bad s.last reason) (taken (with_dead own s)) }
   unfolding after_call
-  stop_is reason = ap (λ (e : Option End). record { awaited = link0.awaited; rest = []; state = cond (is_some e) (taken s) (with_end_of (ends.Bad s.last reason) (taken s)) }) lives
+  stop_is own reason = ap (λ (e : Option End). record { awaited = link0.awaited; rest = []; state = record (cond (is_some e) (taken s) (with_end_of (ends.Bad s.last reason) (taken s))) { memory = dead_memory own s.memory } }) lives
 
   out_is : after_call (after_call (after_call link0 NextEvent) Post) OutOfMemory ≡ record { awaited = link0.awaited; rest = []; state = record (taken s) { ended = Some ends.Memory } }
   unfolding after_call
   out_is = ap (λ (e : Option End). record { awaited = link0.awaited; rest = []; state = cond (is_some e) (taken s) (record (taken s) { ended = Some ends.Memory }) }) lives
 
-  posted_is : (m : RegisteredMemory) → Rattle.nr_requester.specs.Buffers.with_memory m (after_call (after_call link0 NextEvent) Post) ≡ record { awaited = link0.awaited; rest = link0.rest; state = record (taken s) { memory = m } }
+  posted_is : (m : RegisteredMemory) → with_memory m (after_call (after_call link0 NextEvent) Post) ≡ record { awaited = link0.awaited; rest = link0.rest; state = record (taken s) { memory = m } }
   unfolding after_call
   posted_is m = refl
 
@@ -59,44 +62,56 @@ module _ (link0 : LinkSide) (lives : link0.state.ended ≡ None) where
   unfolding after_call
   next_memory = refl
 
-pub message_told : (link0 link1 link2 : LinkSide) (sent wished sends next grant grant2 number : ℕ) (items items2 : List OutstandingCall) (answers answers2 : List AnsweredCall) (message : List ℕ) → link0.state.ended ≡ None →
-    link0.state.receive_queue.deliveries ≡ MessageReceived number None message ∷ [] → link0.rest ≡ [] → link1 ≡ after_call link0 NextEvent →
-    JudgesTo (kept_verdict (kept_views sent items) (bytes_under link1.state.memory) message) message link1 link2 items items2 answers answers2 grant grant2 →
-    TakesDeliveries (requester_view link0 sent wished sends next grant items answers) (requester_view link2 sent wished sends next grant2 items2 answers2)
-message_told link0 link1 link2 sent wished sends next grant grant2 number items items2 answers answers2 message lives is rest event judges =
-    by (kept_verdict (kept_views sent items) (bytes_under link0.state.memory) message) refl
-    (subst (λ (m : RegisteredMemory). JudgesTo (kept_verdict (kept_views sent items) (bytes_under m) message) message (after_call link0 NextEvent) link2 items items2 answers answers2 grant grant2) (next_memory link0 lives)
-    (subst (λ (l : LinkSide). JudgesTo (kept_verdict (kept_views sent items) (bytes_under l.state.memory) message) message l link2 items items2 answers answers2 grant grant2) event judges))
+  posted_memory : (after_call (after_call link0 NextEvent) Post).state.memory ≡ s.memory
+  unfolding after_call
+  posted_memory = refl
+
+pub message_told : (link0 link1 link2 : LinkSide) (sent wished sends next grant releases grant2 releases2 number : ℕ) (named : Option ℕ) (items items2 : List OutstandingCall) (answers answers2 : List AnsweredCall) (message : List ℕ) → link0.state.ended ≡ None →
+    link0.state.receive_queue.deliveries ≡ MessageReceived number named message ∷ [] → link0.rest ≡ [] → link1 ≡ after_call link0 NextEvent →
+    JudgesTo (kept_message_verdict (kept_views sent items) (bytes_under link1.state.memory) named message) (kept_named (kept_views sent items) named message) message link1 link2 items items2 answers answers2 grant grant2 releases releases2 →
+    TakesDeliveries (requester_view link0 sent wished sends next grant items answers releases) (requester_view link2 sent wished sends next grant2 items2 answers2 releases2)
+message_told link0 link1 link2 sent wished sends next grant releases grant2 releases2 number named items items2 answers answers2 message lives is rest event judges =
+    by (kept_message_verdict (kept_views sent items) (bytes_under link0.state.memory) named message) refl
+    (subst (λ (m : RegisteredMemory). JudgesTo (kept_message_verdict (kept_views sent items) (bytes_under m) named message) own message (after_call link0 NextEvent) link2 items items2 answers answers2 grant grant2 releases releases2) (next_memory link0 lives)
+    (subst (λ (l : LinkSide). JudgesTo (kept_message_verdict (kept_views sent items) (bytes_under l.state.memory) named message) own message l link2 items items2 answers answers2 grant grant2 releases releases2) event judges))
   where
     before : RequesterFeeding
-    before = requester_view link0 sent wished sends next grant items answers
+    before = requester_view link0 sent wished sends next grant items answers releases
 
     s : LinkState
     s = link0.state
 
-    -- what is made of it, by the verdict
-    made : (v : ReplyVerdict) → kept_verdict (kept_views sent items) (bytes_under s.memory) message ≡ v → with_deliveries_side before ≡ record { awaited = link0.awaited; rest = link0.rest; state = judged before.state s message v }
-    made v e = (λ i. record { awaited = link0.awaited; rest = link0.rest; state = with_deliveries before.state s (is i) }) ∙ ap (λ (x : ReplyVerdict). record { awaited = link0.awaited; rest = link0.rest; state = judged before.state s message x }) e
+    own : Option ℕ
+    own = kept_named (kept_views sent items) named message
 
-    by : (v : ReplyVerdict) → kept_verdict (kept_views sent items) (bytes_under s.memory) message ≡ v → JudgesTo v message (after_call link0 NextEvent) link2 items items2 answers answers2 grant grant2 → TakesDeliveries before (requester_view link2 sent wished sends next grant2 items2 answers2)
+    posted : LinkSide
+    posted = after_call (after_call link0 NextEvent) Post
+
+    -- what is made of it, by the verdict
+    made : (v : ReplyVerdict) → kept_message_verdict (kept_views sent items) (bytes_under s.memory) named message ≡ v → with_deliveries_side before ≡ record { awaited = link0.awaited; rest = link0.rest; state = judged before.state (with_dead own s) message v }
+    made v e = (λ i. record { awaited = link0.awaited; rest = link0.rest; state = with_deliveries before.state s (is i) }) ∙ ap (λ (x : ReplyVerdict). record { awaited = link0.awaited; rest = link0.rest; state = judged before.state (with_dead own s) message x }) e
+
+    by : (v : ReplyVerdict) → kept_message_verdict (kept_views sent items) (bytes_under s.memory) named message ≡ v → JudgesTo v own message (after_call link0 NextEvent) link2 items items2 answers answers2 grant grant2 releases releases2 →
+        TakesDeliveries before (requester_view link2 sent wished sends next grant2 items2 answers2 releases2)
     by (EndsLink reason) e j = ended j.0
       where
-        same_calls : requester_view link2 sent wished sends next grant2 items2 answers2 ≡ record { awaited = link2.awaited; rest = link2.rest; state = record before.state { side = link2.state } }
-        same_calls = λ i. record { awaited = link2.awaited; rest = link2.rest; state = record { side = link2.state; sent = sent; wished = wished; sends = sends; next_xid = next; grant = j.1.1.1.0 i; outstanding = j.1.0 i; answered = j.1.1.0 i } }
+        same_calls : requester_view link2 sent wished sends next grant2 items2 answers2 releases2 ≡ record { awaited = link2.awaited; rest = link2.rest; state = record before.state { side = link2.state } }
+        same_calls = λ i. record { awaited = link2.awaited; rest = link2.rest; state = record { side = link2.state; sent = sent; wished = wished; sends = sends; next_xid = next; grant = j.1.1.1.0 i; outstanding = j.1.0 i; answered = j.1.1.0 i; local_releases = j.1.1.1.1.1 i } }
 
-        ended : (link2 ≡ after_call (after_call (after_call link0 NextEvent) Post) (Stop reason)) ⊎ (link2 ≡ after_call (after_call (after_call link0 NextEvent) Post) OutOfMemory) → TakesDeliveries before (requester_view link2 sent wished sends next grant2 items2 answers2)
+        ended : StopsDead own reason posted link2 → TakesDeliveries before (requester_view link2 sent wished sends next grant2 items2 answers2 releases2)
         ended (inl stop) = inl (
             same_calls
-            ∙ ap (λ (l : LinkSide). record { awaited = l.awaited; rest = l.rest; state = record before.state { side = l.state } }) (stop ∙ stop_is link0 lives reason)
-            ∙ ap (λ (xs : List ℕ). record { awaited = link0.awaited; rest = xs; state = judged before.state s message (EndsLink reason) }) (sym rest)
+            ∙ ap (λ (l : LinkSide). record { awaited = l.awaited; rest = l.rest; state = record before.state { side = l.state } })
+            (stop ∙ ap (λ (m : RegisteredMemory). with_memory (dead_memory own m) (after_call posted (Stop reason))) (posted_memory link0 lives) ∙ stop_is link0 lives own reason)
+            ∙ ap (λ (xs : List ℕ). record { awaited = link0.awaited; rest = xs; state = judged before.state (with_dead own s) message (EndsLink reason) }) (sym rest)
             ∙ sym (made (EndsLink reason) e)
             )
         ended (inr out) =
             let l : link2 ≡ record { awaited = link0.awaited; rest = []; state = record (taken s) { ended = Some ends.Memory } } = out ∙ out_is link0 lives in
             inr (record {
-              waits = record { number = number; message = message; is = is; rest = rest };
+              waits = record { number = number; named = named; message = message; is = is; rest = rest };
               reason = reason;
-              stops = j.1.1.1.1;
+              stops = j.1.1.1.1.0;
               verdict = e;
               rest = ap (λ (x : LinkSide). x.rest) l;
               ended = ap (λ (x : LinkSide). x.state.ended) l;
@@ -108,29 +123,33 @@ message_told link0 link1 link2 sent wished sends next grant grant2 number items 
               same = ap (λ (h : RequesterFeeding). h.state) same_calls;
             })
     by (GivesOutcome xid outcome) e j =
-        let l : link2 ≡ record { awaited = link0.awaited; rest = link0.rest; state = record (taken s) { memory = released_all s.memory (Rattle.nr_requester.specs.AfterCalls.stags_for (word_at 0 message) (map stored_view items)) } } =
-        j.0 ∙ ap (λ (m : RegisteredMemory). Rattle.nr_requester.specs.Buffers.with_memory (released_all m (Rattle.nr_requester.specs.AfterCalls.stags_for (word_at 0 message) (map stored_view items))) (after_call (after_call link0 NextEvent) Post)) (next_memory link0 lives)
-        ∙ posted_is link0 lives (released_all s.memory (Rattle.nr_requester.specs.AfterCalls.stags_for (word_at 0 message) (map stored_view items))) in
+        let dead : RegisteredMemory = dead_memory own s.memory in
+        let stags : List ℕ = stags_for (word_at 0 message) (map stored_view items) in
+        let was : RegisteredMemory = (after_call link0 NextEvent).state.memory in
+        let same : dead_memory own was ≡ dead = ap (λ (m : RegisteredMemory). dead_memory own m) (next_memory link0 lives) in
+        let l : link2 ≡ record { awaited = link0.awaited; rest = link0.rest; state = record (taken s) { memory = released_all dead stags } } =
+        j.0 ∙ ap (λ (m : RegisteredMemory). with_memory (released_all m stags) posted) same ∙ posted_is link0 lives (released_all dead stags) in
         inl (
-        (λ i. record { awaited = (l i).awaited; rest = (l i).rest; state = record { side = (l i).state; sent = sent; wished = wished; sends = sends; next_xid = next; grant = j.1.1.1 i; outstanding = j.1.0 i; answered = j.1.1.0 i } })
+        (λ i. record { awaited = (l i).awaited; rest = (l i).rest; state = record { side = (l i).state; sent = sent; wished = wished; sends = sends; next_xid = next; grant = j.1.1.1.0 i; outstanding = j.1.0 i; answered = j.1.1.0 i; local_releases = j.1.1.1.1 i } })
         ∙ ap (λ (m : RegisteredMemory). record {
           awaited = link0.awaited;
           rest = link0.rest;
           state = record before.state {
-            side = record (taken s) { memory = released_all s.memory (Rattle.nr_requester.specs.AfterCalls.stags_for (word_at 0 message) (map stored_view items)) };
+            side = record (taken s) { memory = released_all dead stags };
             grant = credits_of_word (word_at 8 message);
-            outstanding = Rattle.nr_requester.specs.AfterPiece.without_call (word_at 0 message) (map stored_view items);
-            answered = answers ++ Rattle.nr_requester.specs.AfterPiece.answer_to m (Rattle.nr_requester.specs.AfterPiece.call_of (word_at 0 message) (map stored_view items)) outcome;
+            outstanding = without_call (word_at 0 message) (map stored_view items);
+            answered = answers ++ answer_to m (call_of (word_at 0 message) (map stored_view items)) outcome;
+            local_releases = with_releases (live_count m stags) releases;
           };
-        }) (next_memory link0 lives)
+        }) same
         ∙ sym (made (GivesOutcome xid outcome) e)
         )
 
 -- no event
-pub none_told : (link0 link2 : LinkSide) (sent wished sends next grant : ℕ) (items : List OutstandingCall) (answers : List AnsweredCall) → link0.state.receive_queue.deliveries ≡ [] → link2 ≡ link0 → TakesDeliveries (requester_view link0 sent wished sends next grant items answers) (requester_view link2 sent wished sends next grant items answers)
-none_told link0 link2 sent wished sends next grant items answers none same = inl (
-    ap (λ (l : LinkSide). requester_view l sent wished sends next grant items answers) same
-    ∙ ap (λ (ns : List DeliveredEvent). record { awaited = link0.awaited; rest = link0.rest; state = with_deliveries (requester_view link0 sent wished sends next grant items answers).state link0.state ns }) (sym none)
+pub none_told : (link0 link2 : LinkSide) (sent wished sends next grant releases : ℕ) (items : List OutstandingCall) (answers : List AnsweredCall) → link0.state.receive_queue.deliveries ≡ [] → link2 ≡ link0 → TakesDeliveries (requester_view link0 sent wished sends next grant items answers releases) (requester_view link2 sent wished sends next grant items answers releases)
+none_told link0 link2 sent wished sends next grant releases items answers none same = inl (
+    ap (λ (l : LinkSide). requester_view l sent wished sends next grant items answers releases) same
+    ∙ ap (λ (ns : List DeliveredEvent). record { awaited = link0.awaited; rest = link0.rest; state = with_deliveries (requester_view link0 sent wished sends next grant items answers releases).state link0.state ns }) (sym none)
     )
 
 -- ---- A step
@@ -142,9 +161,9 @@ end_longer side end q = omega (arith, length-append q.hello (rejection side end)
 
 with_deliveries_longer : (r : RequesterState) (s : LinkState) (ns : List DeliveredEvent) → output_len s.send_queue ≤ output_len (with_deliveries r s ns).side.send_queue
 with_deliveries_longer r s [] = omega arith
-with_deliveries_longer r s (MessageReceived number invalidated message ∷ ns) = by (kept_verdict (kept_calls r) (bytes_under s.memory) message)
+with_deliveries_longer r s (MessageReceived number invalidated message ∷ ns) = by (kept_message_verdict (kept_calls r) (bytes_under s.memory) invalidated message)
   where
-    by : (v : ReplyVerdict) → output_len s.send_queue ≤ output_len (judged r s message v).side.send_queue
+    by : (v : ReplyVerdict) → output_len s.send_queue ≤ output_len (judged r (with_dead (kept_named (kept_calls r) invalidated message) s) message v).side.send_queue
     by (EndsLink reason) = end_longer s.side (ends.Bad s.last reason) s.send_queue
     by (GivesOutcome xid outcome) = omega arith
 with_deliveries_longer r s (ReadDone ∷ ns) = omega arith
@@ -165,7 +184,8 @@ stop_reason_from reason (inr (inr (inl e))) = omega (arith, e)
 stop_reason_from reason (inr (inr (inr (inl e)))) = omega (arith, e)
 stop_reason_from reason (inr (inr (inr (inr (inl e))))) = omega (arith, e)
 stop_reason_from reason (inr (inr (inr (inr (inr (inl e)))))) = omega (arith, e)
-stop_reason_from reason (inr (inr (inr (inr (inr (inr e)))))) = omega (arith, e)
+stop_reason_from reason (inr (inr (inr (inr (inr (inr (inl e))))))) = omega (arith, e)
+stop_reason_from reason (inr (inr (inr (inr (inr (inr (inr e))))))) = omega (arith, e)
 
 stopped_longer : (side : Side) (at reason : ℕ) (q : SendQueue) → IsStopReason reason → output_len q < output_len (with_end side (ends.Bad at reason) q)
 stopped_longer side at reason q stops = terminate_queues side (ends.Bad at reason) reason q (reason_ends at reason (stop_reason_from reason stops))
@@ -173,9 +193,12 @@ stopped_longer side at reason q stops = terminate_queues side (ends.Bad at reaso
 -- the side before the event doesn't matter
 with_deliveries_as : (r : RequesterState) (s t : LinkState) (ns : List DeliveredEvent) → with_deliveries (record r { side = t }) s ns ≡ with_deliveries r s ns
 with_deliveries_as r s t [] = refl
-with_deliveries_as r s t (MessageReceived number invalidated message ∷ ns) = by (kept_verdict (kept_calls r) (bytes_under s.memory) message)
+with_deliveries_as r s t (MessageReceived number invalidated message ∷ ns) = by (kept_message_verdict (kept_calls r) (bytes_under s.memory) invalidated message)
   where
-    by : (v : ReplyVerdict) → judged (record r { side = t }) s message v ≡ judged r s message v
+    died : LinkState
+    died = with_dead (kept_named (kept_calls r) invalidated message) s
+
+    by : (v : ReplyVerdict) → judged (record r { side = t }) died message v ≡ judged r died message v
     by (EndsLink reason) = refl
     by (GivesOutcome xid outcome) = refl
 with_deliveries_as r s t (ReadDone ∷ ns) = refl
@@ -208,7 +231,7 @@ module _ (h : RequesterFeeding) (piece : List ℕ) (lives : h.state.side.ended �
   step_told after e (inr out) = inr (by (left.leaves.waits e) left.rest)
     where
       contra : {X : Type 0} → l.state.receive_queue.deliveries ≡ [] → X
-      contra e = absurd (let wrong : [] ≡ MessageReceived out.waits.number None out.waits.message ∷ [] = sym e ∙ out.waits.is in cc)
+      contra e = absurd (let wrong : [] ≡ MessageReceived out.waits.number out.waits.named out.waits.message ∷ [] = sym e ∙ out.waits.is in cc)
 
       by : (l.state.receive_queue.deliveries ≡ []) ⊎ Delivers h.state.side l.state → (l.state.receive_queue.deliveries ≡ []) ⊎ ((l.rest ≡ []) × (is_whole h.awaited (h.rest ++ piece) ≡ true)) → StepOut h piece after
       by (inl n) w = contra n
@@ -226,11 +249,12 @@ module _ (h : RequesterFeeding) (piece : List ℕ) (lives : h.state.side.ended �
         whole = w.1;
         queues =
             let message : List ℕ = out.waits.message in
-            let made : one_step h piece ≡ record { awaited = l.awaited; rest = l.rest; state = judged h.state l.state message (EndsLink out.reason) } =
+            let died : LinkState = with_dead (kept_named (kept_calls h.state) out.waits.named message) l.state in
+            let made : one_step h piece ≡ record { awaited = l.awaited; rest = l.rest; state = judged h.state died message (EndsLink out.reason) } =
             stepped
             ∙ ap (λ (x : Option End). record { awaited = l.awaited; rest = l.rest; state = unless_ended h.state l.state x }) e
             ∙ ap (λ (ns : List DeliveredEvent). record { awaited = l.awaited; rest = l.rest; state = with_deliveries h.state l.state ns }) out.waits.is
-            ∙ ap (λ (v : ReplyVerdict). record { awaited = l.awaited; rest = l.rest; state = judged h.state l.state message v }) out.verdict in
+            ∙ ap (λ (v : ReplyVerdict). record { awaited = l.awaited; rest = l.rest; state = judged h.state died message v }) out.verdict in
             let more = stopped_longer l.state.side l.state.last out.reason l.state.send_queue out.stops in
             let len = ap (λ (x : RequesterFeeding). output_len x.state.side.send_queue) made in
             let was = ap output_len d.queue in
@@ -300,7 +324,7 @@ ready_lem link link2 piece len next grant room items answers s lives is live2 re
     by : (a : LinkSide) → StepLeaves link piece a → (a.state.receive_queue.deliveries ≡ []) ⊎ Delivers link.state a.state → (a.state.receive_queue.deliveries ≡ []) ⊎ ((a.rest ≡ []) × (is_whole link.awaited (link.rest ++ piece) ≡ true)) → (a.state.receive_queue.deliveries ≡ []) ⊎ OneWaits a
     by a w (inl n) r = inl n
     by a w (inr d) (inl n) = inl n
-    by a w (inr d) (inr r) = inr (record { number = d.number; message = d.message; is = d.is; rest = r.0 })
+    by a w (inr d) (inr r) = inr (record { number = d.number; named = d.named; message = d.message; is = d.is; rest = r.0 })
 
 -- after the step ended the side
 pub ended_sound : (link link2 : LinkSide) (piece : List ℕ) (len next grant room : ℕ) (items : List OutstandingCall) (answers : List AnsweredCall) (end : End) → RequesterInvariant len link next grant items answers room → link.state.ended ≡ None → link2.state.ended ≡ Some end →

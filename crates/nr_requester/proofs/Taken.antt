@@ -14,20 +14,21 @@ use Rattle.nr_reduce.specs.Chunks.{Bytes}
 use Rattle.nr_reduce.specs.ClientMessages.{ReplyVerdict}
 use Rattle.nr_reduce.specs.ClientMessages.ReplyVerdict.{GivesOutcome}
 use Rattle.nr_reduce.specs.Client.{credits_of_word}
-use Rattle.nr_reduce.specs.KeptCalls.{kept_verdict}
+use Rattle.nr_reduce.specs.KeptCalls.{kept_message_verdict}
 use Rattle.nr_reduce.specs.KeptClient.{released_all}
 use Rattle.nr_requester.specs.declared.answer.AnsweredCall.{AnsweredCall}
 use Rattle.nr_requester.specs.declared.outstanding.OutstandingCall.{OutstandingCall}
 use Rattle.nr_requester.specs.RequesterState.{StoredCall, stags_of, awaited_call}
 use Rattle.nr_requester.specs.HeldClaims.{AreHeldFrom, all_claims, OffersOwn}
-use Rattle.nr_requester.specs.AfterCalls.{stags_in}
-use Rattle.nr_requester.specs.AfterPiece.{answered_as, answer_to, call_of, without_call}
+use Rattle.nr_requester.specs.AfterCalls.{stags_in, live_count}
+use Rattle.nr_requester.specs.CountedMarks.{with_releases}
+use Rattle.nr_requester.specs.AfterPiece.{dead_memory, answered_as, answer_to, call_of, without_call}
 use Rattle.nr_requester.specs.Buffers.{with_memory}
 use Rattle.nr_requester.specs.Judged.{SameCall, SameCalls, kept_views}
 use Rattle.nr_requester.specs.Fed.{CallsSound, JudgesTo}
 use Rattle.nr_requester.specs.HeldBytes.{xid_of, AreRisingBy}
 use Rattle.nr_requester.specs.Views.{HasRoom, AreRising, IsAnswered, stored_view}
-use Rattle.nr_requester.proofs.FoundCalls.{IsOfCall, verdict_call}
+use Rattle.nr_requester.proofs.FoundCalls.{IsOfCall, verdict_call, named_fine}
 use Rattle.nr_requester.proofs.AnswerSteps.{all_append}
 use Rattle.nr_requester.proofs.Completing.{around, all_without, rising_without, found_here, without_here, none_here, apart_without, held_without}
 
@@ -145,30 +146,34 @@ completed_sound len m next room at items answers d p o lt s =
       has_room = (let le = s.has_room in omega (arith, le, count, count2, more, one));
     }
 
--- what the verdict makes
-pub judged_gives : (len sent next room at : ℕ) (link link2 : LinkSide) (items mid : List OutstandingCall) (answers answers2 : List AnsweredCall) (grant grant2 : ℕ) (message : List ℕ) (d : OutstandingCall) (outcome : Option Outcome) (memory : Bytes) →
-    kept_verdict (kept_views sent items) memory message ≡ GivesOutcome (get_or items at d).xid outcome → at < length mid → SameCalls items mid → CallsSound len link.state.memory next items answers room → (get_or items at d).xid ≡ (get_or mid at d).xid →
-    link2 ≡ with_memory (released_all link.state.memory (stags_of (get_or mid at d).claims)) (after_call link Post) → answers2 ≡ answers ++ answered_as link.state.memory (stored_view (get_or mid at d)) (awaited_call (stored_view (get_or mid at d))) outcome → grant2 ≡ credits_of_word (word_at 8 message) →
-    JudgesTo (kept_verdict (kept_views sent items) memory message) message link link2 items (remove mid at) answers answers2 grant grant2
-judged_gives len sent next room at link link2 items mid answers answers2 grant grant2 message d outcome memory verdict lt same sound xid link_is answers_are grant_is =
+-- what the verdict makes, if the region under an STag died before, or none
+pub judged_gives : (len sent next room at : ℕ) (link link2 : LinkSide) (items mid : List OutstandingCall) (answers answers2 : List AnsweredCall) (grant grant2 releases releases2 : ℕ) (named own : Option ℕ) (message : List ℕ) (d : OutstandingCall) (outcome : Option Outcome) (memory : Bytes) →
+    kept_message_verdict (kept_views sent items) memory named message ≡ GivesOutcome (get_or items at d).xid outcome → at < length mid → SameCalls items mid → CallsSound len link.state.memory next items answers room → (get_or items at d).xid ≡ (get_or mid at d).xid →
+    link2 ≡ with_memory (released_all (dead_memory own link.state.memory) (stags_of (get_or mid at d).claims)) (after_call link Post) →
+    answers2 ≡ answers ++ answered_as (dead_memory own link.state.memory) (stored_view (get_or mid at d)) (awaited_call (stored_view (get_or mid at d))) outcome → grant2 ≡ credits_of_word (word_at 8 message) →
+    releases2 ≡ with_releases (live_count (dead_memory own link.state.memory) (stags_of (get_or mid at d).claims)) releases →
+    JudgesTo (kept_message_verdict (kept_views sent items) memory named message) own message link link2 items (remove mid at) answers answers2 grant grant2 releases releases2
+judged_gives len sent next room at link link2 items mid answers answers2 grant grant2 releases releases2 named own message d outcome memory verdict lt same sound xid link_is answers_are grant_is releases_are =
     let xs : List OutstandingCall = take at mid in
     let c : OutstandingCall = get_or mid at d in
     let zs : List OutstandingCall = drop (suc at) mid in
+    let m : RegisteredMemory = dead_memory own link.state.memory in
     let whole : mid ≡ xs ++ c ∷ zs = around mid at d lt in
     let s : CallsSound len link.state.memory next mid answers room = same_sound len link.state.memory next room items mid answers same sound in
     let rising : AreRising (xs ++ c ∷ zs) next = subst (λ (ys : List OutstandingCall). AreRising ys next) whole s.rising in
     let views : map stored_view items ≡ map stored_view (xs ++ c ∷ zs) = sym (same_views items mid same) ∙ ap (λ (ys : List OutstandingCall). map stored_view ys) whole in
-    let of : IsOfCall (map stored_view items) message (get_or items at d).xid = verdict_call sent (map stored_view items) memory message (get_or items at d).xid outcome verdict in
-    let own : c.xid ≡ word_at 0 message = sym xid ∙ of.own in
-    let found : call_of (word_at 0 message) (map stored_view items) ≡ Some (stored_view c) = (λ i. call_of (sym own i) (views i)) ∙ found_here xs c zs next rising in
-    let without : map stored_view (xs ++ zs) ≡ without_call (word_at 0 message) (map stored_view items) = sym (without_here xs c zs next rising) ∙ (λ i. without_call (own i) (sym views i)) in
-    subst (λ (v : ReplyVerdict). JudgesTo v message link link2 items (remove mid at) answers answers2 grant grant2) (sym verdict) (
-      link_is ∙ ap (λ (o : Option StoredCall). with_memory (released_all link.state.memory (stags_in o)) (after_call link Post)) (sym found),
+    let of : IsOfCall (map stored_view items) message (get_or items at d).xid =
+    verdict_call sent (map stored_view items) memory message (get_or items at d).xid outcome (named_fine (kept_views sent items) memory named message (get_or items at d).xid outcome verdict) in
+    let same_xid : c.xid ≡ word_at 0 message = sym xid ∙ of.own in
+    let found : call_of (word_at 0 message) (map stored_view items) ≡ Some (stored_view c) = (λ i. call_of (sym same_xid i) (views i)) ∙ found_here xs c zs next rising in
+    let without : map stored_view (xs ++ zs) ≡ without_call (word_at 0 message) (map stored_view items) = sym (without_here xs c zs next rising) ∙ (λ i. without_call (same_xid i) (sym views i)) in
+    subst (λ (v : ReplyVerdict). JudgesTo v own message link link2 items (remove mid at) answers answers2 grant grant2 releases releases2) (sym verdict) (
+      link_is ∙ ap (λ (o : Option StoredCall). with_memory (released_all m (stags_in o)) (after_call link Post)) (sym found),
       (
         without,
         (
-          answers_are ∙ ap (λ (o : Option StoredCall). answers ++ answer_to link.state.memory o outcome) (sym found),
-          grant_is,
+          answers_are ∙ ap (λ (o : Option StoredCall). answers ++ answer_to m o outcome) (sym found),
+          (grant_is, releases_are ∙ ap (λ (o : Option StoredCall). with_releases (live_count m (stags_in o)) releases) (sym found)),
         ),
       ),
     )

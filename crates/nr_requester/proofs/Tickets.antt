@@ -28,18 +28,18 @@ use Rattle.nr_reduce.specs.declared.outline.Plan.{Plan}
 use Rattle.nr_reduce.specs.Chunks.{Bytes, answers_offer, reply_conveyed}
 use Rattle.nr_reduce.specs.ClientMessages.{ReplyVerdict, reply_xid, reply_by_head, reply_by_payload}
 use Rattle.nr_reduce.specs.ClientMessages.ReplyVerdict.{EndsLink, GivesOutcome}
-use Rattle.nr_reduce.specs.KeptCalls.{KeptCall, kept_payload, kept_lists, kept_body, kept_call as by_kept_call, kept_by, kept_header, kept_verdict}
+use Rattle.nr_reduce.specs.KeptCalls.{KeptCall, kept_payload, kept_lists, kept_body, kept_call as by_kept_call, kept_by, kept_header, kept_verdict, kept_named, kept_message_verdict}
 use Rattle.nr_reduce.specs.KeptClient.{bytes_under}
 use Rattle.nr_requester.specs.declared.answer.AnsweredCall.{AnsweredCall}
 use Rattle.nr_requester.specs.declared.outstanding.OutstandingCall.{OutstandingCall}
 use Rattle.nr_requester.specs.RequesterState.{RequesterState, RequesterFeeding, RequesterSide, StoredCall, awaited_call, kept_call, kept_calls}
 use Rattle.nr_requester.specs.AfterCalls.{revoked_if, revoked_call, forgotten_if, forgotten_call, stored_call, after_submit, after_drain, after_revoke, after_forget}
-use Rattle.nr_requester.specs.AfterPiece.{buffers_under, without_call, answered_as, answer_to, judged, with_deliveries, unless_ended}
+use Rattle.nr_requester.specs.AfterPiece.{dead_memory, with_dead, buffers_under, without_call, answered_as, answer_to, judged, with_deliveries, unless_ended}
 use Rattle.nr_requester.specs.OpenCalls.{call_with, open_call, found_call, found_answer, IsFresh, KeepsTickets, OpensTicket, ClosesTicket}
 use Rattle.nr_requester.specs.Answers.{WasSent}
 use Rattle.nr_requester.specs.Fed.{IsStep, fed_bytes}
 use Rattle.nr_requester.specs.Views.{AreRising, IsAnswered, stored_view}
-use Rattle.nr_requester.proofs.FoundCalls.{header_xid, IsOfCall, verdict_call, found_xid}
+use Rattle.nr_requester.proofs.FoundCalls.{header_xid, IsOfCall, verdict_call, named_fine, found_xid}
 use Rattle.nr_requester.proofs.Stepping.{link_of, step_fed}
 
 -- ---- The element with a key
@@ -379,16 +379,18 @@ pub record AreApart (r : RequesterState) : Type 0 where
 
 with_deliveries_keeps : (r : RequesterState) (s : LinkState) (ns : List DeliveredEvent) → AreApart r → KeepsTickets r (with_deliveries r s ns)
 with_deliveries_keeps r s [] k = λ x. refl
-with_deliveries_keeps r s (MessageReceived number invalidated message ∷ ns) k = λ x. by x (kept_verdict (kept_calls r) (bytes_under s.memory) message) refl
+with_deliveries_keeps r s (MessageReceived number invalidated message ∷ ns) k = λ x. by x (kept_message_verdict (kept_calls r) (bytes_under s.memory) invalidated message) refl
   where
-    by : (x : ℕ) (v : ReplyVerdict) → kept_verdict (kept_calls r) (bytes_under s.memory) message ≡ v → open_call x (judged r s message v) ≡ open_call x r
+    by : (x : ℕ) (v : ReplyVerdict) → kept_message_verdict (kept_calls r) (bytes_under s.memory) invalidated message ≡ v → open_call x (judged r (with_dead (kept_named (kept_calls r) invalidated message) s) message v) ≡ open_call x r
     by x (EndsLink reason) e = refl
     by x (GivesOutcome xid outcome) e =
-        let of : IsOfCall r.outstanding message xid = verdict_call r.sent r.outstanding (bytes_under s.memory) message xid outcome e in
+        let plain = named_fine (kept_calls r) (bytes_under s.memory) invalidated message xid outcome e in
+        let of : IsOfCall r.outstanding message xid = verdict_call r.sent r.outstanding (bytes_under s.memory) message xid outcome plain in
         let w : ℕ = word_at 0 message in
-        ap (λ (o : Option StoredCall). call_with (find (λ (c : StoredCall). eqb c.xid x) (without_call w r.outstanding)) (find (λ (a : AnsweredCall). eqb a.xid x) (r.answered ++ answer_to s.memory o outcome))) of.found
-        ∙ moved_keeps s.memory w x of.call r.outstanding r.answered outcome of.found (k.answers w of.call of.found)
-        (λ has. gives_some r.sent r.outstanding (bytes_under s.memory) message xid outcome e (k.calls w of.call of.found (awaited_has of.call.is_forgotten of.call.call has)))
+        let m = dead_memory (kept_named (kept_calls r) invalidated message) s.memory in
+        ap (λ (o : Option StoredCall). call_with (find (λ (c : StoredCall). eqb c.xid x) (without_call w r.outstanding)) (find (λ (a : AnsweredCall). eqb a.xid x) (r.answered ++ answer_to m o outcome))) of.found
+        ∙ moved_keeps m w x of.call r.outstanding r.answered outcome of.found (k.answers w of.call of.found)
+        (λ has. gives_some r.sent r.outstanding (bytes_under s.memory) message xid outcome plain (k.calls w of.call of.found (awaited_has of.call.is_forgotten of.call.call has)))
 with_deliveries_keeps r s (ReadDone ∷ ns) k = λ x. refl
 
 told_keeps : (r : RequesterState) (s : LinkState) (e : Option End) → AreApart r → KeepsTickets r (unless_ended r s e)

@@ -45,26 +45,26 @@ opened_stands h first_xid first_stag wished terms is opened link xid stag with =
 abbrev pub moved : LinkSide → ℕ → Bool
 moved link n = has_bytes (take n (writable link.state.has_hello link.state.send_queue))
 
-drained_as : (link : LinkSide) (sent wished sends xid grant n : ℕ) (items : List OutstandingCall) (answers : List AnsweredCall) (staging : List ℕ) (total : ℕ) →
-    side_view staging (marks_if (moved link n) total) (requester_view (after_call link (Drain n)) (sent_unless (has_ended link.state) sent (after_call link (Drain n)).state.send_queue.sends_left) wished sends xid grant items answers)
-    ≡ after_drain n (side_view staging total (requester_view link sent wished sends xid grant items answers))
+drained_as : (link : LinkSide) (sent wished sends xid grant releases n : ℕ) (items : List OutstandingCall) (answers : List AnsweredCall) (staging : List ℕ) (total : ℕ) →
+    side_view staging (marks_if (moved link n) total) (requester_view (after_call link (Drain n)) (sent_unless (has_ended link.state) sent (after_call link (Drain n)).state.send_queue.sends_left) wished sends xid grant items answers releases)
+    ≡ after_drain n (side_view staging total (requester_view link sent wished sends xid grant items answers releases))
 unfolding after_call after_drain
-drained_as link sent wished sends xid grant n items answers staging total = refl
+drained_as link sent wished sends xid grant releases n items answers staging total = refl
 
 ended_stays : (link : LinkSide) (n : ℕ) → has_ended (after_call link (Drain n)).state ≡ has_ended link.state
 unfolding after_call
 ended_stays link n = refl
 
-drained_view : (link link2 : LinkSide) (sent sent2 wished sends xid grant n : ℕ) (items : List OutstandingCall) (answers : List AnsweredCall) (staging staging2 : List ℕ) (total total2 : ℕ) → link2 ≡ after_call link (Drain n) →
+drained_view : (link link2 : LinkSide) (sent sent2 wished sends xid grant releases n : ℕ) (items : List OutstandingCall) (answers : List AnsweredCall) (staging staging2 : List ℕ) (total total2 : ℕ) → link2 ≡ after_call link (Drain n) →
     sent2 ≡ sent_unless (has_ended link2.state) sent link2.state.send_queue.sends_left → staging2 ≡ staging → total2 ≡ marks_if (moved link n) total →
-    side_view staging2 total2 (requester_view link2 sent2 wished sends xid grant items answers) ≡ after_drain n (side_view staging total (requester_view link sent wished sends xid grant items answers))
-drained_view link link2 sent sent2 wished sends xid grant n items answers staging staging2 total total2 link_is sent_is stages counts =
+    side_view staging2 total2 (requester_view link2 sent2 wished sends xid grant items answers releases) ≡ after_drain n (side_view staging total (requester_view link sent wished sends xid grant items answers releases))
+drained_view link link2 sent sent2 wished sends xid grant releases n items answers staging staging2 total total2 link_is sent_is stages counts =
     let drained : LinkSide = after_call link (Drain n) in
     let count : sent2 ≡ sent_unless (has_ended link.state) sent drained.state.send_queue.sends_left =
     sent_is ∙ ap (λ (l : LinkSide). sent_unless (has_ended l.state) sent l.state.send_queue.sends_left) link_is
     ∙ ap (λ (b : Bool). sent_unless b sent drained.state.send_queue.sends_left) (ended_stays link n) in
-    (λ i. side_view (stages i) (counts i) (requester_view (link_is i) (count i) wished sends xid grant items answers))
-    ∙ drained_as link sent wished sends xid grant n items answers staging total
+    (λ i. side_view (stages i) (counts i) (requester_view (link_is i) (count i) wished sends xid grant items answers releases))
+    ∙ drained_as link sent wished sends xid grant releases n items answers staging total
 
 -- what a drain says of the requester before and after it
 abbrev pub DrainTaken : {T E : Type 0} → (before after : RequesterSide) → ℕ → (had has : Option (List ℕ)) → Result T E → Type 0
@@ -81,14 +81,14 @@ unfolding after_call
 drain_counts link link2 n before now total total2 le link_is was is counts =
     counts ∙ ap (λ (b : Bool). marks_if b total) ((λ i. ltb ((is ∙ ap (λ (l : LinkSide). output_len l.state.send_queue) link_is) i) (was i)) ∙ moved_bytes link.state.has_hello n link.state.send_queue le)
 
-pub drain_taken : {T E : Type 0} (h : RequesterSide) (link link2 : LinkSide) (sent sent2 wished sends xid grant n : ℕ) (items : List OutstandingCall) (answers : List AnsweredCall) (had has : Option (List ℕ)) (r : Result T E) (staging staging2 : List ℕ) (total total2 : ℕ) → side_view staging total (requester_view link sent wished sends xid grant items answers) ≡ h → xid ≤ 2 ^ 32 →
+pub drain_taken : {T E : Type 0} (h : RequesterSide) (link link2 : LinkSide) (sent sent2 wished sends xid grant releases n : ℕ) (items : List OutstandingCall) (answers : List AnsweredCall) (had has : Option (List ℕ)) (r : Result T E) (staging staging2 : List ℕ) (total total2 : ℕ) → side_view staging total (requester_view link sent wished sends xid grant items answers releases) ≡ h → xid ≤ 2 ^ 32 →
     n ≤ length (writable link.state.has_hello link.state.send_queue) → Appends had has (take n (writable link.state.has_hello link.state.send_queue)) → link2 ≡ after_call link (Drain n) → sent2 ≡ sent_unless (has_ended link2.state) sent link2.state.send_queue.sends_left →
-    OnOk r (n ≡ length (writable link.state.has_hello link.state.send_queue)) → staging2 ≡ staging → total2 ≡ marks_if (moved link n) total → DrainTaken h (side_view staging2 total2 (requester_view link2 sent2 wished sends xid grant items answers)) n had has r
-drain_taken h link link2 sent sent2 wished sends xid grant n items answers had has r staging staging2 total total2 is fits le appends link_is sent_is all stages counts =
-    let here : RequesterSide = side_view staging total (requester_view link sent wished sends xid grant items answers) in
-    let view : side_view staging2 total2 (requester_view link2 sent2 wished sends xid grant items answers) ≡ after_drain n here = drained_view link link2 sent sent2 wished sends xid grant n items answers staging staging2 total total2 link_is sent_is stages counts in
+    OnOk r (n ≡ length (writable link.state.has_hello link.state.send_queue)) → staging2 ≡ staging → total2 ≡ marks_if (moved link n) total → DrainTaken h (side_view staging2 total2 (requester_view link2 sent2 wished sends xid grant items answers releases)) n had has r
+drain_taken h link link2 sent sent2 wished sends xid grant releases n items answers had has r staging staging2 total total2 is fits le appends link_is sent_is all stages counts =
+    let here : RequesterSide = side_view staging total (requester_view link sent wished sends xid grant items answers releases) in
+    let view : side_view staging2 total2 (requester_view link2 sent2 wished sends xid grant items answers releases) ≡ after_drain n here = drained_view link link2 sent sent2 wished sends xid grant releases n items answers staging staging2 total total2 link_is sent_is stages counts in
     let mark = drain_is_a_mark here n le fits in
-    subst (λ (x : RequesterSide). DrainTaken x (side_view staging2 total2 (requester_view link2 sent2 wished sends xid grant items answers)) n had has r) is (
+    subst (λ (x : RequesterSide). DrainTaken x (side_view staging2 total2 (requester_view link2 sent2 wished sends xid grant items answers releases)) n had has r) is (
       le,
       appends,
       view,
@@ -103,12 +103,12 @@ map_one : (items : List OutstandingCall) (o : OutstandingCall) → map stored_vi
 map_one [] o = refl
 map_one (x ∷ items) o = ap (λ (xs : List StoredCall). stored_view x ∷ xs) (map_one items o)
 
-pub sent_view : (h : RequesterSide) (link link2 : LinkSide) (sent wished sends xid grant : ℕ) (items items2 : List OutstandingCall) (answers answers2 : List AnsweredCall) (call : Call) (plan : Plan) (o : OutstandingCall) (staging staging2 : List ℕ) (total total2 : ℕ) → side_view staging total (requester_view link sent wished sends xid grant items answers) ≡ h →
+pub sent_view : (h : RequesterSide) (link link2 : LinkSide) (sent wished sends xid grant releases : ℕ) (items items2 : List OutstandingCall) (answers answers2 : List AnsweredCall) (call : Call) (plan : Plan) (o : OutstandingCall) (staging staging2 : List ℕ) (total total2 : ℕ) → side_view staging total (requester_view link sent wished sends xid grant items answers releases) ≡ h →
     link2 ≡ with_state (submitted link.state (call_message xid wished link.state.memory.next plan) (buffers link.state.memory.next plan)) link → items2 ≡ items ++ o ∷ [] → answers2 ≡ answers → stored_view o ≡ stored_call xid sends call plan link.state.memory → staging2 ≡ staging → total2 ≡ one_mark_more total →
-    side_view staging2 total2 (requester_view link2 sent wished (sends + 1) (xid + 1) grant items2 answers2) ≡ after_submit h call plan
-sent_view h link link2 sent wished sends xid grant items items2 answers answers2 call plan o staging staging2 total total2 is link_is more same own stages counts =
-    (λ i. side_view (stages i) (counts i) (requester_view (link_is i) sent wished (sends + 1) (xid + 1) grant (more i) (same i)))
-    ∙ (λ i. side_view staging (one_mark_more total) (record (requester_view (with_state (submitted link.state (call_message xid wished link.state.memory.next plan) (buffers link.state.memory.next plan)) link) sent wished (sends + 1) (xid + 1) grant items answers) {
-      state = record (requester_view (with_state (submitted link.state (call_message xid wished link.state.memory.next plan) (buffers link.state.memory.next plan)) link) sent wished (sends + 1) (xid + 1) grant items answers).state { outstanding = (map_one items o ∙ ap (λ (c : StoredCall). map stored_view items ++ c ∷ []) own) i };
+    side_view staging2 total2 (requester_view link2 sent wished (sends + 1) (xid + 1) grant items2 answers2 releases) ≡ after_submit h call plan
+sent_view h link link2 sent wished sends xid grant releases items items2 answers answers2 call plan o staging staging2 total total2 is link_is more same own stages counts =
+    (λ i. side_view (stages i) (counts i) (requester_view (link_is i) sent wished (sends + 1) (xid + 1) grant (more i) (same i) releases))
+    ∙ (λ i. side_view staging (one_mark_more total) (record (requester_view (with_state (submitted link.state (call_message xid wished link.state.memory.next plan) (buffers link.state.memory.next plan)) link) sent wished (sends + 1) (xid + 1) grant items answers releases) {
+      state = record (requester_view (with_state (submitted link.state (call_message xid wished link.state.memory.next plan) (buffers link.state.memory.next plan)) link) sent wished (sends + 1) (xid + 1) grant items answers releases).state { outstanding = (map_one items o ∙ ap (λ (c : StoredCall). map stored_view items ++ c ∷ []) own) i };
     }))
     ∙ ap (λ (x : RequesterSide). after_submit x call plan) is

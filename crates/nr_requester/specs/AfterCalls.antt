@@ -1,11 +1,11 @@
 -- A requester as it is opened, and after the calls that its owner makes.
-use Rattle.std.specs.Prelude.{ℕ, ◌+◌, Bool, true, false, not, ◌==◌, if◌then◌else◌, List, [], ◌∷◌, ◌++◌, map, take, Option, None, Some}
+use Rattle.std.specs.Prelude.{ℕ, ◌+◌, Bool, true, false, not, ◌==◌, if◌then◌else◌, List, [], ◌∷◌, ◌++◌, length, map, take, Option, None, Some, is_some}
 use Rattle.std.specs.List.{filter, find}
 use Rattle.nr_wire.specs.declared.hello.Side.TheVariants.{Initiator, Responder}
 use Rattle.nr_wire.specs.declared.stream.Awaited.TheVariants.{Hello as HelloFrom}
 use Rattle.nr_link.specs.declared.agreement.SideTerms.{SideTerms}
 use Rattle.nr_endpoint.specs.LinkState.{LinkState, has_ended, initial_state}
-use Rattle.nr_regions.specs.RegisteredMemory.{RegisteredMemory}
+use Rattle.nr_regions.specs.RegisteredMemory.{RegisteredMemory, live_region}
 use Rattle.nr_endpoint.specs.SendQueue.{written, with_send}
 use Rattle.nr_endpoint.specs.declared.offering.Claims.{Claims}
 use Rattle.nr_endpoint.specs.Offering.{claims_of}
@@ -15,14 +15,14 @@ use Rattle.nr_reduce.specs.Plans.{Buffer, buffers, call_message, lists_of}
 use Rattle.nr_reduce.specs.KeptClient.{registered_all, released_all}
 use Rattle.nr_requester.specs.declared.answer.AnsweredCall.{AnsweredCall}
 use Rattle.nr_requester.specs.RequesterState.{stags_of, StoredCall, RequesterSide, queue_of}
-use Rattle.nr_requester.specs.CountedMarks.{has_bytes, one_mark_more, marks_if}
+use Rattle.nr_requester.specs.CountedMarks.{has_bytes, one_mark_more, marks_if, with_releases}
 use Rattle.nr_requester.specs.Sending.{offered_of}
 
 unfoldable pub opened_as : (first_xid first_stag wished : ℕ) → SideTerms → (staging : List ℕ) → RequesterSide
 opened_as first_xid first_stag wished terms staging = record {
   awaited = HelloFrom Responder;
   rest = [];
-  state = record { side = initial_state Initiator 1 first_stag terms; sent = 0; wished = wished; sends = 0; next_xid = first_xid; grant = 1; outstanding = []; answered = [] };
+  state = record { side = initial_state Initiator 1 first_stag terms; sent = 0; wished = wished; sends = 0; next_xid = first_xid; grant = 1; outstanding = []; answered = []; local_releases = 0 };
   staging = staging;
   marks = 0;
 }
@@ -33,7 +33,15 @@ submitted s message bs = record s { memory = registered_all s.memory bs; send_qu
 
 -- what is stored of a call that is accepted under an xid, whose Send has this number, by a plan whose regions are registered in this memory
 abbrev pub stored_call : (xid send : ℕ) → Call → Plan → RegisteredMemory → StoredCall
-stored_call xid send call plan m = record { xid = xid; send = send; call = Some call; is_forgotten = false; offered = lists_of m.next plan; claims = claims_of m (offered_of plan) }
+stored_call xid send call plan m = record {
+  xid = xid;
+  send = send;
+  call = Some call;
+  is_forgotten = false;
+  offered = lists_of m.next plan;
+  given = map (λ b. b.stag) (buffers m.next plan);
+  claims = claims_of m (offered_of plan);
+}
 
 -- after a call was accepted, by this plan
 abbrev pub after_submit : RequesterSide → Call → Plan → RequesterSide
@@ -73,7 +81,7 @@ no_claims = record { read = None; write = None; reply = None }
 
 -- the memory of a call is revoked: its regions are released, and the call is handed back
 abbrev pub revoked_if : Bool → StoredCall → StoredCall
-revoked_if true c = record { xid = c.xid; send = c.send; call = None; is_forgotten = c.is_forgotten; offered = c.offered; claims = no_claims }
+revoked_if true c = record { xid = c.xid; send = c.send; call = None; is_forgotten = c.is_forgotten; offered = c.offered; given = c.given; claims = no_claims }
 revoked_if false c = c
 
 abbrev pub revoked_call : ℕ → StoredCall → StoredCall
@@ -87,19 +95,24 @@ stags_in (Some c) = stags_of c.claims
 abbrev pub stags_for : ℕ → List StoredCall → List ℕ
 stags_for xid calls = stags_in (find (λ c. c.xid == xid) calls)
 
+-- how many of the regions under these STags a peer can reach
+abbrev pub live_count : RegisteredMemory → List ℕ → ℕ
+live_count m stags = length (filter (λ stag. is_some (live_region m stag)) stags)
+
 unfoldable pub after_revoke : RequesterSide → ℕ → RequesterSide
 after_revoke h xid = record h {
   state = record h.state {
     side = record h.state.side { memory = released_all h.state.side.memory (stags_for xid h.state.outstanding) };
     outstanding = map (revoked_call xid) h.state.outstanding;
     answered = without_answer xid h.state.answered;
+    local_releases = with_releases (live_count h.state.side.memory (stags_for xid h.state.outstanding)) h.state.local_releases;
   };
   marks = one_mark_more h.marks;
 }
 
 -- the outcome of a call is handed over, or given up: then the call's regions stay until its message comes
 abbrev pub forgotten_if : Bool → StoredCall → StoredCall
-forgotten_if true c = record { xid = c.xid; send = c.send; call = c.call; is_forgotten = true; offered = c.offered; claims = c.claims }
+forgotten_if true c = record { xid = c.xid; send = c.send; call = c.call; is_forgotten = true; offered = c.offered; given = c.given; claims = c.claims }
 forgotten_if false c = c
 
 abbrev pub forgotten_call : ℕ → StoredCall → StoredCall

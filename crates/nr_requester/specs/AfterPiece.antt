@@ -11,20 +11,20 @@ use Rattle.nr_endpoint.specs.LinkState.{LinkState}
 use Rattle.nr_endpoint.specs.ReceiveQueue.{DeliveredEvent, delivered, posted}
 use Rattle.nr_endpoint.specs.ReceiveQueue.DeliveredEvent.{MessageReceived, ReadDone}
 use Rattle.nr_endpoint.specs.Judging.{with_frame, with_end_of}
-use Rattle.nr_regions.specs.RegisteredMemory.{RegisteredMemory, Claim}
+use Rattle.nr_regions.specs.RegisteredMemory.{RegisteredMemory, Claim, after_invalidate}
 use Rattle.nr_endpoint.specs.declared.offering.Claims.{Claims}
 use Rattle.nr_reduce.specs.declared.call.Call.{Call}
 use Rattle.nr_reduce.specs.declared.call.Outcome.{Outcome}
 use Rattle.nr_reduce.specs.ClientMessages.{ReplyVerdict}
 use Rattle.nr_reduce.specs.ClientMessages.ReplyVerdict.{EndsLink, GivesOutcome}
 use Rattle.nr_reduce.specs.Client.{credits_of_word}
-use Rattle.nr_reduce.specs.KeptCalls.{kept_verdict}
+use Rattle.nr_reduce.specs.KeptCalls.{kept_named, kept_message_verdict}
 use Rattle.nr_reduce.specs.KeptClient.{bytes_under, released_all}
 use Rattle.nr_requester.specs.declared.answer.AnsweredCall.{AnsweredCall}
 use Rattle.nr_requester.specs.declared.answer.Buffers.{Buffers}
 use Rattle.nr_requester.specs.RequesterState.{StoredCall, RequesterState, RequesterFeeding, RequesterSide, feeding_of, awaited_call, kept_calls}
-use Rattle.nr_requester.specs.AfterCalls.{stags_for}
-use Rattle.nr_requester.specs.CountedMarks.{has_bytes, marks_if}
+use Rattle.nr_requester.specs.AfterCalls.{stags_for, live_count}
+use Rattle.nr_requester.specs.CountedMarks.{has_bytes, marks_if, with_releases}
 
 -- the message was delivered, and its receive is posted again
 abbrev pub taken : LinkState → LinkState
@@ -63,12 +63,26 @@ judged r s message (GivesOutcome xid outcome) = record r {
   grant = credits_of_word (word_at 8 message);
   outstanding = without_call (word_at 0 message) r.outstanding;
   answered = r.answered ++ answer_to s.memory (call_of (word_at 0 message) r.outstanding) outcome;
+  local_releases = with_releases (live_count s.memory (stags_for (word_at 0 message) r.outstanding)) r.local_releases;
 }
+
+-- the region under an STag dies
+abbrev pub dead_memory : Option ℕ → RegisteredMemory → RegisteredMemory
+dead_memory None m = m
+dead_memory (Some stag) m = after_invalidate m stag
+
+abbrev pub with_dead : Option ℕ → LinkState → LinkState
+with_dead own s = record s { memory = dead_memory own s.memory }
+
+-- A message that names an STag of its call: that region dies before the rest of the message is judged.
+abbrev pub with_message : RequesterState → LinkState → Option ℕ → List ℕ → RequesterState
+with_message r s named message =
+    judged r (with_dead (kept_named (kept_calls r) named message) s) message (kept_message_verdict (kept_calls r) (bytes_under s.memory) named message)
 
 -- what is made of the event that a frame delivers
 abbrev pub with_deliveries : RequesterState → LinkState → List DeliveredEvent → RequesterState
 with_deliveries r s [] = record r { side = s }
-with_deliveries r s (MessageReceived number invalidated message ∷ events) = judged r s message (kept_verdict (kept_calls r) (bytes_under s.memory) message)
+with_deliveries r s (MessageReceived number named message ∷ events) = with_message r s named message
 with_deliveries r s (ReadDone ∷ events) = record r { side = s }
 
 abbrev pub unless_ended : RequesterState → LinkState → Option End → RequesterState

@@ -1,5 +1,5 @@
 -- How many marks a requester made: what its owner did with it, and what it was fed. Refused calls and marks of no bytes are left out.
-use Rattle.std.specs.Prelude.{ℕ, ◌+◌, min, Bool, true, false, ◌==◌, ◌&&◌, List, [], ◌∷◌, length}
+use Rattle.std.specs.Prelude.{ℕ, ◌+◌, min, Bool, true, false, ◌==◌, ◌&&◌, if◌then◌else◌, List, [], ◌∷◌, length}
 use Rattle.std.specs.List.{filter}
 use Rattle.nr_wire.specs.declared.hello.Side.TheVariants.{Initiator, Responder}
 use Rattle.nr_reduce.specs.declared.call.Submission.TheVariants as submissions
@@ -36,6 +36,10 @@ marks_max = 18446744073709551615
 
 abbrev pub counted_marks : ℕ → List Mark → ℕ
 counted_marks link run = min (marks_of link run) marks_max
+
+-- a count of released regions, with some more
+abbrev pub with_releases : (more n : ℕ) → ℕ
+with_releases more n = if more == 0 then n else min (n + more) marks_max
 
 -- the count after one mark more; and after one that is counted only if it has bytes
 abbrev pub one_mark_more : ℕ → ℕ

@@ -12,22 +12,22 @@ use Rattle.nr_reduce.specs.declared.call.Outcome.{Outcome}
 use Rattle.nr_reduce.specs.ClientMessages.{ReplyVerdict}
 use Rattle.nr_reduce.specs.ClientMessages.ReplyVerdict.{EndsLink, GivesOutcome}
 use Rattle.nr_reduce.specs.Client.{credits_of_word}
-use Rattle.nr_reduce.specs.KeptCalls.{kept_verdict}
+use Rattle.nr_reduce.specs.KeptCalls.{kept_message_verdict}
 use Rattle.nr_reduce.specs.KeptClient.{bytes_under, released_all}
 use Rattle.nr_xdr.specs.Fields.{word_at}
 use Rattle.nr_regions.specs.RegisteredMemory.{RegisteredMemory}
 use Rattle.nr_endpoint.specs.Calls.{after_call, IsStopReason}
 use Rattle.nr_endpoint.specs.SendQueue.{output_len}
 use Rattle.nr_endpoint.specs.Calls.Call.{Post, Stop, OutOfMemory}
-use Rattle.nr_requester.specs.AfterCalls.{stags_for}
+use Rattle.nr_requester.specs.AfterCalls.{stags_for, live_count}
 use Rattle.nr_requester.specs.Buffers.{with_memory}
 use Rattle.nr_requester.specs.declared.answer.AnsweredCall.{AnsweredCall}
 use Rattle.nr_requester.specs.declared.answer.Buffers.{Buffers}
 use Rattle.nr_requester.specs.declared.outstanding.OutstandingCall.{OutstandingCall}
 use Rattle.nr_requester.specs.RequesterState.{RequesterFeeding, RequesterSide, feeding_of, kept_calls}
 use Rattle.nr_requester.specs.HeldClaims.{AreHeldFrom, all_claims, OffersOwn}
-use Rattle.nr_requester.specs.AfterPiece.{without_call, answer_to, call_of, with_deliveries, requester_ended, after_frame, after_piece, RanOut}
-use Rattle.nr_requester.specs.CountedMarks.{has_bytes, marks_if}
+use Rattle.nr_requester.specs.AfterPiece.{dead_memory, without_call, answer_to, call_of, with_deliveries, requester_ended, after_frame, after_piece, RanOut}
+use Rattle.nr_requester.specs.CountedMarks.{has_bytes, marks_if, with_releases}
 use Rattle.nr_requester.specs.Views.{HasRoom, AreRising, IsAnswered, stored_view}
 
 -- the answer of a call, if its owner awaits it and a message gave an outcome
@@ -41,8 +41,9 @@ answer_with xid (Some call) buffers (Some outcome) = record { xid = xid; call = 
 -- one message waits, whose frame ends the input so far
 pub record OneWaits (link : LinkSide) : Type 0 where
   pub number : ℕ
+  pub named : Option ℕ
   pub message : List ℕ
-  pub is : link.state.receive_queue.deliveries ≡ MessageReceived number None message ∷ []
+  pub is : link.state.receive_queue.deliveries ≡ MessageReceived number named message ∷ []
   pub rest : link.rest ≡ []
 
 -- What holds of the calls: their regions are held, and are those that they offer; there is room for their replies, in a message of this length,
@@ -66,15 +67,21 @@ pub record IsReady (link : LinkSide) (outstanding : List OutstandingCall) (answe
 
 -- ---- A message
 
--- what a message makes, by the verdict on it: it ends the link, or memory runs out for that; or it ends its call
-abbrev pub JudgesTo : ReplyVerdict → List ℕ → (link link2 : LinkSide) → (calls calls2 : List OutstandingCall) → (answers answers2 : List AnsweredCall) → (grant grant2 : ℕ) → Type 0
-JudgesTo (EndsLink reason) message link link2 calls calls2 answers answers2 grant grant2 =
-    ((link2 ≡ after_call (after_call link Post) (Stop reason)) ⊎ (link2 ≡ after_call (after_call link Post) OutOfMemory))
-    × ((map stored_view calls2 ≡ map stored_view calls) × ((answers2 ≡ answers) × ((grant2 ≡ grant) × IsStopReason reason)))
-JudgesTo (GivesOutcome xid outcome) message link link2 calls calls2 answers answers2 grant grant2 =
-    (link2 ≡ with_memory (released_all link.state.memory (stags_for (word_at 0 message) (map stored_view calls))) (after_call link Post))
+-- the side is stopped, and the region under an STag is dead, or none; or memory ran out for what it writes last
+abbrev pub StopsDead : (own : Option ℕ) → (reason : ℕ) → (link link2 : LinkSide) → Type 0
+StopsDead own reason link link2 = (link2 ≡ with_memory (dead_memory own link.state.memory) (after_call link (Stop reason))) ⊎ (link2 ≡ after_call link OutOfMemory)
+
+-- What a message makes, by the verdict on it, if the region under an STag dies by it, or none: it ends the link, or memory runs out for that; or
+-- it ends its call.
+abbrev pub JudgesTo : ReplyVerdict → (own : Option ℕ) → List ℕ → (link link2 : LinkSide) → (calls calls2 : List OutstandingCall) → (answers answers2 : List AnsweredCall) → (grant grant2 releases releases2 : ℕ) → Type 0
+JudgesTo (EndsLink reason) own message link link2 calls calls2 answers answers2 grant grant2 releases releases2 =
+    StopsDead own reason (after_call link Post) link2
+    × ((map stored_view calls2 ≡ map stored_view calls) × ((answers2 ≡ answers) × ((grant2 ≡ grant) × (IsStopReason reason × (releases2 ≡ releases)))))
+JudgesTo (GivesOutcome xid outcome) own message link link2 calls calls2 answers answers2 grant grant2 releases releases2 =
+    (link2 ≡ with_memory (released_all (dead_memory own link.state.memory) (stags_for (word_at 0 message) (map stored_view calls))) (after_call link Post))
     × ((map stored_view calls2 ≡ without_call (word_at 0 message) (map stored_view calls))
-    × ((answers2 ≡ answers ++ answer_to link.state.memory (call_of (word_at 0 message) (map stored_view calls)) outcome) × (grant2 ≡ credits_of_word (word_at 8 message))))
+    × ((answers2 ≡ answers ++ answer_to (dead_memory own link.state.memory) (call_of (word_at 0 message) (map stored_view calls)) outcome)
+    × ((grant2 ≡ credits_of_word (word_at 8 message)) × (releases2 ≡ with_releases (live_count (dead_memory own link.state.memory) (stags_for (word_at 0 message) (map stored_view calls))) releases))))
 
 -- what is made of the event that waits
 abbrev pub with_deliveries_side : RequesterFeeding → RequesterFeeding
@@ -85,7 +92,7 @@ pub record StoppedOut (before after : RequesterFeeding) : Type 0 where
   pub waits : OneWaits (record { awaited = before.awaited; rest = before.rest; state = before.state.side })
   pub reason : ℕ
   pub stops : IsStopReason reason
-  pub verdict : kept_verdict (kept_calls before.state) (bytes_under before.state.side.memory) waits.message ≡ EndsLink reason
+  pub verdict : kept_message_verdict (kept_calls before.state) (bytes_under before.state.side.memory) waits.named waits.message ≡ EndsLink reason
   pub rest : after.rest ≡ []
   pub ended : after.state.side.ended ≡ Some ends.Memory
   pub memory : after.state.side.memory ≡ before.state.side.memory

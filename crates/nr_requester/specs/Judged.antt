@@ -15,7 +15,7 @@ use Rattle.nr_reduce.specs.Plans.{segments_from}
 use Rattle.nr_reduce.specs.Chunks.{returns, whole}
 use Rattle.nr_reduce.specs.ClientMessages.{ReplyVerdict, reply_by_payload}
 use Rattle.nr_reduce.specs.ClientMessages.ReplyVerdict.{EndsLink, GivesOutcome}
-use Rattle.nr_reduce.specs.KeptCalls.{KeptCall, kept_verdict}
+use Rattle.nr_reduce.specs.KeptCalls.{KeptCall, kept_message_verdict}
 use Rattle.nr_requester.specs.declared.outstanding.OutstandingCall.{OutstandingCall}
 use Rattle.nr_requester.specs.declared.replies.Found.{Found}
 use Rattle.nr_requester.specs.declared.replies.Found.TheVariants as founds
@@ -63,7 +63,7 @@ abbrev pub by_stream : ℕ → Call → List ℕ → Option (List ℕ) → Reply
 by_stream xid call stream moved = reply_by_payload xid (whole (OfReply call.prog call.vers call.proc) stream moved)
 
 abbrev pub with_room : OutstandingCall → PayloadRoom → OutstandingCall
-with_room c room = record { xid = c.xid; send = c.send; call = c.call; is_forgotten = c.is_forgotten; offered = c.offered; claims = c.claims; room = room }
+with_room c room = record { xid = c.xid; send = c.send; call = c.call; is_forgotten = c.is_forgotten; offered = c.offered; given = c.given; claims = c.claims; room = room }
 
 -- only the bytes in its room change
 abbrev pub SameCall : (before after : OutstandingCall) → Type 0
@@ -86,9 +86,9 @@ SameCalls [] (a ∷ after) = ⊥
 SameCalls (b ∷ before) [] = ⊥
 SameCalls (b ∷ before) (a ∷ after) = SameCall b a × SameCalls before after
 
--- A message answers the call at this place, and brings this for it.
-pub record Brings (many : ℕ) (before after : List OutstandingCall) (memory : ℕ → List ℕ) (message : List ℕ) (at : ℕ) (f : Found) : Type 0 where
+-- A message that names an STag, or none, answers the call at this place, and brings this for it.
+pub record Brings (many : ℕ) (before after : List OutstandingCall) (memory : ℕ → List ℕ) (named : Option ℕ) (message : List ℕ) (at : ℕ) (f : Found) : Type 0 where
   pub within : at < length after
-  pub verdict : (d : OutstandingCall) → kept_verdict (kept_views many before) memory message ≡ GivesOutcome (get_or before at d).xid (outcome_by f (get_or after at d).room.bytes)
+  pub verdict : (d : OutstandingCall) → kept_message_verdict (kept_views many before) memory named message ≡ GivesOutcome (get_or before at d).xid (outcome_by f (get_or after at d).room.bytes)
   pub fits : (d : OutstandingCall) → LiesWithin f (get_or after at d).room.bytes
   pub sent : (d : OutstandingCall) → (get_or before at d).send < many

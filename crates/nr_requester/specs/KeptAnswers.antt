@@ -3,8 +3,7 @@ use Rattle.std.specs.Prelude.{◌≡◌, ℕ, ◌<◌, ◌≤◌, Bool, true, fa
 use Rattle.std.specs.List.{AllByRecursion, Contains, filter}
 use Rattle.nr_wire.specs.Segment.{Segment}
 use Rattle.nr_link.specs.Frames.{Frame, is_hello}
-use Rattle.nr_link.specs.Ending.{frame_segment}
-use Rattle.nr_link.specs.ReceiveState.{message_completed}
+use Rattle.nr_link.specs.ReceiveState.{message_completed, stag_invalidated}
 use Rattle.nr_reduce.specs.declared.call.Call.{Call}
 use Rattle.nr_reduce.specs.declared.call.Form.{Form}
 use Rattle.nr_reduce.specs.declared.mark.LinkParameters.{LinkParameters}
@@ -16,9 +15,9 @@ use Rattle.nr_reduce.specs.EndRules.{EndState, next_end_state, end_state_after}
 use Rattle.nr_regions.specs.Access.{TaggedSegment, contents}
 use Rattle.nr_reduce.specs.OfferedRegions.{Region, region_grant}
 use Rattle.nr_reduce.specs.ClientState.{ClientState, client_memory_at}
-use Rattle.nr_reduce.specs.ClientMessages.{reply_verdict}
+use Rattle.nr_reduce.specs.ClientMessages.{message_verdict}
 use Rattle.nr_reduce.specs.ClientMessages.ReplyVerdict.{GivesOutcome}
-use Rattle.nr_reduce.specs.Client.{client_rules, initial_client}
+use Rattle.nr_reduce.specs.Client.{client_rules, initial_client, client_segment}
 use Rattle.nr_reduce.specs.OutcomesDue.{is_completed}
 use Rattle.nr_requester.specs.declared.answer.AnsweredCall.{AnsweredCall}
 use Rattle.nr_requester.specs.declared.answer.Buffers.{Buffers}
@@ -67,9 +66,9 @@ pub record HandsBack (opened : LinkParameters) (es : List RunEvent) (a : Answere
   pub happened : es ≡ earlier ++ FrameReceived frame ∷ later
   pub stays : (next_end_state (client_rules opened) (client_by opened earlier) (FrameReceived frame)).ended ≡ None
   pub after_hello : is_hello frame ≡ false
-  pub is_segment : frame_segment frame ≡ Ok segment
+  pub is_segment : client_segment (client_by opened earlier).state frame ≡ Ok segment
   pub completes : message_completed (client_by opened earlier).state.received segment ≡ Some message
-  pub verdict : reply_verdict (client_by opened earlier).state frame.end message ≡ GivesOutcome a.xid (Some a.outcome)
+  pub verdict : message_verdict (client_by opened earlier).state frame.end (stag_invalidated segment) message ≡ GivesOutcome a.xid (Some a.outcome)
   pub held : buffers_in a.buffers ≡ region_contents (client_by opened earlier).state frame.end a.xid
 
 -- The regions of an answered call, which was accepted before the next xid, are closed, and hold still what its buffers have.

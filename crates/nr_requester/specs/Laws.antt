@@ -1,6 +1,6 @@
 -- A requester stands for the marks of its link: each call of its owner is one mark more.
-use Rattle.std.specs.Prelude.{true, ◌≡◌, ℕ, ◌^◌, ◌<◌, ◌≤◌, ◌||◌, Bool, List, [], ◌∷◌, ◌++◌, false, length, map, take, None, Ok, ◌==◌, is_some, Some}
-use Rattle.std.specs.List.{AllByRecursion, Contains, list_any}
+use Rattle.std.specs.Prelude.{true, ◌≡◌, ℕ, ◌+◌, ◌^◌, ◌<◌, ◌≤◌, ◌||◌, Bool, List, [], ◌∷◌, ◌++◌, false, length, map, take, None, Ok, ◌==◌, is_some, Some}
+use Rattle.std.specs.List.{AllByRecursion, Contains, list_any, range_with_len}
 use Rattle.nr_wire.specs.declared.hello.Side.TheVariants.{Initiator, Responder}
 use Rattle.nr_link.specs.declared.end.End.{End}
 use Rattle.nr_link.specs.declared.end.End.TheVariants as ends
@@ -29,7 +29,8 @@ use Rattle.nr_reduce.specs.KeptClient.{bytes_under}
 use Rattle.nr_requester.specs.RequesterState.{RequesterSide, feeding_of, stags_of, queue_of}
 use Rattle.nr_requester.specs.Standing.{RequesterRepresents, RequesterRunsOut, StandsOn, StaysOut}
 use Rattle.nr_requester.specs.KeptAnswers.{completed_of}
-use Rattle.nr_requester.specs.AfterCalls.{opened_as, after_submit, after_drain, after_revoke, after_forget}
+use Rattle.nr_regions.specs.RegisteredMemory.{RegisteredMemory, live_region, after_invalidate}
+use Rattle.nr_requester.specs.AfterCalls.{live_count, opened_as, after_submit, after_drain, after_revoke, after_forget}
 use Rattle.nr_requester.specs.AfterPiece.{after_piece, after_fed, RanOut}
 use Rattle.nr_requester.specs.CountedMarks.{has_bytes, counted_marks, marks_if}
 use Rattle.nr_requester.specs.Answers.{answer_of, plan_under}
@@ -49,10 +50,17 @@ abbrev pub CountsAsClient : Type 0
 CountsAsClient = (opened : LinkParameters) (link : ℕ) (h : RequesterSide) (run : List Mark) → RequesterRepresents opened link h run →
     (length h.state.outstanding ≡ calls_outstanding opened link run) × (h.state.grant ≡ credits_granted opened link run)
 
--- It knows how long a Send may be in each direction, also after an End.
+-- It knows how long a Send may be in each direction, and whether its calls' replies may be Sends with Invalidate, also after an End.
 abbrev pub AgreesAsClient : Type 0
 AgreesAsClient = (opened : LinkParameters) (link : ℕ) (h : RequesterSide) (run : List Mark) → RequesterRepresents opened link h run →
-    (h.state.side.agreed.up ≡ (client opened link run).state.up_max) × (h.state.side.agreed.down ≡ (client opened link run).state.down_max)
+    (h.state.side.agreed.up ≡ (client opened link run).state.up_max) × ((h.state.side.agreed.down ≡ (client opened link run).state.down_max)
+    × (h.state.side.agreed.invalidates ≡ (client opened link run).state.invalidates))
+
+-- Of a call with n regions, each of which a peer can reach until a Send with Invalidate names one, n - 1 are counted as released.
+abbrev pub NamedRegionIsNotCounted : Type 0
+NamedRegionIsNotCounted = (m : RegisteredMemory) (first n stag : ℕ) → first ≤ stag → stag < first + n →
+    ((s : ℕ) → first ≤ s → s < first + n → is_some (live_region m s) ≡ true) →
+    live_count (after_invalidate m stag) (range_with_len first n) + 1 ≡ n
 
 -- It counts its marks.
 abbrev pub CountsMarks : Type 0
@@ -155,7 +163,8 @@ CountsOut = (opened : LinkParameters) (link : ℕ) (h : RequesterSide) (stopped 
 
 abbrev pub AgreesOut : Type 0
 AgreesOut = (opened : LinkParameters) (link : ℕ) (h : RequesterSide) (stopped run : List Mark) → RequesterRunsOut opened link h stopped run →
-    (h.state.side.agreed.up ≡ (client opened link run).state.up_max) × (h.state.side.agreed.down ≡ (client opened link run).state.down_max)
+    (h.state.side.agreed.up ≡ (client opened link run).state.up_max) × ((h.state.side.agreed.down ≡ (client opened link run).state.down_max)
+    × (h.state.side.agreed.invalidates ≡ (client opened link run).state.invalidates))
 
 abbrev pub CountsMarksOut : Type 0
 CountsMarksOut = (opened : LinkParameters) (link : ℕ) (h : RequesterSide) (stopped run : List Mark) → RequesterRunsOut opened link h stopped run → h.marks ≡ counted_marks link run

@@ -23,13 +23,15 @@ abbrev pub stags_of : Claims → List ℕ
 stags_of c = stag_of c.read ++ (stag_of c.write ++ stag_of c.reply)
 
 -- A call that is outstanding: the number of its Send on the link, from 0 on in the order in which Sends are queued; the call, until its memory is
--- revoked; whether its owner gave up the answer; the lists that its reply has to repeat; its regions, and none once they are released.
+-- revoked; whether its owner gave up the answer; the lists that its reply has to repeat; the STags that it was given; its regions, and none once they
+-- are released.
 pub record StoredCall : Type 0 where
   pub xid : ℕ
   pub send : ℕ
   pub call : Option Call
   pub is_forgotten : Bool
   pub offered : ChunkLists
+  pub given : List ℕ
   pub claims : Claims
 
 -- the call, if its owner awaits the answer
@@ -38,7 +40,8 @@ awaited_call c = if c.is_forgotten then None else c.call
 
 -- The side of the link, without the input that isn't a complete frame; how many Sends have left completely, until the side has ended; the
 -- credits that it wishes for; how many Sends have a number; the xid that it gives next; the credits that are granted; the outstanding calls, in the
--- order of their Submits; the calls whose outcome came and wasn't handed over, in the order in which they were answered.
+-- order of their Submits; the calls whose outcome came and wasn't handed over, in the order in which they were answered; how many of the
+-- regions that it released a peer could still reach.
 pub record RequesterState : Type 0 where
   pub side : LinkState
   pub sent : ℕ
@@ -48,6 +51,7 @@ pub record RequesterState : Type 0 where
   pub grant : ℕ
   pub outstanding : List StoredCall
   pub answered : List AnsweredCall
+  pub local_releases : ℕ
 
 -- a requester between two pieces of the server's stream, with the input that isn't a complete frame yet
 abbrev pub RequesterFeeding : Type 0
@@ -78,7 +82,7 @@ queue_of r = writable r.side.has_hello r.side.send_queue
 
 -- A call as a client keeps it, if the first `sent` Sends have completely left.
 abbrev pub kept_call : (sent : ℕ) → StoredCall → KeptCall
-kept_call sent c = record { xid = c.xid; send = c.send; is_sent = nat_lt c.send sent; call = c.call; offered = c.offered; stags = stags_of c.claims }
+kept_call sent c = record { xid = c.xid; send = c.send; is_sent = nat_lt c.send sent; call = c.call; offered = c.offered; given = c.given; stags = stags_of c.claims }
 
 abbrev pub kept_calls : RequesterState → List KeptCall
 kept_calls r = map (kept_call r.sent) r.outstanding
@@ -95,6 +99,7 @@ kept_client r = record {
   memory = r.side.memory;
   up_max = r.side.agreed.up;
   down_max = r.side.agreed.down;
+  invalidates = r.side.agreed.invalidates;
 }
 
 abbrev pub input_kept : RequesterSide → InputState

@@ -10,18 +10,21 @@ ghost use Rattle.nr_header.specs.Header.{no_lists};
 ghost use Rattle.nr_header.specs.ReadInto.{body_with, with_lists};
 ghost use Rattle.nr_reduce.specs.ClientMessages.ReplyVerdict.{GivesOutcome};
 ghost use Rattle.nr_reduce.specs.Chunks.{Bytes};
-ghost use Rattle.nr_reduce.specs.KeptCalls.{KeptCall, kept_body, kept_by, kept_verdict};
+ghost use Rattle.nr_reduce.specs.KeptCalls.{KeptCall, kept_body, kept_by, kept_named, kept_message_verdict};
 ghost use Rattle.nr_reduce.specs.KeptClient.{bytes_under};
 ghost use Rattle.nr_requester.specs.HeldClaims.{AreHeldFrom, call_claims, all_claims, OffersOwn};
 ghost use Rattle.nr_requester.specs.Judged.{header_reason, Ends, SameCall, outcome_by, LiesWithin, kept_view, kept_views, SameCalls, Brings};
-ghost use Rattle.nr_requester.specs.Views.{HasRoom};
+ghost use Rattle.nr_requester.specs.Views.{HasRoom, given_stags, names_another, own_named};
+ghost use Rattle.nr_requester.specs.RequesterState.{stags_of};
 
-use crate::outstanding::OutstandingCall;
+use crate::outstanding::{OutstandingCall, given_by, is_given};
 use crate::replies::{Found, long_stream, of_call, reply_found};
 use nr_header::{
     HeaderFault, HeaderFields, ListsRoom, MessageKind, TransportError, read_header_into,
 };
-use nr_link::constants::{REASON_CALL, REASON_CHUNKS, REASON_KIND, REASON_SHORT, REASON_VERSION};
+use nr_link::constants::{
+    REASON_CALL, REASON_CHUNKS, REASON_INVALIDATED, REASON_KIND, REASON_SHORT, REASON_VERSION,
+};
 use nr_reduce::answers_offer;
 use nr_regions::Regions;
 
@@ -106,30 +109,60 @@ fn found(
     }
 }
 
-/// What a message with this header brings for the call that it answers, or why it ends the link.
+/// Whether a message names an STag that its call wasn't given.
+fn names_another(call: &OutstandingCall, named: Option<u32>) -> bool
+    ensures { result ≡ names_another (given_stags call.now.given) named }
+{
+    match named {
+        None => false,
+        Some(stag) => !is_given(call.given, stag),
+    }
+}
+
+/// The STag that a message names, if it is that of a region of its call.
+fn own_of(call: &OutstandingCall, named: Option<u32>) -> Option<u32>
+    ensures { result ≡ own_named (stags_of call.now.claims) named }
+{
+    let Some(stag) = named else {
+        return None;
+    };
+    if is_given(given_by(&call.claims), stag) {
+        return Some(stag);
+    }
+    None
+}
+
+/// The STag whose region dies by a message with this header, if one does; and what the message brings for the call that it answers, or why it
+/// ends the link. The message names an STag, or none.
 fn by_header(
     regions: &Regions,
     calls: &mut [OutstandingCall],
     sent: u64,
     header: HeaderFields,
     lists: &ListsRoom,
+    named: Option<u32>,
     message: &[u8],
-) -> Result<(usize, Found), u32>
+) -> (Option<u32>, Result<(usize, Found), u32>)
     requires header { with_lists lists.now (Ok header) ≡ header_of message.now }
     requires held { AreHeldFrom regions.now.memory 0 (all_claims calls.old) }
     requires offers { AllByRecursion OffersOwn calls.old }
     requires rooms { AllByRecursion (HasRoom (length message.now)) calls.old }
     requires stream { StreamWithin (body_with header.kind lists.now) (length message.now) }
-    ensures ok { IfOk result (λ f. Brings sent calls.old calls.new (bytes_under regions.now.memory) message.now f.0 f.1) }
-    ensures err { IfErr result (λ reason. Ends (kept_verdict (kept_views sent calls.old) (bytes_under regions.now.memory) message.now) reason) }
+    ensures own { result.0 ≡ kept_named (kept_views sent calls.old) named message.now }
+    ensures ok { IfOk result.1 (λ f. Brings sent calls.old calls.new (bytes_under regions.now.memory) named message.now f.0 f.1) }
+    ensures err { IfErr result.1 (λ reason. Ends (kept_message_verdict (kept_views sent calls.old) (bytes_under regions.now.memory) named message.now) reason) }
     ensures same { SameCalls calls.old calls.new }
 {
     let Some(at) = call_at(calls, sent, header.xid) else {
-        return Err(REASON_CALL);
+        return (None, Err(REASON_CALL));
     };
+    let own = own_of(&calls[at], named);
+    if names_another(&calls[at], named) {
+        return (own, Err(REASON_INVALIDATED));
+    }
     match found(regions, &mut calls[at], header.kind, lists, message) {
-        Ok(found) => Ok((at, found)),
-        Err(reason) => Err(reason),
+        Ok(found) => (own, Ok((at, found))),
+        Err(reason) => (own, Err(reason)),
     }
 }
 
@@ -139,38 +172,50 @@ fn judged(
     calls: &mut [OutstandingCall],
     sent: u64,
     room: &mut ListsRoom,
+    named: Option<u32>,
     message: &[u8],
-) -> Result<(usize, Found), u32>
+) -> (Option<u32>, Result<(usize, Found), u32>)
     requires empty { room.old ≡ no_lists }
     requires held { AreHeldFrom regions.now.memory 0 (all_claims calls.old) }
     requires offers { AllByRecursion OffersOwn calls.old }
     requires rooms { AllByRecursion (HasRoom (length message.now)) calls.old }
     requires message { 16 ≤ length message.now }
-    ensures ok { IfOk result (λ f. Brings sent calls.old calls.new (bytes_under regions.now.memory) message.now f.0 f.1) }
-    ensures err { IfErr result (λ reason. Ends (kept_verdict (kept_views sent calls.old) (bytes_under regions.now.memory) message.now) reason) }
+    ensures own { result.0 ≡ kept_named (kept_views sent calls.old) named message.now }
+    ensures ok { IfOk result.1 (λ f. Brings sent calls.old calls.new (bytes_under regions.now.memory) named message.now f.0 f.1) }
+    ensures err { IfErr result.1 (λ reason. Ends (kept_message_verdict (kept_views sent calls.old) (bytes_under regions.now.memory) named message.now) reason) }
     ensures same { SameCalls calls.old calls.new }
 {
     match read_header_into(message, room) {
-        Ok(header) => by_header(regions, calls, sent, header, room, message),
-        Err(fault) => Err(reason_of(&fault)),
+        Ok(header) => by_header(regions, calls, sent, header, room, named, message),
+        Err(fault) => (None, Err(reason_of(&fault))),
     }
 }
 
-/// The call that a message answers, by its place, and what the message brings for it; or why it ends the link. Takes no memory.
+/// The STag whose region dies by a message that names one, or none, if one does (RFC 5040 section 5.1); and the call that the message answers,
+/// by its place, and what it brings for it, or why it ends the link. Takes no memory.
 pub fn verdict(
     regions: &Regions,
     calls: &mut Vec<OutstandingCall>,
     sent: u64,
+    named: Option<u32>,
     message: &[u8],
-) -> Result<(usize, Found), u32>
+) -> (Option<u32>, Result<(usize, Found), u32>)
     requires held { AreHeldFrom regions.now.memory 0 (all_claims calls.old.items) }
     requires offers { AllByRecursion OffersOwn calls.old.items }
     requires rooms { AllByRecursion (HasRoom (length message.now)) calls.old.items }
     requires message { 16 ≤ length message.now }
-    ensures ok { IfOk result (λ f. Brings sent calls.old.items calls.new.items (bytes_under regions.now.memory) message.now f.0 f.1) }
-    ensures err { IfErr result (λ reason. Ends (kept_verdict (kept_views sent calls.old.items) (bytes_under regions.now.memory) message.now) reason) }
+    ensures own { result.0 ≡ kept_named (kept_views sent calls.old.items) named message.now }
+    ensures ok { IfOk result.1 (λ f. Brings sent calls.old.items calls.new.items (bytes_under regions.now.memory) named message.now f.0 f.1) }
+    ensures err { IfErr result.1 (λ reason. Ends (kept_message_verdict (kept_views sent calls.old.items) (bytes_under regions.now.memory) named message.now) reason) }
     ensures same { SameCalls calls.old.items calls.new.items }
 {
     let mut room = ListsRoom::new();
-    judged(regions, calls.as_mut_slice(), sent, &mut room, message)
+    judged(
+        regions,
+        calls.as_mut_slice(),
+        sent,
+        &mut room,
+        named,
+        message,
+    )
 }

@@ -10,17 +10,19 @@ ghost use Rattle.nr_endpoint.specs.Calls.{after_call, IsStopReason};
 ghost use Rattle.nr_endpoint.specs.Calls.Call.{Stop, OutOfMemory};
 ghost use Rattle.nr_reduce.specs.Client.{credits_of_word};
 ghost use Rattle.nr_reduce.specs.Limits.{credits_max};
-ghost use Rattle.nr_reduce.specs.KeptCalls.{kept_verdict};
+ghost use Rattle.nr_reduce.specs.KeptCalls.{kept_named, kept_message_verdict};
 ghost use Rattle.nr_reduce.specs.KeptClient.{released_all, bytes_under};
 ghost use Rattle.nr_reduce.specs.declared.mark.LinkParameters.{LinkParameters};
 ghost use Rattle.nr_reduce.specs.declared.mark.Mark.{Mark};
 ghost use Rattle.nr_reduce.specs.declared.mark.Mark.TheVariants as marks;
 ghost use Rattle.nr_requester.specs.RequesterState.{stags_of, awaited_call, feeding_of, KeepsStaging};
 ghost use Rattle.nr_requester.specs.HeldClaims.{AreHeldFrom, call_claims};
-ghost use Rattle.nr_requester.specs.AfterPiece.{answered_as, after_fed};
+ghost use Rattle.nr_requester.specs.AfterCalls.{live_count};
+ghost use Rattle.nr_requester.specs.AfterPiece.{dead_memory, answered_as, after_fed};
+ghost use Rattle.nr_requester.specs.CountedMarks.{with_releases};
 ghost use Rattle.nr_requester.specs.Buffers.{with_memory};
 ghost use Rattle.nr_requester.specs.Judged.{outcome_by, LiesWithin, kept_views};
-ghost use Rattle.nr_requester.specs.Fed.{answer_with, CallsSound, IsReady, JudgesTo, TakesDeliveries, IsStep, TakesFrames, RequesterRanOutAt, fed_bytes, taken_by, late_marks};
+ghost use Rattle.nr_requester.specs.Fed.{answer_with, CallsSound, IsReady, StopsDead, JudgesTo, TakesDeliveries, IsStep, TakesFrames, RequesterRanOutAt, fed_bytes, taken_by, late_marks};
 ghost use Rattle.nr_requester.specs.HeldBytes.{NothingOutside, IsBounded};
 ghost use Rattle.nr_requester.specs.OpenCalls.{KeepsTickets};
 ghost use Rattle.nr_requester.specs.Standing.{StandsOn, RequesterRepresents, RequesterRunsOut};
@@ -29,7 +31,7 @@ ghost use Rattle.nr_requester.specs.Views.{requester_view, stored_view};
 use crate::answer::{AnsweredCall, Buffers};
 use crate::judging::verdict;
 use crate::outstanding::OutstandingCall;
-use crate::releasing::release_claims;
+use crate::releasing::{live_claims, release_claims, with_releases};
 use crate::replies::Found;
 use crate::requester::{Requester, marks_if};
 use nr_endpoint::{Endpoint, Event};
@@ -102,12 +104,13 @@ fn outcome_in(found: Found, room: PayloadBuffer) -> Option<Outcome>
     }
 }
 
-/// A message ends the call at this place: its regions are released, and it isn't outstanding any more. If its owner awaits the outcome,
-/// that is kept with the call and its buffers. Takes no memory.
+/// A message ends the call at this place: its regions are released, which is counted of those that the peer reached, and it isn't
+/// outstanding any more. If its owner awaits the outcome, that is kept with the call and its buffers. Takes no memory.
 fn complete(
     endpoint: &mut Endpoint,
     outstanding: &mut Vec<OutstandingCall>,
     answered: &mut Vec<AnsweredCall>,
+    releases: &mut u64,
     at: usize,
     found: Found,
 )
@@ -120,6 +123,7 @@ fn complete(
     ensures answered { (d : OutstandingCall) → answered.new.items ≡ answered.old.items
         ++ answered_as endpoint.old.link.state.memory (stored_view (get_or outstanding.old.items at d)) (awaited_call (stored_view (get_or outstanding.old.items at d))) (outcome_by found (get_or outstanding.old.items at d).room.bytes) }
     ensures capacity { vec_capacity answered.new ≡ vec_capacity answered.old }
+    ensures releases { (d : OutstandingCall) → releases.new ≡ with_releases (live_count endpoint.old.link.state.memory (stags_of (get_or outstanding.old.items at d).claims)) releases.old }
     ensures staging { endpoint.new.staging ≡ endpoint.old.staging }
     ensures outside { NothingOutside endpoint.old → NothingOutside endpoint.new }
 {
@@ -133,33 +137,53 @@ fn complete(
         ..
     } = outstanding.remove(at);
     drop(offered);
+    *releases = with_releases(live_claims(endpoint, &claims), *releases);
     let buffers = release_claims(endpoint, claims);
     let outcome = outcome_in(found, room);
     keep_answer(answered, xid, awaited(call, is_forgotten), buffers, outcome);
 }
 
-/// Ends a side for a reason that a message gives, or because memory ran out for its Terminate.
-fn stop(endpoint: &mut Endpoint, reason: u32)
+/// The region under an STag dies, if there is one: the peer reaches it no more, and it is held with its bytes until it is released.
+fn die(endpoint: &mut Endpoint, own: Option<u32>)
+    ensures link { endpoint.new.link ≡ with_memory (dead_memory own endpoint.old.link.state.memory) endpoint.old.link }
+    ensures staging { endpoint.new.staging ≡ endpoint.old.staging }
+    ensures outside { endpoint.new.outside ≡ endpoint.old.outside }
+{
+    let Some(stag) = own else {
+        return;
+    };
+    match endpoint.invalidate(stag) {
+        Ok(()) => (),
+        Err(_) => (),
+    }
+}
+
+/// Ends a side for a reason that a message gives, and the region under an STag dies, if there is one; or because memory ran out for its
+/// Terminate.
+fn stop(endpoint: &mut Endpoint, own: Option<u32>, reason: u32)
     requires live { endpoint.old.link.state.ended ≡ None }
     requires frame { 0 < endpoint.old.link.state.place }
     requires reason { IsStopReason reason }
-    ensures link { (endpoint.new.link ≡ after_call endpoint.old.link (Stop reason)) ⊎ (endpoint.new.link ≡ after_call endpoint.old.link OutOfMemory) }
+    ensures link { StopsDead own reason endpoint.old.link endpoint.new.link }
     ensures staging { endpoint.new.staging ≡ endpoint.old.staging }
     ensures outside { endpoint.new.outside ≡ endpoint.old.outside }
 {
     match endpoint.stop(reason) {
         End::Memory => (),
-        _ => (),
+        _ => die(endpoint, own),
     }
 }
 
-/// Takes a message that was delivered: it ends its call, or the link. Takes memory only for a Terminate.
+/// Takes a message that was delivered and names an STag, or none: the region under that dies, if its call was given it; and the message ends
+/// its call, or the link. Takes memory only for a Terminate.
 fn take_message(
     endpoint: &mut Endpoint,
     outstanding: &mut Vec<OutstandingCall>,
     answered: &mut Vec<AnsweredCall>,
     grant: &mut u32,
+    releases: &mut u64,
     sent: u64,
+    named: Option<u32>,
     buf: Octets,
     len: usize,
 )
@@ -169,8 +193,8 @@ fn take_message(
     requires buf { length buf ≡ endpoint.old.link.state.receive_queue.receive_length }
     requires len { (16 ≤ len) × (len ≤ length buf) }
     requires calls { (next : ℕ) × CallsSound endpoint.old.link.state.receive_queue.receive_length endpoint.old.link.state.memory next outstanding.old.items answered.old.items (vec_capacity answered.old) }
-    ensures judged { JudgesTo (kept_verdict (kept_views sent outstanding.old.items) (bytes_under endpoint.old.link.state.memory) (take len buf)) (take len buf) endpoint.old.link endpoint.new.link
-        outstanding.old.items outstanding.new.items answered.old.items answered.new.items grant.old grant.new }
+    ensures judged { JudgesTo (kept_message_verdict (kept_views sent outstanding.old.items) (bytes_under endpoint.old.link.state.memory) named (take len buf)) (kept_named (kept_views sent outstanding.old.items) named (take len buf)) (take len buf) endpoint.old.link endpoint.new.link
+        outstanding.old.items outstanding.new.items answered.old.items answered.new.items grant.old grant.new releases.old releases.new }
     ensures sound { (most next : ℕ) → CallsSound most endpoint.old.link.state.memory next outstanding.old.items answered.old.items (vec_capacity answered.old) →
         CallsSound most endpoint.new.link.state.memory next outstanding.new.items answered.new.items (vec_capacity answered.new) }
     ensures granted { (1 ≤ grant.old) × (grant.old ≤ credits_max) → (1 ≤ grant.new) × (grant.new ≤ credits_max) }
@@ -180,14 +204,15 @@ fn take_message(
 {
     let (message, _) = buf.as_slice().split_at(len);
     let credits = credits_of(credit_of(message));
-    let found = verdict(endpoint.regions(), outstanding, sent, message);
+    let (own, found) = verdict(endpoint.regions(), outstanding, sent, named, message);
     endpoint.post(buf);
     match found {
         Ok((at, found)) => {
             *grant = credits;
-            complete(endpoint, outstanding, answered, at, found);
+            die(endpoint, own);
+            complete(endpoint, outstanding, answered, releases, at, found);
         }
-        Err(reason) => stop(endpoint, reason),
+        Err(reason) => stop(endpoint, own, reason),
     }
 }
 
@@ -197,10 +222,11 @@ fn take_event(
     outstanding: &mut Vec<OutstandingCall>,
     answered: &mut Vec<AnsweredCall>,
     grant: &mut u32,
+    releases: &mut u64,
     sent: u64,
 )
     requires ready { IsReady endpoint.old.link outstanding.old.items answered.old.items (vec_capacity answered.old) }
-    ensures deliveries { (wished sends next : ℕ) → TakesDeliveries (requester_view endpoint.old.link sent wished sends next grant.old outstanding.old.items answered.old.items) (requester_view endpoint.new.link sent wished sends next grant.new outstanding.new.items answered.new.items) }
+    ensures deliveries { (wished sends next : ℕ) → TakesDeliveries (requester_view endpoint.old.link sent wished sends next grant.old outstanding.old.items answered.old.items releases.old) (requester_view endpoint.new.link sent wished sends next grant.new outstanding.new.items answered.new.items releases.new) }
     ensures sound { (most next : ℕ) → CallsSound most endpoint.old.link.state.memory next outstanding.old.items answered.old.items (vec_capacity answered.old) →
         CallsSound most endpoint.new.link.state.memory next outstanding.new.items answered.new.items (vec_capacity answered.new) }
     ensures granted { (1 ≤ grant.old) × (grant.old ≤ credits_max) → (1 ≤ grant.new) × (grant.new ≤ credits_max) }
@@ -212,12 +238,21 @@ fn take_event(
     match endpoint.next_event() {
         None => (),
         Some(Event::ReadDone) => (),
-        Some(Event::Message { buf, len, .. }) => take_message(
+        Some(
+            Event::Message {
+                invalidated,
+                buf,
+                len,
+                ..
+            },
+        ) => take_message(
             endpoint,
             outstanding,
             answered,
             grant,
+            releases,
             sent,
+            invalidated,
             buf,
             len,
         ),
@@ -260,6 +295,7 @@ impl Requester {
             &mut self.outstanding,
             &mut self.answered,
             &mut self.grant,
+            &mut self.local_releases,
             self.sent,
         );
         self.endpoint.facts();

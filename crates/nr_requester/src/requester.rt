@@ -6,7 +6,7 @@ ghost use Rattle.nr_outside.specs.Faults.{Rises};
 ghost use Rattle.nr_wire.specs.declared.hello.Side.TheVariants.{Initiator};
 ghost use Rattle.nr_wire.specs.Constants.{FPDU_MAX};
 ghost use Rattle.nr_wire.specs.Stream.{IsPartial};
-ghost use Rattle.nr_link.specs.Agreement.{IsSendLimit, default_terms, sized_terms};
+ghost use Rattle.nr_link.specs.Agreement.{IsSendLimit, default_terms, sized_terms, terms_with};
 ghost use Rattle.nr_endpoint.specs.Hellos.{receive_length_for};
 ghost use Rattle.nr_endpoint.specs.declared.fault.DrainFault.TheVariants as drains;
 ghost use Rattle.nr_reduce.specs.Opening.{ClientOpened};
@@ -54,6 +54,8 @@ pub struct Requester {
     // The answers that weren't handed over, with room for those of the outstanding calls.
     pub(crate) answered: Vec<AnsweredCall>,
     pub(crate) marks: u64,
+    // How many of the regions that it released the server could still reach.
+    pub(crate) local_releases: u64,
 }
 
 impl Model for Requester {
@@ -66,7 +68,7 @@ impl Model for Requester {
 
     ghost coded = { Prim.hlevel (codes, state_code) };
 
-    ghost view = { λ r. side_view r.endpoint.staging r.marks (requester_view r.endpoint.link r.sent r.wished r.sends r.next_xid r.grant r.outstanding.items r.answered.items) };
+    ghost view = { λ r. side_view r.endpoint.staging r.marks (requester_view r.endpoint.link r.sent r.wished r.sends r.next_xid r.grant r.outstanding.items r.answered.items r.local_releases) };
 
     ghost use Rattle.nr_requester.specs.Views.{RequesterInvariant};
     ghost use Rattle.nr_requester.specs.HeldBytes.{IsBounded};
@@ -90,7 +92,7 @@ impl Requester {
         ensures fed { IfOk result (λ r. fed_bytes r ≡ 0) }
         ensures stands { IfOk result (λ r. (opened : LinkParameters) (link : ℕ) → opened.first_xid ≡ first_xid → opened.first_stag ≡ first_stag → ClientOpened opened credits default_terms → RequesterRepresents opened link r []) }
     {
-        Requester::new(alloc, first_xid, first_stag, credits, 1)
+        Requester::new(alloc, first_xid, first_stag, credits, 1, false)
     }
 
     /// A client end whose first xid and first STag are 1. A Send in either direction has at most 1,024 bytes.
@@ -100,18 +102,25 @@ impl Requester {
         ensures fed { IfOk result (λ r. fed_bytes r ≡ 0) }
         ensures stands { IfOk result (λ r. (opened : LinkParameters) (link : ℕ) → opened.first_xid ≡ 1 → opened.first_stag ≡ 1 → ClientOpened opened credits default_terms → RequesterRepresents opened link r []) }
     {
-        Requester::open_sized(alloc, credits, 1)
+        Requester::open_sized(alloc, credits, 1, false)
     }
 
-    /// The same, if a Send in either direction may have this many units of 1,024 bytes: 0 counts as 1, and more than 16 as 16. Its hello
-    /// says so, unless it is one unit (RFC 5044 section 7.1, private data). What the server says in its hello decides, too: see `agreed`.
-    pub fn open_sized(alloc: Global, credits: u32, units: u8) -> Result<Requester, Memory>
-        ensures state { IfOk result (λ r. r ≡ opened_as 1 1 credits (sized_terms units) r.staging) }
+    /// The same, if a Send in either direction may have this many units of 1,024 bytes: 0 counts as 1, and more than 16 as 16. If `invalidates`,
+    /// it takes Sends with Invalidate (RFC 5040 section 5.1). Its hello says both, unless it has one unit and takes none (RFC 5044 section
+    /// 7.1, private data). What the server says in its hello decides, too: see `agreed` and `invalidates`. If it agrees, a reply may name one
+    /// STag of its call: that region dies before the rest of the reply is judged, and its release isn't counted (see `local_releases`).
+    pub fn open_sized(
+        alloc: Global,
+        credits: u32,
+        units: u8,
+        invalidates: bool,
+    ) -> Result<Requester, Memory>
+        ensures state { IfOk result (λ r. r ≡ opened_as 1 1 credits (terms_with units invalidates) r.staging) }
         ensures staging { IfOk result (λ r. length r.staging ≡ FPDU_MAX) }
         ensures fed { IfOk result (λ r. fed_bytes r ≡ 0) }
-        ensures stands { IfOk result (λ r. (opened : LinkParameters) (link : ℕ) → opened.first_xid ≡ 1 → opened.first_stag ≡ 1 → ClientOpened opened credits (sized_terms units) → RequesterRepresents opened link r []) }
+        ensures stands { IfOk result (λ r. (opened : LinkParameters) (link : ℕ) → opened.first_xid ≡ 1 → opened.first_stag ≡ 1 → ClientOpened opened credits (terms_with units invalidates) → RequesterRepresents opened link r []) }
     {
-        Requester::new(alloc, 1, 1, credits, units)
+        Requester::new(alloc, 1, 1, credits, units, invalidates)
     }
 
     #[tactic(auto, unfolding(crate::specs::AfterCalls::opened_as, nr_endpoint::specs::LinkState::initial_link))]
@@ -121,13 +130,18 @@ impl Requester {
         first_stag: u32,
         credits: u32,
         units: u8,
+        invalidates: bool,
     ) -> Result<Requester, Memory>
         requires { 0 < first_stag }
-        ensures state { IfOk result (λ r. r ≡ opened_as first_xid first_stag credits (sized_terms units) r.staging) }
+        ensures state { IfOk result (λ r. r ≡ opened_as first_xid first_stag credits (terms_with units invalidates) r.staging) }
         ensures staging { IfOk result (λ r. length r.staging ≡ FPDU_MAX) }
         ensures fed { IfOk result (λ r. fed_bytes r ≡ 0) }
     {
-        let terms = SideTerms::sized(units);
+        let terms = SideTerms {
+            units,
+            number: 0,
+            invalidates,
+        };
         let endpoint = Endpoint::open(alloc, Side::Initiator, 1, first_stag, terms)?;
         Ok(Requester {
             alloc,
@@ -141,6 +155,7 @@ impl Requester {
             outstanding: Vec::new(alloc),
             answered: Vec::new(alloc),
             marks: 0,
+            local_releases: 0,
         })
     }
 
@@ -177,12 +192,28 @@ impl Requester {
         self.endpoint.agreed()
     }
 
+    /// Whether a reply may be a Send with Invalidate (RFC 5040 section 5.1), as the hellos of both sides agree. Takes no memory.
+    pub fn invalidates(&self) -> bool
+        ensures agreed { result ≡ self.now.state.side.agreed.invalidates }
+        ensures stands { (opened : LinkParameters) (link : ℕ) (run : List Mark) → RequesterRepresents opened link self.now run → result ≡ (client opened link run).state.invalidates }
+    {
+        self.endpoint.invalidates()
+    }
+
     /// How many marks it made: calls that were accepted, drains that moved bytes, pieces that have bytes (also after an End other than
     /// Memory), outcomes that were handed over, and calls that were given up. It stands still at 2^64 - 1. Takes no memory.
     pub fn marks(&self) -> u64
         ensures { result ≡ self.now.marks }
     {
         self.marks
+    }
+
+    /// How many of the regions that it released the server could still reach: those of calls that were answered, revoked, or lost. A region that
+    /// a reply named is not counted (RFC 5040 section 5.1). It stands still at 2^64 - 1. Takes no memory.
+    pub fn local_releases(&self) -> u64
+        ensures { result ≡ self.now.state.local_releases }
+    {
+        self.local_releases
     }
 
     /// How many bytes of the server's frame that isn't complete are staged. 0 once it has ended.

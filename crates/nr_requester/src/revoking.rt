@@ -4,7 +4,8 @@ ghost use Rattle.std.specs.Prelude.{◌≡◌, ◌≢◌, ℕ, ◌<◌, List, tr
 ghost use Rattle.nr_reduce.specs.KeptClient.{released_all};
 ghost use Rattle.nr_reduce.specs.declared.mark.Mark.TheVariants as marks;
 ghost use Rattle.nr_requester.specs.RequesterState.{stags_of};
-ghost use Rattle.nr_requester.specs.AfterCalls.{after_revoke};
+ghost use Rattle.nr_requester.specs.AfterCalls.{after_revoke, live_count};
+ghost use Rattle.nr_requester.specs.CountedMarks.{with_releases};
 ghost use Rattle.nr_requester.specs.AfterPiece.{buffers_under};
 ghost use Rattle.nr_requester.specs.Buffers.{bytes_of_buffers, with_memory};
 ghost use Rattle.nr_requester.specs.HeldBytes.{NothingOutside};
@@ -16,7 +17,7 @@ ghost use Rattle.nr_requester.specs.Views.{given_up};
 
 use crate::answer::Buffers;
 use crate::outstanding::OutstandingCall;
-use crate::releasing::release_claims;
+use crate::releasing::{live_claims, release_claims, with_releases};
 use crate::requester::{Requester, marks_if};
 use crate::taking::take_answer;
 use crate::ticket::Ticket;
@@ -52,10 +53,11 @@ fn take_out(stored: &mut OutstandingCall) -> (Option<Call>, Claims)
     (call, claims)
 }
 
-/// Revokes the memory of one of these calls.
+/// Revokes the memory of one of these calls; counts the regions that it releases while the peer reaches them.
 fn revoke_at(
     endpoint: &mut Endpoint,
     calls: &mut Vec<OutstandingCall>,
+    releases: &mut u64,
     at: usize,
 ) -> (Option<Call>, Buffers)
     requires at { at < length calls.old.items }
@@ -63,11 +65,13 @@ fn revoke_at(
     ensures call { (d : OutstandingCall) → result.0 ≡ (get_or calls.old.items at d).call }
     ensures buffers { (d : OutstandingCall) → result.1 ≡ buffers_under endpoint.old.link.state.memory (get_or calls.old.items at d).claims }
     ensures link { (d : OutstandingCall) → endpoint.new.link ≡ with_memory (released_all endpoint.old.link.state.memory (stags_of (get_or calls.old.items at d).claims)) endpoint.old.link }
+    ensures releases { (d : OutstandingCall) → releases.new ≡ with_releases (live_count endpoint.old.link.state.memory (stags_of (get_or calls.old.items at d).claims)) releases.old }
     ensures calls { (d : OutstandingCall) → calls.new.items ≡ set calls.old.items at (given_up (get_or calls.old.items at d)) }
     ensures staging { endpoint.new.staging ≡ endpoint.old.staging }
     ensures outside { NothingOutside endpoint.old → NothingOutside endpoint.new }
 {
     let (call, claims) = take_out(&mut calls[at]);
+    *releases = with_releases(live_claims(endpoint, &claims), *releases);
     (call, release_claims(endpoint, claims))
 }
 
@@ -98,7 +102,12 @@ impl Requester {
     {
         self.marks = marks_if(true, self.marks);
         if let Some(at) = place_of(self.outstanding.as_slice(), xid) {
-            let (call, buffers) = revoke_at(&mut self.endpoint, &mut self.outstanding, at);
+            let (call, buffers) = revoke_at(
+                &mut self.endpoint,
+                &mut self.outstanding,
+                &mut self.local_releases,
+                at,
+            );
             return match call {
                 Some(call) => (call, buffers),
                 None => unreachable!(),

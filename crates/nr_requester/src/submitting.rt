@@ -22,7 +22,7 @@ ghost use Rattle.nr_requester.specs.OpenCalls.{OpensTicket};
 use crate::answer::AnsweredCall;
 use crate::messages::{PlannedCall, lists_of, message_of, offered_of, regions_needed, reply_room};
 use crate::offered::OfferedLists;
-use crate::outstanding::OutstandingCall;
+use crate::outstanding::{OutstandingCall, given_by};
 use crate::requester::{Requester, marks_if};
 use crate::ticket::Ticket;
 use nr_endpoint::{Claims, Endpoint};
@@ -226,6 +226,7 @@ impl Requester {
             Ok(sent) => sent,
             Err(_) => return Err(call),
         };
+        let given = given_by(&claims);
         let send = self.sends;
         self.sends += 1;
         self.next_xid += 1;
@@ -236,6 +237,7 @@ impl Requester {
             call: Some(call),
             is_forgotten: false,
             offered: lists,
+            given,
             claims,
             room,
         });

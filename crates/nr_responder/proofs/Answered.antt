@@ -10,7 +10,7 @@ use Rattle.nr_rpc.specs.Reading.{call_of, target_of}
 use Rattle.nr_link.specs.declared.end.End.{End}
 use Rattle.nr_link.specs.Input.{InputState}
 use Rattle.nr_link.specs.Agreement.{IsSendLimit}
-use Rattle.nr_link.specs.Output.{send}
+use Rattle.nr_link.specs.Output.{send_by}
 use Rattle.nr_endpoint.specs.declared.framing.RemoteWrite.{RemoteWrite}
 use Rattle.nr_endpoint.specs.FedBytes.{fed_bytes}
 use Rattle.nr_endpoint.specs.LinkState.{LinkSide}
@@ -37,7 +37,7 @@ use Rattle.nr_responder.specs.declared.call.Sent.{Sent}
 use Rattle.nr_responder.specs.Steps.{GoesOn}
 use Rattle.nr_responder.specs.declared.call.Pending.{Pending}
 use Rattle.nr_responder.specs.Views.{call_view}
-use Rattle.nr_responder.specs.Answering.{IsPayload, Answers, answer_to, message_for, writes_for}
+use Rattle.nr_responder.specs.Answering.{IsPayload, Answers, answer_to, message_for, name_for, writes_for}
 use Rattle.nr_responder.proofs.Executed.{executed, with_answer, answered_keeps, answered_server, payloads_out}
 use Rattle.nr_responder.proofs.Queues.{answered_queue}
 use Rattle.nr_responder.proofs.Marks.{executed_stands, represents}
@@ -96,17 +96,17 @@ found x P (c ∷ calls) (suc at) call own all is xid = by (found x P calls at ca
 
 -- ---- The side with the answer queued
 
-pub answer_link : (l : LinkSide) (writes : List RemoteWrite) (message : List ℕ) → l.state.ended ≡ None → after_calls l (answer_calls writes message) ≡ record { awaited = l.awaited; rest = l.rest; state = with_answer l.state (writes_output writes) message }
-answer_link l writes message live =
-    sym (answered_state l (after_answer writes message l.state) writes message refl)
-    ∙ ap (λ (o : Option End). record { awaited = l.awaited; rest = l.rest; state = cond (is_some o) l.state (with_answer l.state (writes_output writes) message) }) live
+pub answer_link : (l : LinkSide) (writes : List RemoteWrite) (named : Option ℕ) (message : List ℕ) → l.state.ended ≡ None → after_calls l (answer_calls writes named message) ≡ record { awaited = l.awaited; rest = l.rest; state = with_answer l.state (writes_output writes) named message }
+answer_link l writes named message live =
+    sym (answered_state l (after_answer writes named message l.state) writes named message refl)
+    ∙ ap (λ (o : Option End). record { awaited = l.awaited; rest = l.rest; state = cond (is_some o) l.state (with_answer l.state (writes_output writes) named message) }) live
 
-pub answered_fed : (l m : LinkSide) (writes : List RemoteWrite) (message : List ℕ) → l.state.ended ≡ None → m ≡ after_calls l (answer_calls writes message) → fed_bytes m ≡ fed_bytes l
-answered_fed l m writes message live is = ap fed_bytes (is ∙ answer_link l writes message live)
+pub answered_fed : (l m : LinkSide) (writes : List RemoteWrite) (named : Option ℕ) (message : List ℕ) → l.state.ended ≡ None → m ≡ after_calls l (answer_calls writes named message) → fed_bytes m ≡ fed_bytes l
+answered_fed l m writes named message live is = ap fed_bytes (is ∙ answer_link l writes named message live)
 
-begins_answered : (l : LinkSide) (writes message : List ℕ) → 0 < l.state.place → Begins l → Begins (record { awaited = l.awaited; rest = l.rest; state = with_answer l.state writes message })
-begins_answered l writes message some (BeforeHello place awaited hello none) = absurd (omega (arith, place, some))
-begins_answered l writes message some (AfterHello place awaited hello) = AfterHello place awaited hello
+begins_answered : (l : LinkSide) (writes : List ℕ) (named : Option ℕ) (message : List ℕ) → 0 < l.state.place → Begins l → Begins (record { awaited = l.awaited; rest = l.rest; state = with_answer l.state writes named message })
+begins_answered l writes named message some (BeforeHello place awaited hello none) = absurd (omega (arith, place, some))
+begins_answered l writes named message some (AfterHello place awaited hello) = AfterHello place awaited hello
 
 -- ---- The server that executed
 
@@ -119,16 +119,17 @@ unfolding server_end server_output
 executed_due opened k e o is = ap (λ (x : Option End). output_for_in (server_rules opened) k (CallExecuted e) x) is
 
 -- the output for an answer: its RDMA Writes and its message
-output_is : (k : ServerState) (xid : ℕ) (offer : ChunkLists) (a : Option Answer) → answer_output k xid offer a ≡ writes_for offer a ++ send (k.messages_queued + 1) (message_for xid (credit_word k) offer a)
+output_is : (k : ServerState) (xid : ℕ) (offer : ChunkLists) (a : Option Answer) → answer_output k xid offer a ≡ writes_for offer a ++ send_by (name_for k.invalidates offer a) (k.messages_queued + 1) (message_for xid (credit_word k) offer a)
 output_is k xid offer None = refl
 output_is k xid offer (Some a) = refl
 
-due_is : (k : ServerState) (e : ExecutedCall) (offer : ChunkLists) (down : ℕ) → offer_of k e.xid ≡ offer → k.down_max ≡ down →
-    execution_output k e ≡ writes_for offer (answer_of_target offer down e.reply (target_of (call_of e.payload))) ++ send (k.messages_queued + 1) (message_for e.xid (credit_word k) offer (answer_of_target offer down e.reply (target_of (call_of e.payload))))
+due_is : (k : ServerState) (e : ExecutedCall) (offer : ChunkLists) (down : ℕ) (invalidates : Bool) → offer_of k e.xid ≡ offer → k.down_max ≡ down → k.invalidates ≡ invalidates →
+    execution_output k e ≡ writes_for offer (answer_of_target offer down e.reply (target_of (call_of e.payload))) ++ send_by (name_for invalidates offer (answer_of_target offer down e.reply (target_of (call_of e.payload)))) (k.messages_queued + 1) (message_for e.xid (credit_word k) offer (answer_of_target offer down e.reply (target_of (call_of e.payload))))
 unfolding execution_output
-due_is k e offer down is agreed =
+due_is k e offer down invalidates is agreed names =
     (λ i. answer_output k e.xid (is i) (answer_of_target (is i) (agreed i) e.reply (target_of (call_of e.payload))))
     ∙ output_is k e.xid offer (answer_of_target offer down e.reply (target_of (call_of e.payload)))
+    ∙ ap (λ (b : Bool). writes_for offer (answer_of_target offer down e.reply (target_of (call_of e.payload))) ++ send_by (name_for b offer (answer_of_target offer down e.reply (target_of (call_of e.payload)))) (k.messages_queued + 1) (message_for e.xid (credit_word k) offer (answer_of_target offer down e.reply (target_of (call_of e.payload))))) names
 
 first_of_lem : (ready : List ReadyCall) (r : ReadyCall) → slice_get ready 0 ≡ Some r → ready ≡ r ∷ drop 1 ready
 first_of_lem [] r is = absurd cc
@@ -193,24 +194,26 @@ answered_goes opened end so_far v after e r sent is h next xid payload a =
     let same_answer : answer_of_target a.call.lists down e.reply (target_of (call_of e.payload)) ≡ answer = ap (λ (bytes : List ℕ). answer_of_target a.call.lists down e.reply (target_of (call_of bytes))) (sym stream) in
     let word : present_word v ≡ credit_word k = word_is opened k so_far v h in
     let message : List ℕ = message_for e.xid (present_word v) a.call.lists answer in
+    let invalidates : Bool = v.link.state.agreed.invalidates in
+    let named : Option ℕ = name_for invalidates a.call.lists answer in
     let writes : List ℕ = writes_output a.writes in
-    let due : execution_output k e ≡ writes ++ send (k.messages_queued + 1) message =
-    due_is k e a.call.lists down offer (sym h.link.down)
-    ∙ (λ i. writes_for a.call.lists (same_answer i) ++ send (k.messages_queued + 1) (message_for e.xid (sym word i) a.call.lists (same_answer i)))
-    ∙ ap (λ (bytes : List ℕ). bytes ++ send (k.messages_queued + 1) message) (sym a.written) in
+    let due : execution_output k e ≡ writes ++ send_by named (k.messages_queued + 1) message =
+    due_is k e a.call.lists down invalidates offer (sym h.link.down) (sym h.link.invalidates)
+    ∙ (λ i. writes_for a.call.lists (same_answer i) ++ send_by (name_for invalidates a.call.lists (same_answer i)) (k.messages_queued + 1) (message_for e.xid (sym word i) a.call.lists (same_answer i)))
+    ∙ ap (λ (bytes : List ℕ). bytes ++ send_by named (k.messages_queued + 1) message) (sym a.written) in
     let then : ResponderSide = record {
-      link = record { awaited = v.link.awaited; rest = v.link.rest; state = with_answer v.link.state writes message };
+      link = record { awaited = v.link.awaited; rest = v.link.rest; state = with_answer v.link.state writes named message };
       calls = remove v.calls a.at;
       ready = drop 1 v.ready;
       credits = v.credits;
       fetching = payload_taken v.fetching;
     } in
-    let same : after ≡ then = a.state ∙ ap (λ (l : LinkSide). record { link = l; calls = remove v.calls a.at; ready = drop 1 v.ready; credits = v.credits; fetching = payload_taken v.fetching }) (answer_link v.link a.writes message h.link.live) in
-    let out : List ℕ = writes ++ send (k.messages_queued + 1) message in
+    let same : after ≡ then = a.state ∙ ap (λ (l : LinkSide). record { link = l; calls = remove v.calls a.at; ready = drop 1 v.ready; credits = v.credits; fetching = payload_taken v.fetching }) (answer_link v.link a.writes named message h.link.live) in
+    let out : List ℕ = writes ++ send_by named (k.messages_queued + 1) message in
     let keeps : Keeps opened (executed k r.xid out) so_far then = record {
-      link = answered_keeps opened k v.link.state writes message r (drop 1 k.ready) ready h.link h.server;
+      link = answered_keeps opened k v.link.state writes named message r (drop 1 k.ready) ready h.link h.server;
       input = record { awaited = h.input.awaited; rest = h.input.rest; place = h.input.place };
-      begins = begins_answered v.link writes message behind h.begins;
+      begins = begins_answered v.link writes named message behind h.begins;
       server = answered_server k v.link.state.place out r (drop 1 k.ready) ready h.server;
       calls = ap (λ (cs : List PendingCall). remove cs a.at) h.calls ∙ f.left;
       ready = ap (drop 1) h.ready ∙ drop_map k.ready;
@@ -226,7 +229,7 @@ answered_goes opened end so_far v after e r sent is h next xid payload a =
           (inl (refl, subst (λ (w : ResponderSide). Keeps opened (executed k r.xid out) so_far w) (sym same) keeps));
       output =
           ap queue same
-          ∙ answered_queue k.messages_queued writes message v.link.state.send_queue h.link.queue.sends
+          ∙ answered_queue named k.messages_queued writes message v.link.state.send_queue h.link.queue.sends
           ∙ ap (λ (bytes : List ℕ). queue v ++ bytes) (sym due ∙ sym (executed_due opened k e end.ended is) ∙ sym (append-nil (output_for_in (server_rules opened) k (CallExecuted e) end.ended)));
     }
 

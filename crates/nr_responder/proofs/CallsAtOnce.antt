@@ -6,13 +6,13 @@ use Rattle.std.proofs.lemmas.Bool.{eq-eqb}
 use Rattle.std.proofs.lemmas.List.{map-append}
 use Rattle.nr_wire.specs.declared.stream.Awaited.TheVariants.{Fpdu}
 use Rattle.nr_wire.specs.Constants.{OPCODE_SEND}
-use Rattle.nr_wire.specs.Segment.{Segment, segment_of}
+use Rattle.nr_wire.specs.Segment.{Segment}
 use Rattle.nr_wire.specs.Segment.Segment.{Untagged}
 use Rattle.nr_header.specs.declared.header.ReadSegment.{ReadSegment}
 use Rattle.nr_link.specs.Frames.{Frame, is_hello}
 use Rattle.nr_link.specs.Input.{InputState}
 use Rattle.nr_link.specs.ReceiveState.{ReceiveState, begun_bytes}
-use Rattle.nr_link.specs.Ending.{frame_segment}
+use Rattle.nr_link.specs.Ending.{segment_taken, frame_segment}
 use Rattle.nr_endpoint.specs.LinkState.{LinkState}
 use Rattle.nr_endpoint.specs.SegmentEnds.{SendIsFine}
 use Rattle.nr_endpoint.specs.Judging.{segment_end, next_frame, with_frame}
@@ -110,7 +110,7 @@ complete_refused k at place reason message c is own judged none refuses =
 -- ---- The frame
 
 pub complete_takes : (opened : LinkParameters) (k : ServerState) (input : InputState) (v : ResponderSide) (frame : List ℕ) (w queue_number msn offset : ℕ) (payload : List ℕ) (c : PendingCall) (whole : List ℕ) → Keeps opened k input v → 0 < v.link.state.place → 0 < length frame →
-    segment_of frame ≡ Ok (Untagged true OPCODE_SEND w queue_number msn offset payload) → (with_frame v.link.state Fpdu frame).ended ≡ None →
+    segment_taken false frame ≡ Ok (Untagged true OPCODE_SEND w queue_number msn offset payload) → (with_frame v.link.state Fpdu frame).ended ≡ None →
     c.number ≡ k.received.sends + 1 → is_pending k c.xid ≡ false → verdict k (whole_message v.link.state payload) ≡ MakesPending c → HasNoBytes c.lists.read → c.inline ≡ Some whole → by_payload c (payload_at_once c) ≡ IsReady (ready_call c whole) →
     TakesFrame opened k (behind input frame) (next_frame v.link.state frame) v (with_ready v (record { awaited = Fpdu; rest = []; state = told_link v.link.state frame }) c)
 unfolding frame_segment
@@ -120,7 +120,7 @@ complete_takes opened k input v frame w queue_number msn offset payload c whole 
     let segment : Segment = Untagged true OPCODE_SEND w queue_number msn offset payload in
     let received : ReceiveState = record { sends = k.received.sends + 1; begun = None; requests = k.received.requests } in
     let k' : ServerState = with_inline_call k received c whole in
-    let both : (segment_end s f segment ≡ None) × (with_frame s Fpdu frame ≡ framed s frame segment) = frame_lives s frame segment is lives in
+    let both : (segment_end s f segment ≡ None) × (with_frame s Fpdu frame ≡ framed s frame segment) = frame_lives s frame segment h.link.side is lives in
     let fine : SendIsFine s true payload = (alive_send s f true OPCODE_SEND w queue_number msn offset payload refl refl (λ e. omega (arith, e)) both.0).1 in
     let later : is_hello f ≡ false = later_frame s.place behind_hello in
     let message : verdict k (begun_bytes k.received.begun ++ payload) ≡ MakesPending c = ap (verdict k) (sym (same_message opened k s payload h.link (fine.fits refl))) ∙ judged in

@@ -5,17 +5,18 @@ use Rattle.std.specs.List.{AllByRecursion, list_any, filter}
 use Rattle.std.proofs.lemmas.Bool.{eq-eqb, ne_eqb}
 use Rattle.nr_wire.specs.declared.stream.Awaited.TheVariants.{Fpdu}
 use Rattle.nr_wire.specs.Constants.{OPCODE_SEND}
-use Rattle.nr_wire.specs.Segment.{Segment, segment_of}
+use Rattle.nr_wire.specs.Segment.{Segment}
 use Rattle.nr_wire.specs.Segment.Segment.{Untagged}
 use Rattle.nr_regions.specs.declared.right.Right.TheVariants.{Sink}
-use Rattle.nr_regions.specs.RegisteredMemory.{RegisteredMemory, after_register}
+use Rattle.nr_regions.specs.RegisteredMemory.{RegisteredMemory, NoneIsDead, after_register}
+use Rattle.nr_regions.proofs.Holding.{none_dead_register}
 use Rattle.nr_header.specs.declared.header.ReadSegment.{ReadSegment}
 use Rattle.nr_header.specs.declared.header.ChunkLists.{ChunkLists}
 use Rattle.nr_link.specs.Frames.{Frame, is_hello}
 use Rattle.nr_link.specs.Input.{InputState}
 use Rattle.nr_link.specs.ReceiveState.{ReceiveState, begun_bytes, received_after}
 use Rattle.nr_link.specs.SegmentFaults.{ExpectedResponse, is_begun}
-use Rattle.nr_link.specs.Ending.{frame_segment}
+use Rattle.nr_link.specs.Ending.{segment_taken, frame_segment}
 use Rattle.nr_endpoint.specs.LinkState.{LinkState}
 use Rattle.nr_endpoint.specs.SegmentEnds.{SendIsFine}
 use Rattle.nr_endpoint.specs.Judging.{segment_end, next_frame, with_frame}
@@ -230,6 +231,7 @@ reading_state k f last opcode w queue msn offset payload c is closed =
       low = k.low;
       up_max = k.up_max;
       down_max = k.down_max;
+      invalidates = k.invalidates;
     })
     ∙ (λ i. record {
       received = received_after k.received (Untagged last opcode w queue msn offset payload);
@@ -249,6 +251,7 @@ reading_state k f last opcode w queue msn offset payload c is closed =
       low = k.low;
       up_max = k.up_max;
       down_max = k.down_max;
+      invalidates = k.invalidates;
     })
 
 -- ---- The side of the link after it
@@ -273,6 +276,10 @@ taken_received k = record { sends = k.received.sends + 1; begun = None; requests
 
 abbrev pub taken_side : LinkState → List ℕ → LinkState
 taken_side s frame = send_framed s frame (record { sends = s.receive_queue.received.sends + 1; begun = None; requests = s.receive_queue.received.requests }) (cond (not (is_begun s.receive_queue.received.begun)) (s.receive_queue.free - 1) s.receive_queue.free) (s.receive_queue.lent + 1) []
+
+none_dead_registered : (regions : List Region) (m : RegisteredMemory) → NoneIsDead m → NoneIsDead (registered regions m)
+none_dead_registered [] m h = h
+none_dead_registered (r ∷ regions) m h = none_dead_registered regions (after_register m r.right r.bytes) (none_dead_register m r.right r.bytes h)
 
 are_registered : (opened : LinkParameters) (k : ServerState) (s : LinkState) (frame : List ℕ) (c : PendingCall) → LinkKeeps opened k s → IsServer k s.place → (is_begun s.receive_queue.received.begun ≡ false → 0 < s.receive_queue.free) →
     AreRegistered (k.regions ++ new_regions k (s.place + length frame) c) k.accesses_received (s.place + length frame) (registered (new_regions k (s.place + length frame) c) s.memory)
@@ -302,11 +309,13 @@ reading_keeps opened k s frame c h is some =
       terms = told_h.terms;
       up = told_h.up;
       down = told_h.down;
+      invalidates = told_h.invalidates;
       free = (let all = told_h.free in omega (arith, all, count));
       lent = (let all = told_h.lent in omega (arith, all, count));
       told = refl;
       reads = ap (λ (rs : List ExpectedResponse). rs ++ later_responses reads) h.reads ∙ opened_more k.response_bytes k.reads (new_reads k place c) is.idle;
       memory = r.holds;
+      none_dead = none_dead_registered (new_regions k place c) s.memory h.none_dead;
       next = r.next;
       queue = requested_has k.written k.due k.messages_queued k.requests_sent k.message_ends reads s.send_queue h.queue;
     }
@@ -369,7 +378,7 @@ reading_value v t calls c reads new sinks more m = record {
 }
 
 pub reading_takes : (opened : LinkParameters) (k : ServerState) (input : InputState) (v : ResponderSide) (frame : List ℕ) (w queue_number msn offset : ℕ) (payload : List ℕ) (c : PendingCall) → Keeps opened k input v → 0 < v.link.state.place → 0 < length frame →
-    segment_of frame ≡ Ok (Untagged true OPCODE_SEND w queue_number msn offset payload) → (with_frame v.link.state Fpdu frame).ended ≡ None →
+    segment_taken false frame ≡ Ok (Untagged true OPCODE_SEND w queue_number msn offset payload) → (with_frame v.link.state Fpdu frame).ended ≡ None →
     c.number ≡ k.received.sends + 1 → is_pending k c.xid ≡ false → verdict k (whole_message v.link.state payload) ≡ MakesPending c → chunks_of c.lists ≢ [] →
     TakesFrame opened k (behind input frame) (next_frame v.link.state frame) v (reading_call (on_link v (record { awaited = Fpdu; rest = []; state = told_link v.link.state frame })) c)
 unfolding frame_segment
@@ -381,7 +390,7 @@ reading_takes opened k input v frame w queue_number msn offset payload c h behin
     let k' : ServerState = with_reading k (taken_received k) place c in
     let new : List PendingRead = new_reads k place c in
     let regions : List Region = new_regions k place c in
-    let both : (segment_end s f segment ≡ None) × (with_frame s Fpdu frame ≡ framed s frame segment) = frame_lives s frame segment is lives in
+    let both : (segment_end s f segment ≡ None) × (with_frame s Fpdu frame ≡ framed s frame segment) = frame_lives s frame segment h.link.side is lives in
     let fine : SendIsFine s true payload = (alive_send s f true OPCODE_SEND w queue_number msn offset payload refl refl (λ e. omega (arith, e)) both.0).1 in
     let later : is_hello f ≡ false = later_frame s.place behind_hello in
     let more : is_read (k.reads ++ new) c.number ≡ false = still_read (k.regions ++ regions) c k.reads chunks in

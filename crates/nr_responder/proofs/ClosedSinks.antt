@@ -7,7 +7,7 @@ use Rattle.std.specs.FinMap.{remove as remove_key}
 use Rattle.std.specs.Cmp.{nat_cmp_total}
 use Rattle.std.specs.Ordering.{nat_cmp}
 use Rattle.std.proofs.lemmas.Bool.{cases_eq}
-use Rattle.nr_regions.specs.RegisteredMemory.{Region, RegisteredMemory, after_release}
+use Rattle.nr_regions.specs.RegisteredMemory.{RegisteredMemory, after_release}
 use Rattle.nr_regions.proofs.Holding.{get_remove_here, get_remove_other}
 use Rattle.nr_endpoint.specs.LinkState.{LinkSide}
 use Rattle.nr_reduce.specs.ServerState.{PendingCall, PendingRead}
@@ -83,10 +83,10 @@ same_left calls reads sinks later at d l m lt over is link =
 
 -- ---- One sink is released before the others
 
-removed_twice : (m : FinMap nat_cmp Region) (a b q : ℕ) → get (remove_key (remove_key m a) b) q ≡ get (remove_key (remove_key m b) a) q
+removed_twice : {A : Type 0} (m : FinMap nat_cmp A) (a b q : ℕ) → get (remove_key (remove_key m a) b) q ≡ get (remove_key (remove_key m b) a) q
 removed_twice m a b q = by (cases_eq q b) (cases_eq q a)
   where
-    gone : (n : FinMap nat_cmp Region) (k : ℕ) → q ≡ k → get (remove_key n k) q ≡ None
+    gone : (n : FinMap nat_cmp A) (k : ℕ) → q ≡ k → get (remove_key n k) q ≡ None
     gone n k same = ap (λ (p : ℕ). get (remove_key n k) p) same ∙ get_remove_here n k
 
     by : (q ≡ b) ⊎ (q ≢ b) → (q ≡ a) ⊎ (q ≢ a) → get (remove_key (remove_key m a) b) q ≡ get (remove_key (remove_key m b) a) q
@@ -98,8 +98,9 @@ removed_twice m a b q = by (cases_eq q b) (cases_eq q a)
 released_twice : (m : RegisteredMemory) (a b : ℕ) → after_release (after_release m a) b ≡ after_release (after_release m b) a
 unfolding after_release
 released_twice m a b =
-    ap (λ (h : FinMap nat_cmp Region). record { next = m.next; held = h })
-    (same_map nat_cmp_total nat_cmp-IsAntisymmetric (remove_key (remove_key m.held a) b) (remove_key (remove_key m.held b) a) (λ q. removed_twice m.held a b q))
+    let held : remove_key (remove_key m.held a) b ≡ remove_key (remove_key m.held b) a = same_map nat_cmp_total nat_cmp-IsAntisymmetric (remove_key (remove_key m.held a) b) (remove_key (remove_key m.held b) a) (λ q. removed_twice m.held a b q) in
+    let dead : remove_key (remove_key m.dead a) b ≡ remove_key (remove_key m.dead b) a = same_map nat_cmp_total nat_cmp-IsAntisymmetric (remove_key (remove_key m.dead a) b) (remove_key (remove_key m.dead b) a) (λ q. removed_twice m.dead a b q) in
+    λ i. record { next = m.next; held = held i; dead = dead i }
 
 over_released : (calls : List PendingCall) (reads : List PendingRead) (sinks : List OpenSink) (at : ℕ) (d : OpenSink) (m : RegisteredMemory) → at < length sinks → is_sink_over calls reads (sink_view (get_or sinks at d)) ≡ true →
     (released (over_sinks calls reads (map sink_view (remove sinks at))) (after_release m (get_or sinks at d).registration.stag) ≡ released (over_sinks calls reads (map sink_view sinks)) m)

@@ -2,8 +2,8 @@
 use Rattle.std.proofs.Common.{◌≡◌, ◌≢◌, ℕ, ◌+◌, ◌-◌, ◌≤◌, Bool, true, false, not, ◌&&◌, ◌||◌, eqb, cond, List, [], ◌∷◌, ◌++◌, length, drop, Some, refl, sym, ap, subst, ◌∙◌, arith, length-append, is_some, Option, None}
 use Rattle.std.specs.List.{AllByRecursion, list_any, filter}
 use Rattle.std.proofs.lemmas.Bool.{eqb-true, eqb-false}
-use Rattle.nr_link.specs.Output.{send}
-use Rattle.nr_endpoint.specs.SendQueue.{SendQueue, output_len, send_output, with_fpdus, with_send, written}
+use Rattle.nr_link.specs.Output.{send_by}
+use Rattle.nr_endpoint.specs.SendQueue.{SendQueue, output_len, send_output, with_fpdus, with_send, with_send_by, written}
 use Rattle.nr_endpoint.specs.LinkState.{LinkState}
 use Rattle.nr_reduce.specs.declared.mark.LinkParameters.{LinkParameters}
 use Rattle.nr_reduce.specs.History.{ExecutedCall}
@@ -218,17 +218,17 @@ executed_is opened k e = refl
 abbrev pub with_message : LinkState → List ℕ → LinkState
 with_message s message = record s { send_queue = with_send message s.send_queue }
 
-abbrev pub with_answer : LinkState → (writes message : List ℕ) → LinkState
-with_answer s writes message = record s { send_queue = with_send message (with_fpdus writes s.send_queue) }
+abbrev pub with_answer : LinkState → (writes : List ℕ) → (named : Option ℕ) → (message : List ℕ) → LinkState
+with_answer s writes named message = record s { send_queue = with_send_by named message (with_fpdus writes s.send_queue) }
 
-pub answered_keeps : (opened : LinkParameters) (k : ServerState) (s : LinkState) (writes message : List ℕ) (r : ReadyCall) (rest : List ReadyCall) → k.ready ≡ r ∷ rest → LinkKeeps opened k s → IsServer k s.place →
-    LinkKeeps opened (executed k r.xid (writes ++ send (k.messages_queued + 1) message)) (with_answer s writes message)
-answered_keeps opened k s writes message r rest first h is =
+pub answered_keeps : (opened : LinkParameters) (k : ServerState) (s : LinkState) (writes : List ℕ) (named : Option ℕ) (message : List ℕ) (r : ReadyCall) (rest : List ReadyCall) → k.ready ≡ r ∷ rest → LinkKeeps opened k s → IsServer k s.place →
+    LinkKeeps opened (executed k r.xid (writes ++ send_by named (k.messages_queued + 1) message)) (with_answer s writes named message)
+answered_keeps opened k s writes named message r rest first h is =
     let ready : AllByRecursion (IsReadyOf k.calls k.reads) (r ∷ rest) = subst (λ (rs : List ReadyCall). AllByRecursion (IsReadyOf k.calls k.reads) rs) first is.ready in
     let fewer : length (without_call r.xid k.calls) + 1 ≡ length k.calls = one_out_lem r.xid k.calls is.xids ready.0.pending in
     let q : SendQueue = with_fpdus writes s.send_queue in
-    let one : length (s.send_queue.send_ends ++ length (q.fpdus ++ send_output q message) ∷ []) ≡ unsent s + 1 =
-    length-append s.send_queue.send_ends (length (q.fpdus ++ send_output q message) ∷ []) in
+    let one : length (s.send_queue.send_ends ++ length (q.fpdus ++ send_output q named message) ∷ []) ≡ unsent s + 1 =
+    length-append s.send_queue.send_ends (length (q.fpdus ++ send_output q named message) ∷ []) in
     record {
       live = h.live;
       side = h.side;
@@ -239,13 +239,15 @@ answered_keeps opened k s writes message r rest first h is =
       terms = h.terms;
       up = h.up;
       down = h.down;
+      invalidates = h.invalidates;
       free = omega (arith, h.free, fewer, one);
       lent = omega (arith, h.lent, fewer, one);
       told = h.told;
       reads = h.reads;
       memory = h.memory;
+      none_dead = h.none_dead;
       next = h.next;
-      queue = answered_has k.written k.due k.messages_queued k.requests_sent k.message_ends writes message s.send_queue h.queue;
+      queue = answered_has named k.written k.due k.messages_queued k.requests_sent k.message_ends writes message s.send_queue h.queue;
     }
 
 pub answered_server : (k : ServerState) (place : ℕ) (out : List ℕ) (r : ReadyCall) (rest : List ReadyCall) → k.ready ≡ r ∷ rest → IsServer k place → IsServer (executed k r.xid out) place
@@ -293,11 +295,13 @@ drained_keeps opened k n s within h =
       terms = h.terms;
       up = h.up;
       down = h.down;
+      invalidates = h.invalidates;
       free = omega (arith, h.free, few);
       lent = omega (arith, h.lent, few);
       told = h.told;
       reads = h.reads;
       memory = h.memory;
+      none_dead = h.none_dead;
       next = h.next;
       queue = drained_has k.written k.due k.messages_queued k.requests_sent n k.message_ends s.send_queue within h.queue;
     }

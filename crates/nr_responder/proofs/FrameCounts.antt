@@ -3,7 +3,7 @@ use Rattle.std.proofs.Common.{◌≡◌, ℕ, Bool, true, false, cond, eqb, List
 use Rattle.nr_wire.specs.declared.stream.Awaited.{Awaited}
 use Rattle.nr_wire.specs.declared.stream.Awaited.TheVariants.{Hello as HelloFrom, Fpdu}
 use Rattle.nr_wire.specs.Hello.{Hello, hello_of}
-use Rattle.nr_wire.specs.Segment.{Segment, segment_of}
+use Rattle.nr_wire.specs.Segment.{Segment}
 use Rattle.nr_wire.specs.Segment.Segment.{Tagged, Untagged}
 use Rattle.nr_link.specs.declared.end.End.{End}
 use Rattle.nr_link.specs.Frames.{Frame}
@@ -12,7 +12,7 @@ use Rattle.nr_regions.specs.RegisteredMemory.{RegisteredMemory, after_place}
 use Rattle.nr_endpoint.specs.ReceiveQueue.{with_segment}
 use Rattle.nr_endpoint.specs.SendQueue.{SendQueue, with_end}
 use Rattle.nr_endpoint.specs.LinkState.{LinkState}
-use Rattle.nr_endpoint.specs.Judging.{segment_end, next_frame, with_frame, with_fpdu, with_segment_by, with_effect, with_peer_hello, with_read_response, with_read_request}
+use Rattle.nr_endpoint.specs.Judging.{segment_end, next_frame, next_segment, with_frame, with_fpdu, with_segment_by, with_effect, with_peer_hello, with_read_response, with_read_request}
 use Rattle.nr_responder.proofs.Responses.{placed_next}
 
 -- a frame leaves the counts of receives, the offsets at which the Sends end, and the next STag
@@ -61,4 +61,4 @@ hello_counts s f (Err reason) = record { next = refl; lent = refl; receives = re
 
 pub frame_counts : (s : LinkState) (a : Awaited) (frame : List ℕ) → SameCounts s (with_frame s a frame)
 frame_counts s (HelloFrom side) frame = hello_counts s (next_frame s frame) (hello_of side frame)
-frame_counts s Fpdu frame = fpdu_counts s (next_frame s frame) (segment_of frame)
+frame_counts s Fpdu frame = fpdu_counts s (next_frame s frame) (next_segment s frame)

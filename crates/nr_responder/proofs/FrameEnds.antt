@@ -28,6 +28,7 @@ use Rattle.nr_reduce.specs.Server.{server_readiness}
 use Rattle.nr_reduce.proofs.MemorySteps.{denied_alike}
 use Rattle.nr_responder.specs.ResponderState.{unsent}
 use Rattle.nr_responder.specs.Keeping.{IsServer, LinkKeeps, QueueKeeps, open_responses}
+use Rattle.nr_responder.proofs.SendFrames.{server_reads}
 use Rattle.nr_responder.proofs.Ends.{ends_waiting_is}
 
 -- ---- What an end has ready for a segment
@@ -84,10 +85,11 @@ ends_by_lem one two grants f same (Err reason) = refl
 
 pub frame_ends : (opened : LinkParameters) (k : ServerState) (s : LinkState) (bytes : List ℕ) → LinkKeeps opened k s → IsServer k s.place → 0 < length bytes →
     (with_frame s Fpdu bytes).ended ≡ frame_end (server_readiness opened k) (region_grants (s.place + length bytes) k.regions) (next_frame s bytes)
-unfolding frame_end
+unfolding frame_end frame_segment
 frame_ends opened k s bytes h is some =
     let f : Frame = next_frame s bytes in
     let grants : List Grant = region_grants (s.place + length bytes) k.regions in
     let alike : DeniesAlike s.memory grants f.end = λ (access : Access). denied_alike k.regions k.accesses_received s.place f.end s.memory access is.offered h.memory (omega arith) in
     grants_end_alike s grants bytes h.live alike
+    ∙ ap (λ (r : Result Segment ℕ). frame_end_by (endpoint.readiness s) grants f r) (server_reads s bytes h.side)
     ∙ ends_by_lem (endpoint.readiness s) (server_readiness opened k) grants f (λ (missing : Option Denied) (segment : Segment). faults_alike opened k s missing segment h is) (frame_segment f)

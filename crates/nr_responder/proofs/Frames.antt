@@ -8,7 +8,7 @@ use Rattle.nr_wire.specs.declared.stream.Awaited.{Awaited}
 use Rattle.nr_wire.specs.declared.stream.Awaited.TheVariants.{Hello as HelloFrom, Fpdu}
 use Rattle.nr_wire.specs.Constants.{HELLO_LEN, REASON_FLAGS}
 use Rattle.nr_wire.specs.Hello.{Hello, hello_of, hello_reason, flags_of, value_unless}
-use Rattle.nr_wire.specs.Segment.{Segment, segment_of}
+use Rattle.nr_wire.specs.Segment.{Segment}
 use Rattle.nr_link.specs.declared.end.End.{End}
 use Rattle.nr_link.specs.declared.end.End.TheVariants as ends
 use Rattle.nr_link.specs.Frames.{Frame}
@@ -22,7 +22,7 @@ use Rattle.nr_reduce.specs.Hellos.{private_of, server_private, server_hello, ser
 use Rattle.nr_link.specs.Ending.{final_output, frame_end, hello_end, last_output}
 use Rattle.nr_endpoint.specs.SendQueue.{with_end, with_hello, writable}
 use Rattle.nr_endpoint.specs.LinkState.{LinkState, LinkSide}
-use Rattle.nr_endpoint.specs.Judging.{segment_end, next_frame, with_frame, with_fpdu, with_peer_hello, with_segment_by, with_end_of, reply_hello}
+use Rattle.nr_endpoint.specs.Judging.{segment_end, next_frame, next_segment, with_frame, with_fpdu, with_peer_hello, with_segment_by, with_end_of, reply_hello}
 use Rattle.nr_endpoint.specs.Hellos.{own_private, side_agreement, received_max, receive_length_for}
 use Rattle.nr_endpoint.specs.Laws.{IsFrameEnd, IsFrameReason}
 use Rattle.nr_endpoint.proofs.EndLaws.{effect_ended, frames_end_for_these}
@@ -71,7 +71,7 @@ ended_hello s f (Err reason) end live is = ap (λ (e : End). with_end_of e s) (l
 
 pub ended_frame : (s : LinkState) (a : Awaited) (frame : List ℕ) (end : End) → s.ended ≡ None → (with_frame s a frame).ended ≡ Some end → with_frame s a frame ≡ with_end_of end s
 ended_frame s (HelloFrom side) frame end live is = ended_hello s (next_frame s frame) (hello_of side frame) end live is
-ended_frame s Fpdu frame end live is = ended_fpdu s (next_frame s frame) (segment_of frame) end live is
+ended_frame s Fpdu frame end live is = ended_fpdu s (next_frame s frame) (next_segment s frame) end live is
 
 no_flags : (place at : ℕ) (end : End) → IsFrameEnd Fpdu place end → end ≢ ends.Bad at REASON_FLAGS
 no_flags place at (ends.Bad other reason) h is = by h.1
@@ -143,7 +143,7 @@ server_ends opened k l frame end h is (AfterHello place awaited hello) some ende
 
 -- what is agreed is what the server has agreed on
 pub keeps_agreed : (opened : LinkParameters) (k : ServerState) (s : LinkState) (place : ℕ) → LinkKeeps opened k s → IsServer k place → KeepsAgreed k s.agreed
-keeps_agreed opened k s place h is = record { up = h.up; down = h.down; up_limit = subst IsSendLimit (sym h.up) is.up; down_limit = subst IsSendLimit (sym h.down) is.down }
+keeps_agreed opened k s place h is = record { up = h.up; down = h.down; invalidates = h.invalidates; up_limit = subst IsSendLimit (sym h.up) is.up; down_limit = subst IsSendLimit (sym h.down) is.down }
 
 pub ended_takes : (opened : LinkParameters) (k : ServerState) (input later : InputState) (v : ResponderSide) (frame : List ℕ) (end : End) → Keeps opened k input v → 0 < length frame →
     (with_frame v.link.state v.link.awaited frame).ended ≡ Some end →
@@ -232,11 +232,13 @@ hello_link opened k s frame hello reads h is none =
       terms = h.terms;
       up = ap (λ (a : Agreement). a.up) agreed;
       down = ap (λ (a : Agreement). a.down) agreed;
+      invalidates = ap (λ (a : Agreement). a.invalidates) agreed;
       free = h.free;
       lent = h.lent;
       told = h.told;
       reads = h.reads;
       memory = holds_later k.regions k.accesses_received s.place (s.place + length frame) s.memory (omega arith) is.accesses h.memory;
+      none_dead = h.none_dead;
       next = h.next;
       queue =
           subst (λ (bytes : List ℕ). QueueKeeps (with_own_hello opened k f) (with_hello bytes s.send_queue)) (sym (reply_is opened s frame hello h.terms h.side reads))

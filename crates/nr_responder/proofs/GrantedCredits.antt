@@ -131,11 +131,13 @@ granted_link opened k what s h = record {
   terms = h.terms;
   up = h.up;
   down = h.down;
+  invalidates = h.invalidates;
   free = h.free;
   lent = h.lent;
   told = h.told;
   reads = h.reads;
   memory = h.memory;
+  none_dead = h.none_dead;
   next = h.next;
   queue = h.queue;
 }

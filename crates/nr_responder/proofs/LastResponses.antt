@@ -8,9 +8,9 @@ use Rattle.nr_wire.specs.Segment.Segment.{Tagged}
 use Rattle.nr_wire.specs.declared.hello.Side.TheVariants.{Responder}
 use Rattle.nr_regions.specs.declared.right.Kind.TheVariants.{Response}
 use Rattle.nr_regions.specs.declared.right.Right.TheVariants.{Sink}
-use Rattle.nr_regions.specs.RegisteredMemory.{RegisteredMemory, bytes_in, live_region, held_region}
+use Rattle.nr_regions.specs.RegisteredMemory.{RegisteredMemory, NoneIsDead, bytes_in, live_region, held_region}
 use Rattle.nr_regions.specs.Access.{Grant, TaggedSegment, contents}
-use Rattle.nr_regions.proofs.Holding.{live_held}
+use Rattle.nr_regions.proofs.Holding.{live_parts}
 use Rattle.nr_endpoint.specs.Hellos.{receive_length_for}
 use Rattle.nr_link.specs.Frames.{Frame}
 use Rattle.nr_link.specs.Ending.{frame_segment}
@@ -35,7 +35,7 @@ use Rattle.nr_responder.specs.private.Reading.{bytes_of_sink, sink_bytes, over_s
 use Rattle.nr_responder.specs.private.ReadsDone.{side_after_done}
 use Rattle.nr_responder.proofs.Responses.{found_all}
 use Rattle.nr_responder.proofs.ReadEffects.{requested_has, requests_ends, opened_now}
-use Rattle.nr_responder.proofs.Sinks.{closed_all, closed_stags, closed_now, releases, released_next}
+use Rattle.nr_responder.proofs.Sinks.{none_released, closed_all, closed_stags, closed_now, releases, released_next}
 
 -- ---- The server after it
 
@@ -80,6 +80,7 @@ done_state k f stag to payload calls reads ready kept is =
       low = k.low;
       up_max = k.up_max;
       down_max = k.down_max;
+      invalidates = k.invalidates;
     }
 
 -- ---- The side of the link once the read was delivered
@@ -94,11 +95,13 @@ pub record TakesLast (k : ServerState) (f : Frame) (a : TaggedSegment) (rest : L
   pub terms : t.terms ≡ opened.server
   pub up : t.agreed.up ≡ k.up_max
   pub down : t.agreed.down ≡ k.down_max
+  pub invalidates : t.agreed.invalidates ≡ k.invalidates
   pub free : t.receive_queue.free + (unsent t + length k.calls + one_if (is_begun k.received.begun)) ≡ opened.receives
   pub lent : t.receive_queue.lent ≡ length k.calls + unsent t
   pub told : t.receive_queue.deliveries ≡ []
   pub reads : t.reads ≡ later_responses (take 7 rest)
   pub memory : HoldsRegions k.regions (k.accesses_received ++ a ∷ []) f.end t.memory
+  pub none_dead : NoneIsDead t.memory
   pub next : t.memory.next ≡ next_stag k
   pub queue : QueueKeeps k t.send_queue
   pub place : t.place ≡ f.end
@@ -126,12 +129,14 @@ done_link opened k f a rest reads calls ready kept t h arrived was_offered le at
       terms = h.terms;
       up = h.up;
       down = h.down;
+      invalidates = h.invalidates;
       free = (let all = h.free in omega (arith, all, same, count));
       lent = (let all = h.lent in omega (arith, all, same, count));
       told = h.told;
       reads = opened_now kept reads t.reads few opens;
       memory = subst (λ (n : ℕ). HoldsRegions (regions_closed (is_over calls reads) a.end k.regions) accesses n (released over t.memory)) (sym h.place)
           (subst (λ (n : ℕ). HoldsRegions (regions_closed (is_over calls reads) n k.regions) accesses f.end (released over t.memory)) (sym at) closed);
+      none_dead = none_released over t.memory h.none_dead;
       next = released_next over t.memory ∙ h.next ∙ ap (λ (n : ℕ). 1 + n) (sym (closed_length (is_over calls reads) a.end k.regions));
       queue = requested_has k.written k.due k.messages_queued k.requests_sent k.message_ends (opening kept reads) t.send_queue h.queue;
     }
@@ -229,7 +234,7 @@ no_zero_stag n (r ∷ regions) h =
 bytes_by : (o : Option Region) (u : Option ℕ) (m : RegisteredMemory) (r : Region) (gs : List Grant) (accesses : List TaggedSegment) → r.until ≡ u → u ≡ None → live_region m r.stag ≡ registered_region gs accesses (Some r) →
     bytes_in (held_region m r.stag) ≡ contents gs r.stag r.bytes accesses
 bytes_by o u m r gs accesses is opened live =
-    ap bytes_in (sym (live_held m r.stag) ∙ live ∙ ap (λ (x : Option ℕ). held_if_open x (record { right = r.right; buf = contents gs r.stag r.bytes accesses })) (is ∙ opened))
+    ap bytes_in (live_parts m r.stag (record { right = r.right; buf = contents gs r.stag r.bytes accesses }) (live ∙ ap (λ (x : Option ℕ). held_if_open x (record { right = r.right; buf = contents gs r.stag r.bytes accesses })) (is ∙ opened))).1
 
 found_true : (test : Region → Bool) (regions : List Region) (r : Region) → find test regions ≡ Some r → test r ≡ true
 found_true test [] r is = absurd cc

@@ -1,10 +1,11 @@
 -- A responder that is opened stands for no marks.
-use Rattle.std.proofs.Common.{◌≡◌, ℕ, ◌+◌, List, [], None, refl, sym, ap, subst, arith, inl}
+use Rattle.std.proofs.Common.{◌≡◌, ℕ, ◌+◌, Bool, false, List, [], Option, None, unwrap_or, refl, sym, ap, subst, arith, inl}
 use Rattle.std.specs.FinMap.{get-empty}
 use Rattle.std.specs.Ordering.{nat_cmp}
 use Rattle.nr_wire.specs.declared.hello.Side.TheVariants.{Initiator, Responder}
 use Rattle.nr_link.specs.Input.{initial_input}
-use Rattle.nr_regions.specs.RegisteredMemory.{initial_memory, live_region, held_region}
+use Rattle.nr_regions.specs.RegisteredMemory.{NoneIsDead, initial_memory, held_region}
+use Rattle.nr_regions.proofs.Holding.{none_held}
 use Rattle.nr_link.specs.declared.agreement.SideTerms.{SideTerms}
 use Rattle.nr_link.specs.Agreement.{IsSendLimit}
 use Rattle.nr_endpoint.specs.Hellos.{receive_length_for}
@@ -33,8 +34,12 @@ abbrev pub credits_of : LinkParameters → Credits
 credits_of opened = record { receives = opened.receives; granted = opened.granted; low = opened.low; word = opened.granted }
 
 no_regions_lem : HoldsRegions [] [] 0 (initial_memory 1)
-unfolding live_region held_region initial_memory
-no_regions_lem stag = get-empty nat_cmp stag
+unfolding held_region initial_memory
+no_regions_lem stag = none_held (initial_memory 1) stag (get-empty nat_cmp stag)
+
+none_dead_first : NoneIsDead (initial_memory 1)
+unfolding initial_memory
+none_dead_first stag = ap (λ (o : Option Bool). unwrap_or o false) (get-empty nat_cmp stag)
 
 server_first : (opened : LinkParameters) → IsServer (server.initial_server_state opened) 0
 server_first opened = record {
@@ -70,11 +75,13 @@ link_first opened = record {
   terms = refl;
   up = refl;
   down = refl;
+  invalidates = refl;
   free = omega arith;
   lent = refl;
   told = refl;
   reads = refl;
   memory = no_regions_lem;
+  none_dead = none_dead_first;
   next = next_first;
   queue = record { due_is = refl; ends_are = sym (ends_none 0 0); each = tt; sends = refl; requests_are = refl; responses = refl };
 }

@@ -7,12 +7,12 @@ use Rattle.nr_wire.specs.declared.stream.Awaited.{Awaited}
 use Rattle.nr_wire.specs.declared.stream.Awaited.TheVariants.{Fpdu}
 use Rattle.nr_wire.specs.Constants.{OPCODE_SEND, OPCODE_READ_RESPONSE}
 use Rattle.nr_wire.specs.Hello.{hello_of}
-use Rattle.nr_wire.specs.Segment.{Segment, segment_of}
+use Rattle.nr_wire.specs.Segment.{Segment}
 use Rattle.nr_wire.specs.Segment.Segment.{Tagged, Untagged}
 use Rattle.nr_wire.specs.Stream.{is_whole, IsPartial}
 use Rattle.nr_link.specs.declared.end.End.{End}
 use Rattle.nr_link.specs.declared.end.End.TheVariants as ends
-use Rattle.nr_link.specs.Ending.{frame_segment}
+use Rattle.nr_link.specs.Ending.{segment_taken, frame_segment}
 use Rattle.nr_link.specs.Frames.{Frame, is_hello}
 use Rattle.nr_link.specs.Input.{InputState}
 use Rattle.nr_link.specs.Output.{send}
@@ -71,7 +71,7 @@ grows opened k later f v after takes lt none =
 -- ---- A message
 
 message_takes : (opened : LinkParameters) (k : ServerState) (so_far : InputState) (v : ResponderSide) (frame : List ℕ) (w queue_number msn offset : ℕ) (payload : List ℕ) → Keeps opened k so_far v → 0 < v.link.state.place → 0 < length frame →
-    segment_of frame ≡ Ok (Untagged true OPCODE_SEND w queue_number msn offset payload) → (with_frame v.link.state Fpdu frame).ended ≡ None → MessageTakes k (whole_message v.link.state payload) → TakesMemory opened k (next_frame v.link.state frame)
+    segment_taken false frame ≡ Ok (Untagged true OPCODE_SEND w queue_number msn offset payload) → (with_frame v.link.state Fpdu frame).ended ≡ None → MessageTakes k (whole_message v.link.state payload) → TakesMemory opened k (next_frame v.link.state frame)
 unfolding frame_segment
 message_takes opened k so_far v frame w queue_number msn offset payload h after_hello some is lives takes = by takes
   where
@@ -85,7 +85,7 @@ message_takes opened k so_far v frame w queue_number msn offset payload h after_
     segment = Untagged true OPCODE_SEND w queue_number msn offset payload
 
     fine : SendIsFine s true payload
-    fine = (alive_send s f true OPCODE_SEND w queue_number msn offset payload refl refl (λ e. omega (arith, e)) (frame_lives s frame segment is lives).0).1
+    fine = (alive_send s f true OPCODE_SEND w queue_number msn offset payload refl refl (λ e. omega (arith, e)) (frame_lives s frame segment h.link.side is lives).0).1
 
     later : is_hello f ≡ false
     later = later_frame s.place after_hello
@@ -132,12 +132,12 @@ frame_message opened k so_far v frame number invalidated message rest h some liv
     fpdu : 0 < s.place → (with_frame s Fpdu frame).ended ≡ None → (with_frame s Fpdu frame).receive_queue.deliveries ≡ MessageReceived number invalidated message ∷ rest → (send : IsSend s frame) → (b : Bool) → send.last ≡ b →
         KeepsOutput s (with_frame s Fpdu frame) × TakesMemory opened k (next_frame s frame)
     fpdu place lives_on told send false is =
-        let reads : segment_of frame ≡ Ok (Untagged false OPCODE_SEND send.w send.queue_number send.msn send.offset send.payload) = send.reads ∙ ap (λ (b : Bool). Ok (Untagged b OPCODE_SEND send.w send.queue_number send.msn send.offset send.payload)) is in
-        let state = (frame_lives s frame (Untagged false OPCODE_SEND send.w send.queue_number send.msn send.offset send.payload) reads lives_on).1 ∙ part_framed s frame send.w send.queue_number send.msn send.offset send.payload in
+        let reads : segment_taken false frame ≡ Ok (Untagged false OPCODE_SEND send.w send.queue_number send.msn send.offset send.payload) = send.reads ∙ ap (λ (b : Bool). Ok (Untagged b OPCODE_SEND send.w send.queue_number send.msn send.offset send.payload)) is in
+        let state = (frame_lives s frame (Untagged false OPCODE_SEND send.w send.queue_number send.msn send.offset send.payload) h.link.side reads lives_on).1 ∙ part_framed s frame send.w send.queue_number send.msn send.offset send.payload in
         absurd (none_told (with_frame s Fpdu frame).receive_queue.deliveries (ap (λ (t : LinkState). t.receive_queue.deliveries) state ∙ append-nil s.receive_queue.deliveries ∙ h.link.told) told)
     fpdu place lives_on told send true is =
-        let reads : segment_of frame ≡ Ok (Untagged true OPCODE_SEND send.w send.queue_number send.msn send.offset send.payload) = send.reads ∙ ap (λ (b : Bool). Ok (Untagged b OPCODE_SEND send.w send.queue_number send.msn send.offset send.payload)) is in
-        let state = (frame_lives s frame (Untagged true OPCODE_SEND send.w send.queue_number send.msn send.offset send.payload) reads lives_on).1 ∙ last_framed s frame send.w send.queue_number send.msn send.offset send.payload in
+        let reads : segment_taken false frame ≡ Ok (Untagged true OPCODE_SEND send.w send.queue_number send.msn send.offset send.payload) = send.reads ∙ ap (λ (b : Bool). Ok (Untagged b OPCODE_SEND send.w send.queue_number send.msn send.offset send.payload)) is in
+        let state = (frame_lives s frame (Untagged true OPCODE_SEND send.w send.queue_number send.msn send.offset send.payload) h.link.side reads lives_on).1 ∙ last_framed s frame send.w send.queue_number send.msn send.offset send.payload in
         let whole : List ℕ = whole_message s send.payload in
         let found : (with_frame s Fpdu frame).receive_queue.deliveries ≡ MessageReceived (s.receive_queue.received.sends + 1) None whole ∷ [] =
         ap (λ (t : LinkState). t.receive_queue.deliveries) state ∙ ap (λ (deliveries : List DeliveredEvent). deliveries ++ MessageReceived (s.receive_queue.received.sends + 1) None whole ∷ []) h.link.told in
@@ -225,17 +225,17 @@ out_by_message v after piece m number invalidated message rest live_now p step l
 
 sent_same : (s : LinkState) (frame : List ℕ) (send : IsSend s frame) → (with_frame s Fpdu frame).ended ≡ None → (b : Bool) → send.last ≡ b → KeepsOutput s (with_frame s Fpdu frame)
 sent_same s frame send lives false is =
-    let reads : segment_of frame ≡ Ok (Untagged false OPCODE_SEND send.w send.queue_number send.msn send.offset send.payload) = send.reads ∙ ap (λ (b : Bool). Ok (Untagged b OPCODE_SEND send.w send.queue_number send.msn send.offset send.payload)) is in
-    state_output s (with_frame s Fpdu frame) _ ((frame_lives s frame (Untagged false OPCODE_SEND send.w send.queue_number send.msn send.offset send.payload) reads lives).1 ∙ part_framed s frame send.w send.queue_number send.msn send.offset send.payload) refl refl
+    let reads : segment_taken false frame ≡ Ok (Untagged false OPCODE_SEND send.w send.queue_number send.msn send.offset send.payload) = send.reads ∙ ap (λ (b : Bool). Ok (Untagged b OPCODE_SEND send.w send.queue_number send.msn send.offset send.payload)) is in
+    state_output s (with_frame s Fpdu frame) _ ((frame_lives s frame (Untagged false OPCODE_SEND send.w send.queue_number send.msn send.offset send.payload) send.side reads lives).1 ∙ part_framed s frame send.w send.queue_number send.msn send.offset send.payload) refl refl
 sent_same s frame send lives true is =
-    let reads : segment_of frame ≡ Ok (Untagged true OPCODE_SEND send.w send.queue_number send.msn send.offset send.payload) = send.reads ∙ ap (λ (b : Bool). Ok (Untagged b OPCODE_SEND send.w send.queue_number send.msn send.offset send.payload)) is in
-    state_output s (with_frame s Fpdu frame) _ ((frame_lives s frame (Untagged true OPCODE_SEND send.w send.queue_number send.msn send.offset send.payload) reads lives).1 ∙ last_framed s frame send.w send.queue_number send.msn send.offset send.payload) refl refl
+    let reads : segment_taken false frame ≡ Ok (Untagged true OPCODE_SEND send.w send.queue_number send.msn send.offset send.payload) = send.reads ∙ ap (λ (b : Bool). Ok (Untagged b OPCODE_SEND send.w send.queue_number send.msn send.offset send.payload)) is in
+    state_output s (with_frame s Fpdu frame) _ ((frame_lives s frame (Untagged true OPCODE_SEND send.w send.queue_number send.msn send.offset send.payload) send.side reads lives).1 ∙ last_framed s frame send.w send.queue_number send.msn send.offset send.payload) refl refl
 
 response_same : (s : LinkState) (frame : List ℕ) (r : IsResponse s frame) → (with_frame s Fpdu frame).ended ≡ None → (b : Bool) → r.last ≡ b → KeepsOutput s (with_frame s Fpdu frame)
 response_same s frame r lives true is =
-    state_output s (with_frame s Fpdu frame) _ ((frame_lives s frame (Tagged true OPCODE_READ_RESPONSE r.stag r.to r.payload) (response_reads s frame r true is) lives).1 ∙ last_link s frame r.stag r.to r.payload) refl refl
+    state_output s (with_frame s Fpdu frame) _ ((frame_lives s frame (Tagged true OPCODE_READ_RESPONSE r.stag r.to r.payload) r.side (response_reads s frame r true is) lives).1 ∙ last_link s frame r.stag r.to r.payload) refl refl
 response_same s frame r lives false is =
-    state_output s (with_frame s Fpdu frame) _ ((frame_lives s frame (Tagged false OPCODE_READ_RESPONSE r.stag r.to r.payload) (response_reads s frame r false is) lives).1 ∙ part_link s frame r.stag r.to r.payload) refl refl
+    state_output s (with_frame s Fpdu frame) _ ((frame_lives s frame (Tagged false OPCODE_READ_RESPONSE r.stag r.to r.payload) r.side (response_reads s frame r false is) lives).1 ∙ part_link s frame r.stag r.to r.payload) refl refl
 
 pub lives_same : (s : LinkState) (frame : List ℕ) → Lives s frame → (with_frame s Fpdu frame).ended ≡ None → KeepsOutput s (with_frame s Fpdu frame)
 lives_same s frame (inl send) lives = sent_same s frame send lives send.last refl
@@ -258,12 +258,12 @@ read_needs opened k so_far v frame x rest h some lives one reads takes = by h.be
 
     sent : (with_frame s Fpdu frame).ended ≡ None → (with_frame s Fpdu frame).receive_queue.deliveries ≡ ReadDone ∷ [] → (send : IsSend s frame) → (b : Bool) → send.last ≡ b → ⊥
     sent lives_on told send false is =
-        let read : segment_of frame ≡ Ok (Untagged false OPCODE_SEND send.w send.queue_number send.msn send.offset send.payload) = send.reads ∙ ap (λ (b : Bool). Ok (Untagged b OPCODE_SEND send.w send.queue_number send.msn send.offset send.payload)) is in
-        let state = (frame_lives s frame (Untagged false OPCODE_SEND send.w send.queue_number send.msn send.offset send.payload) read lives_on).1 ∙ part_framed s frame send.w send.queue_number send.msn send.offset send.payload in
+        let read : segment_taken false frame ≡ Ok (Untagged false OPCODE_SEND send.w send.queue_number send.msn send.offset send.payload) = send.reads ∙ ap (λ (b : Bool). Ok (Untagged b OPCODE_SEND send.w send.queue_number send.msn send.offset send.payload)) is in
+        let state = (frame_lives s frame (Untagged false OPCODE_SEND send.w send.queue_number send.msn send.offset send.payload) h.link.side read lives_on).1 ∙ part_framed s frame send.w send.queue_number send.msn send.offset send.payload in
         none_told (with_frame s Fpdu frame).receive_queue.deliveries (ap (λ (t : LinkState). t.receive_queue.deliveries) state ∙ append-nil s.receive_queue.deliveries ∙ h.link.told) told
     sent lives_on told send true is =
-        let read : segment_of frame ≡ Ok (Untagged true OPCODE_SEND send.w send.queue_number send.msn send.offset send.payload) = send.reads ∙ ap (λ (b : Bool). Ok (Untagged b OPCODE_SEND send.w send.queue_number send.msn send.offset send.payload)) is in
-        let state = (frame_lives s frame (Untagged true OPCODE_SEND send.w send.queue_number send.msn send.offset send.payload) read lives_on).1 ∙ last_framed s frame send.w send.queue_number send.msn send.offset send.payload in
+        let read : segment_taken false frame ≡ Ok (Untagged true OPCODE_SEND send.w send.queue_number send.msn send.offset send.payload) = send.reads ∙ ap (λ (b : Bool). Ok (Untagged b OPCODE_SEND send.w send.queue_number send.msn send.offset send.payload)) is in
+        let state = (frame_lives s frame (Untagged true OPCODE_SEND send.w send.queue_number send.msn send.offset send.payload) h.link.side read lives_on).1 ∙ last_framed s frame send.w send.queue_number send.msn send.offset send.payload in
         one_told (s.receive_queue.received.sends + 1) None (whole_message s send.payload) (with_frame s Fpdu frame).receive_queue.deliveries
         (ap (λ (t : LinkState). t.receive_queue.deliveries) state ∙ ap (λ (deliveries : List DeliveredEvent). deliveries ++ MessageReceived (s.receive_queue.received.sends + 1) None (whole_message s send.payload) ∷ []) h.link.told) told
 

@@ -15,7 +15,7 @@ use Rattle.nr_endpoint.specs.Offering.{answer_calls, writes_output}
 use Rattle.nr_reduce.specs.declared.mark.LinkParameters.{LinkParameters}
 use Rattle.nr_reduce.specs.ServerState.{PendingCall, PendingRead, ServerState}
 use Rattle.nr_responder.specs.declared.call.Sent.{Sent}
-use Rattle.nr_responder.specs.Answering.{Answers, answer_to, answered_by, message_for, writes_for}
+use Rattle.nr_responder.specs.Answering.{Answers, answer_to, answered_by, message_for, name_for, writes_for}
 use Rattle.nr_header.specs.declared.header.ChunkLists.{ChunkLists}
 use Rattle.nr_header.specs.WithinLimits.{ListsWithin}
 use Rattle.nr_rpc.specs.Reading.{call_of, target_of}
@@ -117,11 +117,14 @@ answered_out v after xid reply sent live limit fit on a = subst OutputFits (sym 
     message : List ℕ
     message = message_for xid (present_word v) a.call.lists (answer_to v.link.state.agreed.down a.call a.stream reply)
 
-    w : ResponderSide
-    w = answered_by a.at a.writes message v
+    named : Option ℕ
+    named = name_for v.link.state.agreed.invalidates a.call.lists (answer_to v.link.state.agreed.down a.call a.stream reply)
 
-    link_is : after_calls v.link (answer_calls a.writes message) ≡ record { awaited = v.link.awaited; rest = v.link.rest; state = with_answer v.link.state (writes_output a.writes) message }
-    link_is = answer_link v.link a.writes message live
+    w : ResponderSide
+    w = answered_by a.at a.writes named message v
+
+    link_is : after_calls v.link (answer_calls a.writes named message) ≡ record { awaited = v.link.awaited; rest = v.link.rest; state = with_answer v.link.state (writes_output a.writes) named message }
+    link_is = answer_link v.link a.writes named message live
 
     h : OutputLives v
     h = fit.each live
@@ -145,7 +148,7 @@ answered_out v after xid reply sent live limit fit on a = subst OutputFits (sym 
     f = record {
       queue =
           subst (λ (l : LinkSide). QueueFits l.state.send_queue waiting (length (remove v.calls a.at))) (sym link_is)
-          (sends_fit v.link.state.send_queue (writes_output a.writes) message waiting (length v.calls) waiting (length (remove v.calls a.at)) a.few short (omega arith) (omega (arith, fewer)) (waits_lem w shares h.reads) h.queue);
+          (sends_fit v.link.state.send_queue (writes_output a.writes) named message waiting (length v.calls) waiting (length (remove v.calls a.at)) a.few short (omega arith) (omega (arith, fewer)) (waits_lem w shares h.reads) h.queue);
       reads = h.reads;
       hello = (let small = h.hello in let len = ap (λ (l : LinkSide). length l.state.send_queue.hello) link_is in omega (arith, small, len));
       none = λ e. ap (λ (l : LinkSide). length l.state.send_queue.hello) link_is ∙ h.none (sym (ap (λ (l : LinkSide). l.state.place) link_is) ∙ e);

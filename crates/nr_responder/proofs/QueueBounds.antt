@@ -1,13 +1,13 @@
 -- How many bytes a queue has, by the Sends that haven't left it, and by the reads that wait.
-use Rattle.std.proofs.Common.{◌≡◌, ℕ, ◌+◌, ◌*◌, ◌≤◌, List, [], ◌∷◌, length, refl, arith}
+use Rattle.std.proofs.Common.{◌≡◌, ℕ, ◌+◌, ◌*◌, ◌≤◌, List, [], ◌∷◌, length, refl, arith, Option}
 use Rattle.nr_wire.specs.declared.hello.Side.{Side}
 use Rattle.nr_link.specs.declared.end.End.{End}
 use Rattle.nr_wire.specs.Constants.{UNITS_MAX}
 use Rattle.nr_link.specs.Limits.{send_unit}
 use Rattle.nr_link.specs.Output.{read_request}
-use Rattle.nr_endpoint.specs.SendQueue.{SendQueue, next_number, with_end, with_fpdus, with_request, with_send, written}
+use Rattle.nr_endpoint.specs.SendQueue.{SendQueue, next_number, with_end, with_fpdus, with_request, with_send, with_send_by, written}
 use Rattle.nr_endpoint.specs.OutputSizes.{frame_max, request_max}
-use Rattle.nr_endpoint.proofs.OutputSizes.{appended_within, end_within, request_len, send_len, send_within, written_within}
+use Rattle.nr_endpoint.proofs.OutputSizes.{appended_within, end_within, request_len, send_len, send_by_len, send_within, send_by_within, written_within}
 use Rattle.nr_reduce.specs.ServerState.{PendingRead}
 use Rattle.nr_responder.specs.HeldBytes.{answer_max, requests_max, writes_max, QueueFits, QueueMost}
 use Rattle.nr_responder.specs.private.Reading.{with_requests}
@@ -22,10 +22,10 @@ send_fits q message w c w2 c2 short fewer one waits fits =
     send_within answer_max 0 (requests_max * c) (request_max * w) (requests_max * c2) (request_max * w2) q message (omega (arith, fewer, one, send_len (next_number q.last_send) message short)) waits fits
 
 -- a Send, and RDMA Writes before it
-pub sends_fit : (q : SendQueue) (writes message : List ℕ) (w c w2 c2 : ℕ) → length writes ≤ writes_max → length message ≤ send_unit * UNITS_MAX → w2 ≤ w → c ≤ c2 + 1 → request_max * w2 ≤ requests_max * c2 → QueueFits q w c → QueueFits (with_send message (with_fpdus writes q)) w2 c2
-sends_fit q writes message w c w2 c2 small short fewer one waits fits =
-    send_within answer_max 0 (requests_max * c + length writes) (request_max * w) (requests_max * c2) (request_max * w2) (with_fpdus writes q) message
-    (omega (arith, small, fewer, one, send_len (next_number q.last_send) message short)) waits
+pub sends_fit : (q : SendQueue) (writes : List ℕ) (named : Option ℕ) (message : List ℕ) (w c w2 c2 : ℕ) → length writes ≤ writes_max → length message ≤ send_unit * UNITS_MAX → w2 ≤ w → c ≤ c2 + 1 → request_max * w2 ≤ requests_max * c2 → QueueFits q w c → QueueFits (with_send_by named message (with_fpdus writes q)) w2 c2
+sends_fit q writes named message w c w2 c2 small short fewer one waits fits =
+    send_by_within answer_max 0 (requests_max * c + length writes) (request_max * w) (requests_max * c2) (request_max * w2) (with_fpdus writes q) named message
+    (omega (arith, small, fewer, one, send_by_len named (next_number q.last_send) message short)) waits
     (appended_within answer_max 0 (requests_max * c) (request_max * w) (requests_max * c + length writes) (request_max * w) q writes (omega arith) fits)
 
 -- Read Requests, for reads that waited

@@ -1,5 +1,5 @@
 -- What a responder's side of the link queues is what is due of the server of a run.
-use Rattle.std.proofs.Common.{◌≡◌, ◌≢◌, ℕ, ◌+◌, ◌-◌, ◌<◌, ◌≤◌, ◌^◌, Bool, true, false, eqb, cond, List, [], ◌∷◌, ◌++◌, length, drop, refl, sym, ap, ◌∙◌, arith, append_assoc, subst, length-append, length-drop}
+use Rattle.std.proofs.Common.{◌≡◌, ◌≢◌, ℕ, ◌+◌, ◌-◌, ◌<◌, ◌≤◌, ◌^◌, Bool, true, false, eqb, cond, List, [], ◌∷◌, ◌++◌, length, drop, refl, sym, ap, ◌∙◌, arith, append_assoc, subst, length-append, length-drop, Option, None, Some}
 use Rattle.std.specs.List.{AllByRecursion}
 use Rattle.std.proofs.lemmas.Bool.{eqb-true, le-ltb}
 use Rattle.std.proofs.lemmas.List.{append-nil, drop_all}
@@ -9,12 +9,12 @@ use Rattle.nr_wire.specs.Constants.{REASON_FLAGS}
 use Rattle.nr_wire.specs.Segment.Segment.{Untagged}
 use Rattle.nr_link.specs.declared.end.End.{End}
 use Rattle.nr_link.specs.declared.end.End.TheVariants as ends
-use Rattle.nr_link.specs.Output.{cut, msn_word, send, refusing_hello, terminate_message}
+use Rattle.nr_link.specs.Output.{cut, msn_word, send, send_by, send_invalidating, refusing_hello, terminate_message}
 use Rattle.nr_link.specs.Ending.{final_output, last_output, rejection}
-use Rattle.nr_endpoint.specs.SendQueue.{SendQueue, writable, next_number, with_hello, with_send, with_fpdus, with_end, written, output_len, send_output, ends_left}
+use Rattle.nr_endpoint.specs.SendQueue.{SendQueue, writable, next_number, with_hello, with_send, with_send_by, with_fpdus, with_end, written, output_len, send_output, ends_left}
 use Rattle.nr_responder.specs.ResponderState.{queued_bytes}
 use Rattle.nr_responder.specs.Keeping.{QueueHas, IsEnd, ends_queued}
-use Rattle.nr_endpoint.proofs.Queued.{send_some, terminate_queues}
+use Rattle.nr_endpoint.proofs.Queued.{send_by_some, terminate_queues}
 use Rattle.nr_responder.proofs.Ends.{ends_none, ends_more, each_more, ends_drained, each_drained}
 
 -- ---- Numbers count modulo 2 ^ 32
@@ -26,10 +26,16 @@ send_word : (n m : ℕ) (message : List ℕ) → msn_word n ≡ msn_word m → s
 unfolding send
 send_word n m message e = ap (λ (w : ℕ). cut (λ last offset payload. Untagged last 3 0 0 w offset payload) message) e
 
+-- a Send of either kind
+sends_word : (named : Option ℕ) (n m : ℕ) (message : List ℕ) → msn_word n ≡ msn_word m → send_by named n message ≡ send_by named m message
+unfolding send_invalidating
+sends_word None n m message e = send_word n m message e
+sends_word (Some stag) n m message e = ap (λ (w : ℕ). cut (λ last offset payload. Untagged last 4 (cond last stag 0) 0 w offset payload) message) e
+
 -- the Send after n others, on a side that counts words
-pub next_send : (n last : ℕ) (message : List ℕ) → last ≡ msn_word n → send (next_number last) message ≡ send (n + 1) message
-next_send n last message e =
-    send_word (next_number last) (n + 1) message (ap (λ (w : ℕ). msn_word (next_number w)) e ∙ mod-mod (msn_word n + 1) (2 ^ 32) ∙ next_word n)
+pub next_send : (named : Option ℕ) (n last : ℕ) (message : List ℕ) → last ≡ msn_word n → send_by named (next_number last) message ≡ send_by named (n + 1) message
+next_send named n last message e =
+    sends_word named (next_number last) (n + 1) message (ap (λ (w : ℕ). msn_word (next_number w)) e ∙ mod-mod (msn_word n + 1) (2 ^ 32) ∙ next_word n)
 
 pub next_last : (n last : ℕ) → last ≡ msn_word n → next_number last ≡ msn_word (n + 1)
 next_last n last e = ap next_number e ∙ next_word n
@@ -39,7 +45,7 @@ next_last n last e = ap next_number e ∙ next_word n
 pub sent_queue : (n : ℕ) (message : List ℕ) (q : SendQueue) → q.last_send ≡ msn_word n → queued_bytes (with_send message q) ≡ queued_bytes q ++ send (n + 1) message
 sent_queue n message q e =
     sym (append_assoc q.hello q.fpdus (send (next_number q.last_send) message))
-    ∙ ap (λ (bytes : List ℕ). (q.hello ++ q.fpdus) ++ bytes) (next_send n q.last_send message e)
+    ∙ ap (λ (bytes : List ℕ). (q.hello ++ q.fpdus) ++ bytes) (next_send None n q.last_send message e)
 
 -- its hello, if nothing was queued before
 pub hello_queue : (bytes : List ℕ) (q : SendQueue) → q.fpdus ≡ [] → queued_bytes (with_hello bytes q) ≡ queued_bytes q ++ bytes
@@ -76,11 +82,11 @@ last_queue (ends.Terminated reason) q none = no_rejection q (final_output (ends.
 last_queue ends.Memory q none = no_rejection q (final_output ends.Memory)
 
 -- RDMA Writes and then a Send
-pub answered_queue : (n : ℕ) (writes message : List ℕ) (q : SendQueue) → q.last_send ≡ msn_word n → queued_bytes (with_send message (with_fpdus writes q)) ≡ queued_bytes q ++ (writes ++ send (n + 1) message)
-answered_queue n writes message q e =
-    ap (λ (bytes : List ℕ). q.hello ++ bytes) (append_assoc q.fpdus writes (send (next_number q.last_send) message))
-    ∙ sym (append_assoc q.hello q.fpdus (writes ++ send (next_number q.last_send) message))
-    ∙ ap (λ (bytes : List ℕ). (q.hello ++ q.fpdus) ++ (writes ++ bytes)) (next_send n q.last_send message e)
+pub answered_queue : (named : Option ℕ) (n : ℕ) (writes message : List ℕ) (q : SendQueue) → q.last_send ≡ msn_word n → queued_bytes (with_send_by named message (with_fpdus writes q)) ≡ queued_bytes q ++ (writes ++ send_by named (n + 1) message)
+answered_queue named n writes message q e =
+    ap (λ (bytes : List ℕ). q.hello ++ bytes) (append_assoc q.fpdus writes (send_by named (next_number q.last_send) message))
+    ∙ sym (append_assoc q.hello q.fpdus (writes ++ send_by named (next_number q.last_send) message))
+    ∙ ap (λ (bytes : List ℕ). (q.hello ++ q.fpdus) ++ (writes ++ bytes)) (next_send named n q.last_send message e)
 
 -- ---- What may be written of it
 
@@ -120,15 +126,15 @@ fpdus_has w d m r ends writes q h = record {
   responses = h.responses;
 }
 
-pub sent_has : (w d m r : ℕ) (ends message : List ℕ) (q : SendQueue) → QueueHas w d m r ends q →
-    QueueHas w (d + length (send (m + 1) message)) (m + 1) r (ends ++ (d + length (send (m + 1) message)) ∷ []) (with_send message q)
-sent_has w d m r ends message q h =
-    let bytes : List ℕ = send (m + 1) message in
-    let same : length (send_output q message) ≡ length bytes = ap (λ (xs : List ℕ). length xs) (next_send m q.last_send message h.sends) in
-    let both : length (q.fpdus ++ send_output q message) ≡ length q.fpdus + length bytes = omega (arith, same, length-append q.fpdus (send_output q message)) in
-    let some : 1 ≤ length bytes = send_some (m + 1) message in
+pub one_has : (named : Option ℕ) (w d m r : ℕ) (ends message : List ℕ) (q : SendQueue) → QueueHas w d m r ends q →
+    QueueHas w (d + length (send_by named (m + 1) message)) (m + 1) r (ends ++ (d + length (send_by named (m + 1) message)) ∷ []) (with_send_by named message q)
+one_has named w d m r ends message q h =
+    let bytes : List ℕ = send_by named (m + 1) message in
+    let same : length (send_output q named message) ≡ length bytes = ap (λ (xs : List ℕ). length xs) (next_send named m q.last_send message h.sends) in
+    let both : length (q.fpdus ++ send_output q named message) ≡ length q.fpdus + length bytes = omega (arith, same, length-append q.fpdus (send_output q named message)) in
+    let some : 1 ≤ length bytes = send_by_some named (m + 1) message in
     let after : w + length q.hello < d + length bytes = omega (arith, h.due_is, some) in
-    let end : length (q.fpdus ++ send_output q message) ≡ d + length bytes - w - length q.hello = omega (arith, both, h.due_is) in
+    let end : length (q.fpdus ++ send_output q named message) ≡ d + length bytes - w - length q.hello = omega (arith, both, h.due_is) in
     record {
       due_is = omega (arith, h.due_is, both);
       ends_are = (λ i. h.ends_are i ++ end i ∷ []) ∙ sym (ends_more w (length q.hello) (d + length bytes) ends after);
@@ -138,12 +144,16 @@ sent_has w d m r ends message q h =
       responses = h.responses;
     }
 
-pub answered_has : (w d m r : ℕ) (ends writes message : List ℕ) (q : SendQueue) → QueueHas w d m r ends q →
-    QueueHas w (d + length (writes ++ send (m + 1) message)) (m + 1) r (ends ++ (d + length (writes ++ send (m + 1) message)) ∷ []) (with_send message (with_fpdus writes q))
-answered_has w d m r ends writes message q h =
-    let both : d + length writes + length (send (m + 1) message) ≡ d + length (writes ++ send (m + 1) message) = omega (arith, length-append writes (send (m + 1) message)) in
-    subst (λ (n : ℕ). QueueHas w n (m + 1) r (ends ++ n ∷ []) (with_send message (with_fpdus writes q))) both
-    (sent_has w (d + length writes) m r ends message (with_fpdus writes q) (fpdus_has w d m r ends writes q h))
+pub sent_has : (w d m r : ℕ) (ends message : List ℕ) (q : SendQueue) → QueueHas w d m r ends q →
+    QueueHas w (d + length (send (m + 1) message)) (m + 1) r (ends ++ (d + length (send (m + 1) message)) ∷ []) (with_send message q)
+sent_has w d m r ends message q h = one_has None w d m r ends message q h
+
+pub answered_has : (named : Option ℕ) (w d m r : ℕ) (ends writes message : List ℕ) (q : SendQueue) → QueueHas w d m r ends q →
+    QueueHas w (d + length (writes ++ send_by named (m + 1) message)) (m + 1) r (ends ++ (d + length (writes ++ send_by named (m + 1) message)) ∷ []) (with_send_by named message (with_fpdus writes q))
+answered_has named w d m r ends writes message q h =
+    let both : d + length writes + length (send_by named (m + 1) message) ≡ d + length (writes ++ send_by named (m + 1) message) = omega (arith, length-append writes (send_by named (m + 1) message)) in
+    subst (λ (n : ℕ). QueueHas w n (m + 1) r (ends ++ n ∷ []) (with_send_by named message (with_fpdus writes q))) both
+    (one_has named w (d + length writes) m r ends message (with_fpdus writes q) (fpdus_has w d m r ends writes q h))
 
 -- n bytes of it were written
 pub drained_has : (w d m r n : ℕ) (ends : List ℕ) (q : SendQueue) → n ≤ output_len q → QueueHas w d m r ends q → QueueHas (w + n) d m r ends (written n q)

@@ -9,7 +9,7 @@ use Rattle.nr_endpoint.specs.Calls.Call.{NextEvent}
 use Rattle.nr_reduce.specs.declared.mark.LinkParameters.{LinkParameters}
 use Rattle.nr_reduce.specs.ServerState.{PendingCall, PendingRead, ServerState}
 use Rattle.nr_responder.specs.declared.call.Sent.{Sent}
-use Rattle.nr_responder.specs.Answering.{Answers, answer_to, message_for}
+use Rattle.nr_responder.specs.Answering.{Answers, answer_to, message_for, name_for}
 use Rattle.nr_responder.specs.Fetching.{Fetching}
 use Rattle.nr_responder.specs.HeldBytes.{OutputFits, ReadsFit, SinksFit}
 use Rattle.nr_responder.specs.Keeping.{Keeps}
@@ -106,7 +106,7 @@ step_reads opened k so_far v after piece m h lives step word taken = by (few_del
 
 pub answered_reads : (v after : ResponderSide) (xid : ℕ) (reply : List ℕ) (sent : Sent) → end_of v ≡ None → Answers v after xid reply sent → LivesOrStays v after
 answered_reads v after xid reply sent live a =
-    inl (ap end_of a.state ∙ (ap (λ (l : LinkSide). l.state.ended) (answer_link v.link a.writes (message_for xid (present_word v) a.call.lists (answer_to v.link.state.agreed.down a.call a.stream reply)) live) ∙ live))
+    inl (ap end_of a.state ∙ (ap (λ (l : LinkSide). l.state.ended) (answer_link v.link a.writes (name_for v.link.state.agreed.invalidates a.call.lists (answer_to v.link.state.agreed.down a.call a.stream reply)) (message_for xid (present_word v) a.call.lists (answer_to v.link.state.agreed.down a.call a.stream reply)) live) ∙ live))
 
 pub drained_reads : (v after : ResponderSide) (n : ℕ) → after ≡ after_drain v n → ReadsFit v → ReadsFit after
 drained_reads v after n is few =

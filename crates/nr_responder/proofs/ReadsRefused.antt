@@ -6,14 +6,13 @@ use Rattle.std.proofs.lemmas.Bool.{eq-eqb, eqb-true}
 use Rattle.std.proofs.lemmas.List.{length-take}
 use Rattle.nr_wire.specs.declared.stream.Awaited.TheVariants.{Fpdu}
 use Rattle.nr_wire.specs.Constants.{OPCODE_READ_RESPONSE}
-use Rattle.nr_wire.specs.Segment.{segment_of}
 use Rattle.nr_wire.specs.Segment.Segment.{Tagged}
 use Rattle.nr_regions.specs.declared.right.Kind.TheVariants.{Response}
 use Rattle.nr_regions.specs.Access.{TaggedSegment}
 use Rattle.nr_link.specs.Frames.{Frame}
 use Rattle.nr_link.specs.Input.{InputState}
 use Rattle.nr_link.specs.Output.{send}
-use Rattle.nr_link.specs.Ending.{frame_segment}
+use Rattle.nr_link.specs.Ending.{segment_taken, frame_segment}
 use Rattle.nr_endpoint.specs.LinkState.{LinkState}
 use Rattle.nr_endpoint.specs.SendQueue.{with_send, send_output}
 use Rattle.nr_endpoint.specs.Judging.{next_frame, with_frame}
@@ -281,6 +280,7 @@ refused_state k f stag to payload message a calls reads kept is access =
       low = k.low;
       up_max = k.up_max;
       down_max = k.down_max;
+      invalidates = k.invalidates;
     })
     ∙ ap (λ (x : TaggedSegment). after_done (with_error k calls message) x calls reads [] kept) (sym access)
 
@@ -294,8 +294,8 @@ kept_front (suc kept) f (r ∷ rest) le = ap (λ (rs : List PendingRead). r ∷ 
 sent_last : (opened : LinkParameters) (k : ServerState) (f : Frame) (a : TaggedSegment) (rest : List PendingRead) (calls : List PendingCall) (message : List ℕ) (t : LinkState) → TakesLast k f a rest opened t → length calls + 1 ≡ length k.calls →
     TakesLast (with_error k calls message) f a rest opened (with_sent t message)
 sent_last opened k f a rest calls message t h fewer =
-    let one : length (t.send_queue.send_ends ++ length (t.send_queue.fpdus ++ send_output t.send_queue message) ∷ []) ≡ unsent t + 1 =
-    length-append t.send_queue.send_ends (length (t.send_queue.fpdus ++ send_output t.send_queue message) ∷ []) in
+    let one : length (t.send_queue.send_ends ++ length (t.send_queue.fpdus ++ send_output t.send_queue None message) ∷ []) ≡ unsent t + 1 =
+    length-append t.send_queue.send_ends (length (t.send_queue.fpdus ++ send_output t.send_queue None message) ∷ []) in
     record {
       live = h.live;
       side = h.side;
@@ -306,11 +306,13 @@ sent_last opened k f a rest calls message t h fewer =
       terms = h.terms;
       up = h.up;
       down = h.down;
+      invalidates = h.invalidates;
       free = (let all = h.free in omega (arith, all, fewer, one));
       lent = (let all = h.lent in omega (arith, all, fewer, one));
       told = h.told;
       reads = h.reads;
       memory = h.memory;
+      none_dead = h.none_dead;
       next = h.next;
       queue = sent_has k.written k.due k.messages_queued k.requests_sent k.message_ends message t.send_queue h.queue;
       place = h.place;
@@ -367,7 +369,7 @@ refused_done opened k so_far v frame x rest h some long lives r is reads c word 
     let message : List ℕ = chunk_error c.call.xid (credit_word (heard k a)) in
     let k1 : ServerState = with_error k calls message in
     let k' : ServerState = after_done k1 a calls left [] kept in
-    let segment : segment_of frame ≡ Ok (Tagged true OPCODE_READ_RESPONSE r.stag r.to r.payload) = response_reads s frame r true is in
+    let segment : segment_taken false frame ≡ Ok (Tagged true OPCODE_READ_RESPONSE r.stag r.to r.payload) = response_reads s frame r true is in
     let same = same_as opened k so_far v frame x rest c.call h long r reads c.found in
     let number : c.call.number ≡ x.number = found_number x.number k.calls c.call same.found in
     let few : kept ≡ length (take 7 rest) = omega arith in

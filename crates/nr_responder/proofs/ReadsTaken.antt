@@ -6,15 +6,15 @@ use Rattle.nr_wire.specs.declared.stream.Awaited.TheVariants.{Fpdu}
 use Rattle.nr_wire.specs.declared.hello.Side.{Side}
 use Rattle.nr_wire.specs.declared.hello.Side.TheVariants.{Responder}
 use Rattle.nr_wire.specs.Constants.{OPCODE_READ_RESPONSE, REASON_FLAGS}
-use Rattle.nr_wire.specs.Segment.{segment_of}
 use Rattle.nr_wire.specs.Segment.Segment.{Tagged}
 use Rattle.nr_regions.specs.RegisteredMemory.{RegisteredMemory, after_place}
+use Rattle.nr_regions.proofs.Holding.{none_dead_place}
 use Rattle.nr_regions.specs.Access.{TaggedSegment}
 use Rattle.nr_link.specs.declared.end.End.{End}
 use Rattle.nr_link.specs.declared.end.End.TheVariants as ends
 use Rattle.nr_link.specs.Frames.{Frame, is_hello}
 use Rattle.nr_link.specs.Input.{InputState}
-use Rattle.nr_link.specs.Ending.{frame_segment, last_output}
+use Rattle.nr_link.specs.Ending.{segment_taken, frame_segment, last_output}
 use Rattle.nr_link.specs.SegmentFaults.{is_expected}
 use Rattle.nr_endpoint.specs.ReceiveQueue.{DeliveredEvent, ReceiveQueue, delivered, with_read_done}
 use Rattle.nr_endpoint.specs.ReceiveQueue.DeliveredEvent.{ReadDone}
@@ -61,7 +61,7 @@ use Rattle.nr_responder.proofs.Whole.{begun_behind, goes_on_lem, greeted_link, l
 
 -- ---- A part of the response
 
-pub response_reads : (s : LinkState) (frame : List ℕ) (r : IsResponse s frame) (b : Bool) → r.last ≡ b → segment_of frame ≡ Ok (Tagged b OPCODE_READ_RESPONSE r.stag r.to r.payload)
+pub response_reads : (s : LinkState) (frame : List ℕ) (r : IsResponse s frame) (b : Bool) → r.last ≡ b → segment_taken false frame ≡ Ok (Tagged b OPCODE_READ_RESPONSE r.stag r.to r.payload)
 response_reads s frame r b is = r.reads ∙ ap (λ (last : Bool). Ok (Tagged last OPCODE_READ_RESPONSE r.stag r.to r.payload)) is
 
 -- the side after the last segment, before the event is delivered
@@ -80,11 +80,11 @@ pub response_deliveries : (opened : LinkParameters) (k : ServerState) (so_far : 
     (with_frame v.link.state Fpdu frame).receive_queue.deliveries ≡ response_told b
 response_deliveries opened k so_far v frame h lives r true is =
     let s : LinkState = v.link.state in
-    ap (λ (t : LinkState). t.receive_queue.deliveries) ((frame_lives s frame (Tagged true OPCODE_READ_RESPONSE r.stag r.to r.payload) (response_reads s frame r true is) lives).1 ∙ last_link s frame r.stag r.to r.payload)
+    ap (λ (t : LinkState). t.receive_queue.deliveries) ((frame_lives s frame (Tagged true OPCODE_READ_RESPONSE r.stag r.to r.payload) h.link.side (response_reads s frame r true is) lives).1 ∙ last_link s frame r.stag r.to r.payload)
     ∙ ap (λ (deliveries : List DeliveredEvent). deliveries ++ ReadDone ∷ []) h.link.told
 response_deliveries opened k so_far v frame h lives r false is =
     let s : LinkState = v.link.state in
-    ap (λ (t : LinkState). t.receive_queue.deliveries) ((frame_lives s frame (Tagged false OPCODE_READ_RESPONSE r.stag r.to r.payload) (response_reads s frame r false is) lives).1 ∙ part_link s frame r.stag r.to r.payload)
+    ap (λ (t : LinkState). t.receive_queue.deliveries) ((frame_lives s frame (Tagged false OPCODE_READ_RESPONSE r.stag r.to r.payload) h.link.side (response_reads s frame r false is) lives).1 ∙ part_link s frame r.stag r.to r.payload)
     ∙ h.link.told
 
 -- the read whose response is awaited
@@ -102,9 +102,9 @@ response_part_takes opened k so_far v frame h some long lives r is =
     let s : LinkState = v.link.state in
     let f : Frame = next_frame s frame in
     let a : TaggedSegment = response_access s frame r.stag r.to r.payload in
-    let reads : segment_of frame ≡ Ok (Tagged false OPCODE_READ_RESPONSE r.stag r.to r.payload) = response_reads s frame r false is in
+    let reads : segment_taken false frame ≡ Ok (Tagged false OPCODE_READ_RESPONSE r.stag r.to r.payload) = response_reads s frame r false is in
     let link : with_frame s Fpdu frame ≡ record s { last = s.place; place = s.place + length frame; memory = after_place s.memory r.stag r.to r.payload; reads = reads_after false (length r.payload) s.reads } =
-    (frame_lives s frame (Tagged false OPCODE_READ_RESPONSE r.stag r.to r.payload) reads lives).1 ∙ part_link s frame r.stag r.to r.payload in
+    (frame_lives s frame (Tagged false OPCODE_READ_RESPONSE r.stag r.to r.payload) h.link.side reads lives).1 ∙ part_link s frame r.stag r.to r.payload in
     let later : is_hello f ≡ false = later_frame s.place some in
     let at = goes_on_lem opened k f (no_effect k) later (lives_on_lem opened k so_far v frame h some long lives) (part_effect k f r.stag r.to r.payload reads) refl in
     let state : with_effect k f (no_effect k) ≡ with_part k a = part_state k f r.stag r.to r.payload reads (closed_if_over (is_over k.calls k.reads) k.regions h.server.closed) in
@@ -148,7 +148,7 @@ pub done_link_is : (opened : LinkParameters) (k : ServerState) (so_far : InputSt
     after_call (record { awaited = Fpdu; rest = []; state = with_frame v.link.state Fpdu frame }) NextEvent ≡ record { awaited = Fpdu; rest = []; state = done_side v.link.state frame r.stag r.to r.payload }
 done_link_is opened k so_far v frame h lives r is =
     let s : LinkState = v.link.state in
-    let link = (frame_lives s frame (Tagged true OPCODE_READ_RESPONSE r.stag r.to r.payload) (response_reads s frame r true is) lives).1 ∙ last_link s frame r.stag r.to r.payload in
+    let link = (frame_lives s frame (Tagged true OPCODE_READ_RESPONSE r.stag r.to r.payload) h.link.side (response_reads s frame r true is) lives).1 ∙ last_link s frame r.stag r.to r.payload in
     told_is_lem (record { awaited = Fpdu; rest = []; state = with_frame s Fpdu frame }) refl refl
     ∙ ap (λ (t : LinkState). record { awaited = Fpdu; rest = []; state = record t { receive_queue = delivered t.receive_queue } }) link
     ∙ ap (λ (q : ReceiveQueue). record { awaited = Fpdu; rest = []; state = record (done_side s frame r.stag r.to r.payload) { receive_queue = q } }) (delivered_done s.receive_queue h.link.told)
@@ -173,11 +173,13 @@ takes_last opened k so_far v frame x rest h long r reads = record {
   terms = h.link.terms;
   up = h.link.up;
   down = h.link.down;
+  invalidates = h.link.invalidates;
   free = h.link.free;
   lent = h.link.lent;
   told = h.link.told;
   reads = ap (reads_after true (length r.payload)) (h.link.reads ∙ ap (λ (rs : List PendingRead). open_responses k.response_bytes (take 8 rs)) reads);
   memory = response_memory opened k v.link.state frame r.stag r.to r.payload h.link h.server long r.allowed;
+  none_dead = none_dead_place v.link.state.memory r.stag r.to r.payload h.link.none_dead;
   next = placed_next v.link.state.memory r.stag r.to r.payload ∙ h.link.next;
   queue = h.link.queue;
   place = refl;
@@ -206,7 +208,7 @@ done_takes opened k so_far v frame x rest ready payloads h some long lives r is 
     let t : LinkState = done_side s frame r.stag r.to r.payload in
     let kept : ℕ = still_open x rest in
     let k' : ServerState = after_done k a k.calls rest ready kept in
-    let segment : segment_of frame ≡ Ok (Tagged true OPCODE_READ_RESPONSE r.stag r.to r.payload) = response_reads s frame r true is in
+    let segment : segment_taken false frame ≡ Ok (Tagged true OPCODE_READ_RESPONSE r.stag r.to r.payload) = response_reads s frame r true is in
     let later : is_hello f ≡ false = later_frame s.place some in
     let at = goes_on_lem opened k f (done_effect k k.calls rest ready kept) later (lives_on_lem opened k so_far v frame h some long lives) effect refl in
     let state : with_effect k f (done_effect k k.calls rest ready kept) ≡ k' = done_state k f r.stag r.to r.payload k.calls rest ready kept segment in

@@ -1,5 +1,5 @@
 -- What holds of a responder whose call is refused as a read is done.
-use Rattle.std.proofs.Common.{◌≡◌, ◌≢◌, ℕ, zero, suc, ◌+◌, ◌-◌, ◌<◌, ◌≤◌, Bool, true, false, not, cond, eqb, ◌||◌, List, [], ◌∷◌, ◌++◌, length, take, drop, get_or, map, refl, sym, ap, subst, ◌∙◌, arith, length-append, All}
+use Rattle.std.proofs.Common.{◌≡◌, ◌≢◌, ℕ, zero, suc, ◌+◌, ◌-◌, ◌<◌, ◌≤◌, Bool, true, false, not, cond, eqb, ◌||◌, List, [], ◌∷◌, ◌++◌, length, take, drop, get_or, map, refl, sym, ap, subst, ◌∙◌, arith, length-append, All, None}
 use Rattle.std.specs.List.{AllByRecursion, filter, list_any, remove}
 use Rattle.std.proofs.lemmas.List.{length-drop, length-take}
 use Rattle.nr_endpoint.specs.Receives.{IsReceive}
@@ -130,7 +130,7 @@ pub refused_ends : (message : List ℕ) (opened : List PendingRead) (over : List
 refused_ends message opened over l m n sent closed =
     ap (λ (x : LinkSide). length x.state.send_queue.send_ends) closed ∙ ap (λ (x : LinkSide). length x.state.send_queue.send_ends) sent
     ∙ ap (λ (xs : List ℕ). length xs) (requests_ends opened (with_send message l.state.send_queue))
-    ∙ length-append l.state.send_queue.send_ends (length (l.state.send_queue.fpdus ++ send_output l.state.send_queue message) ∷ [])
+    ∙ length-append l.state.send_queue.send_ends (length (l.state.send_queue.fpdus ++ send_output l.state.send_queue None message) ∷ [])
 
 pub refused_link : (message : List ℕ) (opened : List PendingRead) (over : List SinkRegion) (l m n : LinkSide) → m ≡ with_opened_after message opened l → n ≡ with_released over m →
     n ≡ record { awaited = l.awaited; rest = l.rest; state = side_after_done (with_sent l.state message) opened over }

@@ -1,11 +1,12 @@
 -- A segment of a Read Response at a responder: the access of a peer that doesn't end its side is one to a sink.
-use Rattle.std.proofs.Common.{◌≡◌, ◌≢◌, ℕ, ◌+◌, ◌-◌, ◌<◌, Bool, true, false, not, ◌&&◌, eqb, cond, nat_lt, List, [], ◌∷◌, ◌++◌, length, take, drop, Option, Some, None, Result, Ok, Err, refl, sym, ap, subst, ◌∙◌, arith, is_some, append-nil, inl, inr}
+use Rattle.std.proofs.Common.{◌≡◌, ◌≢◌, ℕ, ◌+◌, ◌-◌, ◌<◌, Bool, true, false, not, ◌&&◌, ◌||◌, eqb, cond, nat_lt, List, [], ◌∷◌, ◌++◌, length, take, drop, Option, Some, None, Result, Ok, Err, refl, sym, ap, subst, ◌∙◌, arith, is_some, append-nil, inl, inr}
 use Rattle.std.specs.Prelude.{find, ◌⊎◌}
 use Rattle.std.specs.List.{AllByRecursion}
 use Rattle.std.proofs.lemmas.Bool.{eqb-true, eqb-false}
 use Rattle.nr_wire.specs.declared.stream.Awaited.TheVariants.{Fpdu}
-use Rattle.nr_wire.specs.Constants.{OPCODE_SEND, OPCODE_READ_REQUEST, OPCODE_READ_RESPONSE}
-use Rattle.nr_wire.specs.Segment.{Segment, segment_of}
+use Rattle.nr_wire.specs.declared.hello.Side.TheVariants.{Responder}
+use Rattle.nr_wire.specs.Constants.{OPCODE_SEND, OPCODE_SEND_INVALIDATE, OPCODE_READ_REQUEST, OPCODE_READ_RESPONSE}
+use Rattle.nr_wire.specs.Segment.{Segment}
 use Rattle.nr_wire.specs.Segment.Segment.{Tagged, Untagged}
 use Rattle.nr_regions.specs.declared.denied.Denied.{Denied}
 use Rattle.nr_regions.specs.declared.denied.Denied.TheVariants.{Bounds as WrongBounds, Right as WrongRight}
@@ -13,6 +14,7 @@ use Rattle.nr_regions.specs.declared.right.Kind.TheVariants.{Response, Write}
 use Rattle.nr_regions.specs.declared.right.Right.{Right}
 use Rattle.nr_regions.specs.declared.right.Right.TheVariants.{Sink, Fetch, Fill}
 use Rattle.nr_regions.specs.RegisteredMemory.{Region as HeldRegion, RegisteredMemory, Access, same_right, denial, denial_in, region_offer, live_region, right_for, after_place, after_place_in}
+use Rattle.nr_regions.proofs.Holding.{none_dead_place}
 use Rattle.nr_regions.specs.Access.{Grant, TaggedSegment, access_of_tagged, contents}
 use Rattle.nr_regions.specs.Events.{after_event, after_arrival}
 use Rattle.nr_regions.specs.Events.MemoryEvent.{Arrive}
@@ -21,7 +23,7 @@ use Rattle.nr_link.specs.Reasons.{REASON_RESPONSE}
 use Rattle.nr_link.specs.Frames.{Frame}
 use Rattle.nr_link.specs.ReceiveState.{read_request_in}
 use Rattle.nr_link.specs.SegmentFaults.{ExpectedResponse, is_expected}
-use Rattle.nr_link.specs.Ending.{kind_of, frame_segment}
+use Rattle.nr_link.specs.Ending.{segment_taken, kind_of, frame_segment}
 use Rattle.nr_endpoint.specs.LinkState.{LinkState}
 use Rattle.nr_endpoint.specs.Judging.{segment_end, next_frame, with_frame, with_fpdu, with_effect as with_segment_effect, fetch_access, reads_after, expected_response}
 use Rattle.nr_endpoint.specs.SegmentEnds.{denied_if, bad_if, tagged_end, RequestIsFine}
@@ -36,7 +38,7 @@ use Rattle.nr_reduce.specs.ServerFrames.{no_effect, effect_in, frame_effect}
 use Rattle.nr_reduce.specs.Server.{with_effect, received_by, response_bytes_after, tagged_accesses, effect_output}
 use Rattle.nr_reduce.proofs.MemorySteps.{holds_access, received_one, offered_later}
 use Rattle.nr_responder.specs.Keeping.{IsServer, LinkKeeps, open_responses, later_responses}
-use Rattle.nr_responder.proofs.SendFrames.{frame_lives, framed}
+use Rattle.nr_responder.proofs.SendFrames.{server_reads, frame_lives, framed}
 use Rattle.nr_responder.proofs.ServerSteps.{none_new, quiet_output, closed_same}
 use Rattle.nr_responder.proofs.Supported.{supported}
 
@@ -104,7 +106,8 @@ pub record IsSend (s : LinkState) (bytes : List ℕ) : Type 0 where
   pub msn : ℕ
   pub offset : ℕ
   pub payload : List ℕ
-  pub reads : segment_of bytes ≡ Ok (Untagged last OPCODE_SEND w queue_number msn offset payload)
+  pub side : s.side ≡ Responder
+  pub reads : segment_taken false bytes ≡ Ok (Untagged last OPCODE_SEND w queue_number msn offset payload)
 
 -- a segment of the Read Response that is awaited
 pub record IsResponse (s : LinkState) (bytes : List ℕ) : Type 0 where
@@ -112,7 +115,8 @@ pub record IsResponse (s : LinkState) (bytes : List ℕ) : Type 0 where
   pub stag : ℕ
   pub to : ℕ
   pub payload : List ℕ
-  pub reads : segment_of bytes ≡ Ok (Tagged last OPCODE_READ_RESPONSE stag to payload)
+  pub side : s.side ≡ Responder
+  pub reads : segment_taken false bytes ≡ Ok (Tagged last OPCODE_READ_RESPONSE stag to payload)
   pub allowed : denial s.memory (record { right = Sink; stag = stag; to = to; len = length payload }) ≡ None
   pub expected : is_expected (expected_response s.reads) last stag to (length payload) ≡ true
 
@@ -120,7 +124,7 @@ abbrev pub Lives : LinkState → List ℕ → Type 0
 Lives s bytes = IsSend s bytes ⊎ IsResponse s bytes
 
 tagged_lives : (opened : LinkParameters) (k : ServerState) (s : LinkState) (bytes : List ℕ) (last : Bool) (opcode stag to : ℕ) (payload : List ℕ) → LinkKeeps opened k s → IsServer k s.place →
-    segment_of bytes ≡ Ok (Tagged last opcode stag to payload) → segment_end s (next_frame s bytes) (Tagged last opcode stag to payload) ≡ None → IsResponse s bytes
+    segment_taken false bytes ≡ Ok (Tagged last opcode stag to payload) → segment_end s (next_frame s bytes) (Tagged last opcode stag to payload) ≡ None → IsResponse s bytes
 unfolding tagged_end
 tagged_lives opened k s bytes last opcode stag to payload h is reads lives =
     let access : Access = record { right = right_for (kind_of opcode); stag = stag; to = to; len = length payload } in
@@ -133,6 +137,7 @@ tagged_lives opened k s bytes last opcode stag to payload h is reads lives =
       stag = stag;
       to = to;
       payload = payload;
+      side = h.side;
       reads = reads ∙ ap (λ (o : ℕ). Ok (Tagged last o stag to payload)) same;
       allowed = subst (λ (b : Bool). denial s.memory (record { right = right_for (cond b Response Write); stag = stag; to = to; len = length payload }) ≡ None) response both.0;
       expected = expected_by (is_expected (expected_response s.reads) last stag to (length payload)) (subst (λ (b : Bool). (b && not (is_expected (expected_response s.reads) last stag to (length payload))) ≡ false) response both.1);
@@ -153,33 +158,39 @@ no_request_lem opened k s bytes last w queue msn offset payload h is lives =
     let two : Fetch ≡ Sink = sink_access opened k s (fetch_access (read_request_in payload)) h is fine.allowed in
     absurd cc
 
+plain_send : (a b : Bool) → (a || b) ≡ true → b ≡ false → a ≡ true
+plain_send true b is none = refl
+plain_send false b is none = absurd (let wrong : true ≡ false = sym is ∙ none in cc)
+
 by_opcode : (opened : LinkParameters) (k : ServerState) (s : LinkState) (bytes : List ℕ) (last : Bool) (opcode w queue msn offset : ℕ) (payload : List ℕ) → LinkKeeps opened k s → IsServer k s.place →
-    segment_of bytes ≡ Ok (Untagged last opcode w queue msn offset payload) → segment_end s (next_frame s bytes) (Untagged last opcode w queue msn offset payload) ≡ None →
+    segment_taken false bytes ≡ Ok (Untagged last opcode w queue msn offset payload) → segment_end s (next_frame s bytes) (Untagged last opcode w queue msn offset payload) ≡ None →
     (b : Bool) → eqb opcode OPCODE_READ_REQUEST ≡ b → IsSend s bytes
 by_opcode opened k s bytes last opcode w queue msn offset payload h is reads lives true request =
     absurd (no_request_lem opened k s bytes last w queue msn offset payload h is
     (subst (λ (o : ℕ). segment_end s (next_frame s bytes) (Untagged last o w queue msn offset payload) ≡ None) (eqb-true opcode OPCODE_READ_REQUEST request) lives))
 by_opcode opened k s bytes last opcode w queue msn offset payload h is reads lives false request =
-    let known = (supported bytes (Untagged last opcode w queue msn offset payload) reads).untagged last opcode w queue msn offset payload refl in
-    let send : opcode ≡ OPCODE_SEND = (alive_send s (next_frame s bytes) last opcode w queue msn offset payload refl known (eqb-false opcode OPCODE_READ_REQUEST request) lives).0 in
-    record { last = last; w = w; queue_number = queue; msn = msn; offset = offset; payload = payload; reads = reads ∙ ap (λ (o : ℕ). Ok (Untagged last o w queue msn offset payload)) send }
+    let by_form = supported bytes (Untagged last opcode w queue msn offset payload) reads in
+    let known = by_form.untagged last opcode w queue msn offset payload refl in
+    let any = (alive_send s (next_frame s bytes) last opcode w queue msn offset payload refl known (eqb-false opcode OPCODE_READ_REQUEST request) lives).0 in
+    let send : opcode ≡ OPCODE_SEND = eqb-true opcode OPCODE_SEND (plain_send (eqb opcode OPCODE_SEND) (eqb opcode OPCODE_SEND_INVALIDATE) any (by_form.plain last opcode w queue msn offset payload refl)) in
+    record { last = last; w = w; queue_number = queue; msn = msn; offset = offset; payload = payload; side = h.side; reads = reads ∙ ap (λ (o : ℕ). Ok (Untagged last o w queue msn offset payload)) send }
 
 never : (f : Frame) (reason : ℕ) (s : LinkState) → (with_fpdu f (Err reason) s).ended ≢ None
 unfolding with_fpdu
 never f reason s e = absurd cc
 
 pub frame_is : (opened : LinkParameters) (k : ServerState) (s : LinkState) (bytes : List ℕ) → LinkKeeps opened k s → IsServer k s.place → (with_frame s Fpdu bytes).ended ≡ None → Lives s bytes
-frame_is opened k s bytes h is lives = by (segment_of bytes) refl
+frame_is opened k s bytes h is lives = by (segment_taken false bytes) refl
   where
-    ended : (reason : ℕ) → segment_of bytes ≡ Err reason → with_frame s Fpdu bytes ≡ with_fpdu (next_frame s bytes) (Err reason) s
-    ended reason e = ap (λ (r : Result Segment ℕ). with_fpdu (next_frame s bytes) r s) e
+    ended : (reason : ℕ) → segment_taken false bytes ≡ Err reason → with_frame s Fpdu bytes ≡ with_fpdu (next_frame s bytes) (Err reason) s
+    ended reason e = ap (λ (r : Result Segment ℕ). with_fpdu (next_frame s bytes) r s) (server_reads s bytes h.side ∙ e)
 
-    by : (r : Result Segment ℕ) → segment_of bytes ≡ r → Lives s bytes
+    by : (r : Result Segment ℕ) → segment_taken false bytes ≡ r → Lives s bytes
     by (Err reason) e = absurd (never (next_frame s bytes) reason s (sym (ap (λ (t : LinkState). t.ended) (ended reason e)) ∙ lives))
     by (Ok (Tagged last opcode stag to payload)) e =
-        inr (tagged_lives opened k s bytes last opcode stag to payload h is e (frame_lives s bytes (Tagged last opcode stag to payload) e lives).0)
+        inr (tagged_lives opened k s bytes last opcode stag to payload h is e (frame_lives s bytes (Tagged last opcode stag to payload) h.side e lives).0)
     by (Ok (Untagged last opcode w queue msn offset payload)) e =
-        inl (by_opcode opened k s bytes last opcode w queue msn offset payload h is e (frame_lives s bytes (Untagged last opcode w queue msn offset payload) e lives).0 (eqb opcode OPCODE_READ_REQUEST) refl)
+        inl (by_opcode opened k s bytes last opcode w queue msn offset payload h is e (frame_lives s bytes (Untagged last opcode w queue msn offset payload) h.side e lives).0 (eqb opcode OPCODE_READ_REQUEST) refl)
 
 -- ---- What a segment of a Read Response makes of the memory
 
@@ -255,6 +266,7 @@ part_state k f stag to payload is closed =
       low = k.low;
       up_max = k.up_max;
       down_max = k.down_max;
+      invalidates = k.invalidates;
     }
 
 pub part_effect : (k : ServerState) (f : Frame) (stag to : ℕ) (payload : List ℕ) → frame_segment f ≡ Ok (Tagged false OPCODE_READ_RESPONSE stag to payload) → frame_effect k f ≡ no_effect k
@@ -282,11 +294,13 @@ response_part_keeps opened k s bytes stag to payload h is some none = record {
   terms = h.terms;
   up = h.up;
   down = h.down;
+  invalidates = h.invalidates;
   free = h.free;
   lent = h.lent;
   told = h.told;
   reads = ap (reads_after false (length payload)) h.reads ∙ reads_go_on (length payload) k.response_bytes (open_reads k);
   memory = response_memory opened k s bytes stag to payload h is some none;
+  none_dead = none_dead_place s.memory stag to payload h.none_dead;
   next = placed_next s.memory stag to payload ∙ h.next;
   queue = h.queue;
 }

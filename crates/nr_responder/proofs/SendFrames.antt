@@ -4,19 +4,22 @@ use Rattle.std.specs.List.{AllByRecursion, list_any}
 use Rattle.std.proofs.lemmas.List.{append-nil}
 use Rattle.std.proofs.lemmas.Bool.{ne_eqb, eqb-false, eqb-true, eq-eqb}
 use Rattle.nr_wire.specs.declared.stream.Awaited.TheVariants.{Fpdu}
-use Rattle.nr_wire.specs.Segment.{Segment, segment_of}
+use Rattle.nr_wire.specs.Segment.{Segment}
 use Rattle.nr_wire.specs.Segment.Segment.{Untagged}
 use Rattle.nr_wire.specs.Constants.{OPCODE_SEND}
+use Rattle.nr_wire.specs.declared.hello.Side.{Side}
+use Rattle.nr_wire.specs.declared.hello.Side.TheVariants.{Responder}
 use Rattle.nr_link.specs.declared.end.End.{End}
-use Rattle.nr_endpoint.specs.Hellos.{receive_length_for}
+use Rattle.nr_endpoint.specs.Hellos.{receive_length_for, takes_invalidate}
 use Rattle.nr_link.specs.ReceiveState.{ReceiveState, begun_bytes, send_continued}
 use Rattle.nr_link.specs.KeptSends.{begun_within, received_within}
 use Rattle.nr_link.specs.SegmentFaults.{is_begun}
 use Rattle.nr_link.proofs.BegunSends.{kept_alike}
+use Rattle.nr_link.specs.Ending.{segment_taken}
 use Rattle.nr_endpoint.specs.ReceiveQueue.{DeliveredEvent, with_segment}
 use Rattle.nr_endpoint.specs.ReceiveQueue.DeliveredEvent.{MessageReceived}
 use Rattle.nr_endpoint.specs.LinkState.{LinkState}
-use Rattle.nr_endpoint.specs.Judging.{segment_end, next_frame, with_frame, with_fpdu, with_segment_by, with_effect, after_frame}
+use Rattle.nr_endpoint.specs.Judging.{segment_end, next_frame, next_segment, with_frame, with_fpdu, with_segment_by, with_effect, after_frame}
 use Rattle.nr_endpoint.proofs.ReceiveQueueBytes.{kept_short}
 use Rattle.nr_reduce.specs.declared.mark.LinkParameters.{LinkParameters}
 use Rattle.nr_reduce.specs.Plans.{one_if}
@@ -32,11 +35,15 @@ use Rattle.nr_responder.proofs.ServerSteps.{with_received, with_inline_call, rea
 abbrev pub framed : LinkState → List ℕ → Segment → LinkState
 framed s bytes segment = after_frame (next_frame s bytes) (with_effect segment s)
 
-pub frame_lives : (s : LinkState) (bytes : List ℕ) (segment : Segment) → segment_of bytes ≡ Ok segment → (with_frame s Fpdu bytes).ended ≡ None →
+-- a server takes no Send with Invalidate
+pub server_reads : (s : LinkState) (bytes : List ℕ) → s.side ≡ Responder → next_segment s bytes ≡ segment_taken false bytes
+server_reads s bytes side = ap (λ (x : Side). segment_taken (takes_invalidate x s.agreed) bytes) side
+
+pub frame_lives : (s : LinkState) (bytes : List ℕ) (segment : Segment) → s.side ≡ Responder → segment_taken false bytes ≡ Ok segment → (with_frame s Fpdu bytes).ended ≡ None →
     (segment_end s (next_frame s bytes) segment ≡ None) × (with_frame s Fpdu bytes ≡ framed s bytes segment)
 unfolding with_fpdu
-frame_lives s bytes segment is lives =
-    let same : with_frame s Fpdu bytes ≡ with_segment_by (next_frame s bytes) segment (segment_end s (next_frame s bytes) segment) s = ap (λ (r : Result Segment ℕ). with_fpdu (next_frame s bytes) r s) is in
+frame_lives s bytes segment side is lives =
+    let same : with_frame s Fpdu bytes ≡ with_segment_by (next_frame s bytes) segment (segment_end s (next_frame s bytes) segment) s = ap (λ (r : Result Segment ℕ). with_fpdu (next_frame s bytes) r s) (server_reads s bytes side ∙ is) in
     by (segment_end s (next_frame s bytes) segment) refl same
   where
     by : (e : Option End) → segment_end s (next_frame s bytes) segment ≡ e → with_frame s Fpdu bytes ≡ with_segment_by (next_frame s bytes) segment e s →
@@ -114,11 +121,13 @@ part_keeps opened k s bytes payload h is some = record {
   terms = h.terms;
   up = h.up;
   down = h.down;
+  invalidates = h.invalidates;
   free = free_less (is_begun s.receive_queue.received.begun) (is_begun k.received.begun) s.receive_queue.free (unsent s + length k.calls) opened.receives (begun_fine opened k s h) h.free some;
   lent = h.lent;
   told = append-nil s.receive_queue.deliveries ∙ h.told;
   reads = h.reads;
   memory = holds_later k.regions k.accesses_received s.place (s.place + length bytes) s.memory (omega arith) is.accesses h.memory;
+  none_dead = h.none_dead;
   next = h.next;
   queue = h.queue;
 }
@@ -143,11 +152,13 @@ told_keeps opened k s bytes c stream h is some =
       terms = h.terms;
       up = h.up;
       down = h.down;
+      invalidates = h.invalidates;
       free = omega (arith, free, more);
       lent = omega (arith, h.lent, more);
       told = refl;
       reads = h.reads;
       memory = holds_later k.regions k.accesses_received s.place (s.place + length bytes) s.memory (omega arith) is.accesses h.memory;
+      none_dead = h.none_dead;
       next = h.next;
       queue = h.queue;
     }

@@ -76,6 +76,7 @@ quiet k f last opcode w queue msn offset payload is closed =
       low = k.low;
       up_max = k.up_max;
       down_max = k.down_max;
+      invalidates = k.invalidates;
     })
     ∙ (λ i. record {
       received = received_after k.received (Untagged last opcode w queue msn offset payload);
@@ -95,6 +96,7 @@ quiet k f last opcode w queue msn offset payload is closed =
       low = k.low;
       up_max = k.up_max;
       down_max = k.down_max;
+      invalidates = k.invalidates;
     })
 
 -- ---- A call without a read chunk
@@ -217,6 +219,7 @@ ready_state k f last opcode w queue msn offset payload c stream is closed =
       low = k.low;
       up_max = k.up_max;
       down_max = k.down_max;
+      invalidates = k.invalidates;
     })
     ∙ (λ i. record {
       received = received_after k.received (Untagged last opcode w queue msn offset payload);
@@ -236,4 +239,5 @@ ready_state k f last opcode w queue msn offset payload c stream is closed =
       low = k.low;
       up_max = k.up_max;
       down_max = k.down_max;
+      invalidates = k.invalidates;
     })

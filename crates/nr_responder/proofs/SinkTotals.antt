@@ -6,20 +6,20 @@ use Rattle.nr_regions.specs.declared.denied.Denied.TheVariants.{NoStag}
 use Rattle.nr_regions.specs.declared.right.Kind.{Kind}
 use Rattle.nr_regions.specs.RegisteredMemory.{Region as HeldRegion, RegisteredMemory, Claim, IsHeld, held_region, live_region, region_offer, denial_in, denial, bytes_after_write, after_place, after_place_in, after_register, after_release, initial_memory, right_for}
 use Rattle.nr_regions.specs.Table.{region_len}
-use Rattle.nr_regions.proofs.Holding.{live_held, within, length_bytes_after_write}
+use Rattle.nr_regions.proofs.Holding.{live_parts, within, length_bytes_after_write}
 use Rattle.nr_regions.proofs.Totals.{sound_initial, sound_register, sound_release, sound_change}
 use Rattle.nr_wire.specs.Constants.{OPCODE_READ_RESPONSE}
 use Rattle.nr_wire.specs.declared.hello.Side.TheVariants.{Responder}
 use Rattle.nr_wire.specs.declared.stream.Awaited.{Awaited}
 use Rattle.nr_wire.specs.declared.stream.Awaited.TheVariants.{Hello as HelloFrom, Fpdu}
 use Rattle.nr_wire.specs.Hello.{Hello, hello_of}
-use Rattle.nr_wire.specs.Segment.{Segment, segment_of}
+use Rattle.nr_wire.specs.Segment.{Segment}
 use Rattle.nr_wire.specs.Segment.Segment.{Tagged, Untagged}
 use Rattle.nr_link.specs.declared.end.End.{End}
 use Rattle.nr_link.specs.Frames.{Frame}
 use Rattle.nr_link.specs.Ending.{kind_of}
 use Rattle.nr_endpoint.specs.LinkState.{LinkState, LinkSide, has_ended, initial_link}
-use Rattle.nr_endpoint.specs.Judging.{segment_end, next_frame, with_frame, with_segment_by, with_fpdu, with_peer_hello, with_effect, with_read_response}
+use Rattle.nr_endpoint.specs.Judging.{segment_end, next_frame, next_segment, with_frame, with_segment_by, with_fpdu, with_peer_hello, with_effect, with_read_response}
 use Rattle.nr_endpoint.specs.SegmentEnds.{denied_if, tagged_end}
 use Rattle.nr_endpoint.specs.Calls.{after_call}
 use Rattle.nr_endpoint.specs.Calls.Call.{FeedOne}
@@ -55,11 +55,12 @@ abbrev denied : Denied → Option Denied
 denied why = Some why
 
 -- an access that is allowed leaves the lengths of the regions
-placed_by : (m : RegisteredMemory) (stag to : ℕ) (kind : Kind) (payload : List ℕ) (total : ℕ) (o : Option HeldRegion) → held_region m stag ≡ o →
+placed_by : (m : RegisteredMemory) (stag to : ℕ) (kind : Kind) (payload : List ℕ) (total : ℕ) (o : Option HeldRegion) → live_region m stag ≡ o →
     denial_in (region_offer o) (record { right = right_for kind; stag = stag; to = to; len = length payload }) ≡ None → RegionsHave m total → RegionsHave (after_place_in o m stag to payload) total
 unfolding held_region
-placed_by m stag to kind payload total None there allowed have = absurd (let wrong : denied NoStag ≡ None = allowed in cc)
-placed_by m stag to kind payload total (Some region) there allowed have =
+placed_by m stag to kind payload total None is allowed have = absurd (let wrong : denied NoStag ≡ None = allowed in cc)
+placed_by m stag to kind payload total (Some region) is allowed have =
+    let there = (live_parts m stag region is).1 in
     let after : HeldRegion = record { right = region.right; buf = bytes_after_write region.buf to payload } in
     let len : length after.buf ≡ length region.buf = length_bytes_after_write region.buf to payload (within region.right region.buf (record { kind = kind; stag = stag; to = to; payload = payload; end = 0 }) allowed) in
     sound_change region_len m.next total m.held stag region after have there len
@@ -67,7 +68,7 @@ placed_by m stag to kind payload total (Some region) there allowed have =
 placed_have : (m : RegisteredMemory) (stag to : ℕ) (kind : Kind) (payload : List ℕ) (total : ℕ) → denial m (record { right = right_for kind; stag = stag; to = to; len = length payload }) ≡ None → RegionsHave m total →
     RegionsHave (after_place m stag to payload) total
 unfolding denial after_place
-placed_have m stag to kind payload total allowed have = placed_by m stag to kind payload total (live_region m stag) (sym (live_held m stag)) allowed have
+placed_have m stag to kind payload total allowed have = placed_by m stag to kind payload total (live_region m stag) refl allowed have
 
 tagged_allowed : (stag to : ℕ) (d : Option Denied) (others : Option End) → denied_if stag to d others ≡ None → d ≡ None
 tagged_allowed stag to None others e = refl
@@ -103,7 +104,7 @@ hello_have s f (Err reason) total h = h
 
 frame_have : (total : ℕ) (a : Awaited) (s : LinkState) (frame : List ℕ) → has_ended s ≡ false → RegionsHave s.memory total → RegionsHave (with_frame s a frame).memory total
 frame_have total (HelloFrom side) s frame live h = hello_have s (next_frame s frame) (hello_of side frame) total h
-frame_have total Fpdu s frame live h = fpdu_have s (next_frame s frame) (segment_of frame) total refl h
+frame_have total Fpdu s frame live h = fpdu_have s (next_frame s frame) (next_segment s frame) total refl h
 
 -- one step on a piece
 pub fed_one_have : (total : ℕ) (link : LinkSide) (piece : List ℕ) → RegionsHave link.state.memory total → RegionsHave (after_call link (FeedOne piece)).state.memory total

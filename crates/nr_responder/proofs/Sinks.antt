@@ -2,9 +2,9 @@
 use Rattle.std.proofs.Common.{◌≡◌, ℕ, ◌+◌, Bool, true, false, not, ◌||◌, eqb, cond, List, [], ◌∷◌, Option, Some, None, refl, sym, ap, ◌∙◌, is_some}
 use Rattle.std.specs.List.{AllByRecursion, list_any}
 use Rattle.std.proofs.lemmas.Bool.{eqb-true, eqb-false}
-use Rattle.nr_regions.specs.RegisteredMemory.{Region as HeldRegion, RegisteredMemory, live_region, held_region, after_release}
+use Rattle.nr_regions.specs.RegisteredMemory.{Region as HeldRegion, RegisteredMemory, NoneIsDead, live_region, after_release}
 use Rattle.nr_regions.specs.Access.{TaggedSegment, contents}
-use Rattle.nr_regions.proofs.Holding.{live_held, release_here, release_other}
+use Rattle.nr_regions.proofs.Holding.{live_release_here, live_release_other, none_dead_release}
 use Rattle.nr_reduce.specs.OfferedRegions.{Region, until_at, closed_if, regions_closed, region_grants}
 use Rattle.nr_reduce.specs.OfferedMemory.{AreOffered, region_at, registered_region, HoldsRegions, ReleasesClosed, is_closed_by, held_if_open}
 use Rattle.nr_reduce.specs.StandingLaws.{StagsFrom}
@@ -57,12 +57,16 @@ released_live (s ∷ sinks) m stag = released_live sinks (after_release m s.stag
     by : (a : Bool) → eqb s.stag stag ≡ a → (b : Bool) → cond b None (live_region (after_release m s.stag) stag) ≡ cond (eqb s.stag stag || b) None (live_region m stag)
     by true is b =
         let same : s.stag ≡ stag = eqb-true s.stag stag is in
-        let gone : live_region (after_release m s.stag) stag ≡ None = live_held (after_release m s.stag) stag ∙ ap (λ (x : ℕ). held_region (after_release m s.stag) x) (sym same) ∙ release_here m s.stag in
+        let gone : live_region (after_release m s.stag) stag ≡ None = ap (λ (x : ℕ). live_region (after_release m s.stag) x) (sym same) ∙ live_release_here m s.stag in
         ap (λ (o : Option HeldRegion). cond b None o) gone ∙ none_twice b ∙ sym (ap (λ (a : Bool). cond (a || b) None (live_region m stag)) is)
     by false is b =
         let stays : live_region (after_release m s.stag) stag ≡ live_region m stag =
-        live_held (after_release m s.stag) stag ∙ release_other m s.stag stag (λ e. eqb-false s.stag stag is (sym e)) ∙ sym (live_held m stag) in
+        live_release_other m s.stag stag (λ e. eqb-false s.stag stag is (sym e)) in
         ap (λ (o : Option HeldRegion). cond b None o) stays ∙ sym (ap (λ (a : Bool). cond (a || b) None (live_region m stag)) is)
+
+pub none_released : (sinks : List SinkRegion) (m : RegisteredMemory) → NoneIsDead m → NoneIsDead (released sinks m)
+none_released [] m h = h
+none_released (s ∷ sinks) m h = none_released sinks (after_release m s.stag) (none_dead_release m s.stag h)
 
 abbrev over_one : Bool → Option ℕ → SinkRegion → List SinkRegion → List SinkRegion
 over_one b None s rest = cond b (s ∷ rest) rest

@@ -94,7 +94,7 @@ sound_sent l m message calls ready used after buf a b c live is whole more h =
     let now = sent_link l m message live is in
     let count : length after ≡ length used + 1 = ap (λ (xs : List (List ℕ)). length xs) more ∙ length-append used (buf ∷ []) in
     let ends : length m.state.send_queue.send_ends ≡ unsent l.state + 1 =
-    ap (λ (x : LinkSide). length x.state.send_queue.send_ends) now ∙ length-append l.state.send_queue.send_ends (length (l.state.send_queue.fpdus ++ send_output l.state.send_queue message) ∷ []) in
+    ap (λ (x : LinkSide). length x.state.send_queue.send_ends) now ∙ length-append l.state.send_queue.send_ends (length (l.state.send_queue.fpdus ++ send_output l.state.send_queue None message) ∷ []) in
     record {
       unsent_is = omega (arith, count, ends, h.unsent_is);
       lent = omega (arith, count, h.lent, ap (λ (x : LinkSide). x.state.receive_queue.lent) now);
@@ -151,15 +151,15 @@ pub sound_room : (n : ℕ) (s : LinkState) (calls : List Pending) (ready : List 
 sound_room n s calls ready used a b c h all = (omega (arith, h.lent, h.calls_fit, all), (omega (arith, h.lent, h.few, h.ready_fit, all), omega (arith, h.lent, h.used_fit, all)))
 
 -- the answer to the call at a place is queued
-pub sound_answered : (s t : LinkState) (writes message : List ℕ) (at : ℕ) (call : Pending) (calls later : List Pending) (ready more : List Ready) (used after : List (List ℕ)) (a b c : ℕ) → t ≡ with_answer s writes message → at < length calls → InReceive s.receive_queue.receive_length call →
+pub sound_answered : (s t : LinkState) (writes : List ℕ) (named : Option ℕ) (message : List ℕ) (at : ℕ) (call : Pending) (calls later : List Pending) (ready more : List Ready) (used after : List (List ℕ)) (a b c : ℕ) → t ≡ with_answer s writes named message → at < length calls → InReceive s.receive_queue.receive_length call →
     later ≡ remove calls at → more ≡ drop 1 ready → 0 < length ready → after ≡ used ++ call.buf ∷ [] → QueuesInvariant 0 s calls ready used a b c → QueuesInvariant 0 t later more after a b c
-sound_answered s t writes message at call calls later ready more used after a b c is lt whole left ready_is some used_is h =
+sound_answered s t writes named message at call calls later ready more used after a b c is lt whole left ready_is some used_is h =
     let q : SendQueue = with_fpdus writes s.send_queue in
     let count : length later + 1 ≡ length calls = ap (λ (xs : List Pending). length xs + 1) left ∙ length_removed calls at lt in
     let ready_count : length more + 1 ≡ length ready = ap (λ (xs : List Ready). length xs + 1) ready_is ∙ fewer ready some in
     let used_count : length after ≡ length used + 1 = ap (λ (xs : List (List ℕ)). length xs) used_is ∙ length-append used (call.buf ∷ []) in
     let ends : length t.send_queue.send_ends ≡ unsent s + 1 =
-    ap (λ (x : LinkState). length x.send_queue.send_ends) is ∙ length-append s.send_queue.send_ends (length (q.fpdus ++ send_output q message) ∷ []) in
+    ap (λ (x : LinkState). length x.send_queue.send_ends) is ∙ length-append s.send_queue.send_ends (length (q.fpdus ++ send_output q named message) ∷ []) in
     record {
       unsent_is = omega (arith, used_count, ends, h.unsent_is);
       lent = omega (arith, used_count, count, h.lent, ap (λ (x : LinkState). x.receive_queue.lent) is);

@@ -1,5 +1,5 @@
 -- What a responder keeps stays within its bounds at each of its steps.
-use Rattle.std.proofs.Common.{◌≡◌, ◌≢◌, ℕ, zero, suc, ◌+◌, ◌*◌, ◌≤◌, Bool, true, false, not, ◌||◌, eqb, List, [], ◌∷◌, ◌++◌, length, map, drop, None, Some, refl, sym, ap, subst, ◌∙◌, arith, inl, inr}
+use Rattle.std.proofs.Common.{◌≡◌, ◌≢◌, ℕ, zero, suc, ◌+◌, ◌*◌, ◌≤◌, Bool, true, false, not, ◌||◌, eqb, List, [], ◌∷◌, ◌++◌, length, map, drop, None, Some, refl, sym, ap, subst, ◌∙◌, arith, inl, inr, Option}
 use Rattle.std.specs.Prelude.{◌⊎◌, slice_get, Result, Ok, Err, IfOk, OnErr}
 use Rattle.std.specs.List.{AllByRecursion, list_any, remove}
 use Rattle.std.proofs.lemmas.Bool.{eqb-true, eq-eqb}
@@ -24,7 +24,7 @@ use Rattle.nr_reduce.specs.Served.{IsExecuted}
 use Rattle.nr_reduce.specs.ServerState.{PendingCall, PendingRead, ServerState}
 use Rattle.nr_reduce.specs.ServerReads.{is_read}
 use Rattle.nr_responder.specs.declared.call.Sent.{Sent}
-use Rattle.nr_responder.specs.Answering.{Answers, answer_to, answered_by, message_for}
+use Rattle.nr_responder.specs.Answering.{Answers, answer_to, answered_by, message_for, name_for}
 use Rattle.nr_responder.specs.HeldBytes.{sinks_total, IsOfPending, IsBounded, KeptFits, ListsFit, OutputFits, RegionsHave, SharesFit, SinksFit, held_unit, ReceivesFit}
 use Rattle.nr_responder.specs.Keeping.{Keeps}
 use Rattle.nr_responder.specs.ResponderState.{ResponderSide, ResponderState, after_drain, bytes_held_by, end_of, opened_side, present_word, unsent}
@@ -179,11 +179,14 @@ answered_fits opened link run v after xid reply sent stands live first on fit a 
     message : List ℕ
     message = message_for xid (present_word v) a.call.lists (answer_to v.link.state.agreed.down a.call a.stream reply)
 
-    w : ResponderSide
-    w = answered_by a.at a.writes message v
+    named : Option ℕ
+    named = name_for v.link.state.agreed.invalidates a.call.lists (answer_to v.link.state.agreed.down a.call a.stream reply)
 
-    link_is : after_calls v.link (answer_calls a.writes message) ≡ record { awaited = v.link.awaited; rest = v.link.rest; state = with_answer v.link.state (writes_output a.writes) message }
-    link_is = answer_link v.link a.writes message live
+    w : ResponderSide
+    w = answered_by a.at a.writes named message v
+
+    link_is : after_calls v.link (answer_calls a.writes named message) ≡ record { awaited = v.link.awaited; rest = v.link.rest; state = with_answer v.link.state (writes_output a.writes) named message }
+    link_is = answer_link v.link a.writes named message live
 
     f : SharesFit v
     f = fit.each live

@@ -7,7 +7,6 @@ use Rattle.nr_wire.specs.declared.stream.Awaited.{Awaited}
 use Rattle.nr_wire.specs.declared.stream.Awaited.TheVariants.{Hello as HelloFrom, Fpdu}
 use Rattle.nr_wire.specs.Constants.{OPCODE_SEND}
 use Rattle.nr_wire.specs.Hello.{Hello, hello_of}
-use Rattle.nr_wire.specs.Segment.{segment_of}
 use Rattle.nr_wire.specs.Segment.Segment.{Untagged}
 use Rattle.nr_link.specs.declared.end.End.{End}
 use Rattle.nr_link.specs.declared.end.End.TheVariants as ends
@@ -15,7 +14,7 @@ use Rattle.nr_link.specs.Frames.{Frame, is_hello}
 use Rattle.nr_link.specs.Input.{InputState}
 use Rattle.nr_link.specs.ReceiveState.{ReceiveState}
 use Rattle.nr_reduce.specs.Hellos.{server_hello}
-use Rattle.nr_link.specs.Ending.{frame_end, hello_end}
+use Rattle.nr_link.specs.Ending.{segment_taken, frame_end, hello_end}
 use Rattle.nr_endpoint.specs.ReceiveQueue.{DeliveredEvent}
 use Rattle.nr_endpoint.specs.ReceiveQueue.DeliveredEvent.{MessageReceived}
 use Rattle.nr_endpoint.specs.SendQueue.{with_hello}
@@ -120,12 +119,12 @@ abbrev pub link_behind : LinkSide → List ℕ → LinkSide
 link_behind l frame = record { awaited = Fpdu; rest = []; state = with_frame l.state l.awaited frame }
 
 message_takes : (opened : LinkParameters) (k : ServerState) (so_far : InputState) (v after : ResponderSide) (frame : List ℕ) (w queue_number msn offset : ℕ) (payload : List ℕ) → Keeps opened k so_far v → 0 < v.link.state.place → v.link.awaited ≡ Fpdu → 0 < length frame →
-    segment_of frame ≡ Ok (Untagged true OPCODE_SEND w queue_number msn offset payload) → (with_frame v.link.state Fpdu frame).ended ≡ None →
+    segment_taken false frame ≡ Ok (Untagged true OPCODE_SEND w queue_number msn offset payload) → (with_frame v.link.state Fpdu frame).ended ≡ None →
     Handled k (whole_message v.link.state payload) (on_link v (record { awaited = Fpdu; rest = []; state = with_frame v.link.state Fpdu frame })) after →
     TakesFrame opened k (behind so_far frame) (next_frame v.link.state frame) v after
 message_takes opened k so_far v after frame w queue_number msn offset payload h some awaited long reads lives (Stopped reason refusal other is) =
     let s : LinkState = v.link.state in
-    let framed_is = (frame_lives s frame (Untagged true OPCODE_SEND w queue_number msn offset payload) reads lives).1 in
+    let framed_is = (frame_lives s frame (Untagged true OPCODE_SEND w queue_number msn offset payload) h.link.side reads lives).1 in
     let told_state = told_framed opened k s frame w queue_number msn offset payload h.link framed_is in
     let last : (told_link s frame).last ≡ s.place = ap (λ (t : LinkState). t.last) told_state in
     let live_now : (told_link s frame).ended ≡ None = lives in
@@ -166,14 +165,14 @@ send_takes opened k so_far v after frame h some awaited long lives handled send 
 
     by : (b : Bool) → send.last ≡ b → TakesFrame opened k (behind so_far frame) (next_frame s frame) v after
     by false is =
-        let reads : segment_of frame ≡ Ok (Untagged false OPCODE_SEND send.w send.queue_number send.msn send.offset send.payload) = send.reads ∙ ap (λ (b : Bool). Ok (Untagged b OPCODE_SEND send.w send.queue_number send.msn send.offset send.payload)) is in
-        let state = (frame_lives s frame (Untagged false OPCODE_SEND send.w send.queue_number send.msn send.offset send.payload) reads lives).1 ∙ part_framed s frame send.w send.queue_number send.msn send.offset send.payload in
+        let reads : segment_taken false frame ≡ Ok (Untagged false OPCODE_SEND send.w send.queue_number send.msn send.offset send.payload) = send.reads ∙ ap (λ (b : Bool). Ok (Untagged b OPCODE_SEND send.w send.queue_number send.msn send.offset send.payload)) is in
+        let state = (frame_lives s frame (Untagged false OPCODE_SEND send.w send.queue_number send.msn send.offset send.payload) h.link.side reads lives).1 ∙ part_framed s frame send.w send.queue_number send.msn send.offset send.payload in
         let none : (with_frame s Fpdu frame).receive_queue.deliveries ≡ [] = ap (λ (t : LinkState). t.receive_queue.deliveries) state ∙ append-nil s.receive_queue.deliveries ∙ h.link.told in
         subst (λ (x : ResponderSide). TakesFrame opened k (behind so_far frame) (next_frame s frame) v x) (sym (handled.none none))
         (part_takes opened k so_far v frame send.w send.queue_number send.msn send.offset send.payload h some long reads lives)
     by true is =
-        let reads : segment_of frame ≡ Ok (Untagged true OPCODE_SEND send.w send.queue_number send.msn send.offset send.payload) = send.reads ∙ ap (λ (b : Bool). Ok (Untagged b OPCODE_SEND send.w send.queue_number send.msn send.offset send.payload)) is in
-        let state = (frame_lives s frame (Untagged true OPCODE_SEND send.w send.queue_number send.msn send.offset send.payload) reads lives).1 ∙ last_framed s frame send.w send.queue_number send.msn send.offset send.payload in
+        let reads : segment_taken false frame ≡ Ok (Untagged true OPCODE_SEND send.w send.queue_number send.msn send.offset send.payload) = send.reads ∙ ap (λ (b : Bool). Ok (Untagged b OPCODE_SEND send.w send.queue_number send.msn send.offset send.payload)) is in
+        let state = (frame_lives s frame (Untagged true OPCODE_SEND send.w send.queue_number send.msn send.offset send.payload) h.link.side reads lives).1 ∙ last_framed s frame send.w send.queue_number send.msn send.offset send.payload in
         let one : (with_frame s Fpdu frame).receive_queue.deliveries ≡ MessageReceived (s.receive_queue.received.sends + 1) None (whole_message s send.payload) ∷ [] =
         ap (λ (t : LinkState). t.receive_queue.deliveries) state ∙ ap (λ (deliveries : List DeliveredEvent). deliveries ++ MessageReceived (s.receive_queue.received.sends + 1) None (whole_message s send.payload) ∷ []) h.link.told in
         message_takes opened k so_far v after frame send.w send.queue_number send.msn send.offset send.payload h some awaited long reads lives (handled.some (s.receive_queue.received.sends + 1) None (whole_message s send.payload) one (ap (λ (r : ReceiveState). r.sends + 1) h.link.received))

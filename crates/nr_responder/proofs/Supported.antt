@@ -1,8 +1,10 @@
 -- The opcode of a segment that is read is supported.
-use Rattle.std.proofs.Common.{◌≡◌, ℕ, Bool, true, false, not, ◌||◌, eqb, ltb, cond, List, Option, Some, None, Ok, refl, sym, ap, subst, ◌∙◌}
+use Rattle.std.proofs.Common.{◌≡◌, ℕ, Bool, true, false, not, ◌||◌, ◌&&◌, eqb, ltb, cond, List, Option, Some, None, Result, Ok, Err, refl, sym, ap, subst, ◌∙◌}
 use Rattle.nr_wire.specs.Hello.{value_unless}
 use Rattle.nr_wire.specs.Segment.{Segment, segment_of, frame_reason, segment_by_form, flaw_by, ddp_header_len, is_supported, is_tagged, is_tagged_opcode, is_untagged_opcode, is_of_other_form, opcode_of, queue_of, ddp_version, rdmap_version, ulpdu_len}
 use Rattle.nr_wire.specs.Segment.Segment.{Untagged}
+use Rattle.nr_wire.specs.Constants.{OPCODE_SEND_INVALIDATE, REASON_OPCODE}
+use Rattle.nr_link.specs.Ending.{is_not_taken, segment_taken}
 
 if_none_lem : (b : Bool) (r : ℕ) (o : Option ℕ) → cond b (Some r) o ≡ None → (b ≡ false) × (o ≡ None)
 if_none_lem true r o is = absurd cc
@@ -29,22 +31,36 @@ value_is_lem : (o : Option ℕ) (value segment : Segment) → value_unless o val
 value_is_lem None value segment is = (refl, (let h : value ≡ segment = cc in h))
 value_is_lem (Some reason) value segment is = absurd cc
 
--- an untagged segment has an untagged opcode
+-- an untagged segment has an untagged opcode, and isn't of a Send with Invalidate
 pub record IsSupportedBy (segment : Segment) : Type 0 where
   pub untagged : (last : Bool) (opcode w queue msn offset : ℕ) (payload : List ℕ) → segment ≡ Untagged last opcode w queue msn offset payload → is_untagged_opcode opcode ≡ true
+  pub plain : (last : Bool) (opcode w queue msn offset : ℕ) (payload : List ℕ) → segment ≡ Untagged last opcode w queue msn offset payload → eqb opcode OPCODE_SEND_INVALIDATE ≡ false
 
-by_form : (tagged : Bool) (frame : List ℕ) → is_supported (opcode_of frame) ≡ true → is_of_other_form tagged (opcode_of frame) ≡ false → IsSupportedBy (segment_by_form tagged frame)
-by_form true frame supported form = record { untagged = λ last opcode w queue msn offset payload is. absurd cc }
-by_form false frame supported form = record {
+by_form : (tagged : Bool) (frame : List ℕ) → is_supported (opcode_of frame) ≡ true → is_of_other_form tagged (opcode_of frame) ≡ false → eqb (opcode_of frame) OPCODE_SEND_INVALIDATE ≡ false → IsSupportedBy (segment_by_form tagged frame)
+by_form true frame supported form other = record { untagged = λ last opcode w queue msn offset payload is. absurd cc; plain = λ last opcode w queue msn offset payload is. absurd cc }
+by_form false frame supported form other = record {
   untagged = λ last opcode w queue msn offset payload is.
       let same : opcode_of frame ≡ opcode = cc in
       ap is_untagged_opcode (sym same) ∙ untagged_of (is_tagged_opcode (opcode_of frame)) (is_untagged_opcode (opcode_of frame)) supported form;
+  plain = λ last opcode w queue msn offset payload is.
+      let same : opcode_of frame ≡ opcode = cc in
+      ap (λ (n : ℕ). eqb n OPCODE_SEND_INVALIDATE) (sym same) ∙ other;
 }
 
-pub supported : (frame : List ℕ) (segment : Segment) → segment_of frame ≡ Ok segment → IsSupportedBy segment
-unfolding segment_of frame_reason
+taken_parts : (b : Bool) (r : Result Segment ℕ) (segment : Segment) → cond b (Err REASON_OPCODE) r ≡ Ok segment → (b ≡ false) × (r ≡ Ok segment)
+taken_parts true r segment is = absurd cc
+taken_parts false r segment is = (refl, is)
+
+not_four : (b : Bool) → (b && true) ≡ false → b ≡ false
+not_four true is = absurd cc
+not_four false is = refl
+
+pub supported : (frame : List ℕ) (segment : Segment) → segment_taken false frame ≡ Ok segment → IsSupportedBy segment
+unfolding segment_taken segment_of frame_reason
 supported frame segment is =
+    let taken = taken_parts (is_not_taken false frame (segment_of frame)) (segment_of frame) segment is in
+    let other : eqb (opcode_of frame) OPCODE_SEND_INVALIDATE ≡ false = not_four (eqb (opcode_of frame) OPCODE_SEND_INVALIDATE) (ap (is_not_taken false frame) (sym taken.1) ∙ taken.0) in
     let v : (flaw_by (ulpdu_len frame) (is_tagged frame) (ddp_version frame) (rdmap_version frame) (opcode_of frame) (queue_of frame) ≡ None) × (segment_by_form (is_tagged frame) frame ≡ segment) =
-    value_is_lem (flaw_by (ulpdu_len frame) (is_tagged frame) (ddp_version frame) (rdmap_version frame) (opcode_of frame) (queue_of frame)) (segment_by_form (is_tagged frame) frame) segment is in
+    value_is_lem (flaw_by (ulpdu_len frame) (is_tagged frame) (ddp_version frame) (rdmap_version frame) (opcode_of frame) (queue_of frame)) (segment_by_form (is_tagged frame) frame) segment taken.1 in
     let fine : (is_supported (opcode_of frame) ≡ true) × (is_of_other_form (is_tagged frame) (opcode_of frame) ≡ false) = no_reason (ulpdu_len frame) (is_tagged frame) (ddp_version frame) (rdmap_version frame) (opcode_of frame) (queue_of frame) v.0 in
-    subst IsSupportedBy v.1 (by_form (is_tagged frame) frame fine.0 fine.1)
+    subst IsSupportedBy v.1 (by_form (is_tagged frame) frame fine.0 fine.1 other)

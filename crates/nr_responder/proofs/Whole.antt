@@ -9,7 +9,7 @@ use Rattle.nr_wire.specs.Constants.{OPCODE_SEND}
 use Rattle.nr_wire.specs.Hello.{hello_of}
 use Rattle.nr_wire.specs.declared.hello.Side.{Side}
 use Rattle.nr_wire.specs.declared.hello.Side.TheVariants.{Initiator, Responder}
-use Rattle.nr_wire.specs.Segment.{Segment, segment_of}
+use Rattle.nr_wire.specs.Segment.{Segment}
 use Rattle.nr_wire.specs.Segment.Segment.{Untagged}
 use Rattle.nr_header.specs.declared.header.RdmaSegment.{RdmaSegment}
 use Rattle.nr_rpc.specs.declared.head.CallHead.{CallHead}
@@ -26,7 +26,7 @@ use Rattle.nr_link.proofs.BegunSends.{kept_len_lem}
 use Rattle.nr_wire.specs.Constants.{REASON_FLAGS}
 use Rattle.nr_link.specs.Output.{send}
 use Rattle.nr_reduce.specs.Hellos.{server_hello}
-use Rattle.nr_link.specs.Ending.{frame_end, frame_segment, hello_end, last_output}
+use Rattle.nr_link.specs.Ending.{segment_taken, frame_end, frame_segment, hello_end, last_output}
 use Rattle.nr_endpoint.specs.ReceiveQueue.{DeliveredEvent, delivered}
 use Rattle.nr_endpoint.specs.ReceiveQueue.DeliveredEvent.{MessageReceived}
 use Rattle.nr_endpoint.specs.SegmentEnds.{SendIsFine, send_len}
@@ -100,14 +100,14 @@ begun_behind l s (BeforeHello place awaited hello none) some same later = absurd
 begun_behind l s (AfterHello place awaited hello) some same later = AfterHello later refl (same ∙ hello)
 
 pub part_takes : (opened : LinkParameters) (k : ServerState) (input : InputState) (v : ResponderSide) (frame : List ℕ) (w queue_number msn offset : ℕ) (payload : List ℕ) → Keeps opened k input v → 0 < v.link.state.place → 0 < length frame →
-    segment_of frame ≡ Ok (Untagged false OPCODE_SEND w queue_number msn offset payload) → (with_frame v.link.state Fpdu frame).ended ≡ None →
+    segment_taken false frame ≡ Ok (Untagged false OPCODE_SEND w queue_number msn offset payload) → (with_frame v.link.state Fpdu frame).ended ≡ None →
     TakesFrame opened k (behind input frame) (next_frame v.link.state frame) v (on_link v (record { awaited = Fpdu; rest = []; state = with_frame v.link.state Fpdu frame }))
 unfolding frame_segment
 part_takes opened k input v frame w queue_number msn offset payload h behind_hello some is lives =
     let s : LinkState = v.link.state in
     let f : Frame = next_frame s frame in
     let segment : Segment = Untagged false OPCODE_SEND w queue_number msn offset payload in
-    let both : (segment_end s f segment ≡ None) × (with_frame s Fpdu frame ≡ framed s frame segment) = frame_lives s frame segment is lives in
+    let both : (segment_end s f segment ≡ None) × (with_frame s Fpdu frame ≡ framed s frame segment) = frame_lives s frame segment h.link.side is lives in
     let fine : SendIsFine s false payload = (alive_send s f false OPCODE_SEND w queue_number msn offset payload refl refl (λ e. omega (arith, e)) both.0).1 in
     let later : is_hello f ≡ false = later_frame s.place behind_hello in
     let effect : frame_effect k f ≡ no_effect k = effect_is k f false OPCODE_SEND w queue_number msn offset payload is in
@@ -173,7 +173,7 @@ told_framed opened k s frame w queue_number msn offset payload h is =
 
 pub ready_takes : (opened : LinkParameters) (k : ServerState) (input : InputState) (v : ResponderSide) (frame : List ℕ) (w queue_number msn offset : ℕ) (payload : List ℕ)
     (xid : ℕ) (write : List (List RdmaSegment)) (reply : Option (List RdmaSegment)) (stream : List ℕ) (head : CallHead) → Keeps opened k input v → 0 < v.link.state.place → 0 < length frame →
-    segment_of frame ≡ Ok (Untagged true OPCODE_SEND w queue_number msn offset payload) → (with_frame v.link.state Fpdu frame).ended ≡ None →
+    segment_taken false frame ≡ Ok (Untagged true OPCODE_SEND w queue_number msn offset payload) → (with_frame v.link.state Fpdu frame).ended ≡ None →
     is_pending k xid ≡ false → verdict k (whole_message v.link.state payload) ≡ MakesPending (inline_call k xid write reply stream) → call_of stream ≡ Ok head → call_xid head ≡ xid →
     TakesFrame opened k (behind input frame) (next_frame v.link.state frame) v (with_ready v (record { awaited = Fpdu; rest = []; state = told_link v.link.state frame }) (inline_call k xid write reply stream))
 unfolding frame_segment
@@ -184,7 +184,7 @@ ready_takes opened k input v frame w queue_number msn offset payload xid write r
     let segment : Segment = Untagged true OPCODE_SEND w queue_number msn offset payload in
     let received : ReceiveState = record { sends = k.received.sends + 1; begun = None; requests = k.received.requests } in
     let k' : ServerState = with_inline_call k received c stream in
-    let both : (segment_end s f segment ≡ None) × (with_frame s Fpdu frame ≡ framed s frame segment) = frame_lives s frame segment is lives in
+    let both : (segment_end s f segment ≡ None) × (with_frame s Fpdu frame ≡ framed s frame segment) = frame_lives s frame segment h.link.side is lives in
     let fine : SendIsFine s true payload = (alive_send s f true OPCODE_SEND w queue_number msn offset payload refl refl (λ e. omega (arith, e)) both.0).1 in
     let later : is_hello f ≡ false = later_frame s.place behind_hello in
     let message : verdict k (begun_bytes k.received.begun ++ payload) ≡ MakesPending c = ap (verdict k) (sym (same_message opened k s payload h.link (fine.fits refl))) ∙ judged in
@@ -257,8 +257,8 @@ refused_keeps opened k s bytes message h is some =
     let told_h = told_keeps opened k s bytes (record { number = k.received.sends + 1; xid = 0; lists = record { read = []; write = []; reply = None }; inline = None }) [] h is some in
     let more : length (k.calls ++ record { number = k.received.sends + 1; xid = 0; lists = record { read = []; write = []; reply = None }; inline = None } ∷ []) ≡ length k.calls + 1 =
     length-append k.calls (record { number = k.received.sends + 1; xid = 0; lists = record { read = []; write = []; reply = None }; inline = None } ∷ []) in
-    let one : length (s.send_queue.send_ends ++ length (s.send_queue.fpdus ++ send_output s.send_queue message) ∷ []) ≡ unsent s + 1 =
-    length-append s.send_queue.send_ends (length (s.send_queue.fpdus ++ send_output s.send_queue message) ∷ []) in
+    let one : length (s.send_queue.send_ends ++ length (s.send_queue.fpdus ++ send_output s.send_queue None message) ∷ []) ≡ unsent s + 1 =
+    length-append s.send_queue.send_ends (length (s.send_queue.fpdus ++ send_output s.send_queue None message) ∷ []) in
     record {
       live = told_h.live;
       side = told_h.side;
@@ -269,11 +269,13 @@ refused_keeps opened k s bytes message h is some =
       terms = told_h.terms;
       up = told_h.up;
       down = told_h.down;
+      invalidates = told_h.invalidates;
       free = omega (arith, told_h.free, more, one);
       lent = omega (arith, told_h.lent, more, one);
       told = told_h.told;
       reads = told_h.reads;
       memory = told_h.memory;
+      none_dead = told_h.none_dead;
       next = told_h.next;
       queue = sent_has k.written k.due k.messages_queued k.requests_sent k.message_ends message s.send_queue h.queue;
     }
@@ -301,7 +303,7 @@ refused_server k place later message le is =
 
 -- For a message on which the verdict is an error message. `message_effect` makes one of it.
 pub refused_takes : (opened : LinkParameters) (k : ServerState) (input : InputState) (v : ResponderSide) (frame : List ℕ) (w queue_number msn offset : ℕ) (payload message : List ℕ) → Keeps opened k input v → 0 < v.link.state.place → 0 < length frame →
-    segment_of frame ≡ Ok (Untagged true OPCODE_SEND w queue_number msn offset payload) → (with_frame v.link.state Fpdu frame).ended ≡ None →
+    segment_taken false frame ≡ Ok (Untagged true OPCODE_SEND w queue_number msn offset payload) → (with_frame v.link.state Fpdu frame).ended ≡ None →
     by_message k (v.link.state.place + length frame) (Some (whole_message v.link.state payload)) ≡ refused_effect k message →
     TakesFrame opened k (behind input frame) (next_frame v.link.state frame) v (on_link v (record { awaited = Fpdu; rest = []; state = with_message (told_link v.link.state frame) message }))
 unfolding frame_segment
@@ -311,7 +313,7 @@ refused_takes opened k input v frame w queue_number msn offset payload message h
     let segment : Segment = Untagged true OPCODE_SEND w queue_number msn offset payload in
     let received : ReceiveState = record { sends = k.received.sends + 1; begun = None; requests = k.received.requests } in
     let k' : ServerState = with_refused k received message in
-    let both : (segment_end s f segment ≡ None) × (with_frame s Fpdu frame ≡ framed s frame segment) = frame_lives s frame segment is lives in
+    let both : (segment_end s f segment ≡ None) × (with_frame s Fpdu frame ≡ framed s frame segment) = frame_lives s frame segment h.link.side is lives in
     let fine : SendIsFine s true payload = (alive_send s f true OPCODE_SEND w queue_number msn offset payload refl refl (λ e. omega (arith, e)) both.0).1 in
     let later : is_hello f ≡ false = later_frame s.place behind_hello in
     let effect : frame_effect k f ≡ refused_effect k message =
@@ -363,7 +365,7 @@ greeted_link l s (BeforeHello place awaited hello none) some same = absurd (omeg
 greeted_link l s (AfterHello place awaited hello) some same = same ∙ hello
 
 pub stopped_takes : (opened : LinkParameters) (k : ServerState) (input later_input : InputState) (v : ResponderSide) (frame : List ℕ) (w queue_number msn offset : ℕ) (payload : List ℕ) (s' : FrameEffect) (reason : ℕ) → Keeps opened k input v → 0 < v.link.state.place → 0 < length frame →
-    segment_of frame ≡ Ok (Untagged true OPCODE_SEND w queue_number msn offset payload) → (with_frame v.link.state Fpdu frame).ended ≡ None →
+    segment_taken false frame ≡ Ok (Untagged true OPCODE_SEND w queue_number msn offset payload) → (with_frame v.link.state Fpdu frame).ended ≡ None →
     by_message k (v.link.state.place + length frame) (Some (whole_message v.link.state payload)) ≡ s' → s'.refusal ≡ Some reason → 5 ≤ reason →
     TakesFrame opened k later_input (next_frame v.link.state frame) v (on_link v (record { awaited = Fpdu; rest = []; state = with_end_of (ends.Bad v.link.state.place reason) (told_link v.link.state frame) }))
 unfolding frame_segment
@@ -372,7 +374,7 @@ stopped_takes opened k input later_input v frame w queue_number msn offset paylo
     let f : Frame = next_frame s frame in
     let end : End = ends.Bad s.place reason in
     let segment : Segment = Untagged true OPCODE_SEND w queue_number msn offset payload in
-    let both : (segment_end s f segment ≡ None) × (with_frame s Fpdu frame ≡ framed s frame segment) = frame_lives s frame segment is lives in
+    let both : (segment_end s f segment ≡ None) × (with_frame s Fpdu frame ≡ framed s frame segment) = frame_lives s frame segment h.link.side is lives in
     let fine : SendIsFine s true payload = (alive_send s f true OPCODE_SEND w queue_number msn offset payload refl refl (λ e. omega (arith, e)) both.0).1 in
     let later : is_hello f ≡ false = later_frame s.place behind_hello in
     let effect : frame_effect k f ≡ s' =

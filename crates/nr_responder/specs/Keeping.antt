@@ -4,6 +4,7 @@ use Rattle.std.specs.List.{AllByRecursion, list_any, filter}
 use Rattle.nr_wire.specs.declared.hello.Side.TheVariants.{Initiator, Responder}
 use Rattle.nr_wire.specs.declared.stream.Awaited.TheVariants.{Hello as HelloFrom, Fpdu}
 use Rattle.nr_regions.specs.declared.right.Right.TheVariants.{Sink}
+use Rattle.nr_regions.specs.RegisteredMemory.{NoneIsDead}
 use Rattle.nr_link.specs.Input.{InputState}
 use Rattle.nr_link.specs.declared.agreement.Agreement.{Agreement}
 use Rattle.nr_link.specs.Agreement.{IsSendLimit}
@@ -128,11 +129,13 @@ pub record LinkKeeps (opened : LinkParameters) (k : ServerState) (s : LinkState)
   pub terms : s.terms ≡ opened.server
   pub up : s.agreed.up ≡ k.up_max
   pub down : s.agreed.down ≡ k.down_max
+  pub invalidates : s.agreed.invalidates ≡ k.invalidates
   pub free : s.receive_queue.free + (unsent s + length k.calls + one_if (is_begun k.received.begun)) ≡ opened.receives
   pub lent : s.receive_queue.lent ≡ length k.calls + unsent s
   pub told : s.receive_queue.deliveries ≡ []
   pub reads : s.reads ≡ open_responses k.response_bytes (open_reads k)
   pub memory : HoldsRegions k.regions k.accesses_received s.place s.memory
+  pub none_dead : NoneIsDead s.memory
   pub next : s.memory.next ≡ next_stag k
   pub queue : QueueKeeps k s.send_queue
 
@@ -154,6 +157,7 @@ pub record Keeps (opened : LinkParameters) (k : ServerState) (input_now : InputS
 pub record KeepsAgreed (k : ServerState) (agreed : Agreement) : Type 0 where
   pub up : agreed.up ≡ k.up_max
   pub down : agreed.down ≡ k.down_max
+  pub invalidates : agreed.invalidates ≡ k.invalidates
   pub up_limit : IsSendLimit agreed.up
   pub down_limit : IsSendLimit agreed.down
 

@@ -1,6 +1,7 @@
 //! The answer to a call: its message and its RDMA Writes (RFC 8166 sections 3.4.6, 3.5).
 
 ghost use Rattle.std.specs.Prelude.{◌≡◌, ℕ, ◌+◌, ◌≤◌, ◌<◌, ◌^◌, length, drop, take, IfOk, OnOk, OnErr, All, option_map, [], ◌++◌, IfSome, ◌==◌, if◌then◌else◌};
+ghost use Rattle.std.specs.List.{flat_map};
 ghost use Rattle.nr_header.specs.Slices.{lists_of_slices};
 ghost use Rattle.nr_header.specs.WithinLimits.{ListsWithin, SegmentsEnd};
 ghost use Rattle.nr_endpoint.specs.Offering.{FitsRegion, writes_output};
@@ -10,13 +11,16 @@ ghost use Rattle.nr_rpc.specs.Reading.{call_of, target_of};
 ghost use Rattle.nr_reduce.specs.Server.{answer_of_target};
 ghost use Rattle.nr_reduce.specs.Holds.{chunk_error, version_error, writes_into, first_chunk, no_segments};
 ghost use Rattle.nr_reduce.specs.CodeViews.{answer_view};
-ghost use Rattle.nr_responder.specs.Answering.{answer_to, message_for, writes_for, sent_as, Queues};
+ghost use Rattle.nr_reduce.specs.Server.{first_handle, or_handle, read_handle, named_stag};
+ghost use Rattle.nr_responder.specs.Answering.{answer_to, message_for, name_for, writes_for, sent_as, Queues};
 ghost use Rattle.nr_responder.specs.Views.{call_view};
 ghost use Rattle.nr_responder.specs.Sound.{InBuffer};
 
 use crate::call::{Pending, Sent, lists_again};
 use nr_endpoint::{Endpoint, RemoteWrite};
-use nr_header::{Chunk, ListSlices, ListsRoom, RdmaSegment, TransportError, VERSION, write_error};
+use nr_header::{
+    Chunk, ListSlices, ListsRoom, RdmaSegment, ReadSegment, TransportError, VERSION, write_error,
+};
 use nr_reduce::{Answer, answer_for, answer_message};
 use nr_rpc::{CallTarget, call_target};
 use nr_xdr::{Memory, Octets};
@@ -90,6 +94,75 @@ fn sent_as(answer: &Option<Answer<'_>>) -> Sent
             }
         }
         None => Sent::Chunk,
+    }
+}
+
+/// The STag of the first read entry, if there is one.
+fn read_handle(read: &[ReadSegment]) -> Option<u32>
+    ensures { result ≡ read_handle read.now }
+{
+    if read.is_empty() {
+        return None;
+    }
+    Some(read[0].handle)
+}
+
+/// The STag of the first segment of a chunk, if there is one.
+fn first_handle(chunk: &[RdmaSegment]) -> Option<u32>
+    ensures { result ≡ first_handle chunk.now }
+{
+    if chunk.is_empty() {
+        return None;
+    }
+    Some(chunk[0].handle)
+}
+
+/// The STag of the first segment of these chunks, if there is one.
+fn write_handle(chunks: &[Chunk]) -> Option<u32>
+    ensures { result ≡ first_handle (flat_map (λ chunk. chunk) chunks.now) }
+{
+    let mut at = 0;
+    while at < chunks.len() {
+        if let Some(stag) = first_handle(chunks[at].as_slice()) {
+            return Some(stag);
+        }
+        at += 1;
+    }
+    None
+}
+
+/// The STag of the first segment of a reply chunk, if there is one.
+fn reply_handle(reply: Option<&[RdmaSegment]>) -> Option<u32>
+    ensures { result ≡ first_handle (no_segments (option_map (λ chunk. chunk.now) reply.entry)) }
+{
+    match reply {
+        Some(chunk) => first_handle(chunk),
+        None => None,
+    }
+}
+
+/// The STag that a reply with Invalidate names, if these lists have a segment: of the first read entry, else of the first segment of the write
+/// list, else of the first segment of the reply chunk. Which one is own.
+#[tactic(auto, unfolding(nr_reduce::specs::Server::named_stag))]
+fn named_stag(lists: ListSlices<'_>) -> Option<u32>
+    ensures { result ≡ named_stag (lists_of_slices lists.entry) }
+{
+    if let Some(stag) = read_handle(lists.read) {
+        return Some(stag);
+    }
+    if let Some(stag) = write_handle(lists.write) {
+        return Some(stag);
+    }
+    reply_handle(lists.reply)
+}
+
+/// The STag that the Send of an answer names, if Sends with Invalidate are agreed: ERR_CHUNK names none.
+fn name_for(invalidates: bool, lists: ListSlices<'_>, answer: &Option<Answer<'_>>) -> Option<u32>
+    ensures { result ≡ name_for invalidates (lists_of_slices lists.entry) (option_map answer_view answer.now) }
+{
+    match answer {
+        Some(_) => { if invalidates { named_stag(lists) } else { None } }
+        None => None,
     }
 }
 
@@ -219,8 +292,8 @@ fn push_answer<'a>(
     Ok(())
 }
 
-/// Queues the answer to a call with these lists and this payload: its RDMA Writes and its message. `target` is what the payload's head asks
-/// for, if that was read. An `Err` changes nothing: memory ran out.
+/// Queues the answer to a call with these lists and this payload: its RDMA Writes and its message, whose Send names an STag if that is agreed.
+/// `target` is what the payload's head asks for, if that was read. An `Err` changes nothing: memory ran out.
 fn queue_with(
     endpoint: &mut Endpoint,
     alloc: Global,
@@ -243,10 +316,11 @@ fn queue_with(
     let (_, down) = endpoint.agreed();
     let answer = answer_to(lists, target_of(stream, target), reply, down);
     let sent = sent_as(&answer);
+    let named = name_for(endpoint.invalidates(), lists, &answer);
     let message = message_for(alloc, call.xid, credits, lists, answer)?;
     let mut writes = Vec::new(alloc);
     push_answer(&mut writes, lists, answer)?;
-    endpoint.answer(writes.as_slice(), message.as_slice())?;
+    endpoint.answer(writes.as_slice(), named, message.as_slice())?;
     Ok(sent)
 }
 

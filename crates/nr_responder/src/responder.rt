@@ -20,7 +20,7 @@ ghost use Rattle.nr_responder.specs.Answering.{Answers};
 ghost use Rattle.nr_responder.specs.Draining.{Drains};
 ghost use Rattle.nr_link.specs.declared.end.End.TheVariants as ends;
 ghost use Rattle.nr_header.specs.Constants.{PAYLOAD_MAX};
-ghost use Rattle.nr_link.specs.Agreement.{default_terms, sized_terms, IsSendLimit};
+ghost use Rattle.nr_link.specs.Agreement.{default_terms, terms_with, IsSendLimit};
 ghost use Rattle.nr_link.specs.Limits.{open_reads_max};
 ghost use Rattle.nr_link.specs.SegmentFaults.{is_begun};
 ghost use Rattle.nr_regions.specs.RegisteredMemory.{bytes_held};
@@ -77,35 +77,39 @@ impl Responder {
         ensures staging { IfOk result (λ r. length r.staging ≡ FPDU_MAX) }
         ensures stands { IfOk result (λ r. (opened : LinkParameters) (link : ℕ) → ServerOpened opened credits credits default_terms → ResponderRepresents opened link [] r.side) }
     {
-        Responder::open_sized(alloc, credits, 1)
+        Responder::open_sized(alloc, credits, credits, 1, false)
     }
 
-    /// The server end of a link that grants this many credits, until others are set: [`Responder::open_low`].
-    pub fn open_sized(alloc: Global, credits: u32, units: u8) -> Result<Responder, Memory>
-        ensures state { IfOk result (λ r. r.side ≡ opened_side credits credits (sized_terms units)) }
-        ensures live { IfOk result (λ r. end_of r.side ≡ None) }
-        ensures fed { IfOk result (λ r. fed_bytes r.side.link ≡ 0) }
-        ensures staging { IfOk result (λ r. length r.staging ≡ FPDU_MAX) }
-        ensures stands { IfOk result (λ r. (opened : LinkParameters) (link : ℕ) → ServerOpened opened credits credits (sized_terms units) → ResponderRepresents opened link [] r.side) }
-    {
-        Responder::open_low(alloc, credits, credits, units)
-    }
-
-    /// The server end of a link that grants this many credits, and at most `low` in a message that is due while more than half of its receives
+    /// The server end of a link that grants this many credits, until others are set, and at most `low` in a message that is due while more than half of its receives
     /// are in use, as it is before the frame or the answer for which the message is due (RFC 8166 section 3.3). It writes and takes Sends of at
     /// most this many units of 1,024 bytes, from 1 to 16 (0 counts as 1, and more than 16 as 16): if the client's hello says its terms, so does
     /// its own, and the lesser of both is agreed for each direction ([`Responder::agreed`]). Takes the staging buffer, a receive of these units
     /// for each credit, and room for a call of each; not its hello, whose room is taken when the client's is accepted. `Err`: memory ran out,
     /// and nothing was made.
-    pub fn open_low(alloc: Global, credits: u32, low: u32, units: u8) -> Result<Responder, Memory>
-        ensures state { IfOk result (λ r. r.side ≡ opened_side credits low (sized_terms units)) }
+    ///
+    /// If `invalidates`, its hello says that it makes Sends with Invalidate (RFC 5040 section 5.1). If the client's says that it takes them,
+    /// each reply to a call that offers memory is one: it names the first STag of the call's read list, else of its write list, else of its
+    /// reply chunk ([`Responder::invalidates`]).
+    pub fn open_sized(
+        alloc: Global,
+        credits: u32,
+        low: u32,
+        units: u8,
+        invalidates: bool,
+    ) -> Result<Responder, Memory>
+        ensures state { IfOk result (λ r. r.side ≡ opened_side credits low (terms_with units invalidates)) }
         ensures live { IfOk result (λ r. end_of r.side ≡ None) }
         ensures fed { IfOk result (λ r. fed_bytes r.side.link ≡ 0) }
         ensures staging { IfOk result (λ r. length r.staging ≡ FPDU_MAX) }
-        ensures stands { IfOk result (λ r. (opened : LinkParameters) (link : ℕ) → ServerOpened opened credits low (sized_terms units) → ResponderRepresents opened link [] r.side) }
+        ensures stands { IfOk result (λ r. (opened : LinkParameters) (link : ℕ) → ServerOpened opened credits low (terms_with units invalidates) → ResponderRepresents opened link [] r.side) }
     {
+        let terms = SideTerms {
+            units,
+            number: 0,
+            invalidates,
+        };
         Ok(Responder {
-            end: ServerEnd::open(alloc, credits, low, SideTerms::sized(units))?,
+            end: ServerEnd::open(alloc, credits, low, terms)?,
         })
     }
 
@@ -121,6 +125,13 @@ impl Responder {
             (result.0 ≡ (server opened link run).state.up_max) × (result.1 ≡ (server opened link run).state.down_max) }
     {
         self.end.agreed()
+    }
+
+    /// Whether a reply may be a Send with Invalidate (RFC 5040 section 5.1), as the hellos of both sides agree. Takes no memory.
+    pub fn invalidates(&self) -> bool
+        ensures { result ≡ self.now.side.link.state.agreed.invalidates }
+    {
+        self.end.endpoint.invalidates()
     }
 
     /// Takes a piece of the client's stream. `Err` if and only if the side has ended, with why; a side that has ended takes no more.

@@ -1,5 +1,5 @@
 -- The script that is made from a seed: calls of clients, each followed by a move, and a drain in the end. All is own.
-use Rattle.std.specs.Prelude.{ℕ, zero, suc, ◌+◌, ◌*◌, ◌/◌, ◌%◌, ◌==◌, ◌||◌, if◌then◌else◌, List, [], ◌∷◌, ◌++◌, map}
+use Rattle.std.specs.Prelude.{ℕ, false, zero, suc, ◌+◌, ◌*◌, ◌/◌, ◌%◌, ◌==◌, ◌||◌, if◌then◌else◌, List, [], ◌∷◌, ◌++◌, map}
 use Rattle.std.specs.List.{range_with_len}
 use Rattle.nr_xdr.specs.Item.{hyper}
 use Rattle.nr_xdr.specs.Item.Item.{Unsigned, Hyper, Opaque}
@@ -125,6 +125,6 @@ drawn_credits = 8
 -- the script of a seed, of this many clients and calls
 unfoldable pub made_script : ℕ → ℕ → ℕ → ScriptLines
 made_script seed clients calls = record {
-  opening = record { clients = clients; credits = drawn_credits; capacity = default_capacity; client_units = default_units; server_units = default_units };
+  opening = record { clients = clients; credits = drawn_credits; capacity = default_capacity; client_units = default_units; server_units = default_units; invalidates = false };
   lines = drawn_lines clients calls seed;
 }

@@ -55,7 +55,8 @@ ranges members s is =
     let (choices, (at5, same)) = map_some _ (choices_of numbers.credits members) s e4 in
     let (records, (at9, e9)) = and_then_some _ (flag_at (codes "record") members) choices at5 in
     let (units, (at10, e10)) = and_then_some _ (number_or default_units 1 units_max (codes "inline") members) choices e9 in
-    let (fewest, (at11, chosen)) = map_some _ (number_or numbers.credits 1 numbers.credits (codes "low_credits") members) choices e10 in
+    let (fewest, (at11, e11)) = and_then_some _ (number_or numbers.credits 1 numbers.credits (codes "low_credits") members) choices e10 in
+    let (invalidates, (at12, chosen)) = map_some _ (flag_at (codes "invalidate") members) choices e11 in
     let low : choices.low_credits ≤ numbers.credits = rw (← chosen) (number_or_within numbers.credits fewest (codes "low_credits") members (present_at (codes "low_credits") members == 0) at11) in
     let (credits, (at6, e6)) = and_then_some _ (number_at 1 credits_max (codes "credits") members) numbers at3 in
     let (capacity, (at7, e7)) = and_then_some _ (number_at 0 capacity_max (codes "capacity") members) numbers e6 in

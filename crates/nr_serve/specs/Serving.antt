@@ -26,7 +26,7 @@ setup_of settings moment = record {
 
 -- the limits of each connection that a configuration asks for
 abbrev pub limits_of : Settings Text → ConnectionLimits
-limits_of settings = record { credits = settings.credits; low = settings.low_credits; units = settings.units }
+limits_of settings = record { credits = settings.credits; low = settings.low_credits; units = settings.units; invalidates = settings.invalidates }
 
 -- what is known of an acceptor: the addresses at which it listened, its links, and its counts
 pub record AcceptorAt : Type 0 where

@@ -136,6 +136,7 @@ where
             credits: config.credits as u32,
             low: config.low_credits as u32,
             units: config.units,
+            invalidates: config.invalidates,
         },
         config.records,
         config.connections as u32,

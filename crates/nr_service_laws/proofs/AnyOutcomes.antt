@@ -49,8 +49,9 @@ use Rattle.nr_client.specs.Requests.{create_result, getattr_call, getattr_result
 use Rattle.nr_client.specs.Results.{mount_done, nfs_done, result_by_head, result_by_reading, result_of_outcome, results_in, results_or}
 use Rattle.nr_client.specs.Walking.{object_in, object_result}
 use Rattle.nr_client.specs.Writing.{checked_write, create_call, created_file, created_handle, handle_or, write_call, write_result}
-use Rattle.nr_link.specs.Agreement.{default_terms, sized_terms}
-use Rattle.nr_commands.specs.Running.{Opens, Prints as PrintsAll}
+use Rattle.nr_link.specs.Agreement.{default_terms}
+use Rattle.nr_link.specs.declared.agreement.SideTerms.{SideTerms}
+use Rattle.nr_commands.specs.Running.{Opens, Prints as PrintsAll, terms_of}
 use Rattle.nr_commands.specs.Sessions.{SessionAt}
 use Rattle.nr_service_laws.specs.CommandEnds.{IsReplyOutcome}
 use Rattle.nr_service_laws.specs.Exchanges.{Exchange, tells_text}
@@ -366,15 +367,15 @@ all_answered all reads (HandedOver xid outcome ∷ rest) later has =
     ((λ call is. later xid call outcome is (inl (refl, refl))), all_answered all reads rest (λ number c o is handed. later number c o is (inr handed)) has)
 all_answered all reads (GivenUp xid ∷ rest) later has = all_answered all reads rest later has
 
-some_parameters : (units : ℕ) → LinkParameters
-some_parameters units = record { first_xid = 1; first_stag = 1; wished = 16; granted = 1; low = 1; receives = 1; client = sized_terms units; server = default_terms }
+some_parameters : (terms : SideTerms) → LinkParameters
+some_parameters terms = record { first_xid = 1; first_stag = 1; wished = 16; granted = 1; low = 1; receives = 1; client = terms; server = default_terms }
 
-some_opened : (units : ℕ) → IsOpened (some_parameters units)
+some_opened : (terms : SideTerms) → IsOpened (some_parameters terms)
 unfolding some_parameters
-some_opened units = record { xid = omega arith; xid_fits = omega arith; stag = omega arith; stag_fits = omega arith; wished = omega arith; wished_fits = omega arith; granted = omega arith; granted_fits = omega arith; receives = omega arith }
+some_opened terms = record { xid = omega arith; xid_fits = omega arith; stag = omega arith; stag_fits = omega arith; wished = omega arith; wished_fits = omega arith; granted = omega arith; granted_fits = omega arith; receives = omega arith }
 
 -- what a command gives that opened a session
-pub given_by_peer : (c : Client Text) (before dialed : DialerAt) (s s' : SessionAt) (input input' : SourceAt) (out out' : SinkAt) (result : Result (Unit {0}) ClientEnd) → Opens c.addr c.units before dialed s
+pub given_by_peer : (c : Client Text) (before dialed : DialerAt) (s s' : SessionAt) (input input' : SourceAt) (out out' : SinkAt) (result : Result (Unit {0}) ClientEnd) → Opens c.addr (terms_of c) before dialed s
     → (prints : PrintsAll c s s' input input' out out' result)
     → GivenIs Any (PeerEnd c input (tells_text c.uid c.gid c.export c.action input input' out prints.written s s' prints.text prints.made).made (Rises input.faults input'.faults) (Rises out.faults out'.faults)) result
     s'.bytes s'.requester
@@ -383,5 +384,5 @@ given_by_peer c before dialed s s' input input' out out' result opens prints =
     let made = (tells_text c.uid c.gid c.export c.action input input' out prints.written s s' prints.text prints.made).made in
     let I = Rises input.faults input'.faults in
     let O = Rises out.faults out'.faults in
-    opened_is (IsAnsweredBy made) Any (PeerEnd c input made I O) c before dialed s s' input input' out out' result opens prints (some_parameters c.units) 0
-    (peer_judgement c input made I O) (words_give c input made I O) (λ rose. rose) (λ rose. rose) (some_opened c.units) refl refl (refl, refl) (all_answered (IsAnsweredBy made) [] made (λ xid call o is handed. absurd is) (λ call o is. is))
+    opened_is (IsAnsweredBy made) Any (PeerEnd c input made I O) c before dialed s s' input input' out out' result opens prints (some_parameters (terms_of c)) 0
+    (peer_judgement c input made I O) (words_give c input made I O) (λ rose. rose) (λ rose. rose) (some_opened (terms_of c)) refl refl (refl, refl) (all_answered (IsAnsweredBy made) [] made (λ xid call o is handed. absurd is) (λ call o is. is))

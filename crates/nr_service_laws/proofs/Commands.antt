@@ -20,7 +20,8 @@ use Rattle.nr_client.specs.Requests.{create_result, getattr_call, getattr_result
 use Rattle.nr_client.proofs.CallsMade.{end_in}
 use Rattle.nr_commands.specs.Commands.{Finds, FindsParent, Gets, Lists, MakesDirectory, MakesSymlink, Mounts, MountsAndPrints, Puts, ReadsLink, Removes, Stats, Symlinks}
 use Rattle.nr_commands.specs.Printed.{attributes_text, handle_text, names_text, path_text}
-use Rattle.nr_commands.specs.Running.{Closes, IsPrinted, Opens, text_of}
+use Rattle.nr_link.specs.declared.agreement.SideTerms.{SideTerms}
+use Rattle.nr_commands.specs.Running.{Closes, IsPrinted, Opens, terms_of, text_of}
 use Rattle.nr_commands.specs.Running.Runs.{NotOpened, Opened}
 use Rattle.nr_commands.specs.Sessions.{Request, Requests, SessionAt, Text as Prints, Then}
 use Rattle.nr_service_laws.specs.CommandRuns.{CommandsHaveARun, IsCommandRun}
@@ -147,10 +148,10 @@ asked_of : {A : Type 0} (result : Result A ClientEnd) (opened : LinkParameters) 
 asked_of result opened link h ahead run (inl (live, fed)) = (live.asked, live.granted)
 asked_of result opened link h ahead run (inr (is, out)) = (out.asked, out.granted)
 
-is_run : (opened : LinkParameters) (link : ℕ) (s s' : SessionAt) (addr : List ℕ) (units : ℕ) (before dialed after : DialerAt) (result : Result (Unit {0}) ClientEnd) (exchanges : Exchanges)
-    → (opens : Opens addr units before dialed s) → Closes opens.number s' dialed after → Does result opened link [] s.bytes s'.bytes s'.requester exchanges
+is_run : (opened : LinkParameters) (link : ℕ) (s s' : SessionAt) (addr : List ℕ) (terms : SideTerms) (before dialed after : DialerAt) (result : Result (Unit {0}) ClientEnd) (exchanges : Exchanges)
+    → (opens : Opens addr terms before dialed s) → Closes opens.number s' dialed after → Does result opened link [] s.bytes s'.bytes s'.requester exchanges
     → IsCommandRun opened link s s' dialed.ended after.ended result exchanges
-is_run opened link s s' addr units before dialed after result exchanges opens closes done =
+is_run opened link s s' addr terms before dialed after result exchanges opens closes done =
     let laws = asked_of result opened link s'.requester done.ahead done.more done.stands in
     record {
       run = done.more;
@@ -176,7 +177,7 @@ is_run opened link s s' addr units before dialed after result exchanges opens cl
     }
 
 pub sessions_begin_lem : SessionsBegin
-sessions_begin_lem addr units before after s opened link opens xid stag wished = record { stands = opens.stands opened link xid stag wished; asked = tt; granted = tt }
+sessions_begin_lem addr terms before after s opened link opens xid stag wished = record { stands = opens.stands opened link xid stag wished; asked = tt; granted = tt }
 
 pub commands_have_a_run_lem : CommandsHaveARun
 commands_have_a_run_lem c before after input input' out out' result (NotOpened end is fails same_input same_out) opened link fine xid stag wished = tt
@@ -185,4 +186,4 @@ commands_have_a_run_lem c before after input input' out out' result (Opened dial
     let has = has_text_of c.uid c.gid c.export c.action input input' out prints.written s s' prints.text prints.made in
     let does = does_as {A = List ℕ} {B = Unit {0}} prints.text result s.bytes s'.bytes s.requester s'.requester exchanges
     (λ end is. printed_end prints.text result prints.written out' end prints.prints is) has in
-    is_run opened link s s' c.addr c.units before dialed after result exchanges opens closes (does opened link [] fine (sessions_begin_lem c.addr c.units before dialed s opened link opens xid stag wished))
+    is_run opened link s s' c.addr (terms_of c) before dialed after result exchanges opens closes (does opened link [] fine (sessions_begin_lem c.addr (terms_of c) before dialed s opened link opens xid stag wished))

@@ -13,7 +13,6 @@ use Rattle.nr_words.specs.declared.commands.Client.{Client}
 use Rattle.nr_reduce.specs.declared.call.Call.{Call}
 use Rattle.nr_reduce.specs.declared.call.Outcome.{Outcome}
 use Rattle.nr_reduce.specs.declared.mark.LinkParameters.{LinkParameters}
-use Rattle.nr_link.specs.Agreement.{sized_terms}
 use Rattle.nr_reduce.specs.Opening.{IsOpened, ClientOpened}
 use Rattle.nr_client.specs.declared.client_end.ClientEnd.{ClientEnd}
 use Rattle.nr_client.specs.declared.client_end.ClientEnd.TheVariants as client
@@ -24,7 +23,7 @@ use Rattle.nr_client.specs.Reading.{OutputFaults}
 use Rattle.nr_client.specs.Requests.{create_result, getattr_call, getattr_result, mkdir_call, readlink_call, readlink_result, remove_call, remove_result}
 use Rattle.nr_commands.specs.Commands.{Finds, FindsParent, Gets, IsSilent, Lists, MakesDirectory, MakesSymlink, Mounts, MountsAndPrints, Puts, ReadsLink, Removes, Stats, Symlinks}
 use Rattle.nr_commands.specs.Printed.{attributes_text, handle_text, names_text, path_text}
-use Rattle.nr_commands.specs.Running.{IsPrinted, Opens, Prints as PrintsAll, text_of}
+use Rattle.nr_commands.specs.Running.{IsPrinted, Opens, Prints as PrintsAll, terms_of, text_of}
 use Rattle.nr_commands.specs.Sessions.{Request, Requests, SessionAt, Text as Prints, Then}
 use Rattle.nr_service_laws.specs.Exchanges.{tells_finds, tells_finds_parent, tells_get, tells_list, tells_make_directory, tells_make_symlink, tells_mount, tells_mounts, tells_none, tells_put, tells_read_link, tells_reads_out, tells_remove, tells_request, tells_requests, tells_stat, tells_symlinks, tells_text, tells_then, tells_writes_in}
 use Rattle.nr_service_laws.proofs.Commands.{sessions_begin_lem}
@@ -189,8 +188,8 @@ output_kept uid gid export (actions.Get path) input input' out out' s s' text is
 
 -- what a command gives that opened a session
 pub opened_is : (R : Call → Outcome → Type 0) (V : List ℕ → Type 0) (F : ClientEnd → Type 0) (c : Client Text) (before dialed : DialerAt) (s s' : SessionAt) (input input' : SourceAt) (out out' : SinkAt) (result : Result (Unit {0}) ClientEnd)
-    (opens : Opens c.addr c.units before dialed s) (prints : PrintsAll c s s' input input' out out' result) (opened : LinkParameters) (link : ℕ) → Judgement R V F c.uid c.gid → WordsGive F c.export c.action input → (Rises input.faults input'.faults → F client.InputFault)
-    → (Rises out.faults out'.faults → F client.OutputFault) → IsOpened opened → opened.first_xid ≡ 1 → opened.first_stag ≡ 1 → ClientOpened opened session_credits (sized_terms c.units)
+    (opens : Opens c.addr (terms_of c) before dialed s) (prints : PrintsAll c s s' input input' out out' result) (opened : LinkParameters) (link : ℕ) → Judgement R V F c.uid c.gid → WordsGive F c.export c.action input → (Rises input.faults input'.faults → F client.InputFault)
+    → (Rises out.faults out'.faults → F client.OutputFault) → IsOpened opened → opened.first_xid ≡ 1 → opened.first_stag ≡ 1 → ClientOpened opened session_credits (terms_of c)
     → AreJudged R [] (tells_text c.uid c.gid c.export c.action input input' out prints.written s s' prints.text prints.made).made → GivenIs Any F result s'.bytes s'.requester
 opened_is R V F c before dialed s s' input input' out out' result opens prints opened link judge give input_fault output_fault fine xid stag wished are = by prints.text result prints.made prints.prints are
   where
@@ -203,4 +202,4 @@ opened_is R V F c before dialed s s' input input' out out' result opens prints o
     by (Err why) (Err end) made (same, kept) judged =
         subst (λ (e : ClientEnd). EndsAs F e s'.bytes s'.requester) (sym same)
         (command_is R V F c.uid c.gid judge c.export c.action input input' out prints.written give input_fault (λ rose. output_fault (subst (λ (o : SinkAt). Rises out.faults o.faults) (sym kept) rose)) s s' (Err why) made [] opened
-        link [] fine (sessions_begin_lem c.addr c.units before dialed s opened link opens xid stag wished) judged)
+        link [] fine (sessions_begin_lem c.addr (terms_of c) before dialed s opened link opens xid stag wished) judged)

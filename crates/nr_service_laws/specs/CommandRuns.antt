@@ -12,14 +12,13 @@ use Rattle.nr_reduce.specs.declared.mark.Mark.{Mark}
 use Rattle.nr_reduce.specs.Asked.{AskedSoFar}
 use Rattle.nr_reduce.specs.Credits.{KeepsGrant}
 use Rattle.nr_reduce.specs.History.{AcceptedCall, CompletedCall, accepted_calls, bytes_received, bytes_sent, completed_calls}
-use Rattle.nr_link.specs.Agreement.{sized_terms}
 use Rattle.nr_reduce.specs.Opening.{IsOpened, ClientOpened}
 use Rattle.nr_words.specs.Lines.{Text}
 use Rattle.nr_words.specs.declared.commands.Client.{Client}
 use Rattle.nr_client.specs.declared.client_end.ClientEnd.{ClientEnd}
 use Rattle.nr_client.specs.Dialing.{DialerAt, session_credits}
 use Rattle.nr_client.specs.Steps.{WritesFirst}
-use Rattle.nr_commands.specs.Running.{Runs}
+use Rattle.nr_commands.specs.Running.{Runs, terms_of}
 use Rattle.nr_commands.specs.Running.Runs.{NotOpened, Opened}
 use Rattle.nr_commands.specs.Sessions.{SessionAt}
 use Rattle.nr_service_laws.specs.Exchanges.{Exchanges, calls_in, outcomes_in, tells_text}
@@ -79,5 +78,5 @@ abbrev pub CommandsHaveARun : Type 0
 CommandsHaveARun =
     (c : Client Text) (before after : DialerAt) (input input' : SourceAt) (out out' : SinkAt) (result : Result (Unit {0}) ClientEnd)
     (runs : Runs c before after input input' out out' result) (opened : LinkParameters) (link : ℕ) →
-    IsOpened opened → opened.first_xid ≡ 1 → opened.first_stag ≡ 1 → ClientOpened opened session_credits (sized_terms c.units) →
+    IsOpened opened → opened.first_xid ≡ 1 → opened.first_stag ≡ 1 → ClientOpened opened session_credits (terms_of c) →
     HasRun opened link c before after input input' out out' result runs

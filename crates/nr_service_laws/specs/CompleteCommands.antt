@@ -9,7 +9,7 @@ use Rattle.nr_reduce.specs.declared.mark.Mark.{Mark}
 use Rattle.nr_reduce.specs.Asked.{IsAll}
 use Rattle.nr_reduce.specs.AtEachMark.{AtEachMark}
 use Rattle.nr_reduce.specs.Matched.{Matched}
-use Rattle.nr_link.specs.Agreement.{sized_terms}
+use Rattle.nr_link.specs.declared.agreement.SideTerms.{SideTerms}
 use Rattle.nr_reduce.specs.Opening.{IsOpened, ClientOpened}
 use Rattle.nr_reduce.specs.Served.{ServedMark}
 use Rattle.nr_laws.specs.PlainLinks.{HasPlainReplies}
@@ -23,7 +23,7 @@ use Rattle.nr_client.specs.declared.call_end.CallEnd.TheVariants as calls
 use Rattle.nr_client.specs.declared.client_end.ClientEnd.{ClientEnd}
 use Rattle.nr_client.specs.declared.client_end.ClientEnd.TheVariants as client
 use Rattle.nr_client.specs.Dialing.{DialerAt, session_credits}
-use Rattle.nr_commands.specs.Running.{Runs}
+use Rattle.nr_commands.specs.Running.{Runs, terms_of}
 use Rattle.nr_commands.specs.Running.Runs.{NotOpened, Opened}
 use Rattle.nr_commands.specs.Sessions.{SessionAt}
 use Rattle.nr_service_laws.specs.CommandRuns.{IsCommandRun}
@@ -40,12 +40,12 @@ pub record IsServedPlainly (setup : Setup) (opened : LinkParameters) (link : ℕ
   pub matched : Matched link both
   pub plain : HasPlainReplies (plain_server setup) link both
 
--- the client's side of the link is opened as a session with these units opens it
-pub record IsSession (opened : LinkParameters) (units : ℕ) : Type 0 where
+-- the client's side of the link is opened as a session on these terms opens it
+pub record IsSession (opened : LinkParameters) (terms : SideTerms) : Type 0 where
   pub fine : IsOpened opened
   pub first_xid : opened.first_xid ≡ 1
   pub first_stag : opened.first_stag ≡ 1
-  pub wished : ClientOpened opened session_credits (sized_terms units)
+  pub wished : ClientOpened opened session_credits terms
 
 -- Each end that such a command may have, with its cause: a refusal by the server; a bad path; a limit; out of memory; a read or a write that
 -- failed, whose fault count rose; or the server ended its stream.
@@ -91,7 +91,7 @@ CommandHasCause setup opened link c before after input input' out out' result (O
 abbrev pub ServedCommandsHaveCauses : Type 0
 ServedCommandsHaveCauses =
     (setup : Setup) (opened : LinkParameters) (link : ℕ) (c : Client Text) (before after : DialerAt) (input input' : SourceAt) (out out' : SinkAt) (result : Result (Unit {0}) ClientEnd)
-    (runs : Runs c before after input input' out out' result) → IsSane setup.tree → IsSession opened c.units → CommandHasCause setup opened link c before after input input' out out' result runs
+    (runs : Runs c before after input input' out out' result) → IsSane setup.tree → IsSession opened (terms_of c) → CommandHasCause setup opened link c before after input input' out out' result runs
 
 -- ---- If nothing fails
 
@@ -131,4 +131,4 @@ CommandIsComplete setup opened link c before after input input' out out' result 
 abbrev pub ServedCommandsComplete : Type 0
 ServedCommandsComplete =
     (setup : Setup) (opened : LinkParameters) (link : ℕ) (c : Client Text) (before after : DialerAt) (input input' : SourceAt) (out out' : SinkAt) (result : Result (Unit {0}) ClientEnd)
-    (runs : Runs c before after input input' out out' result) → IsSane setup.tree → IsSession opened c.units → CommandIsComplete setup opened link c before after input input' out out' result runs
+    (runs : Runs c before after input input' out out' result) → IsSane setup.tree → IsSession opened (terms_of c) → CommandIsComplete setup opened link c before after input input' out out' result runs

@@ -7,7 +7,7 @@ use Rattle.nr_wire.specs.declared.hello.Side.TheVariants.{Initiator}
 use Rattle.nr_reduce.specs.declared.mark.LinkParameters.{LinkParameters}
 use Rattle.nr_reduce.specs.declared.mark.Mark.{Mark}
 use Rattle.nr_reduce.specs.History.{bytes_received, bytes_sent}
-use Rattle.nr_link.specs.Agreement.{sized_terms}
+use Rattle.nr_link.specs.declared.agreement.SideTerms.{SideTerms}
 use Rattle.nr_reduce.specs.Opening.{IsOpened, ClientOpened}
 use Rattle.nr_requester.specs.RequesterState.{RequesterSide}
 use Rattle.nr_link.specs.declared.end.End.TheVariants as ends
@@ -103,5 +103,5 @@ MarksGoOn A B =
 -- A session that was opened stands for no marks.
 abbrev pub SessionsBegin : Type 0
 SessionsBegin =
-    (addr : List ℕ) (units : ℕ) (before after : DialerAt) (s : SessionAt) (opened : LinkParameters) (link : ℕ) →
-    Opens addr units before after s → opened.first_xid ≡ 1 → opened.first_stag ≡ 1 → ClientOpened opened session_credits (sized_terms units) → IsLive opened link s.requester []
+    (addr : List ℕ) (terms : SideTerms) (before after : DialerAt) (s : SessionAt) (opened : LinkParameters) (link : ℕ) →
+    Opens addr terms before after s → opened.first_xid ≡ 1 → opened.first_stag ≡ 1 → ClientOpened opened session_credits terms → IsLive opened link s.requester []

@@ -123,6 +123,7 @@ fn same_end(
         credits,
         low,
         units: 2,
+        invalidates: false,
     };
     let (end, sent, executed) = want;
     let mut sink = MemSink::new(alloc, writes);
@@ -328,6 +329,7 @@ pub(crate) const ONE_CALL: ConnectionLimits = ConnectionLimits {
     credits: 1,
     low: 1,
     units: 1,
+    invalidates: false,
 };
 
 /// This many links, over each of which the client sends its hello and a NULL call.

@@ -47,7 +47,7 @@ fn found(rt: &impl Abort, alloc: Global, session: &mut FirstSession) -> usize {
 #[test]
 fn a_name_that_is_looked_up(rt: HostRuntime) {
     let mut dial = dialer(&rt, rt.alloc(), RECEIVED, "");
-    let Ok(mut session) = FirstSession::open(rt.alloc(), &mut dial, "here", 0, 0, 2) else {
+    let Ok(mut session) = FirstSession::open(rt.alloc(), &mut dial, "here", 0, 0, 2, false) else {
         panic!(rt; "no session")
     };
     let len = found(&rt, rt.alloc(), &mut session);

@@ -14,12 +14,12 @@ use Rattle.nr_wire.specs.Constants.{UNITS_MAX}
 use Rattle.nr_reduce.specs.Limits.{credits_max}
 use Rattle.nr_texts.specs.declared.opening.Opening.{Opening}
 use Rattle.nr_texts.specs.declared.program.Program.{Program}
-use Rattle.nr_texts.specs.Limits.{clients_max, number_max, default_capacity, capacity_max}
+use Rattle.nr_texts.specs.Limits.{clients_max, number_max, default_capacity, default_units, capacity_max}
 use Rattle.nr_texts.specs.Words.{◌>>=◌, IsWord, is_numeral, numeral_value, number_within, number_in, each_read, decoded, bytes_in, arguments_in, parts, two_numbers}
 use Rattle.nr_texts.specs.Forms.{OfferPart, comma, semicolon, equals, at_sign, dot, lengths_in, write_lengths_in, position_by, read_part, write_part, reply_part, named_part, part_by, part_in, nothing_offered, with_part, offer_by, offer_in, given, given_form, form_in, numbered_program, program_in, HasWordPosition, IsPosition, IsWritableOffer, IsWritableForm}
 use Rattle.nr_texts.specs.Forms.OfferPart.{Read, Write, Reply}
 use Rattle.nr_texts.proofs.Pieces.{split}
-use Rattle.nr_texts.specs.Openings.{capacity_in, sizes_of, sizes_in, opening_of, opening_in, IsOpening}
+use Rattle.nr_texts.specs.Openings.{capacity_in, sizes_of, sizes_in, invalidate_in, opening_of, opening_in, IsOpening}
 
 abbrev pub If : {A : Type 0} → (A → Type 0) → Option A → Type 0
 If P None = Unit {0}
@@ -250,31 +250,48 @@ capacity_if (name ∷ bytes ∷ others) =
 abbrev AreUnits : ℕ → Type 0
 AreUnits units = (1 ≤ units) × (units ≤ UNITS_MAX)
 
-abbrev SizesFit : ℕ × ℕ → Type 0
-SizesFit p = AreUnits p.0 × AreUnits p.1
+abbrev PairFits : ℕ × ℕ → Type 0
+PairFits p = AreUnits p.0 × AreUnits p.1
+
+abbrev SizesFit : (ℕ × ℕ) × List (List ℕ) → Type 0
+SizesFit p = PairFits p.0
+
+pair_if : (client server : List ℕ) → If PairFits (sizes_of client server)
+pair_if client server =
+    then_if AreUnits PairFits (number_within 1 UNITS_MAX client) (λ a. number_within 1 UNITS_MAX server >>= λ b. Some (a, b)) (within_if 1 UNITS_MAX client)
+    (λ a h. then_if AreUnits PairFits (number_within 1 UNITS_MAX server) (λ b. Some (a, b)) (within_if 1 UNITS_MAX server) (λ b k. (h, k)))
+
+default_pair : PairFits (default_units, default_units)
+default_pair = ((omega arith, omega arith), (omega arith, omega arith))
 
 sizes_if : (words : List (List ℕ)) → If SizesFit (sizes_in words)
-sizes_if [] = ((omega arith, omega arith), (omega arith, omega arith))
-sizes_if (name ∷ []) = tt
-sizes_if (name ∷ client ∷ []) = tt
-sizes_if (name ∷ client ∷ server ∷ []) =
-    if_if SizesFit (bytes_eq name (codes "sizes")) (sizes_of client server) None
-    (then_if AreUnits SizesFit (number_within 1 UNITS_MAX client) (λ a. number_within 1 UNITS_MAX server >>= λ b. Some (a, b)) (within_if 1 UNITS_MAX client)
-    (λ a h. then_if AreUnits SizesFit (number_within 1 UNITS_MAX server) (λ b. Some (a, b)) (within_if 1 UNITS_MAX server) (λ b k. (h, k)))) tt
-sizes_if (name ∷ client ∷ server ∷ more ∷ others) = tt
+sizes_if [] = default_pair
+sizes_if (name ∷ []) = default_pair
+sizes_if (name ∷ client ∷ []) = default_pair
+sizes_if (name ∷ client ∷ server ∷ others) =
+    if_if SizesFit (bytes_eq name (codes "sizes")) (sizes_of client server >>= λ units. Some (units, others)) (Some ((default_units, default_units), name ∷ client ∷ server ∷ others))
+    (then_if PairFits SizesFit (sizes_of client server) (λ units. Some (units, others)) (pair_if client server) (λ units h. h)) default_pair
+
+abbrev AnyBool : Bool → Type 0
+AnyBool b = Unit {0}
+
+bool_if : (o : Option Bool) → If AnyBool o
+bool_if None = tt
+bool_if (Some b) = tt
 
 opening_of_if : (clients credits : List ℕ) (others : List (List ℕ)) → If IsOpening (opening_of clients credits others)
 opening_of_if clients credits others =
     then_if (λ n. (1 ≤ n) × (n ≤ clients_max)) IsOpening (number_within 1 clients_max clients)
-    (λ n. number_within 1 credits_max credits >>= λ g. capacity_in others >>= λ p. sizes_in p.1 >>= λ s. made n g p s) (within_if 1 clients_max clients)
+    (λ n. number_within 1 credits_max credits >>= λ g. capacity_in others >>= λ p. sizes_in p.1 >>= λ s. invalidate_in s.1 >>= λ v. made n g p s v) (within_if 1 clients_max clients)
     (λ n h. then_if (λ g. (1 ≤ g) × (g ≤ credits_max)) IsOpening (number_within 1 credits_max credits)
-    (λ g. capacity_in others >>= λ p. sizes_in p.1 >>= λ s. made n g p s) (within_if 1 credits_max credits)
-    (λ g k. then_if CapacityFits IsOpening (capacity_in others) (λ p. sizes_in p.1 >>= λ s. made n g p s) (capacity_if others)
-    (λ p f. then_if SizesFit IsOpening (sizes_in p.1) (λ s. made n g p s) (sizes_if p.1)
-    (λ s u. record { some_clients = h.0; few_clients = h.1; some_credits = k.0; few_credits = k.1; capacity = f; some_client_units = u.0.0; few_client_units = u.0.1; some_server_units = u.1.0; few_server_units = u.1.1 }))))
+    (λ g. capacity_in others >>= λ p. sizes_in p.1 >>= λ s. invalidate_in s.1 >>= λ v. made n g p s v) (within_if 1 credits_max credits)
+    (λ g k. then_if CapacityFits IsOpening (capacity_in others) (λ p. sizes_in p.1 >>= λ s. invalidate_in s.1 >>= λ v. made n g p s v) (capacity_if others)
+    (λ p f. then_if SizesFit IsOpening (sizes_in p.1) (λ s. invalidate_in s.1 >>= λ v. made n g p s v) (sizes_if p.1)
+    (λ s u. then_if AnyBool IsOpening (invalidate_in s.1) (λ v. made n g p s v) (bool_if (invalidate_in s.1))
+    (λ v t. record { some_clients = h.0; few_clients = h.1; some_credits = k.0; few_credits = k.1; capacity = f; some_client_units = u.0.0; few_client_units = u.0.1; some_server_units = u.1.0; few_server_units = u.1.1 })))))
   where
-    made : ℕ → ℕ → ℕ × List (List ℕ) → ℕ × ℕ → Option Opening
-    made n g p s = Some (record { clients = n; credits = g; capacity = p.0; client_units = s.0; server_units = s.1 })
+    made : ℕ → ℕ → ℕ × List (List ℕ) → (ℕ × ℕ) × List (List ℕ) → Bool → Option Opening
+    made n g p s v = Some (record { clients = n; credits = g; capacity = p.0; client_units = s.0.0; server_units = s.0.1; invalidates = v })
 
 pub opening_if : (words : List (List ℕ)) → If IsOpening (opening_in words)
 unfolding opening_in

@@ -1,5 +1,6 @@
--- The first line of a script and of a capture: `clients N credits G`, then ` capacity B` if it is given, and then ` sizes A B` if it is given.
-use Rattle.std.specs.Prelude.{ℕ, ◌≤◌, ◌&&◌, if◌then◌else◌, List, [], ◌∷◌, codes, Option, None, Some}
+-- The first line of a script and of a capture: `clients N credits G`, and then, each if it is given and in this order, ` capacity B`,
+-- ` sizes A B`, ` invalidate`.
+use Rattle.std.specs.Prelude.{ℕ, ◌≤◌, Bool, true, false, ◌&&◌, if◌then◌else◌, List, [], ◌∷◌, codes, Option, None, Some}
 use Rattle.std.specs.Str.{bytes_eq}
 use Rattle.nr_rpc.specs.declared.cred.Cred.{Cred}
 use Rattle.nr_rpc.specs.declared.cred.Cred.TheVariants as creds
@@ -15,14 +16,20 @@ capacity_in (name ∷ bytes ∷ others) =
     if bytes_eq name (codes "capacity") then (number_within 0 capacity_max bytes >>= λ b. Some (b, others)) else Some (default_capacity, name ∷ bytes ∷ others)
 capacity_in words = Some (default_capacity, words)
 
--- the units of each client and of each server, of `sizes A B` or the default, if no words are left
+-- the units of each client and of each server, of `sizes A B`, or the default if the words begin with another, and the words that are left
 abbrev pub sizes_of : List ℕ → List ℕ → Option (ℕ × ℕ)
 sizes_of client server = number_within 1 UNITS_MAX client >>= λ a. number_within 1 UNITS_MAX server >>= λ b. Some (a, b)
 
-abbrev pub sizes_in : List (List ℕ) → Option (ℕ × ℕ)
-sizes_in [] = Some (default_units, default_units)
-sizes_in (name ∷ client ∷ server ∷ []) = if bytes_eq name (codes "sizes") then sizes_of client server else None
-sizes_in words = None
+abbrev pub sizes_in : List (List ℕ) → Option ((ℕ × ℕ) × List (List ℕ))
+sizes_in (name ∷ client ∷ server ∷ others) =
+    if bytes_eq name (codes "sizes") then (sizes_of client server >>= λ units. Some (units, others)) else Some ((default_units, default_units), name ∷ client ∷ server ∷ others)
+sizes_in words = Some ((default_units, default_units), words)
+
+-- whether `invalidate` is there, if no other words are left
+abbrev pub invalidate_in : List (List ℕ) → Option Bool
+invalidate_in [] = Some false
+invalidate_in (name ∷ []) = if bytes_eq name (codes "invalidate") then Some true else None
+invalidate_in words = None
 
 abbrev pub opening_of : List ℕ → List ℕ → List (List ℕ) → Option Opening
 opening_of clients credits others = do
@@ -30,7 +37,8 @@ opening_of clients credits others = do
   g ← number_within 1 credits_max credits
   capacity ← capacity_in others
   sizes ← sizes_in capacity.1
-  Some (record { clients = n; credits = g; capacity = capacity.0; client_units = sizes.0; server_units = sizes.1 })
+  invalidates ← invalidate_in sizes.1
+  Some (record { clients = n; credits = g; capacity = capacity.0; client_units = sizes.0.0; server_units = sizes.0.1; invalidates = invalidates })
 
 unfoldable pub opening_in : List (List ℕ) → Option Opening
 opening_in (first ∷ clients ∷ second ∷ credits ∷ others) =

@@ -3,7 +3,7 @@
 ghost use Rattle.std.specs.Prelude.{◌≡◌, None, Some, IfOk, if◌then◌else◌, codes, option_map, []};
 ghost use Rattle.std.specs.Str.{bytes_eq};
 ghost use Rattle.nr_wire.specs.Constants.{UNITS_MAX as units_max};
-ghost use Rattle.nr_texts.specs.Openings.{capacity_in, opening_in, opening_of, sizes_in, sys_cred};
+ghost use Rattle.nr_texts.specs.Openings.{capacity_in, invalidate_in, opening_in, opening_of, sizes_in, sys_cred};
 ghost use Rattle.nr_texts.specs.Pieces.{texts};
 ghost use Rattle.nr_texts.specs.Words.{number_within};
 
@@ -39,6 +39,8 @@ pub struct Opening {
     pub client_units: u8,
     /// The units of the Sends of each server: 1 to 16.
     pub server_units: u8,
+    /// Whether both ends of each link make or take Sends with Invalidate (RFC 5040 section 4).
+    pub invalidates: bool,
 }
 
 /// The number of bytes of `capacity B`, or the default if the words begin with another, and the words that are left.
@@ -68,19 +70,36 @@ fn units_in(word: &[u8]) -> Option<u8>
     }
 }
 
-/// The units of each client and of each server: those of `sizes A B`, or the default if no words are left.
-fn sizes_in(words: &[&[u8]]) -> Option<(u8, u8)>
-    ensures { result ≡ sizes_in (texts words.now) }
+/// The units of each client and of each server of `sizes A B`, or the default if the words begin with another, and the words that are left.
+fn sizes_in<'a>(words: &'a [&'a [u8]]) -> Option<((u8, u8), &'a [&'a [u8]])>
+    ensures { option_map (λ p. (p.0, texts p.1.now)) result ≡ sizes_in (texts words.now) }
 {
     match words {
-        [] => Some((DEFAULT_UNITS, DEFAULT_UNITS)),
-        [name, client, server] => {
-            if !is(name, b"sizes") {
-                return None;
+        [name, client, server, others @ ..] => {
+            if is(name, b"sizes") {
+                let client = units_in(client)?;
+                let server = units_in(server)?;
+                Some(((client, server), others))
+            } else {
+                Some(((DEFAULT_UNITS, DEFAULT_UNITS), words))
             }
-            let client = units_in(client)?;
-            let server = units_in(server)?;
-            Some((client, server))
+        }
+        _ => Some(((DEFAULT_UNITS, DEFAULT_UNITS), words)),
+    }
+}
+
+/// Whether `invalidate` is there, if no other words are left.
+fn invalidate_in(words: &[&[u8]]) -> Option<bool>
+    ensures { result ≡ invalidate_in (texts words.now) }
+{
+    match words {
+        [] => Some(false),
+        [name] => {
+            if is(name, b"invalidate") {
+                Some(true)
+            } else {
+                None
+            }
         }
         _ => None,
     }
@@ -102,17 +121,19 @@ fn opening_of(clients: &[u8], credits: &[u8], others: &[&[u8]]) -> Option<Openin
     let clients = count_in(CLIENTS_MAX, clients)?;
     let credits = count_in(CREDITS_MAX, credits)?;
     let (capacity, others) = capacity_in(others)?;
-    let (client_units, server_units) = sizes_in(others)?;
+    let ((client_units, server_units), others) = sizes_in(others)?;
+    let invalidates = invalidate_in(others)?;
     Some(Opening {
         clients,
         credits,
         capacity,
         client_units,
         server_units,
+        invalidates,
     })
 }
 
-/// The first line: `clients N credits G`, then ` capacity B` if it is given, and then ` sizes A B` if it is given.
+/// The first line: `clients N credits G`, and then, each if it is given and in this order, ` capacity B`, ` sizes A B`, ` invalidate`.
 #[tactic(auto, unfolding(crate::specs::Openings::opening_in))]
 pub fn opening_in(words: &[&[u8]]) -> Option<Opening>
     ensures { result ≡ opening_in (texts words.now) }

@@ -11,7 +11,7 @@ use Rattle.nr_words.specs.Lines.{Text}
 use Rattle.nr_words.specs.declared.commands.Client.{Client}
 use Rattle.nr_client.specs.declared.client_end.ClientEnd.{ClientEnd}
 use Rattle.nr_client.specs.Dialing.{DialerAt}
-use Rattle.nr_commands.specs.Running.{Runs}
+use Rattle.nr_commands.specs.Running.{Runs, terms_of}
 use Rattle.nr_commands.specs.Running.Runs.{NotOpened, Opened}
 use Rattle.nr_service_laws.specs.CommandRuns.{IsCommandRun}
 use Rattle.nr_service_laws.specs.CompleteCommands.{IsServedPlainly, IsSession}
@@ -62,5 +62,5 @@ CommandHasStatus setup opened link c status dialer dialer' input input' out out'
 abbrev pub ServedCommandsHaveStatuses : Type 0
 ServedCommandsHaveStatuses =
     (setup : Setup) (opened : LinkParameters) (link : ℕ) (c : Client Text) (status : ℕ) (dialer dialer' : DialerAt) (input input' : SourceAt) (out out' err err' : SinkAt)
-    (end : ClientEnds c status dialer dialer' input input' out out' err err') → IsSane setup.tree → IsSession opened c.units →
+    (end : ClientEnds c status dialer dialer' input input' out out' err err') → IsSane setup.tree → IsSession opened (terms_of c) →
     CommandHasStatus setup opened link c status dialer dialer' input input' out out' err err' end

@@ -60,6 +60,8 @@ pub const OPCODE_READ_REQUEST: u8 = 1;
 pub const OPCODE_READ_RESPONSE: u8 = 2;
 /// Send.
 pub const OPCODE_SEND: u8 = 3;
+/// Send with Invalidate.
+pub const OPCODE_SEND_INVALIDATE: u8 = 4;
 /// Terminate.
 pub const OPCODE_TERMINATE: u8 = 7;
 

@@ -11,9 +11,10 @@ ghost use Rattle.nr_wire.specs.View.{segment as plain, next_segment, result_view
 
 use crate::constants::{
     BIT_LAST, BIT_TAGGED, CRC_LEN, DDP_VERSION, LENGTH_LEN, OPCODE_READ_REQUEST,
-    OPCODE_READ_RESPONSE, OPCODE_SEND, OPCODE_TERMINATE, OPCODE_WRITE, QUEUE_READ_REQUEST,
-    QUEUE_SEND, QUEUE_TERMINATE, RDMAP_VERSION, REASON_DDP_VERSION, REASON_LENGTH, REASON_OPCODE,
-    REASON_QUEUE, REASON_RDMAP_VERSION, REASON_TAGGED, TAGGED_LEN, UNTAGGED_LEN,
+    OPCODE_READ_RESPONSE, OPCODE_SEND, OPCODE_SEND_INVALIDATE, OPCODE_TERMINATE, OPCODE_WRITE,
+    QUEUE_READ_REQUEST, QUEUE_SEND, QUEUE_TERMINATE, RDMAP_VERSION, REASON_DDP_VERSION,
+    REASON_LENGTH, REASON_OPCODE, REASON_QUEUE, REASON_RDMAP_VERSION, REASON_TAGGED, TAGGED_LEN,
+    UNTAGGED_LEN,
 };
 use crate::stream::{Awaited, whole_frame};
 use crate::words::{half_word_at, has_bit, hyper_at};
@@ -22,7 +23,7 @@ use nr_xdr::word_at;
 /// A DDP segment. `last` says that it ends its message; `opcode` is the kind of message (RFC 5040 section 4). The payload of
 /// a tagged segment goes to the memory that `stag` names at the receiver, from byte `to` on. An untagged segment belongs to
 /// message `msn` of its queue, and its payload begins at byte `offset` of that message; `word` is the RsvdULP field (RFC 5041
-/// section 4.3), which the supported opcodes ignore.
+/// section 4.3): the STag in the last segment of a Send with Invalidate (RFC 5040 section 5.1), else ignored.
 #[derive(Clone, Copy)]
 pub enum Segment<'a> {
     /// A segment of the tagged buffer model (RFC 5041 section 4.2).
@@ -97,6 +98,7 @@ fn is_supported(opcode: u8) -> bool
     is_tagged_opcode(opcode)
         || opcode == OPCODE_READ_REQUEST
         || opcode == OPCODE_SEND
+        || opcode == OPCODE_SEND_INVALIDATE
         || opcode == OPCODE_TERMINATE
 }
 

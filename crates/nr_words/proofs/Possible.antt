@@ -17,7 +17,7 @@ use Rattle.nr_words.specs.declared.lines.Positionals.{Positionals}
 use Rattle.nr_words.specs.declared.lines.State.{State}
 use Rattle.nr_words.specs.Limits.{calls_max, clients_max, default_jobs, default_units, jobs_max, units_max}
 use Rattle.nr_words.specs.Numbers.{has_leading_zero, number_within, numeral_within, value_after, within}
-use Rattle.nr_words.specs.Lines.{Text, after_free_word, after_word, arity, by_jobs, client, complete, drill_of, finished, get_of, is_positional, line_of, once, option_named, start, step, steps, subcommand_named, takes, with_positional, with_value}
+use Rattle.nr_words.specs.Lines.{Text, after_free_word, after_name, after_word, arity, by_jobs, client, complete, drill_of, finished, get_of, is_positional, line_of, once, option_named, start, step, steps, subcommand_named, takes, with_invalidate, with_positional, with_value}
 use Rattle.nr_words.specs.Reads.{are_jobs, are_units, is_action, is_command}
 
 -- ---- Numbers in their ranges
@@ -61,10 +61,18 @@ value_fits : (o : Options) (name : OptionName) (word : Text) (t : Options) → O
 value_fits o option_names.Uid word t fits e = once_fits o.uid _ _ t e (λ n is. record { inline = fits.inline; jobs = fits.jobs; clients = fits.clients; calls = fits.calls })
 value_fits o option_names.Gid word t fits e = once_fits o.gid _ _ t e (λ n is. record { inline = fits.inline; jobs = fits.jobs; clients = fits.clients; calls = fits.calls })
 value_fits o option_names.Inline word t fits e = once_fits o.inline _ _ t e (λ n is. record { inline = subst (InRange units_max) is (numeral_fits units_max word); jobs = fits.jobs; clients = fits.clients; calls = fits.calls })
+value_fits o option_names.Invalidate word t fits e = absurd (none-some _ e)
 value_fits o option_names.Jobs word t fits e = once_fits o.jobs _ _ t e (λ n is. record { inline = fits.inline; jobs = subst (InRange jobs_max) is (numeral_fits jobs_max word); clients = fits.clients; calls = fits.calls })
 value_fits o option_names.Seed word t fits e = once_fits o.seed _ _ t e (λ n is. record { inline = fits.inline; jobs = fits.jobs; clients = fits.clients; calls = fits.calls })
 value_fits o option_names.Clients word t fits e = once_fits o.clients _ _ t e (λ n is. record { inline = fits.inline; jobs = fits.jobs; clients = subst (InRange clients_max) is (numeral_fits clients_max word); calls = fits.calls })
 value_fits o option_names.Calls word t fits e = once_fits o.calls _ _ t e (λ n is. record { inline = fits.inline; jobs = fits.jobs; clients = fits.clients; calls = subst (InRange calls_max) is (numeral_fits calls_max word) })
+
+invalidate_fits : (o : Options) (t : Options) → OptionsFit o → with_invalidate o ≡ Some t → OptionsFit t
+invalidate_fits o t fits e = by o.invalidates e
+  where
+    by : (b : Bool) → cond b None (Some (record o { invalidates = true })) ≡ Some t → OptionsFit t
+    by true e = absurd (none-some t e)
+    by false e = subst OptionsFit (same_Some _ t e) (record { inline = fits.inline; jobs = fits.jobs; clients = fits.clients; calls = fits.calls })
 
 -- ---- Positionals
 
@@ -115,8 +123,25 @@ mapped : {A B : Type 0} (f : A → B) (o : Option A) (y : B) (P : B → Type 0) 
 mapped f None y P e k = absurd (none-some y e)
 mapped f (Some x) y P e k = subst P (same_Some (f x) y e) (k x refl)
 
+waiting_fits : (s : State Text) (name : OptionName) (t : State Text) → StateFits s → Some (record s { waiting = Some name }) ≡ Some t → StateFits t
+waiting_fits s name t fits e = subst StateFits (same_Some _ t e) (record { options = fits.options; positionals = fits.positionals })
+
+name_fits : (s : State Text) (name : OptionName) (t : State Text) → StateFits s → after_name s name ≡ Some t → StateFits t
+name_fits s option_names.Invalidate t fits e = mapped _ (with_invalidate s.options) t StateFits e (λ o is. record { options = invalidate_fits s.options o fits.options is; positionals = fits.positionals })
+name_fits s option_names.Uid t fits e = waiting_fits s _ t fits e
+name_fits s option_names.Gid t fits e = waiting_fits s _ t fits e
+name_fits s option_names.Inline t fits e = waiting_fits s _ t fits e
+name_fits s option_names.Jobs t fits e = waiting_fits s _ t fits e
+name_fits s option_names.Seed t fits e = waiting_fits s _ t fits e
+name_fits s option_names.Clients t fits e = waiting_fits s _ t fits e
+name_fits s option_names.Calls t fits e = waiting_fits s _ t fits e
+
 free_word_fits : (subcommand : Subcommand) (s : State Text) (name : Option OptionName) (word : Text) (t : State Text) → StateFits s → after_free_word subcommand s name word ≡ Some t → StateFits t
-free_word_fits subcommand s (Some name) word t fits e = subst StateFits ((cond_some (takes subcommand name) _ t e).1) (record { options = fits.options; positionals = fits.positionals })
+free_word_fits subcommand s (Some name) word t fits e = by (takes subcommand name) e
+  where
+    by : (b : Bool) → cond b (after_name s name) None ≡ Some t → StateFits t
+    by true e = name_fits s name t fits e
+    by false e = absurd (none-some t e)
 free_word_fits subcommand s None word t fits e = by (is_positional word) refl e
   where
     by : (b : Bool) → is_positional word ≡ b → cond b (option_map (λ (p : Positionals Text). record s { positionals = p }) (with_positional s.positionals word)) None ≡ Some t → StateFits t

@@ -42,6 +42,7 @@ option_named word =
     if bytes_eq word (codes "--uid") then Some option_names.Uid
     else if bytes_eq word (codes "--gid") then Some option_names.Gid
     else if bytes_eq word (codes "--inline") then Some option_names.Inline
+    else if bytes_eq word (codes "--invalidate") then Some option_names.Invalidate
     else if bytes_eq word (codes "--jobs") then Some option_names.Jobs
     else if bytes_eq word (codes "--seed") then Some option_names.Seed
     else if bytes_eq word (codes "--clients") then Some option_names.Clients
@@ -53,6 +54,7 @@ abbrev pub is_of_client : OptionName → Bool
 is_of_client option_names.Uid = true
 is_of_client option_names.Gid = true
 is_of_client option_names.Inline = true
+is_of_client option_names.Invalidate = true
 is_of_client _ = false
 
 abbrev pub is_of_get : OptionName → Bool
@@ -79,7 +81,7 @@ arity subcommands.Link = 4
 arity subcommands.Drill = 0
 arity _ = 3
 
--- the options with one more, if it was not given before and its value is in its range
+-- the options with one more that has a value, if it was not given before and its value is in its range
 abbrev pub once : Option ℕ → Option ℕ → (ℕ → Options) → Option Options
 once None (Some value) with = Some (with value)
 once _ _ with = None
@@ -88,10 +90,15 @@ abbrev pub with_value : Options → OptionName → Text → Option Options
 with_value o option_names.Uid word = once o.uid (numeral_within 0 id_max word) (λ n. record o { uid = Some n })
 with_value o option_names.Gid word = once o.gid (numeral_within 0 id_max word) (λ n. record o { gid = Some n })
 with_value o option_names.Inline word = once o.inline (numeral_within 1 units_max word) (λ n. record o { inline = Some n })
+with_value o option_names.Invalidate word = None
 with_value o option_names.Jobs word = once o.jobs (numeral_within 1 jobs_max word) (λ n. record o { jobs = Some n })
 with_value o option_names.Seed word = once o.seed (numeral_within 0 seed_max word) (λ n. record o { seed = Some n })
 with_value o option_names.Clients word = once o.clients (numeral_within 1 clients_max word) (λ n. record o { clients = Some n })
 with_value o option_names.Calls word = once o.calls (numeral_within 1 calls_max word) (λ n. record o { calls = Some n })
+
+-- the options with `--invalidate`, which has no value, if it was not given before
+abbrev pub with_invalidate : Options → Option Options
+with_invalidate o = if o.invalidates then None else Some (record o { invalidates = true })
 
 -- a positional is not empty, and does not begin with '-'
 abbrev pub is_positional : Text → Bool
@@ -106,9 +113,14 @@ with_positional p word =
     else if p.count == 3 then Some (record p { count = 4; fourth = word })
     else None
 
+-- what is known after the name of an option: its value is waited for, if it has one
+abbrev pub after_name : State Text → OptionName → Option (State Text)
+after_name s option_names.Invalidate = option_map (λ o. record s { waiting = None; options = o }) (with_invalidate s.options)
+after_name s name = Some (record s { waiting = Some name })
+
 -- what is known after one more word
 abbrev pub after_free_word : Subcommand → State Text → Option OptionName → Text → Option (State Text)
-after_free_word subcommand s (Some name) word = if takes subcommand name then Some (record s { waiting = Some name }) else None
+after_free_word subcommand s (Some name) word = if takes subcommand name then after_name s name else None
 after_free_word subcommand s None word = if is_positional word then option_map (λ p. record s { positionals = p }) (with_positional s.positionals word) else None
 
 abbrev pub after_word : Subcommand → State Text → Option OptionName → Text → Option (State Text)
@@ -130,12 +142,12 @@ drill_of _ _ _ = None
 
 abbrev pub client : Options → Positionals Text → Action Text → Option (Command Text)
 client o p action =
-    Some (commands.Client (record { addr = p.first; export = p.second; uid = unwrap_or o.uid 0; gid = unwrap_or o.gid 0; units = unwrap_or o.inline default_units; action = action }))
+    Some (commands.Client (record { addr = p.first; export = p.second; uid = unwrap_or o.uid 0; gid = unwrap_or o.gid 0; units = unwrap_or o.inline default_units; invalidates = o.invalidates; action = action }))
 
 -- `get` by this many jobs: by one it is a command as the others are
 abbrev pub by_jobs : Options → Positionals Text → (jobs : ℕ) → GetByJobs Text
 by_jobs o p jobs =
-    record { addr = p.first; export = p.second; path = p.third; uid = unwrap_or o.uid 0; gid = unwrap_or o.gid 0; units = unwrap_or o.inline default_units; jobs = jobs }
+    record { addr = p.first; export = p.second; path = p.third; uid = unwrap_or o.uid 0; gid = unwrap_or o.gid 0; units = unwrap_or o.inline default_units; invalidates = o.invalidates; jobs = jobs }
 
 abbrev pub get_of : Options → Positionals Text → (jobs : ℕ) → Option (Command Text)
 get_of o p jobs = if jobs == 1 then client o p (actions.Get p.third) else Some (commands.GetByJobs (by_jobs o p jobs))
@@ -160,7 +172,7 @@ abbrev pub finished : Subcommand → State Text → Option (Command Text)
 finished subcommand s = if is_some s.waiting then None else command_of subcommand s.options s.positionals
 
 abbrev pub no_options : Options
-no_options = record { uid = None; gid = None; inline = None; jobs = None; seed = None; clients = None; calls = None }
+no_options = record { uid = None; gid = None; inline = None; invalidates = false; jobs = None; seed = None; clients = None; calls = None }
 
 abbrev pub start : State Text
 start = record { waiting = None; options = no_options; positionals = record { count = 0; first = []; second = []; third = []; fourth = [] } }
@@ -191,10 +203,10 @@ plain_action (actions.Get path) = actions.Get path.now
 plain_action (actions.Link path target) = actions.Link path.now target.now
 
 abbrev pub plain_client : Client (Bor Text) → Client Text
-plain_client c = record { addr = c.addr.now; export = c.export.now; uid = c.uid; gid = c.gid; units = c.units; action = plain_action c.action }
+plain_client c = record { addr = c.addr.now; export = c.export.now; uid = c.uid; gid = c.gid; units = c.units; invalidates = c.invalidates; action = plain_action c.action }
 
 abbrev pub plain_get : GetByJobs (Bor Text) → GetByJobs Text
-plain_get g = record { addr = g.addr.now; export = g.export.now; path = g.path.now; uid = g.uid; gid = g.gid; units = g.units; jobs = g.jobs }
+plain_get g = record { addr = g.addr.now; export = g.export.now; path = g.path.now; uid = g.uid; gid = g.gid; units = g.units; invalidates = g.invalidates; jobs = g.jobs }
 
 abbrev pub plain_command : Command (Bor Text) → Command Text
 plain_command (commands.Serve config) = commands.Serve config.now

@@ -4,6 +4,7 @@ use Rattle.std.specs.declared.alloc.AllocError.{AllocError}
 use Rattle.clap.specs.Words.{App, Rule, Text, app_of, new_app, new_rule, with_rule, with_subcommand}
 use Rattle.clap.specs.declared.builder.command.Command.TheViews.{out-Command}
 use Rattle.clap.specs.declared.builder.command.Command.{Command}
+use Rattle.clap.specs.declared.builder.action.ArgAction.TheVariants.{SetTrue}
 use Rattle.clap.specs.declared.builder.value_parser.ValueParser.{ValueParser}
 use Rattle.clap.specs.declared.builder.value_parser.ValueParser.TheVariants as parsers
 use Rattle.nr_words.specs.Limits.{calls_max, clients_max, id_max, jobs_max, seed_max, units_max}
@@ -14,13 +15,17 @@ positional_rule name = record (new_rule name) { required = true }
 abbrev pub number_rule : Text → ValueParser → Rule
 number_rule name parser = record (new_rule name) { long = Some name; parser = Some parser }
 
+abbrev pub flag_rule : Text → Rule
+flag_rule name = record (new_rule name) { long = Some name; action = Some SetTrue }
+
 -- with the options of each command of a client
 abbrev pub with_client_options : App → App
 with_client_options app =
-    with_rule (with_rule (with_rule app
+    with_rule (with_rule (with_rule (with_rule app
     (number_rule (codes "uid") (parsers.Signed (pos 0) (pos id_max))))
     (number_rule (codes "gid") (parsers.Signed (pos 0) (pos id_max))))
-    (number_rule (codes "inline") (parsers.Signed (pos 1) (pos units_max)))
+    (number_rule (codes "inline") (parsers.Signed (pos 1) (pos units_max))))
+    (flag_rule (codes "invalidate"))
 
 abbrev pub client_app : Text → App
 client_app name = with_client_options (with_rule (with_rule (new_app name) (positional_rule (codes "ADDR"))) (positional_rule (codes "EXPORT")))

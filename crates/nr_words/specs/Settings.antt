@@ -69,14 +69,18 @@ number_or default low high key members = if present_at key members == 0 then Som
 
 -- the number of keys: six, and those that may be left out and are there
 abbrev pub keys_of : Members → ℕ
-keys_of members = 6 + present_at (codes "record") members + present_at (codes "inline") members + present_at (codes "low_credits") members
+keys_of members =
+    6 + present_at (codes "record") members + present_at (codes "inline") members + present_at (codes "low_credits") members
+    + present_at (codes "invalidate") members
 
 -- by the credits of the configuration
 abbrev pub choices_of : ℕ → Members → Option Choices
 choices_of credits members =
     option_and_then (λ records.
     option_and_then (λ units.
-    option_map (λ low_credits. record { records = records; units = units; low_credits = low_credits })
+    option_and_then (λ low_credits.
+    option_map (λ invalidates. record { records = records; units = units; low_credits = low_credits; invalidates = invalidates })
+    (flag_at (codes "invalidate") members))
     (number_or credits 1 credits (codes "low_credits") members))
     (number_or default_units 1 units_max (codes "inline") members))
     (flag_at (codes "record") members)
@@ -104,6 +108,7 @@ settings_with listen export numbers verifier choices = record {
   records = choices.records;
   units = choices.units;
   low_credits = choices.low_credits;
+  invalidates = choices.invalidates;
 }
 
 -- exactly these keys, with values in range
@@ -129,7 +134,7 @@ config_of bytes = if is_utf8 bytes then option_and_then settings_of (parse_docum
 -- ---- the same without references, and without strings
 
 abbrev pub plain_settings : Settings (Bor Text) → Settings Text
-plain_settings s = record { listen = s.listen.now; export = s.export.now; credits = s.credits; capacity = s.capacity; connections = s.connections; write_verifier = s.write_verifier; records = s.records; units = s.units; low_credits = s.low_credits }
+plain_settings s = record { listen = s.listen.now; export = s.export.now; credits = s.credits; capacity = s.capacity; connections = s.connections; write_verifier = s.write_verifier; records = s.records; units = s.units; low_credits = s.low_credits; invalidates = s.invalidates }
 
 abbrev pub config_settings : Config → Settings Text
-config_settings c = record { listen = string_bytes c.listen; export = string_bytes c.export; credits = c.credits; capacity = c.capacity; connections = c.connections; write_verifier = c.write_verifier; records = c.records; units = c.units; low_credits = c.low_credits }
+config_settings c = record { listen = string_bytes c.listen; export = string_bytes c.export; credits = c.credits; capacity = c.capacity; connections = c.connections; write_verifier = c.write_verifier; records = c.records; units = c.units; low_credits = c.low_credits; invalidates = c.invalidates }

@@ -1,5 +1,6 @@
 -- The command that clap's matches spell.
-use Rattle.std.specs.Prelude.{ℕ, ◌==◌, ◌||◌, nat_le, if◌then◌else◌, List, [], ◌∷◌, codes, Option, Some, None, option_and_then, unwrap_or}
+use Rattle.std.specs.Prelude.{ℕ, Bool, ◌==◌, ◌||◌, nat_le, if◌then◌else◌, List, [], ◌∷◌, codes, Option, Some, None, option_and_then, unwrap_or}
+use Rattle.std.specs.Str.{bytes_eq}
 use Rattle.clap.specs.Words.{Row, first_of}
 use Rattle.nr_words.specs.declared.commands.Command.{Command}
 use Rattle.nr_words.specs.declared.lines.Subcommand.{Subcommand}
@@ -31,11 +32,16 @@ abbrev pub narrow_to_byte : Option ℕ → Option ℕ
 narrow_to_byte None = None
 narrow_to_byte (Some value) = if nat_le value 255 then Some value else None
 
+-- clap gives an option without a value the text `true`, and `false` if it is left out
+abbrev pub flag_of : Text → List Row → Bool
+flag_of id rows = bytes_eq (text_of id rows) (codes "true")
+
 abbrev pub options_of : List Row → Options
 options_of rows = record {
   uid = narrow (number_of 0 id_max (codes "uid") rows);
   gid = narrow (number_of 0 id_max (codes "gid") rows);
   inline = narrow_to_byte (number_of 1 units_max (codes "inline") rows);
+  invalidates = flag_of (codes "invalidate") rows;
   jobs = narrow_to_byte (number_of 1 jobs_max (codes "jobs") rows);
   seed = number_of 0 seed_max (codes "seed") rows;
   clients = narrow (number_of 1 clients_max (codes "clients") rows);

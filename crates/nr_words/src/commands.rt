@@ -51,6 +51,8 @@ pub struct Client<T> {
     /// The units of its Sends in each direction, of 1,024 bytes each: 1 to [`UNITS_MAX`](crate::UNITS_MAX), and 1 unless the
     /// line has another number.
     pub units: u8,
+    /// Whether it takes Sends with Invalidate (RFC 8166 section 3.5.2): only if the line says so.
+    pub invalidates: bool,
     /// What it does.
     pub action: Action<T>,
 }
@@ -81,6 +83,8 @@ pub struct GetByJobs<T> {
     pub gid: u32,
     /// The units of its Sends in each direction, as a client has them.
     pub units: u8,
+    /// Whether it takes Sends with Invalidate, as a client does.
+    pub invalidates: bool,
     /// The number of jobs: 2 to [`JOBS_MAX`](crate::JOBS_MAX).
     pub jobs: u8,
 }

@@ -1,7 +1,7 @@
 //! The lines of the program: words in the one spelling that is never refused.
 
 ghost use Rattle.std.specs.Prelude.{◌≡◌, ⊤, map, option_map, string_bytes};
-ghost use Rattle.nr_words.specs.Lines.{option_named, takes, with_value, with_positional, is_positional, step, steps, start, arity, by_jobs, drill_of, subcommand_named, command_of, finished, line_of, plain_state, plain_positionals, plain_command, plain_client, plain_get};
+ghost use Rattle.nr_words.specs.Lines.{option_named, takes, with_invalidate, with_value, after_name, with_positional, is_positional, step, steps, start, arity, by_jobs, drill_of, subcommand_named, command_of, finished, line_of, plain_state, plain_positionals, plain_command, plain_client, plain_get};
 
 use crate::commands::{Action, Client, Command, GetByJobs};
 use crate::limits::{
@@ -32,18 +32,20 @@ pub(crate) enum OptionName {
     Uid,
     Gid,
     Inline,
+    Invalidate,
     Jobs,
     Seed,
     Clients,
     Calls,
 }
 
-/// The values of the options that are given.
+/// The values of the options that are given, and whether `--invalidate` is, which has no value.
 #[derive(Clone, Copy)]
 pub(crate) struct Options {
     pub(crate) uid: Option<u32>,
     pub(crate) gid: Option<u32>,
     pub(crate) inline: Option<u8>,
+    pub(crate) invalidates: bool,
     pub(crate) jobs: Option<u8>,
     pub(crate) seed: Option<u64>,
     pub(crate) clients: Option<u32>,
@@ -118,6 +120,7 @@ fn option_named(word: &str) -> Option<OptionName>
         "--uid" => Some(OptionName::Uid),
         "--gid" => Some(OptionName::Gid),
         "--inline" => Some(OptionName::Inline),
+        "--invalidate" => Some(OptionName::Invalidate),
         "--jobs" => Some(OptionName::Jobs),
         "--seed" => Some(OptionName::Seed),
         "--clients" => Some(OptionName::Clients),
@@ -138,9 +141,16 @@ fn takes(subcommand: Subcommand, name: OptionName) -> bool
         ),
         Subcommand::Get => matches!(
             name,
-            OptionName::Uid | OptionName::Gid | OptionName::Inline | OptionName::Jobs
+            OptionName::Uid
+                | OptionName::Gid
+                | OptionName::Inline
+                | OptionName::Invalidate
+                | OptionName::Jobs
         ),
-        _ => matches!(name, OptionName::Uid | OptionName::Gid | OptionName::Inline),
+        _ => matches!(
+            name,
+            OptionName::Uid | OptionName::Gid | OptionName::Inline | OptionName::Invalidate
+        ),
     }
 }
 
@@ -157,7 +167,7 @@ pub(crate) fn arity(subcommand: Subcommand) -> usize
     }
 }
 
-/// The options with one more, if it was not given before and its value is in its range.
+/// The options with one more that has a value, if it was not given before and its value is in its range.
 fn with_value(options: Options, name: OptionName, word: &str) -> Option<Options>
     ensures { result ≡ with_value options name word.now }
 {
@@ -186,6 +196,7 @@ fn with_value(options: Options, name: OptionName, word: &str) -> Option<Options>
             }),
             _ => None,
         },
+        OptionName::Invalidate => None,
         OptionName::Jobs => match (options.jobs, numeral_within(1, JOBS_MAX, word.as_bytes())) {
             (None, Some(value)) => Some(Options {
                 jobs: Some(value as u8),
@@ -217,6 +228,40 @@ fn with_value(options: Options, name: OptionName, word: &str) -> Option<Options>
             }),
             _ => None,
         },
+    }
+}
+
+/// The options with `--invalidate`, if it was not given before.
+fn with_invalidate(options: Options) -> Option<Options>
+    ensures { result ≡ with_invalidate options }
+{
+    if options.invalidates {
+        return None;
+    }
+    Some(Options {
+        invalidates: true,
+        ..options
+    })
+}
+
+/// What is known after the name of an option: its value is waited for, if it has one.
+fn after_name<'a>(state: State<&'a str>, name: OptionName) -> Option<State<&'a str>>
+    ensures { option_map plain_state result ≡ after_name (plain_state state.entry) name }
+{
+    match name {
+        OptionName::Invalidate => {
+            let options = with_invalidate(state.options)?;
+            Some(State {
+                waiting: None,
+                options,
+                positionals: state.positionals,
+            })
+        }
+        _ => Some(State {
+            waiting: Some(name),
+            options: state.options,
+            positionals: state.positionals,
+        }),
     }
 }
 
@@ -277,15 +322,10 @@ fn step<'a>(subcommand: Subcommand, state: State<&'a str>, word: &'a str) -> Opt
         }
         None => match option_named(word) {
             Some(name) => {
-                if takes(subcommand, name) {
-                    Some(State {
-                        waiting: Some(name),
-                        options: state.options,
-                        positionals: state.positionals,
-                    })
-                } else {
-                    None
+                if !takes(subcommand, name) {
+                    return None;
                 }
+                after_name(state, name)
             }
             None => {
                 if !is_positional(word) {
@@ -333,6 +373,7 @@ fn by_jobs<'a>(options: Options, positionals: Positionals<&'a str>, jobs: u8) ->
         uid: options.uid.unwrap_or(0),
         gid: options.gid.unwrap_or(0),
         units,
+        invalidates: options.invalidates,
         jobs,
     }
 }
@@ -383,6 +424,7 @@ pub(crate) fn command_of<'a>(
             uid: options.uid.unwrap_or(0),
             gid: options.gid.unwrap_or(0),
             units: options.inline.unwrap_or(DEFAULT_UNITS),
+            invalidates: options.invalidates,
             action,
         },
     })
@@ -408,6 +450,7 @@ fn steps<'a>(subcommand: Subcommand, words: &'a [String]) -> Option<State<&'a st
             uid: None,
             gid: None,
             inline: None,
+            invalidates: false,
             jobs: None,
             seed: None,
             clients: None,

@@ -2,11 +2,11 @@
 
 ghost use Rattle.std.specs.Prelude.{◌≡◌, IfOk, false};
 ghost use Rattle.clap.specs.Words.{new_app, rule_of};
-ghost use Rattle.nr_words.specs.Program.{Adds, AddsClientOptions, AddsPaths, AddsRule, AddsTo, Builds, client_app, number_rule, path_app, positional_rule, plain_app, program_app, drill_app, get_app, link_app, serve_app};
+ghost use Rattle.nr_words.specs.Program.{Adds, AddsClientOptions, AddsPaths, AddsRule, AddsTo, Builds, client_app, flag_rule, number_rule, path_app, positional_rule, plain_app, program_app, drill_app, get_app, link_app, serve_app};
 
 use crate::limits::{CALLS_MAX, CLIENTS_MAX, ID_MAX, JOBS_MAX, SEED_MAX, UNITS_MAX};
 use clap::builder::ValueParser;
-use clap::{Arg, Command};
+use clap::{Arg, ArgAction, Command};
 use std::alloc::{AllocError, Global};
 
 const ADDR_HELP: &str = "The server's host and port, as 127.0.0.1:20049";
@@ -18,7 +18,7 @@ const PATH_HELP: &str = "A path from the export's root, its names separated by s
 const TARGET_HELP: &str = "The path that the symbolic link holds; it is not looked up";
 
 const CONFIG_HELP: &str =
-    "A TOML file: listen, export, credits, capacity, connections, write_verifier, and maybe record, inline and low_credits";
+    "A TOML file: listen, export, credits, capacity, connections, write_verifier, and maybe record, inline, low_credits and invalidate";
 
 const UID_HELP: &str = "The user ID of the calls; 0 if it is left out";
 
@@ -26,6 +26,9 @@ const GID_HELP: &str = "The group ID of the calls; 0 if it is left out";
 
 const INLINE_HELP: &str =
     "The maximum length of a Send in each direction, in units of 1024 bytes, 1 to 16; 1 if it is left out";
+
+const INVALIDATE_HELP: &str =
+    "Let the server's replies invalidate memory that was offered, if it agrees to it";
 
 const JOBS_HELP: &str = "The number of jobs that read the file, 1 to 16; 1 if it is left out";
 
@@ -51,6 +54,17 @@ fn number<'a>(alloc: Global, name: &'a str, help: &'a str, parser: ValueParser<'
     Arg::new(alloc, name)
         .long(name)
         .value_parser(parser)
+        .help(help)
+}
+
+/// An option without a value, and what `--help` says of it.
+fn flag<'a>(alloc: Global, name: &'a str, help: &'a str) -> Arg<'a>
+    ensures rule { rule_of result ≡ flag_rule name.entry.now }
+    ensures local { result.global ≡ false }
+{
+    Arg::new(alloc, name)
+        .long(name)
+        .action(ArgAction::SetTrue)
         .help(help)
 }
 
@@ -86,7 +100,19 @@ fn add_number<'a>(
     command.arg(number(alloc, name, help, parser))
 }
 
-/// A command with the options of a client: `--uid`, `--gid`, `--inline`.
+/// A command with one more option without a value.
+fn add_flag<'a>(
+    alloc: Global,
+    command: Command<'a>,
+    name: &'a str,
+    help: &'a str,
+) -> Result<Command<'a>, AllocError>
+    ensures { IfOk result (AddsRule command.entry (flag_rule name.entry.now)) }
+{
+    command.arg(flag(alloc, name, help))
+}
+
+/// A command with the options of a client: `--uid`, `--gid`, `--inline`, `--invalidate`.
 fn add_client_options<'a>(alloc: Global, command: Command<'a>) -> Result<Command<'a>, AllocError>
     ensures { IfOk result (AddsClientOptions command.entry) }
 {
@@ -95,7 +121,8 @@ fn add_client_options<'a>(alloc: Global, command: Command<'a>) -> Result<Command
     let ids = ValueParser::Signed(0, ID_MAX as i64);
     let command = add_number(alloc, command, "gid", GID_HELP, ids)?;
     let units = ValueParser::Signed(1, UNITS_MAX as i64);
-    add_number(alloc, command, "inline", INLINE_HELP, units)
+    let command = add_number(alloc, command, "inline", INLINE_HELP, units)?;
+    add_flag(alloc, command, "invalidate", INVALIDATE_HELP)
 }
 
 /// A command of a client: ADDR EXPORT, and the options.

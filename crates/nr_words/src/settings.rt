@@ -34,6 +34,8 @@ pub struct Settings<T> {
     /// The most credits that it grants in a message that is due while more than half of the receives of a connection are in use: 1 to
     /// `credits`.
     pub low_credits: u64,
+    /// Whether it answers by Sends with Invalidate if a client takes them (RFC 8166 section 3.5.2).
+    pub invalidates: bool,
 }
 
 impl<T: Copy> Clone for Settings<T> {
@@ -70,6 +72,8 @@ pub struct Config {
     /// The most credits that it grants in a message that is due while more than half of the receives of a connection are in use: 1 to
     /// `credits`.
     pub low_credits: u64,
+    /// Whether it answers by Sends with Invalidate if a client takes them (RFC 8166 section 3.5.2).
+    pub invalidates: bool,
 }
 
 /// Why a text gives no configuration.
@@ -172,7 +176,10 @@ fn present_at(table: &Table, key: &str) -> usize
 fn keys_of(table: &Table) -> usize
     ensures { result ≡ keys_of (table_view table.now) }
 {
-    6 + present_at(table, "record") + present_at(table, "inline") + present_at(table, "low_credits")
+    6 + present_at(table, "record")
+        + present_at(table, "inline")
+        + present_at(table, "low_credits")
+        + present_at(table, "invalidate")
 }
 
 /// The boolean at a key, `false` if that is not there.
@@ -201,6 +208,7 @@ struct Choices {
     records: bool,
     units: u8,
     low_credits: u64,
+    invalidates: bool,
 }
 
 /// The number of units at `inline`, the default if that is not there.
@@ -220,10 +228,12 @@ fn choices_of(table: &Table, credits: u64) -> Option<Choices>
     let records = flag_at(table, "record")?;
     let units = units_at(table)?;
     let low_credits = number_or(table, "low_credits", credits, 1, credits)?;
+    let invalidates = flag_at(table, "invalidate")?;
     Some(Choices {
         records,
         units,
         low_credits,
+        invalidates,
     })
 }
 
@@ -279,13 +289,15 @@ fn settings_of(table: &Table) -> Option<Settings<&str>>
         records: choices.records,
         units: choices.units,
         low_credits: choices.low_credits,
+        invalidates: choices.invalidates,
     })
 }
 
 /// Reads a configuration: a TOML document with the six keys `listen` (text), `export` (text of 1 to 1024 bytes), `credits`
 /// (1 to 64), `capacity` (0 to 2^63 - 1), `connections` (1 to 2^32 - 1) and `write_verifier` (text of 16 hexadecimal
-/// digits), which may also have `record` (boolean; `false` if it is left out), `inline` (1 to 16; 1 if it is left out) and
-/// `low_credits` (1 to `credits`; `credits` if it is left out), and no other.
+/// digits), which may also have `record` (boolean; `false` if it is left out), `inline` (1 to 16; 1 if it is left out),
+/// `low_credits` (1 to `credits`; `credits` if it is left out) and `invalidate` (boolean; `false` if it is left out), and no
+/// other.
 pub fn read_config(alloc: Global, bytes: &[u8]) -> Result<Config, ConfigFault>
     ensures ok { IfOk result (λ config. config_of bytes.now ≡ Some (config_settings config)) }
     ensures bad { IfErr result (λ fault. fault ≡ Bad → config_of bytes.now ≡ None) }
@@ -315,5 +327,6 @@ pub fn read_config(alloc: Global, bytes: &[u8]) -> Result<Config, ConfigFault>
         records: settings.records,
         units: settings.units,
         low_credits: settings.low_credits,
+        invalidates: settings.invalidates,
     })
 }

@@ -2,7 +2,7 @@
 
 ghost use Rattle.std.specs.Prelude.{◌≡◌, IfOk, None, Some, map, true, option_map, string_bytes};
 ghost use Rattle.clap.specs.Words.{found_of, kind_of, rows_of, subcommand_rows_of};
-ghost use Rattle.nr_words.specs.Spelled.{narrow, narrow_to_byte, number_of, options_of, positionals_of, spelled, text_of, without_sign};
+ghost use Rattle.nr_words.specs.Spelled.{flag_of, narrow, narrow_to_byte, number_of, options_of, positionals_of, spelled, text_of, without_sign};
 ghost use Rattle.nr_words.specs.Reads.{Reads, ReadsOther, IsFaultOf, are_jobs, are_units, is_command, is_action};
 ghost use Rattle.nr_words.specs.declared.commands.Command.TheVariants as commands;
 ghost use Rattle.nr_words.specs.Lines.{plain_command, plain_action, plain_get, plain_positionals};
@@ -177,6 +177,13 @@ fn text_of<'a>(given: &ArgMatches<'a>, id: &str) -> &'a str
     }
 }
 
+/// Whether the option without a value at an id is given.
+fn flag_of(given: &ArgMatches<'_>, id: &str) -> bool
+    ensures { result ≡ flag_of id.now (rows_of (found_of given.now)) }
+{
+    text_of(given, id) == "true"
+}
+
 /// The values of the options.
 fn options_of(given: &ArgMatches<'_>) -> Options
     ensures { result ≡ options_of (rows_of (found_of given.now)) }
@@ -185,6 +192,7 @@ fn options_of(given: &ArgMatches<'_>) -> Options
         uid: narrow(number_of(given, "uid", 0, ID_MAX)),
         gid: narrow(number_of(given, "gid", 0, ID_MAX)),
         inline: narrow_to_byte(number_of(given, "inline", 1, UNITS_MAX)),
+        invalidates: flag_of(given, "invalidate"),
         jobs: narrow_to_byte(number_of(given, "jobs", 1, JOBS_MAX)),
         seed: number_of(given, "seed", 0, SEED_MAX),
         clients: narrow(number_of(given, "clients", 1, CLIENTS_MAX)),

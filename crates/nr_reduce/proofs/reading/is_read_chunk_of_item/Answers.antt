@@ -1,6 +1,5 @@
 use Rattle.std.proofs.Common.{◌≡◌, ℕ, List, Option, Some, None, sym, ap, ◌∙◌}
 use Rattle.nr_header.specs.declared.header.ReadSegment.{ReadSegment}
-use Rattle.nr_reduce.specs.declared.item.Item.{Item}
 use Rattle.nr_reduce.specs.Chunks.{is_item, is_read_chunk_at, is_read_chunk_of_item, item_position}
 use Rattle.nr_reduce.proofs.reading.is_read_chunk_of_item.Goals as goal
 

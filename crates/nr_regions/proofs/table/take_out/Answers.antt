@@ -1,5 +1,5 @@
 use Rattle.std.proofs.Common.{sym, ap, ◌∙◌, option_map}
-use Rattle.nr_regions.specs.Table.{region_of, outside_of}
+use Rattle.nr_regions.specs.Table.{region_of, outside_of, is_dead_of}
 use Rattle.nr_regions.proofs.Tables.{get_mapped, mapped_take_out}
 use Rattle.nr_regions.proofs.table.take_out.Goals as goal
 
@@ -16,3 +16,7 @@ returns-clause-left c =
 pub returns-clause-left_outside : goal.returns-clause-left_outside
 returns-clause-left_outside c =
     mapped_take_out outside_of c.args.regions.now c.remove.new.self c.args.stag (record { each = c.remove.ensures.updates.0 })
+
+pub returns-clause-left_dead : goal.returns-clause-left_dead
+returns-clause-left_dead c =
+    mapped_take_out is_dead_of c.args.regions.now c.remove.new.self c.args.stag (record { each = c.remove.ensures.updates.0 })

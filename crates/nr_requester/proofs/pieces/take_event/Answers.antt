@@ -5,7 +5,7 @@ use Rattle.nr_endpoint.specs.LinkState.{LinkSide}
 use Rattle.nr_endpoint.specs.Receives.{HasBuffer}
 use Rattle.nr_endpoint.specs.Views.{delivery}
 use Rattle.nr_endpoint.specs.declared.event.Event.{Event}
-use Rattle.nr_reduce.specs.KeptCalls.{kept_verdict}
+use Rattle.nr_reduce.specs.KeptCalls.{kept_named, kept_message_verdict}
 use Rattle.nr_reduce.specs.KeptClient.{bytes_under}
 use Rattle.nr_requester.specs.Judged.{kept_views}
 use Rattle.nr_requester.specs.Fed.{CallsSound}
@@ -23,8 +23,8 @@ take_message-requires-clause-buf c =
 
 pub take_message-requires-clause-lent : goal.take_message-requires-clause-lent
 take_message-requires-clause-lent c =
-    let w = message_waits c.args.endpoint.now.link c.in-Some-Message.field-0-0 c.in-Some-Message.field-0-1 (take c.in-Some-Message.len c.in-Some-Message.buf) c.next_event.new.self.link.state.receive_queue.deliveries c.requires.ready.waits (c.in-Some-Message.ensures.event ∙ ap (λ (e : Event). delivery e ∷ c.next_event.new.self.link.state.receive_queue.deliveries) c.in-Some-Message.field-0-is) in
-    subst (λ (l : LinkSide). 0 < l.state.receive_queue.lent) (sym c.in-Some-Message.ensures.state) (next_lent c.args.endpoint.now.link w.number (take c.in-Some-Message.len c.in-Some-Message.buf) w.is)
+    let w = message_waits c.args.endpoint.now.link c.in-Some-Message.field-0-0 c.in-Some-Message.invalidated (take c.in-Some-Message.len c.in-Some-Message.buf) c.next_event.new.self.link.state.receive_queue.deliveries c.requires.ready.waits (c.in-Some-Message.ensures.event ∙ ap (λ (e : Event). delivery e ∷ c.next_event.new.self.link.state.receive_queue.deliveries) c.in-Some-Message.field-0-is) in
+    subst (λ (l : LinkSide). 0 < l.state.receive_queue.lent) (sym c.in-Some-Message.ensures.state) (next_lent c.args.endpoint.now.link w.number c.in-Some-Message.invalidated (take c.in-Some-Message.len c.in-Some-Message.buf) w.is)
 
 pub take_message-requires-clause-calls : goal.take_message-requires-clause-calls
 take_message-requires-clause-calls c =
@@ -37,8 +37,8 @@ take_message-requires-clause-calls c =
 
 pub returns-in-Some-Message-clause-deliveries : goal.returns-in-Some-Message-clause-deliveries
 returns-in-Some-Message-clause-deliveries c = λ wished sends next.
-    let w = message_waits c.args.endpoint.now.link c.in-Some-Message.field-0-0 c.in-Some-Message.field-0-1 (take c.in-Some-Message.len c.in-Some-Message.buf) c.next_event.new.self.link.state.receive_queue.deliveries c.requires.ready.waits (c.in-Some-Message.ensures.event ∙ ap (λ (e : Event). delivery e ∷ c.next_event.new.self.link.state.receive_queue.deliveries) c.in-Some-Message.field-0-is) in
-    message_told c.args.endpoint.now.link c.next_event.new.self.link c.take_message.new.endpoint.link c.args.sent wished sends next c.args.grant.now c.take_message.new.grant w.number c.args.outstanding.now.items c.take_message.new.outstanding.items c.args.answered.now.items c.take_message.new.answered.items (take c.in-Some-Message.len c.in-Some-Message.buf)
+    let w = message_waits c.args.endpoint.now.link c.in-Some-Message.field-0-0 c.in-Some-Message.invalidated (take c.in-Some-Message.len c.in-Some-Message.buf) c.next_event.new.self.link.state.receive_queue.deliveries c.requires.ready.waits (c.in-Some-Message.ensures.event ∙ ap (λ (e : Event). delivery e ∷ c.next_event.new.self.link.state.receive_queue.deliveries) c.in-Some-Message.field-0-is) in
+    message_told c.args.endpoint.now.link c.next_event.new.self.link c.take_message.new.endpoint.link c.args.sent wished sends next c.args.grant.now c.args.releases.now c.take_message.new.grant c.take_message.new.releases w.number c.in-Some-Message.invalidated c.args.outstanding.now.items c.take_message.new.outstanding.items c.args.answered.now.items c.take_message.new.answered.items (take c.in-Some-Message.len c.in-Some-Message.buf)
     c.requires.ready.live w.is w.rest c.in-Some-Message.ensures.state c.take_message.ensures.judged
 
 pub returns-in-Some-Message-clause-sound : goal.returns-in-Some-Message-clause-sound
@@ -48,10 +48,11 @@ returns-in-Some-Message-clause-sound c = λ most next s.
 
 pub returns-in-Some-Message-clause-quiet : goal.returns-in-Some-Message-clause-quiet
 returns-in-Some-Message-clause-quiet c =
-    let w = message_waits c.args.endpoint.now.link c.in-Some-Message.field-0-0 c.in-Some-Message.field-0-1 (take c.in-Some-Message.len c.in-Some-Message.buf) c.next_event.new.self.link.state.receive_queue.deliveries c.requires.ready.waits (c.in-Some-Message.ensures.event ∙ ap (λ (e : Event). delivery e ∷ c.next_event.new.self.link.state.receive_queue.deliveries) c.in-Some-Message.field-0-is) in
-    judged_quiet c.args.endpoint.now.link c.requires.ready.live w.number (take c.in-Some-Message.len c.in-Some-Message.buf) w.is c.requires.ready.none_lent c.requires.ready.no_reads
-    (kept_verdict (kept_views c.args.sent c.args.outstanding.now.items) (bytes_under c.next_event.new.self.link.state.memory) (take c.in-Some-Message.len c.in-Some-Message.buf))
-    c.next_event.new.self.link c.take_message.new.endpoint.link c.args.outstanding.now.items c.take_message.new.outstanding.items c.args.answered.now.items c.take_message.new.answered.items c.args.grant.now c.take_message.new.grant c.in-Some-Message.ensures.state c.take_message.ensures.judged
+    let w = message_waits c.args.endpoint.now.link c.in-Some-Message.field-0-0 c.in-Some-Message.invalidated (take c.in-Some-Message.len c.in-Some-Message.buf) c.next_event.new.self.link.state.receive_queue.deliveries c.requires.ready.waits (c.in-Some-Message.ensures.event ∙ ap (λ (e : Event). delivery e ∷ c.next_event.new.self.link.state.receive_queue.deliveries) c.in-Some-Message.field-0-is) in
+    judged_quiet c.args.endpoint.now.link c.requires.ready.live w.number c.in-Some-Message.invalidated (take c.in-Some-Message.len c.in-Some-Message.buf) w.is c.requires.ready.none_lent c.requires.ready.no_reads
+    (kept_message_verdict (kept_views c.args.sent c.args.outstanding.now.items) (bytes_under c.next_event.new.self.link.state.memory) c.in-Some-Message.invalidated (take c.in-Some-Message.len c.in-Some-Message.buf))
+    (kept_named (kept_views c.args.sent c.args.outstanding.now.items) c.in-Some-Message.invalidated (take c.in-Some-Message.len c.in-Some-Message.buf))
+    c.next_event.new.self.link c.take_message.new.endpoint.link c.args.outstanding.now.items c.take_message.new.outstanding.items c.args.answered.now.items c.take_message.new.answered.items c.args.grant.now c.take_message.new.grant c.args.releases.now c.take_message.new.releases c.in-Some-Message.ensures.state c.take_message.ensures.judged
 
 pub returns-in-Some-Message-clause-bounded : goal.returns-in-Some-Message-clause-bounded
 returns-in-Some-Message-clause-bounded c = λ most sends next bounded.

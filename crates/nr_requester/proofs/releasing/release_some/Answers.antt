@@ -1,14 +1,12 @@
 use Rattle.std.proofs.Common.{List, ℕ, Option, Some, ap, sym, ◌∙◌}
 use Rattle.nr_regions.specs.RegisteredMemory.{Region, Claim, bytes_in}
-use Rattle.nr_regions.proofs.Holding.{live_held}
 use Rattle.nr_requester.specs.AfterPiece.{buffer_under}
 use Rattle.nr_requester.proofs.OutsideBounds.{released_outside}
 use Rattle.nr_requester.proofs.releasing.release_some.Goals as goal
 
 pub returns-in-Some-clause-buffer : goal.returns-in-Some-clause-buffer
 returns-in-Some-clause-buffer c =
-    ap (λ (bytes : List ℕ). Some bytes)
-    (c.release.ensures.bytes ∙ ap (λ (r : Option Region). bytes_in r) (sym (live_held c.args.endpoint.now.link.state.memory c.in-Some.claim.stag)))
+    ap (λ (bytes : List ℕ). Some bytes) c.release.ensures.bytes
     ∙ sym (ap (λ (x : Option Claim). buffer_under c.args.endpoint.now.link.state.memory x) c.in-Some.is)
 
 pub returns-in-Some-clause-outside : goal.returns-in-Some-clause-outside

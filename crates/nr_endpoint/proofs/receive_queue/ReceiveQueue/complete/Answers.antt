@@ -18,5 +18,5 @@ returns c =
     message_bytes c.self.inside.receive_length c.extend.new.begun (begun_bytes (begun_bytes_of c.self.inside.receive_length c.self.inside.begun) ++ c.args.payload.now)
     (c.extend.ensures.bytes ∙ ap (λ (x : List ℕ). kept_within c.self.inside.receive_length (x ++ c.args.payload.now)) c.take_receive-begun.ensures.bytes)
     (omega (arith, count, c.extend.ensures.len, c.take_receive-begun.ensures.len)) (omega (arith, count, fits)) in
-    rw (← c.self.view_is, c.take_receive-begun.ensures.taken, c.push_back_reserved.ensures.items, deliveries_message c.self.inside.messages.items c.self.inside.reads_done (c.self.inside.sends + 1) c.extend.new.begun.buf c.extend.new.begun.len)
-    (with_last _ c.args.payload.now _ _ message c.take_receive-begun.ensures.free)
+    rw (← c.self.view_is, c.take_receive-begun.ensures.taken, c.push_back_reserved.ensures.items, deliveries_message c.self.inside.messages.items c.self.inside.reads_done (c.self.inside.sends + 1) c.args.named c.extend.new.begun.buf c.extend.new.begun.len)
+    (with_last _ c.args.named c.args.payload.now _ _ message c.take_receive-begun.ensures.free)

@@ -9,7 +9,7 @@ use Rattle.nr_requester.proofs.requester.Requester.drain_into.Goals as goal
 pub returns-clause-taken : goal.returns-clause-taken
 returns-clause-taken c d =
     let t = d.drain_into-drained.ensures.taken in
-    let x = drain_taken d.args.self.now d.self.inside.endpoint.link d.drain_into-drained.new.self.link d.self.inside.sent d.sent_by_now-self-inside.result d.self.inside.wished d.self.inside.sends d.self.inside.next_xid d.self.inside.grant t.0
+    let x = drain_taken d.args.self.now d.self.inside.endpoint.link d.drain_into-drained.new.self.link d.self.inside.sent d.sent_by_now-self-inside.result d.self.inside.wished d.self.inside.sends d.self.inside.next_xid d.self.inside.grant d.self.inside.local_releases t.0
     d.self.inside.outstanding.items d.self.inside.answered.items _ _ d.drain_into-drained.result d.self.inside.endpoint.staging d.drain_into-drained.new.self.staging d.self.inside.marks d.marks_if-self-inside.result d.self.view_is d.self.invariant.0.xid t.1 t.2 t.3 d.sent_by_now-self-inside.ensures t.5 d.drain_into-drained.ensures.staging
     (drain_counts d.self.inside.endpoint.link d.drain_into-drained.new.self.link t.0 d.output_len-before.result d.output_len.result d.self.inside.marks d.marks_if-self-inside.result t.1 t.3 d.output_len-before.ensures d.output_len.ensures d.marks_if-self-inside.ensures) in
     (t.0, x.0, x.1, x.2, x.3, x.4, x.5)
@@ -24,7 +24,7 @@ invariant_of-self g c =
 pub returns-clause-tickets : goal.returns-clause-tickets
 returns-clause-tickets c d =
     let t = d.drain_into-drained.ensures.taken in
-    let x = drain_taken d.args.self.now d.self.inside.endpoint.link d.drain_into-drained.new.self.link d.self.inside.sent d.sent_by_now-self-inside.result d.self.inside.wished d.self.inside.sends d.self.inside.next_xid d.self.inside.grant t.0
+    let x = drain_taken d.args.self.now d.self.inside.endpoint.link d.drain_into-drained.new.self.link d.self.inside.sent d.sent_by_now-self-inside.result d.self.inside.wished d.self.inside.sends d.self.inside.next_xid d.self.inside.grant d.self.inside.local_releases t.0
     d.self.inside.outstanding.items d.self.inside.answered.items _ _ d.drain_into-drained.result d.self.inside.endpoint.staging d.drain_into-drained.new.self.staging d.self.inside.marks d.marks_if-self-inside.result d.self.view_is d.self.invariant.0.xid t.1 t.2 t.3 d.sent_by_now-self-inside.ensures t.5 d.drain_into-drained.ensures.staging
     (drain_counts d.self.inside.endpoint.link d.drain_into-drained.new.self.link t.0 d.output_len-before.result d.output_len.result d.self.inside.marks d.marks_if-self-inside.result t.1 t.3 d.output_len-before.ensures d.output_len.ensures d.marks_if-self-inside.ensures) in
     kept_as d.args.self.now _ _ x.2 (drain_keeps d.args.self.now t.0)
@@ -32,7 +32,7 @@ returns-clause-tickets c d =
 pub returns-clause-fed : goal.returns-clause-fed
 returns-clause-fed c d =
     let t = d.drain_into-drained.ensures.taken in
-    let x = drain_taken d.args.self.now d.self.inside.endpoint.link d.drain_into-drained.new.self.link d.self.inside.sent d.sent_by_now-self-inside.result d.self.inside.wished d.self.inside.sends d.self.inside.next_xid d.self.inside.grant t.0
+    let x = drain_taken d.args.self.now d.self.inside.endpoint.link d.drain_into-drained.new.self.link d.self.inside.sent d.sent_by_now-self-inside.result d.self.inside.wished d.self.inside.sends d.self.inside.next_xid d.self.inside.grant d.self.inside.local_releases t.0
     d.self.inside.outstanding.items d.self.inside.answered.items _ _ d.drain_into-drained.result d.self.inside.endpoint.staging d.drain_into-drained.new.self.staging d.self.inside.marks d.marks_if-self-inside.result d.self.view_is d.self.invariant.0.xid t.1 t.2 t.3 d.sent_by_now-self-inside.ensures t.5 d.drain_into-drained.ensures.staging
     (drain_counts d.self.inside.endpoint.link d.drain_into-drained.new.self.link t.0 d.output_len-before.result d.output_len.result d.self.inside.marks d.marks_if-self-inside.result t.1 t.3 d.output_len-before.ensures d.output_len.ensures d.marks_if-self-inside.ensures) in
     ap fed_bytes x.2 ∙ fed_drained d.args.self.now t.0

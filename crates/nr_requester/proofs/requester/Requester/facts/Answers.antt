@@ -9,7 +9,7 @@ use Rattle.nr_requester.proofs.requester.Requester.facts.Goals as goal
 pub returns-clause-apart : goal.returns-clause-apart
 returns-clause-apart c = λ xid has.
     let i = c.self.inside in
-    let view : RequesterFeeding = requester_view i.endpoint.link i.sent i.wished i.sends i.next_xid i.grant i.outstanding.items i.answered.items in
+    let view : RequesterFeeding = requester_view i.endpoint.link i.sent i.wished i.sends i.next_xid i.grant i.outstanding.items i.answered.items i.local_releases in
     apart_found c.args.self.now.state xid (subst (λ (h : RequesterSide). AreApart h.state) c.self.view_is (are_apart view.state i.next_xid i.outstanding.items refl c.self.invariant.0.rising c.self.invariant.0.apart)) has
 
 pub returns-clause-fresh : goal.returns-clause-fresh

@@ -35,7 +35,7 @@ returns-in-Some-clause-stands c = λ other.
 pub returns-in-Some-end-clause-stands : goal.returns-in-Some-end-clause-stands
 returns-in-Some-end-clause-stands c = λ other.
     let i = c.self.inside in
-    let new : RequesterSide = side_view i.endpoint.staging c.marks_if-self-inside.result (requester_view i.endpoint.link i.sent i.wished i.sends i.next_xid i.grant i.outstanding.items i.answered.items) in
+    let new : RequesterSide = side_view i.endpoint.staging c.marks_if-self-inside.result (requester_view i.endpoint.link i.sent i.wished i.sends i.next_xid i.grant i.outstanding.items i.answered.items i.local_releases) in
     let ended : new.state.side.ended ≡ Some c.in-Some-end.end = sym c.end-2.ensures ∙ c.in-Some-end.is in
     stands_fed c.args.self.now new c.args.piece.now
     (fed_after c.args.self.now c.take_frames-taken.new.self new c.args.piece.now c.take_frames-taken.result (ap feeding_of c.self.view_is) c.take_frames-taken.ensures.taken (λ memory. other (ap unit_error (some_same (sym ended ∙ memory))))
@@ -44,7 +44,7 @@ returns-in-Some-end-clause-stands c = λ other.
 pub returns-in-Some-end-clause-memory : goal.returns-in-Some-end-clause-memory
 returns-in-Some-end-clause-memory c = λ memory lives.
     let i = c.self.inside in
-    let new : RequesterSide = side_view i.endpoint.staging c.marks_if-self-inside.result (requester_view i.endpoint.link i.sent i.wished i.sends i.next_xid i.grant i.outstanding.items i.answered.items) in
+    let new : RequesterSide = side_view i.endpoint.staging c.marks_if-self-inside.result (requester_view i.endpoint.link i.sent i.wished i.sends i.next_xid i.grant i.outstanding.items i.answered.items i.local_releases) in
     let ended : new.state.side.ended ≡ Some c.in-Some-end.end = sym c.end-2.ensures ∙ c.in-Some-end.is in
     out_after c.args.self.now c.take_frames-taken.new.self new c.args.piece.now c.take_frames-taken.result (ap feeding_of c.self.view_is) c.take_frames-taken.ensures.taken
     (ended ∙ ap (λ (e : End). Some e) (ap (λ (r : Result (Unit {0}) End). error_in r) memory))
@@ -53,7 +53,7 @@ returns-in-Some-end-clause-memory c = λ memory lives.
 pub returns-clause-stands : goal.returns-clause-stands
 returns-clause-stands c = λ other.
     let i = c.self.inside in
-    let new : RequesterSide = side_view i.endpoint.staging c.marks_if-self-inside.result (requester_view i.endpoint.link i.sent i.wished i.sends i.next_xid i.grant i.outstanding.items i.answered.items) in
+    let new : RequesterSide = side_view i.endpoint.staging c.marks_if-self-inside.result (requester_view i.endpoint.link i.sent i.wished i.sends i.next_xid i.grant i.outstanding.items i.answered.items i.local_releases) in
     let ended : new.state.side.ended ≡ None = sym c.end-2.ensures ∙ c.in_default-end.is in
     stands_fed c.args.self.now new c.args.piece.now
     (fed_after c.args.self.now c.take_frames-taken.new.self new c.args.piece.now c.take_frames-taken.result (ap feeding_of c.self.view_is) c.take_frames-taken.ensures.taken (λ memory. absurd (let h : None ≡ Some ends.Memory = sym ended ∙ memory in cc))

@@ -29,7 +29,7 @@ returns-in-Some-clause-state c =
     is_found i.outstanding.items c.as_slice.result.now c.args.ticket c.xid-xid.result c.in-Some.at c.as_slice.ensures.value c.xid-xid.ensures c.in-Some.ensures.some.0 c.in-Some.ensures.some.1 in
     let d : OutstandingCall = c.index_mut.result.now in
     let are = ap (λ (y : OutstandingCall). set i.outstanding.items c.in-Some.at y) (c.mark_forgotten.ensures ∙ ap (λ (o : OutstandingCall). forgot o) c.index_mut.ensures.value) in
-    forgot_view i.endpoint.link i.sent i.wished i.sends i.next_xid i.grant c.args.ticket c.in-Some.at i.outstanding.items _ i.answered.items d i.endpoint.staging i.marks c.marks_if-self-inside.result c.self.invariant.0.rising c.self.invariant.0.apart f.within (f.own d) are c.marks_if-self-inside.ensures
+    forgot_view i.endpoint.link i.sent i.wished i.sends i.next_xid i.grant i.local_releases c.args.ticket c.in-Some.at i.outstanding.items _ i.answered.items d i.endpoint.staging i.marks c.marks_if-self-inside.result c.self.invariant.0.rising c.self.invariant.0.apart f.within (f.own d) are c.marks_if-self-inside.ensures
     ∙ ap (λ (h : RequesterSide). after_forget h c.args.ticket) c.self.view_is
 
 pub returns-in-Some-clause-stands : goal.returns-in-Some-clause-stands
@@ -66,7 +66,7 @@ returns-clause-state c =
     let i = c.self.inside in
     let none : (k : ℕ) (d : OutstandingCall) → k < length i.outstanding.items → (get_or i.outstanding.items k d).xid ≢ c.args.ticket =
     λ k d lt e. c.place_of.ensures.none c.in_default.is k d (subst (λ (cs : List OutstandingCall). k < length cs) (sym c.as_slice.ensures.value) lt) (ap (λ (cs : List OutstandingCall). (get_or cs k d).xid) c.as_slice.ensures.value ∙ e ∙ sym c.xid-xid.ensures) in
-    taken_view i.endpoint.link i.sent i.wished i.sends i.next_xid i.grant c.args.ticket i.outstanding.items i.answered.items c.take_answer.new.answered.items i.endpoint.staging i.marks c.marks_if-self-inside.result none (left_as c.args.ticket c.xid-xid.result i.answered.items c.take_answer.new.answered.items c.xid-xid.ensures c.take_answer.ensures.left) c.marks_if-self-inside.ensures
+    taken_view i.endpoint.link i.sent i.wished i.sends i.next_xid i.grant i.local_releases c.args.ticket i.outstanding.items i.answered.items c.take_answer.new.answered.items i.endpoint.staging i.marks c.marks_if-self-inside.result none (left_as c.args.ticket c.xid-xid.result i.answered.items c.take_answer.new.answered.items c.xid-xid.ensures c.take_answer.ensures.left) c.marks_if-self-inside.ensures
     ∙ ap (λ (h : RequesterSide). after_forget h c.args.ticket) c.self.view_is
 
 pub returns-clause-stands : goal.returns-clause-stands
@@ -75,7 +75,7 @@ returns-clause-stands c =
     let none : (k : ℕ) (d : OutstandingCall) → k < length i.outstanding.items → (get_or i.outstanding.items k d).xid ≢ c.args.ticket =
     λ k d lt e. c.place_of.ensures.none c.in_default.is k d (subst (λ (cs : List OutstandingCall). k < length cs) (sym c.as_slice.ensures.value) lt) (ap (λ (cs : List OutstandingCall). (get_or cs k d).xid) c.as_slice.ensures.value ∙ e ∙ sym c.xid-xid.ensures) in
     let found : open_call c.args.ticket c.args.self.now.state ≡ call_with None (found_answer c.args.ticket c.args.self.now.state) =
-    ap (λ (h : RequesterSide). open_call c.args.ticket h.state) (sym c.self.view_is) ∙ call_answered i.endpoint.link i.sent i.wished i.sends i.next_xid i.grant c.args.ticket i.outstanding.items i.answered.items _ none refl ∙ ap (λ (h : RequesterSide). call_with None (found_answer c.args.ticket h.state)) c.self.view_is in
+    ap (λ (h : RequesterSide). open_call c.args.ticket h.state) (sym c.self.view_is) ∙ call_answered i.endpoint.link i.sent i.wished i.sends i.next_xid i.grant i.local_releases c.args.ticket i.outstanding.items i.answered.items _ none refl ∙ ap (λ (h : RequesterSide). call_with None (found_answer c.args.ticket h.state)) c.self.view_is in
     let there : is_some (found_answer c.args.ticket c.args.self.now.state) ≡ true = open_answered (found_answer c.args.ticket c.args.self.now.state) (sym (ap (λ (o : Option Call). is_some o) found) ∙ c.requires.open) in
     let lt = answered_below i.next_xid c.args.ticket i.outstanding.items i.answered.items c.self.invariant.0.apart (ap (λ (h : RequesterSide). is_some (found_answer c.args.ticket h.state)) c.self.view_is ∙ there) in
     let next = ap (λ (h : RequesterSide). h.state.next_xid) c.self.view_is in
@@ -87,7 +87,7 @@ returns-clause-out c =
     let none : (k : ℕ) (d : OutstandingCall) → k < length i.outstanding.items → (get_or i.outstanding.items k d).xid ≢ c.args.ticket =
     λ k d lt e. c.place_of.ensures.none c.in_default.is k d (subst (λ (cs : List OutstandingCall). k < length cs) (sym c.as_slice.ensures.value) lt) (ap (λ (cs : List OutstandingCall). (get_or cs k d).xid) c.as_slice.ensures.value ∙ e ∙ sym c.xid-xid.ensures) in
     let found : open_call c.args.ticket c.args.self.now.state ≡ call_with None (found_answer c.args.ticket c.args.self.now.state) =
-    ap (λ (h : RequesterSide). open_call c.args.ticket h.state) (sym c.self.view_is) ∙ call_answered i.endpoint.link i.sent i.wished i.sends i.next_xid i.grant c.args.ticket i.outstanding.items i.answered.items _ none refl ∙ ap (λ (h : RequesterSide). call_with None (found_answer c.args.ticket h.state)) c.self.view_is in
+    ap (λ (h : RequesterSide). open_call c.args.ticket h.state) (sym c.self.view_is) ∙ call_answered i.endpoint.link i.sent i.wished i.sends i.next_xid i.grant i.local_releases c.args.ticket i.outstanding.items i.answered.items _ none refl ∙ ap (λ (h : RequesterSide). call_with None (found_answer c.args.ticket h.state)) c.self.view_is in
     let there : is_some (found_answer c.args.ticket c.args.self.now.state) ≡ true = open_answered (found_answer c.args.ticket c.args.self.now.state) (sym (ap (λ (o : Option Call). is_some o) found) ∙ c.requires.open) in
     let lt = answered_below i.next_xid c.args.ticket i.outstanding.items i.answered.items c.self.invariant.0.apart (ap (λ (h : RequesterSide). is_some (found_answer c.args.ticket h.state)) c.self.view_is ∙ there) in
     let next = ap (λ (h : RequesterSide). h.state.next_xid) c.self.view_is in

@@ -50,7 +50,7 @@ returns-clause-is c =
     let i = c.self.inside in
     let more : c.calls_bytes.result ≡ calls_bytes (map stored_view i.outstanding.items) = c.calls_bytes.ensures ∙ ap (λ (cs : List OutstandingCall). calls_bytes (map stored_view cs)) c.as_slice.ensures.value in
     let rooms : c.rooms_bytes.result ≡ rooms_bytes i.receive_length (map stored_view i.outstanding.items) = c.rooms_bytes.ensures ∙ ap (λ (cs : List OutstandingCall). rooms_total cs) c.as_slice-2.ensures.value ∙ rooms_are i.receive_length i.outstanding.items c.self.invariant.1.0.each in
-    held_is i.endpoint i.receive_length i.sends i.next_xid i.sent i.wished i.grant c.held.result c.calls_bytes.result c.rooms_bytes.result (end_size * c.sends_waiting.result) i.outstanding.items i.answered.items c.answers_bytes.result c.args.self.now.state (ap (λ (h : RequesterSide). h.state) c.self.view_is) c.self.invariant.1.0 c.held.ensures.is more rooms (ap (λ (n : ℕ). end_size * n) c.sends_waiting.ensures)
+    held_is i.endpoint i.receive_length i.sends i.next_xid i.sent i.wished i.grant i.local_releases c.held.result c.calls_bytes.result c.rooms_bytes.result (end_size * c.sends_waiting.result) i.outstanding.items i.answered.items c.answers_bytes.result c.args.self.now.state (ap (λ (h : RequesterSide). h.state) c.self.view_is) c.self.invariant.1.0 c.held.ensures.is more rooms (ap (λ (n : ℕ). end_size * n) c.sends_waiting.ensures)
     (c.answers_bytes.ensures.is ∙ ap (λ (xs : List AnsweredCall). answers_bytes xs) c.as_slice-3.ensures.value)
 
 pub returns-clause-bound : goal.returns-clause-bound

@@ -13,10 +13,10 @@ use Rattle.nr_requester.proofs.requester.Requester.least_xid.Goals as goal
 pub returns-clause-some : goal.returns-clause-some
 returns-clause-some c =
     let i = c.self.inside in
-    let view : RequesterFeeding = requester_view i.endpoint.link i.sent i.wished i.sends i.next_xid i.grant i.outstanding.items i.answered.items in
+    let view : RequesterFeeding = requester_view i.endpoint.link i.sent i.wished i.sends i.next_xid i.grant i.outstanding.items i.answered.items i.local_releases in
     let call : Option ℕ = c.least_call-call.result in
     let answer : Option ℕ = c.least_answer-answer.result in
-    let both = least_of_all i.endpoint.link i.sent i.wished i.sends i.next_xid i.grant i.outstanding.items i.answered.items call answer c.lesser_of.result
+    let both = least_of_all i.endpoint.link i.sent i.wished i.sends i.next_xid i.grant i.outstanding.items i.answered.items i.local_releases call answer c.lesser_of.result
     (subst (λ (cs : List OutstandingCall). (k : ℕ) (d : OutstandingCall) → k < length cs → is_some (get_or cs k d).call ≡ true → IsLeast call (get_or cs k d).xid) c.as_slice.ensures.value c.least_call-call.ensures.all)
     (subst (λ (xs : List AnsweredCall). (k : ℕ) (d : AnsweredCall) → k < length xs → IsLeast answer (get_or xs k d).xid) c.as_slice-2.ensures.value c.least_answer-answer.ensures.all)
     c.self.invariant.0.rising (are_apart view.state i.next_xid i.outstanding.items refl c.self.invariant.0.rising c.self.invariant.0.apart) c.self.invariant.1.0.distinct
@@ -27,10 +27,10 @@ returns-clause-some c =
 pub returns-clause-none : goal.returns-clause-none
 returns-clause-none c =
     let i = c.self.inside in
-    let view : RequesterFeeding = requester_view i.endpoint.link i.sent i.wished i.sends i.next_xid i.grant i.outstanding.items i.answered.items in
+    let view : RequesterFeeding = requester_view i.endpoint.link i.sent i.wished i.sends i.next_xid i.grant i.outstanding.items i.answered.items i.local_releases in
     let call : Option ℕ = c.least_call-call.result in
     let answer : Option ℕ = c.least_answer-answer.result in
-    let both = least_of_all i.endpoint.link i.sent i.wished i.sends i.next_xid i.grant i.outstanding.items i.answered.items call answer c.lesser_of.result
+    let both = least_of_all i.endpoint.link i.sent i.wished i.sends i.next_xid i.grant i.outstanding.items i.answered.items i.local_releases call answer c.lesser_of.result
     (subst (λ (cs : List OutstandingCall). (k : ℕ) (d : OutstandingCall) → k < length cs → is_some (get_or cs k d).call ≡ true → IsLeast call (get_or cs k d).xid) c.as_slice.ensures.value c.least_call-call.ensures.all)
     (subst (λ (xs : List AnsweredCall). (k : ℕ) (d : AnsweredCall) → k < length xs → IsLeast answer (get_or xs k d).xid) c.as_slice-2.ensures.value c.least_answer-answer.ensures.all)
     c.self.invariant.0.rising (are_apart view.state i.next_xid i.outstanding.items refl c.self.invariant.0.rising c.self.invariant.0.apart) c.self.invariant.1.0.distinct

@@ -8,4 +8,4 @@ pub returns : goal.returns
 returns c =
     let i = c.self.inside in
     subst (λ (h : RequesterSide). ListsFit h.state) c.self.view_is
-    (lists_fit i.endpoint i.receive_length i.sent i.wished i.sends i.next_xid i.grant i.outstanding.items i.answered.items _ c.self.invariant.0 c.self.invariant.1.0)
+    (lists_fit i.endpoint i.receive_length i.sent i.wished i.sends i.next_xid i.grant i.local_releases i.outstanding.items i.answered.items _ c.self.invariant.0 c.self.invariant.1.0)

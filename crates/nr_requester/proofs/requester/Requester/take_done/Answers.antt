@@ -36,7 +36,7 @@ returns-clause-state c =
     let i = c.self.inside in
     let one = one_answer_there c.args.xid c.in-Some.at i.answered.items c.as_slice.result.now c.remove-call.result c.as_slice.ensures.value c.self.invariant.1.0.distinct c.in-Some.ensures.some.0 c.in-Some.ensures.some.1 c.remove-call.ensures.value in
     let there = ap (λ (h : RequesterSide). is_some (found_answer c.args.xid h.state)) c.self.view_is ∙ c.requires.there in
-    taken_view i.endpoint.link i.sent i.wished i.sends i.next_xid i.grant c.args.xid i.outstanding.items i.answered.items c.remove-call.new.self.items i.endpoint.staging i.marks c.marks_if-self-inside.result
+    taken_view i.endpoint.link i.sent i.wished i.sends i.next_xid i.grant i.local_releases c.args.xid i.outstanding.items i.answered.items c.remove-call.new.self.items i.endpoint.staging i.marks c.marks_if-self-inside.result
     (not_outstanding i.next_xid c.args.xid i.outstanding.items i.answered.items c.self.invariant.0.apart there) (c.remove-call.ensures.items ∙ one.1) c.marks_if-self-inside.ensures
     ∙ ap (λ (h : RequesterSide). after_forget h c.args.xid) c.self.view_is
 
@@ -52,6 +52,6 @@ pub returns-clause-call : goal.returns-clause-call
 returns-clause-call c =
     let i = c.self.inside in
     let one = one_answer_there c.args.xid c.in-Some.at i.answered.items c.as_slice.result.now c.remove-call.result c.as_slice.ensures.value c.self.invariant.1.0.distinct c.in-Some.ensures.some.0 c.in-Some.ensures.some.1 c.remove-call.ensures.value in
-    let view : RequesterFeeding = requester_view i.endpoint.link i.sent i.wished i.sends i.next_xid i.grant i.outstanding.items i.answered.items in
+    let view : RequesterFeeding = requester_view i.endpoint.link i.sent i.wished i.sends i.next_xid i.grant i.outstanding.items i.answered.items i.local_releases in
     ap (λ (h : RequesterSide). open_call c.args.xid h.state) (sym c.self.view_is)
     ∙ answered_open view.state c.args.xid c.remove-call.result (are_apart view.state i.next_xid i.outstanding.items refl c.self.invariant.0.rising c.self.invariant.0.apart) (sym one.0)

@@ -1,0 +1,6 @@
+use Rattle.std.proofs.Common.{ap, ◌∙◌}
+use Rattle.nr_requester.specs.RequesterState.{RequesterSide}
+use Rattle.nr_requester.proofs.requester.Requester.invalidates.Goals as goal
+
+pub returns-clause-stands : goal.returns-clause-stands
+returns-clause-stands c = λ opened link run s. c.invalidates.ensures ∙ (ap (λ (h : RequesterSide). h.state.side.agreed.invalidates) c.self.view_is ∙ s.keeps.kept.keeps.invalidates)
