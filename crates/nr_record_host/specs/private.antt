@@ -1,2 +1,4 @@
 -- Definitions that only private code cites.
+pub mod Answering
 pub mod PlainCalls
+pub mod RecordSteps
