@@ -1,3 +1,4 @@
 pub mod Asked
+pub mod OwnXid
 pub mod Steps
 pub mod Ends

@@ -1,5 +1,6 @@
 -- One record more of a connection, forwarded or not.
-use Rattle.std.proofs.Common.{◌≡◌, ℕ, List, [], ◌∷◌, ◌++◌, None, Some, Result, Ok, Err, inl, inr, refl, subst}
+use Rattle.std.specs.Prelude.{IfOk}
+use Rattle.std.proofs.Common.{◌≡◌, ℕ, List, [], ◌∷◌, ◌++◌, None, Some, Result, Ok, Err, inl, inr, refl, sym, subst}
 use Rattle.nr_rpc.specs.Constants.{RPC_VERSION}
 use Rattle.nr_rpc.specs.Reading.{call_of}
 use Rattle.nr_rpc.specs.Reply.{reply_encoding}
@@ -16,10 +17,14 @@ use Rattle.nr_shared.specs.declared.call_end.CallEnd.{CallEnd}
 use Rattle.nr_shared.specs.declared.call_end.CallEnd.TheVariants as call_ends
 use Rattle.nr_shared.specs.declared.entry.Entry.{Entry}
 use Rattle.nr_shared.specs.declared.requester_with_sink.RequesterWithSink.{RequesterWithSink}
+use Rattle.nr_shared.specs.declared.shared.Pass.{Pass as SharedPass}
+use Rattle.nr_shared.specs.declared.shared.SharedRequester.{SharedRequester}
+use Rattle.nr_shared.specs.Sharing.{SharedRests}
 use Rattle.nr_shared.specs.Waiting.{Calls, OwnAnswer}
 use Rattle.nr_gate.specs.Forwarding.{Asks}
 use Rattle.nr_gate.specs.Gating.{EndsRemotely, Forwards, ForwardsAll, Gates, IsForwarded, Makes, Unforwarded}
 use Rattle.nr_gate.specs.private.Forwarded.{FailsSo, HasNone, IsAsked, RepliesWith, failure_at}
+use Rattle.nr_gate.specs.declared.asking.RecordCall.TheVariants as records
 use Rattle.nr_gate.specs.declared.forwarding.Failure.{Failure}
 use Rattle.nr_gate.specs.declared.forwarding.Failure.TheVariants as failures
 use Rattle.nr_gate.specs.declared.gate_end.GateEnd.{GateEnd}
@@ -51,6 +56,14 @@ module _ {O : Type 0} where
   pub at_once : (p : Pass (RequesterWithSink O) Entry) (call reply : List ℕ) (xid rpcvers : ℕ) → call_of call ≡ Ok (calls.Other xid rpcvers)
       → reply ≡ reply_encoding (replies.RpcMismatch xid RPC_VERSION RPC_VERSION) [] → Forwards p p call reply
   at_once p call reply xid rpcvers head reply_is = inr (record { xid = xid; rpcvers = rpcvers; head = head; reply_is = reply_is; unchanged = refl })
+
+  -- the same of what answers it, which has no answer if memory ran out
+  pub mismatched : {S : Type 0} (main_of : S → Pass (RequesterWithSink O) Entry) (u : S) (call : List ℕ) (xid : ℕ) (result : Result (List ℕ) NoReply)
+      → IsAsked (Ok (records.Other xid)) call → IfOk result (λ (reply : List ℕ). reply ≡ reply_encoding (replies.RpcMismatch xid RPC_VERSION RPC_VERSION) [])
+      → IfOk result (λ (reply : List ℕ). (first : S) (xs : List Exchange) → ForwardsAll (main_of first) (main_of u) xs → ForwardsAll (main_of first) (main_of u) (xs ++ record { call = call; reply = reply } ∷ []))
+  mismatched {S} main_of u call xid (Ok reply) asked is =
+      λ first xs all. all_end (main_of first) (main_of u) (main_of u) xs (record { call = call; reply = reply }) all (at_once (main_of u) call reply xid asked.0 asked.1 is)
+  mismatched {S} main_of u call xid (Err e) asked is = tt
 
   module _ (p q : Pass (RequesterWithSink O) Entry) (bytes : List ℕ) (xid : ℕ) (asked : Call) (asks : Asks bytes xid asked) where
     makes : (result : Result Done CallEnd) → Calls p q asked forms.Auto result → Makes p q bytes result
@@ -104,3 +117,8 @@ module _ {O : Type 0} where
   remote_made (call_ends.Spent left need) p q bytes made = made
   remote_made (call_ends.TooLarge need room) p q bytes made = made
   remote_made (call_ends.Budget read) p q bytes made = made
+
+-- a pass that is so of a shared requester, under other names of both
+pub rests_with : {I O : Type 0} (r r' : SharedRequester I O) (p p' : SharedPass I O) → r' ≡ r → p ≡ p' → SharedRests r' p' → SharedRests r p
+rests_with {I} {O} r r' p p' remote_is pass_is rests =
+    subst (λ (x : SharedRequester I O). SharedRests x p) remote_is (subst (λ (x : SharedPass I O). SharedRests r' x) (sym pass_is) rests)

@@ -97,10 +97,10 @@ fn with_own_xid(alloc: Global, reply: Octets, xid: u32) -> Option<Octets>
 {
     let first = xid.to_be_bytes();
     if reply.len() < XID_LEN {
-        return match Octets::from_slice(alloc, &first) {
-            Ok(own) => Some(own),
-            Err(_) => None,
-        };
+        match Octets::from_slice(alloc, &first) {
+            Ok(own) => return Some(own),
+            Err(_) => return None,
+        }
     }
     if reply.len() >= REPLY_LIMIT {
         return None;
