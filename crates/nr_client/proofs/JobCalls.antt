@@ -110,6 +110,19 @@ all_lent len new rest e = ap (λ (n : ℕ). take n (new ++ rest)) (sym e) ∙ ta
 parts : (Is : Call → Type 0) (call : Call) (form : Form) (xid : ℕ) (writes_before writes_after : List Entry) → Is call → AreWrites writes_before → AreWrites writes_after → AllByRecursion (Submits Is) (writes_before ++ entries.Submit call form xid ∷ writes_after)
 parts Is call form xid writes_before writes_after is one two = all_append (Submits Is) writes_before (entries.Submit call form xid ∷ writes_after) (asks_writes Is writes_before one) (is, asks_writes Is writes_after two)
 
+submits_more : (Is Was : Call → Type 0) (e : Entry) → ((c : Call) → Is c → Was c) → Submits Is e → Submits Was e
+submits_more Is Was (entries.Submit call form xid) more is = more call is
+submits_more Is Was (entries.Initial initial) more is = tt
+submits_more Is Was (entries.Wrote bytes) more is = tt
+submits_more Is Was (entries.Fed bytes before) more is = tt
+submits_more Is Was (entries.Done xid outcome at) more is = tt
+submits_more Is Was (entries.Lost xid at) more is = tt
+submits_more Is Was (entries.Forget xid at) more is = tt
+submits_more Is Was (entries.Revoke xid bytes at) more is = tt
+submits_more Is Was entries.WriteFailed more is = tt
+submits_more Is Was (entries.Stopped cause before) more is = tt
+submits_more Is Was (entries.OutOfMemory piece before) more is = tt
+
 asks_as : (Is : Call → Type 0) (asked : Call) (e : Entry) → Is asked → Submits (λ (c : Call). c ≡ asked) e → Submits Is e
 asks_as Is asked (entries.Submit call form xid) is same = subst Is (sym same) is
 asks_as Is asked (entries.Initial initial) is same = tt
@@ -123,8 +136,8 @@ asks_as Is asked entries.WriteFailed is same = tt
 asks_as Is asked (entries.Stopped cause before) is same = tt
 asks_as Is asked (entries.OutOfMemory piece before) is same = tt
 
-module _ {O : Type 0} where
-  pub grows_adds : (Is : Call → Type 0) (p q : Pass (RequesterWithSink O) Entry) (es : List Entry) → AllByRecursion (Submits Is) es → Adds p q es → Grows Is p q
+module _ {O C : Type 0} where
+  pub grows_adds : (Is : Call → Type 0) (p q : Pass (RequesterWithSink O C) Entry) (es : List Entry) → AllByRecursion (Submits Is) es → Adds p q es → Grows Is p q
   grows_adds Is p q es all a = record {
     seen = a.seen;
     mine = λ k i. subst (IsIn k) (sym a.mine) (in_more (mine_of p) a.places k i);
@@ -133,14 +146,14 @@ module _ {O : Type 0} where
         (in_either (mine_of p) a.places k (subst (IsIn k) a.mine i));
   }
 
-  pub grows_none : (Is : Call → Type 0) (p q : Pass (RequesterWithSink O) Entry) → seen_by q ≡ seen_by p → mine_of q ≡ mine_of p → Grows Is p q
+  pub grows_none : (Is : Call → Type 0) (p q : Pass (RequesterWithSink O C) Entry) → seen_by q ≡ seen_by p → mine_of q ≡ mine_of p → Grows Is p q
   grows_none Is p q seen mine = record {
     seen = subst (Begins (seen_by p)) (sym seen) (begins_self (seen_by p));
     mine = λ k i. subst (IsIn k) (sym mine) i;
     own = λ k e i is. inl (subst (IsIn k) mine i);
   }
 
-  pub grows_then : (Is : Call → Type 0) (p q r : Pass (RequesterWithSink O) Entry) → Lies (seen_by q) (mine_of q) → Grows Is p q → Grows Is q r → Grows Is p r
+  pub grows_then : (Is : Call → Type 0) (p q r : Pass (RequesterWithSink O C) Entry) → Lies (seen_by q) (mine_of q) → Grows Is p q → Grows Is q r → Grows Is p r
   grows_then Is p q r lies one two = record {
     seen = begins_then (seen_by p) (seen_by q) (seen_by r) one.seen two.seen;
     mine = λ k i. two.mine k (one.mine k i);
@@ -152,22 +165,22 @@ module _ {O : Type 0} where
 
   -- ---- A call
 
-  answer_grows : (Is : Call → Type 0) (p q : Pass (RequesterWithSink O) Entry) (call : Call) (form : Form) (done : Done) → Is call → OwnAnswer p q call form done → Grows Is p q
+  answer_grows : (Is : Call → Type 0) (p q : Pass (RequesterWithSink O C) Entry) (call : Call) (form : Form) (done : Done) → Is call → OwnAnswer p q call form done → Grows Is p q
   answer_grows Is p q call form done is o =
       grows_adds Is p q ((o.writes_before ++ entries.Submit call form o.xid ∷ o.writes_after) ++ entries.Done o.xid done.outcome o.at ∷ [])
       (all_append (Submits Is) (o.writes_before ++ entries.Submit call form o.xid ∷ o.writes_after) (entries.Done o.xid done.outcome o.at ∷ []) (parts Is call form o.xid o.writes_before o.writes_after is o.are_writes_before o.are_writes_after) (tt, tt)) o.adds
 
-  forgotten_grows : (Is : Call → Type 0) (p q : Pass (RequesterWithSink O) Entry) (call : Call) (form : Form) (end : SharedEnd) → Is call → NoAnswer p q call form end → Grows Is p q
+  forgotten_grows : (Is : Call → Type 0) (p q : Pass (RequesterWithSink O C) Entry) (call : Call) (form : Form) (end : SharedEnd) → Is call → NoAnswer p q call form end → Grows Is p q
   forgotten_grows Is p q call form end is o =
       grows_adds Is p q ((o.writes_before ++ entries.Submit call form o.xid ∷ o.writes_after) ++ entries.Forget o.xid o.at ∷ [])
       (all_append (Submits Is) (o.writes_before ++ entries.Submit call form o.xid ∷ o.writes_after) (entries.Forget o.xid o.at ∷ []) (parts Is call form o.xid o.writes_before o.writes_after is o.are_writes_before o.are_writes_after) (tt, tt)) o.adds
 
-  pub call_grows : (Is : Call → Type 0) (p q : Pass (RequesterWithSink O) Entry) (call : Call) (form : Form) (result : Result Done SharedEnd) → Is call → Calls p q call form result → Grows Is p q
+  pub call_grows : (Is : Call → Type 0) (p q : Pass (RequesterWithSink O C) Entry) (call : Call) (form : Form) (result : Result Done SharedEnd) → Is call → Calls p q call form result → Grows Is p q
   call_grows Is p q call form (Ok done) is o = answer_grows Is p q call form done is o
   call_grows Is p q call form (Err end) is (inl n) = grows_adds Is p q n.writes_before (asks_writes Is n.writes_before n.are_writes_before) n.adds
   call_grows Is p q call form (Err end) is (inr n) = forgotten_grows Is p q call form end is n
 
-  pub exchanged : (p q : Pass (RequesterWithSink O) Entry) (call : Call) (done : Done) → OwnAnswer p q call forms.Auto done → IsExchange (seen_by q) (mine_of q) call done.outcome
+  pub exchanged : (p q : Pass (RequesterWithSink O C) Entry) (call : Call) (done : Done) → OwnAnswer p q call forms.Auto done → IsExchange (seen_by q) (mine_of q) call done.outcome
   exchanged p q call done o =
       let l = last_at (seen_by q) o.adds.places (o.writes_before ++ entries.Submit call forms.Auto o.xid ∷ o.writes_after) (entries.Done o.xid done.outcome o.at) o.adds.at in
       record {
@@ -179,16 +192,16 @@ module _ {O : Type 0} where
         own = (o.own, subst (IsIn l.0) (sym o.adds.mine) (in_later (mine_of p) o.adds.places l.0 l.1.0));
       }
 
-  pub lacks : (p q : Pass (RequesterWithSink O) Entry) (call : Call) (end : SharedEnd) → Calls p q call forms.Auto (Err end) → LacksAnswer (seen_by q) call end
+  pub lacks : (p q : Pass (RequesterWithSink O C) Entry) (call : Call) (end : SharedEnd) → Calls p q call forms.Auto (Err end) → LacksAnswer (seen_by q) call end
   lacks p q call end (inl n) = record { before = seen_by q; begins = begins_self (seen_by q); cause = n.cause }
   lacks p q call end (inr n) = record { before = n.before; begins = (entries.Forget n.xid n.at ∷ [], n.seen); cause = link_cause end call forms.Auto n.before n.ended }
 
   -- ---- What was exchanged stays
 
-  pub exchange_grows : (Is : Call → Type 0) (p q : Pass (RequesterWithSink O) Entry) (call : Call) (outcome : Outcome) → Grows Is p q → IsExchange (seen_by p) (mine_of p) call outcome → IsExchange (seen_by q) (mine_of q) call outcome
+  pub exchange_grows : (Is : Call → Type 0) (p q : Pass (RequesterWithSink O C) Entry) (call : Call) (outcome : Outcome) → Grows Is p q → IsExchange (seen_by p) (mine_of p) call outcome → IsExchange (seen_by q) (mine_of q) call outcome
   exchange_grows Is p q call outcome g = exchange_on (seen_by p) (seen_by q) (mine_of p) (mine_of q) call outcome g.seen g.mine
 
-  pub exchanges_grow : (Is : Call → Type 0) (uid gid : ℕ) (file : List ℕ) (p q : Pass (RequesterWithSink O) Entry) (before after : List Outcome) → Grows Is p q
+  pub exchanges_grow : (Is : Call → Type 0) (uid gid : ℕ) (file : List ℕ) (p q : Pass (RequesterWithSink O C) Entry) (before after : List Outcome) → Grows Is p q
       → AreExchanges uid gid file (seen_by p) (mine_of p) before after → AreExchanges uid gid file (seen_by q) (mine_of q) before after
   exchanges_grow Is uid gid file p q before [] g all = tt
   exchanges_grow Is uid gid file p q before (o ∷ after) g all =
@@ -196,15 +209,22 @@ module _ {O : Type 0} where
 
   -- ---- One call of many
 
-  pub grows_as : (Is : Call → Type 0) (asked : Call) (p q : Pass (RequesterWithSink O) Entry) → Is asked → Grows (λ (c : Call). c ≡ asked) p q → Grows Is p q
+  pub grows_as : (Is : Call → Type 0) (asked : Call) (p q : Pass (RequesterWithSink O C) Entry) → Is asked → Grows (λ (c : Call). c ≡ asked) p q → Grows Is p q
   grows_as Is asked p q is g = record {
     seen = g.seen;
     mine = g.mine;
     own = λ k e i at. ⊎_elim (λ (old : IsIn k (mine_of p)). inl old) (λ (new : Submits (λ (c : Call). c ≡ asked) e). inr (asks_as Is asked e is new)) (g.own k e i at);
   }
 
+  pub grows_more : (Is Was : Call → Type 0) (p q : Pass (RequesterWithSink O C) Entry) → ((c : Call) → Is c → Was c) → Grows Is p q → Grows Was p q
+  grows_more Is Was p q more g = record {
+    seen = g.seen;
+    mine = g.mine;
+    own = λ k e i at. ⊎_elim (λ (old : IsIn k (mine_of p)). inl old) (λ (new : Submits Is e). inr (submits_more Is Was e more new)) (g.own k e i at);
+  }
+
   -- a pass that takes in another, whose own entries submit such calls alone
-  pub joined_grows : (Is : Call → Type 0) (p o q : Pass (RequesterWithSink O) Entry) → Begins (seen_by p) (seen_by q) → Begins (seen_by o) (seen_by q) → mine_of q ≡ in_order (mine_of p) (mine_of o) → Lies (seen_by o) (mine_of o)
+  pub joined_grows : (Is : Call → Type 0) (p o q : Pass (RequesterWithSink O C) Entry) → Begins (seen_by p) (seen_by q) → Begins (seen_by o) (seen_by q) → mine_of q ≡ in_order (mine_of p) (mine_of o) → Lies (seen_by o) (mine_of o)
       → ((k : ℕ) (e : Entry) → IsIn k (mine_of o) → get_elem? (seen_by o) k ≡ some e → Submits Is e) → Grows Is p q
   joined_grows Is p o q first second mine lies owns = record {
     seen = first;
@@ -215,7 +235,7 @@ module _ {O : Type 0} where
         (in_ordered (mine_of p) (mine_of o) k (subst (IsIn k) mine i));
   }
 
-  pub joined_fetched : (p o q : Pass (RequesterWithSink O) Entry) (uid gid : ℕ) (file : List ℕ) (size : ℕ) (pieces : List PieceRead) → Begins (seen_by o) (seen_by q) → mine_of q ≡ in_order (mine_of p) (mine_of o)
+  pub joined_fetched : (p o q : Pass (RequesterWithSink O C) Entry) (uid gid : ℕ) (file : List ℕ) (size : ℕ) (pieces : List PieceRead) → Begins (seen_by o) (seen_by q) → mine_of q ≡ in_order (mine_of p) (mine_of o)
       → AreFetched uid gid file size (seen_by o) (mine_of o) pieces → AreFetched uid gid file size (seen_by q) (mine_of q) pieces
   joined_fetched p o q uid gid file size pieces second mine all =
       fetched_on (seen_by o) (seen_by q) (mine_of o) (mine_of q) uid gid file size pieces second (λ k i. subst (IsIn k) (sym mine) (still_ordered (mine_of p) (mine_of o) k i)) all

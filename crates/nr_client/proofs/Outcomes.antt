@@ -58,6 +58,11 @@ no_sink_fault (Err client.Memory) before after link same = same
 pub same_asked : {given : Result Call Memory} (call asked : Call) → given ≡ Ok call → IfOk given (λ c. c ≡ asked) → call ≡ asked
 same_asked call asked is same = subst (λ (r : Result Call Memory). IfOk r (λ c. c ≡ asked)) is same
 
+-- what holds of the call that was asked for
+pub allowed_as : (P : Call → Type 0) (given : Result Call Memory) (asked : Call) → IfOk given (λ c. c ≡ asked) → P asked → IfOk given P
+allowed_as P (Ok call) asked same is = subst P (sym same) is
+allowed_as P (Err memory) asked same is = tt
+
 -- its credential can be written
 pub writable : (given : Result Call Memory) (prog vers proc uid gid : ℕ) (args : List ℕ) → IfOk given (λ c. c ≡ client_call prog vers proc uid gid args) → IfOk given (λ c. CanWriteCred c.cred)
 writable (Ok call) prog vers proc uid gid args same = subst (λ (c : Call). CanWriteCred c.cred) (sym same) (machine_fits, none_fit)

@@ -1,37 +1,33 @@
 //! A file is read by several jobs, each in a thread of its own.
 
-ghost use Rattle.std.specs.Prelude.{◌≡◌, ◌≢◌, ◌<◌, ◌≤◌, ℕ, ◌+◌, [], ◌∷◌, true, false, Some, None, Err, List, length, All, slice_index_or, IfOk, IfErr, OnOk};
-ghost use Rattle.nr_rpc.specs.Credential.{CanWriteCred};
+ghost use Rattle.std.specs.Prelude.{◌≡◌, ◌≢◌, ◌<◌, ◌≤◌, ℕ, [], Some, None, Err, List, length, All, slice_index_or, IfOk, IfErr, OnOk};
 ghost use Rattle.nr_reduce.specs.declared.call.Call.{Call};
+ghost use Rattle.nr_reduce.specs.declared.call.Form.{Form};
 ghost use Rattle.nr_turnstile.specs.Passes.{mine_of, seen_by};
 ghost use Rattle.nr_turnstile.specs.Rule.{Begins};
 ghost use Rattle.nr_shared.specs.declared.entry.Entry.{Entry};
 ghost use Rattle.nr_shared.specs.declared.entry.Entry.TheVariants as entries;
 ghost use Rattle.nr_shared.specs.declared.source_reader.InitialSource.{InitialSource};
-ghost use Rattle.nr_shared.specs.Opening.{GivesBack};
 ghost use Rattle.nr_shared.specs.Sharing.{SharedRests};
-ghost use Rattle.nr_client.specs.Jobs.{IsExchange, IsOfFile, ReadsByJobs, ReadsShared, jobs_max};
+ghost use Rattle.nr_client.specs.Jobs.{FileCalls, IsPiece, ReadsByJobs, ReadsShared, jobs_max};
 ghost use Rattle.nr_client.specs.Reading.{OutputFaults, piece_left};
 ghost use Rattle.nr_requester.specs.Fed.{fed_bytes};
 ghost use Rattle.nr_shared.specs.Standing.{bytes_before};
 ghost use Rattle.nr_link.specs.declared.end.End.TheVariants as ends;
-ghost use Rattle.nr_client.specs.private.JobReads.{AreFetched, EndsMore, Grows, HasNone, HasRun, IsDone, IsFetched, IsNewJob, IsReady, IsUpTo, ReadsMore};
-ghost use Rattle.nr_client.specs.private.OpenReads.{GivesData, GivesNone};
-ghost use Rattle.nr_client.specs.Results.{IsOfCall};
+ghost use Rattle.nr_client.specs.private.JobReads.{AreFetched, EndsMore, Grows, HasRun, IsDone, IsFetched, IsNewJob, IsReady, IsRuleOf, ReadsMore};
 
-use crate::call_end::CallEnd;
 use crate::client_end::ClientEnd;
 use crate::file_calls::read_call;
-use crate::read_data::{piece_left, write_data};
+use crate::read_data::piece_left;
 use crate::requests::getattr_call;
 use crate::results::nfs_results;
-use nr_link::End;
+use crate::shared_calls::{outcome_of, share};
+use crate::written_pieces::write_piece;
 use nr_nfs_base::{Attributes, Handle, TRANSFER_MAX};
 use nr_outside::{Sink, Source};
-use nr_reduce::{Call, Form, Outcome};
-use nr_requester::{Done, Requester};
-use nr_shared::{Appended, InitialHistory, Pass, SharedRequester};
-use nr_xdr::Memory;
+use nr_reduce::Outcome;
+use nr_requester::Requester;
+use nr_shared::{Appended, CallRule, Pass, SharedRequester};
 use std::alloc::{AllocError, Global};
 use std::sync::Wait;
 use std::thread;
@@ -49,81 +45,25 @@ struct PieceRead {
 
 /// A job: a pass of the shared requester, where its pieces begin, and those that it has read.
 #[derive(Drop)]
-struct ReadJob<I: Source, O: Sink> {
-    pass: Pass<I, O>,
+struct ReadJob<I: Source, O: Sink, C: CallRule> {
+    pass: Pass<I, O, C>,
     offsets: Vec<u64>,
     fetched: Vec<PieceRead>,
 }
 
-/// Hands a requester in, to be shared, with its source and its sink.
-pub(crate) fn share<K: Appended, R: Wait, I: Source, O: Sink>(
-    rt: &R,
-    alloc: Global,
-    requester: Requester,
-    source: I,
-    sink: O,
-) -> Result<(SharedRequester<I, O>, Pass<I, O>), (Requester, I, O)>
-where
-    I: Drop,
-    O: Drop,
-    requires entry { entries.Initial (record { requester = requester; faults = O.faults sink; taken = O.taken sink }) ≡ K.entry }
-    requires has_memory { requester.state.side.ended ≢ Some ends.Memory }
-    requires fed { fed_bytes requester ≤ bytes_before }
-    ensures rests { IfOk result (λ t. SharedRests t.0 t.1) }
-    ensures seen { IfOk result (λ t. (seen_by t.1.main ≡ K.entry ∷ []) × (mine_of t.1.main ≡ [])) }
-    ensures source { IfOk result (λ t. (b : InitialSource I O) × ((seen_by t.1.source ≡ b ∷ []) × (b.source.value ≡ source))) }
-    ensures err { IfErr result (λ back. GivesBack I.left I.given I.faults O.taken O.faults (K.entry ∷ []) [] source back.0 back.1 back.2) }
-{
-    SharedRequester::new::<InitialHistory<K>, R>(rt, alloc, requester, source, sink)
-}
-
-/// Makes a call, if there was memory for it. Gives its outcome.
-fn outcome_of<R: Wait, I: Source, O: Sink>(
-    rt: &R,
-    shared: &SharedRequester<I, O>,
-    pass: &mut Pass<I, O>,
-    call: Result<Call, Memory>,
-) -> Result<Outcome, ClientEnd>
-    requires writable { IfOk call (λ c. CanWriteCred c.cred) }
-    requires rests { SharedRests shared.now pass.old }
-    ensures rests { SharedRests shared.now pass.new }
-    ensures source { seen_by pass.new.source ≡ seen_by pass.old.source }
-    ensures grows { (asked : Call) → IfOk call (λ c. c ≡ asked) → Grows (λ c. c ≡ asked) pass.old.main pass.new.main }
-    ensures ok { IfOk result (λ outcome. (asked : Call) → IfOk call (λ c. c ≡ asked) → IsExchange (seen_by pass.new.main) (mine_of pass.new.main) asked outcome) }
-    ensures err { IfErr result (λ end. (asked : Call) → IfOk call (λ c. c ≡ asked) → HasNone asked end pass.new.main) }
-    ensures of_call { IfErr result IsOfCall }
-{
-    let call = match call {
-        Ok(call) => call,
-        Err(_) => return Err(ClientEnd::Memory),
-    };
-    match shared.call(rt, pass, call, Form::Auto) {
-        Ok(done) => {
-            let Done {
-                call,
-                buffers,
-                outcome,
-            } = done;
-            drop(call);
-            drop(buffers);
-            Ok(outcome)
-        }
-        Err(end) => Err(ClientEnd::Link(CallEnd::of_shared(end))),
-    }
-}
-
 /// Reads the pieces of a job, one after another, up to one that gets no answer.
-fn fetch<R: Wait, I: Source, O: Sink>(
+fn fetch<R: Wait, I: Source, O: Sink, C: CallRule>(
     rt: &R,
     alloc: Global,
-    shared: &SharedRequester<I, O>,
+    shared: &SharedRequester<I, O, C>,
     uid: u32,
     gid: u32,
     file: &Handle,
     size: u64,
-    job: &mut ReadJob<I, O>,
+    job: &mut ReadJob<I, O, C>,
 )
-    requires { IsReady shared.now uid gid file.now size job.old }
+    requires rule { IsRuleOf C.allows uid gid file.now }
+    requires ready { IsReady shared.now uid gid file.now size job.old }
     ensures { HasRun shared.now uid gid file.now size job.old job.new }
 {
     let mut next = 0;
@@ -147,24 +87,25 @@ fn fetch<R: Wait, I: Source, O: Sink>(
 }
 
 /// Each job reads its pieces, in a thread of its own if there is one.
-fn fetch_all<R: Threads + Wait + Sync, I: Source + Send, O: Sink + Send>(
+fn fetch_all<R: Threads + Wait + Sync, I: Source + Send, O: Sink + Send, C: CallRule + Send>(
     rt: &R,
     alloc: Global,
-    shared: &SharedRequester<I, O>,
+    shared: &SharedRequester<I, O, C>,
     uid: u32,
     gid: u32,
     file: &Handle,
     size: u64,
     threads: usize,
-    made: &mut [ReadJob<I, O>],
+    made: &mut [ReadJob<I, O, C>],
 )
+    requires rule { IsRuleOf C.allows uid gid file.now }
     requires threads { 0 < threads }
     requires ready { All (IsReady shared.now uid gid file.now size) made.old }
     ensures len { length made.new ≡ length made.old }
     ensures each { (i : ℕ) (d : _) → i < length made.old → HasRun shared.now uid gid file.now size (slice_index_or made.old i d) (slice_index_or made.new i d) }
 {
-    let run = |_: usize, job: &mut ReadJob<I, O>|
-        requires { IsReady shared.now uid gid file.now size job.now }
+    let run = |_: usize, job: &mut ReadJob<I, O, C>|
+        requires { IsReady shared.now uid gid file.now size job.now × IsRuleOf C.allows uid gid file.now }
         ensures { HasRun shared.entry.now uid gid file.entry.now size job.entry.now job.exit.now }
     { fetch(rt, alloc, shared, uid, gid, file, size, job) };
     thread::for_each_mut(rt, made, threads, &run);
@@ -186,14 +127,14 @@ fn offsets_from(alloc: Global, size: u64, from: u64, step: u64) -> Result<Vec<u6
 }
 
 /// A job of one round, with a pass of its own.
-fn make_job<I: Source, O: Sink>(
+fn make_job<I: Source, O: Sink, C: CallRule>(
     alloc: Global,
-    shared: &SharedRequester<I, O>,
-    pass: &mut Pass<I, O>,
+    shared: &SharedRequester<I, O, C>,
+    pass: &mut Pass<I, O, C>,
     size: u64,
     from: u64,
     step: u64,
-) -> Result<ReadJob<I, O>, AllocError>
+) -> Result<ReadJob<I, O, C>, AllocError>
     requires rests { SharedRests shared.now pass.old }
     ensures rests { SharedRests shared.now pass.new }
     ensures source { seen_by pass.new.source ≡ seen_by pass.old.source }
@@ -210,14 +151,14 @@ fn make_job<I: Source, O: Sink>(
 }
 
 /// The jobs of one round. Pieces go to jobs in turn.
-fn make_jobs<I: Source, O: Sink>(
+fn make_jobs<I: Source, O: Sink, C: CallRule>(
     alloc: Global,
-    shared: &SharedRequester<I, O>,
-    pass: &mut Pass<I, O>,
+    shared: &SharedRequester<I, O, C>,
+    pass: &mut Pass<I, O, C>,
     jobs: usize,
     size: u64,
     from: u64,
-) -> Result<Vec<ReadJob<I, O>>, AllocError>
+) -> Result<Vec<ReadJob<I, O, C>>, AllocError>
     requires rests { SharedRests shared.now pass.old }
     ensures rests { SharedRests shared.now pass.new }
     ensures source { seen_by pass.new.source ≡ seen_by pass.old.source }
@@ -236,190 +177,18 @@ fn make_jobs<I: Source, O: Sink>(
     Ok(made)
 }
 
-/// One READ by a call of the caller's own, of what is left of its piece. Its data are written to the output.
-fn read_on<R: Wait, I: Source, O: Sink, K: Sink>(
-    rt: &R,
-    alloc: Global,
-    shared: &SharedRequester<I, O>,
-    pass: &mut Pass<I, O>,
-    uid: u32,
-    gid: u32,
-    file: &Handle,
-    size: u64,
-    end: u64,
-    at: &mut u64,
-    out: &mut K,
-) -> Result<(), ClientEnd>
-    requires below { at.old < size }
-    requires within { at.old < end }
-    requires piece { IsUpTo size at.old end }
-    requires rests { SharedRests shared.now pass.old }
-    ensures rests { SharedRests shared.now pass.new }
-    ensures source { seen_by pass.new.source ≡ seen_by pass.old.source }
-    ensures grows { Grows (IsOfFile uid gid file.now) pass.old.main pass.new.main }
-    ensures piece { OnOk result (IsUpTo size at.new end) }
-    ensures more { OnOk result (at.old < at.new) }
-    ensures ok { OnOk result (ReadsMore uid gid file.now size at.old at.new pass.old.main pass.new.main (K.taken out.old) (K.taken out.new)) }
-    ensures err { IfErr result (λ why. EndsMore uid gid file.now size at.old pass.old.main pass.new.main (K.taken out.old) (K.taken out.new) (Err why)) }
-    ensures out_faults { OutputFaults result (K.faults out.old) (K.faults out.new) }
-{
-    let count = piece_left(size, *at);
-    let outcome = match outcome_of(
-        rt,
-        shared,
-        pass,
-        read_call(alloc, uid, gid, file, *at, count),
-    ) {
-        Ok(outcome) => outcome,
-        Err(end) => return Err(end),
-    };
-    let step = match write_data(alloc, outcome, count, out) {
-        Ok(step) => step,
-        Err(end) => return Err(end),
-    };
-    *at += step as u64;
-    Ok(())
-}
-
-/// READs by calls of the caller's own of the rest of a piece, one after another.
-fn read_rest<R: Wait, I: Source, O: Sink, K: Sink>(
-    rt: &R,
-    alloc: Global,
-    shared: &SharedRequester<I, O>,
-    pass: &mut Pass<I, O>,
-    uid: u32,
-    gid: u32,
-    file: &Handle,
-    size: u64,
-    end: u64,
-    at: &mut u64,
-    out: &mut K,
-) -> Result<(), ClientEnd>
-    requires within { end ≤ size }
-    requires piece { IsUpTo size at.old end }
-    requires rests { SharedRests shared.now pass.old }
-    ensures rests { SharedRests shared.now pass.new }
-    ensures source { seen_by pass.new.source ≡ seen_by pass.old.source }
-    ensures grows { Grows (IsOfFile uid gid file.now) pass.old.main pass.new.main }
-    ensures end { OnOk result (at.new ≡ end) }
-    ensures ok { OnOk result (ReadsMore uid gid file.now size at.old at.new pass.old.main pass.new.main (K.taken out.old) (K.taken out.new)) }
-    ensures err { IfErr result (λ why. EndsMore uid gid file.now size at.old pass.old.main pass.new.main (K.taken out.old) (K.taken out.new) (Err why)) }
-    ensures out_faults { OutputFaults result (K.faults out.old) (K.faults out.new) }
-{
-    'rest: while *at < end {
-        match read_on(rt, alloc, shared, pass, uid, gid, file, size, end, at, out) {
-            Ok(()) => {}
-            Err(why) => return Err(why),
-        }
-    }
-    Ok(())
-}
-
-/// Writes the data of the first READ of a piece, which a job has made.
-fn write_fetched<K: Sink>(
-    alloc: Global,
-    size: u64,
-    outcome: Outcome,
-    at: &mut u64,
-    out: &mut K,
-) -> Result<(), ClientEnd>
-    requires below { at.old < size }
-    ensures piece { OnOk result (IsUpTo size at.new (at.old + piece_left size at.old)) }
-    ensures ok { OnOk result ((count step : ℕ) × ((count ≡ piece_left size at.old) × ((at.new ≡ at.old + step) × GivesData count outcome step (K.taken out.old) (K.taken out.new)))) }
-    ensures err { IfErr result (λ why. GivesNone (piece_left size at.old) outcome why (K.taken out.old) (K.taken out.new)) }
-    ensures out_faults { OutputFaults result (K.faults out.old) (K.faults out.new) }
-{
-    let count = piece_left(size, *at);
-    let step = match write_data(alloc, outcome, count, out) {
-        Ok(step) => step,
-        Err(end) => return Err(end),
-    };
-    *at += step as u64;
-    Ok(())
-}
-
-/// Writes the data of a piece whose first READ a job has made, and reads what is left of it.
-fn finish_piece<R: Wait, I: Source, O: Sink, K: Sink>(
-    rt: &R,
-    alloc: Global,
-    shared: &SharedRequester<I, O>,
-    pass: &mut Pass<I, O>,
-    uid: u32,
-    gid: u32,
-    file: &Handle,
-    size: u64,
-    outcome: Outcome,
-    at: &mut u64,
-    out: &mut K,
-) -> Result<(), ClientEnd>
-    requires below { at.old < size }
-    requires fetched { IsFetched uid gid file.now size at.old (Some outcome) (seen_by pass.old.main) (mine_of pass.old.main) }
-    requires rests { SharedRests shared.now pass.old }
-    ensures rests { SharedRests shared.now pass.new }
-    ensures source { seen_by pass.new.source ≡ seen_by pass.old.source }
-    ensures grows { Grows (IsOfFile uid gid file.now) pass.old.main pass.new.main }
-    ensures end { OnOk result (at.new ≡ at.old + piece_left size at.old) }
-    ensures ok { OnOk result (ReadsMore uid gid file.now size at.old at.new pass.old.main pass.new.main (K.taken out.old) (K.taken out.new)) }
-    ensures err { IfErr result (λ why. EndsMore uid gid file.now size at.old pass.old.main pass.new.main (K.taken out.old) (K.taken out.new) (Err why)) }
-    ensures out_faults { OutputFaults result (K.faults out.old) (K.faults out.new) }
-{
-    let end = *at + piece_left(size, *at) as u64;
-    match write_fetched(alloc, size, outcome, at, out) {
-        Ok(()) => {}
-        Err(why) => return Err(why),
-    }
-    match read_rest(rt, alloc, shared, pass, uid, gid, file, size, end, at, out) {
-        Ok(()) => Ok(()),
-        Err(why) => Err(why),
-    }
-}
-
-/// Writes the data of one piece: those that a job has read, if it has, and what is left of it by calls of the caller's own.
-fn write_piece<R: Wait, I: Source, O: Sink, K: Sink>(
-    rt: &R,
-    alloc: Global,
-    shared: &SharedRequester<I, O>,
-    pass: &mut Pass<I, O>,
-    uid: u32,
-    gid: u32,
-    file: &Handle,
-    size: u64,
-    outcome: Option<Outcome>,
-    at: &mut u64,
-    out: &mut K,
-) -> Result<(), ClientEnd>
-    requires below { at.old < size }
-    requires fetched { IsFetched uid gid file.now size at.old outcome (seen_by pass.old.main) (mine_of pass.old.main) }
-    requires rests { SharedRests shared.now pass.old }
-    ensures rests { SharedRests shared.now pass.new }
-    ensures source { seen_by pass.new.source ≡ seen_by pass.old.source }
-    ensures grows { Grows (IsOfFile uid gid file.now) pass.old.main pass.new.main }
-    ensures end { OnOk result (at.new ≡ at.old + piece_left size at.old) }
-    ensures ok { OnOk result (ReadsMore uid gid file.now size at.old at.new pass.old.main pass.new.main (K.taken out.old) (K.taken out.new)) }
-    ensures err { IfErr result (λ why. EndsMore uid gid file.now size at.old pass.old.main pass.new.main (K.taken out.old) (K.taken out.new) (Err why)) }
-    ensures out_faults { OutputFaults result (K.faults out.old) (K.faults out.new) }
-{
-    let end = *at + piece_left(size, *at) as u64;
-    match outcome {
-        None => read_rest(rt, alloc, shared, pass, uid, gid, file, size, end, at, out),
-        Some(outcome) => finish_piece(
-            rt, alloc, shared, pass, uid, gid, file, size, outcome, at, out,
-        ),
-    }
-}
-
 /// Takes the pass of each job back, in order, and the pieces that it has read.
-fn join_jobs<I: Source, O: Sink>(
+fn join_jobs<I: Source, O: Sink, C: CallRule>(
     alloc: Global,
-    shared: &SharedRequester<I, O>,
-    pass: &mut Pass<I, O>,
-    mut made: Vec<ReadJob<I, O>>,
+    shared: &SharedRequester<I, O, C>,
+    pass: &mut Pass<I, O, C>,
+    mut made: Vec<ReadJob<I, O, C>>,
 ) -> Result<Vec<Vec<PieceRead>>, AllocError>
     requires rests { SharedRests shared.now pass.old }
     requires jobs { All (λ j. SharedRests shared.now j.pass) made.items }
     ensures rests { SharedRests shared.now pass.new }
     ensures source { seen_by pass.new.source ≡ seen_by pass.old.source }
-    ensures grows { (uid gid size : ℕ) (file : List ℕ) → All (IsDone shared.now uid gid file size) made.items → Grows (IsOfFile uid gid file) pass.old.main pass.new.main }
+    ensures grows { (uid gid size : ℕ) (file : List ℕ) → All (IsDone shared.now uid gid file size) made.items → Grows (IsPiece uid gid file size) pass.old.main pass.new.main }
     ensures ok { IfOk result (λ lists. (uid gid size : ℕ) (file : List ℕ) → All (IsDone shared.now uid gid file size) made.items
         → All (λ list. AreFetched uid gid file size (seen_by pass.new.main) (mine_of pass.new.main) list.items) lists.items) }
 {
@@ -467,11 +236,11 @@ fn take_next(lists: &mut Vec<Vec<PieceRead>>, at: u64) -> Result<Option<Outcome>
 }
 
 /// The pieces of one round, read by jobs.
-fn fetch_round<R: Threads + Wait + Sync, I: Source + Send, O: Sink + Send>(
+fn fetch_round<R: Threads + Wait + Sync, I: Source + Send, O: Sink + Send, C: CallRule + Send>(
     rt: &R,
     alloc: Global,
-    shared: &SharedRequester<I, O>,
-    pass: &mut Pass<I, O>,
+    shared: &SharedRequester<I, O, C>,
+    pass: &mut Pass<I, O, C>,
     uid: u32,
     gid: u32,
     file: &Handle,
@@ -479,11 +248,12 @@ fn fetch_round<R: Threads + Wait + Sync, I: Source + Send, O: Sink + Send>(
     size: u64,
     from: u64,
 ) -> Result<Vec<Vec<PieceRead>>, AllocError>
+    requires rule { IsRuleOf C.allows uid gid file.now }
     requires jobs { 0 < jobs }
     requires rests { SharedRests shared.now pass.old }
     ensures rests { SharedRests shared.now pass.new }
     ensures source { seen_by pass.new.source ≡ seen_by pass.old.source }
-    ensures grows { Grows (IsOfFile uid gid file.now) pass.old.main pass.new.main }
+    ensures grows { Grows (IsPiece uid gid file.now size) pass.old.main pass.new.main }
     ensures ok { IfOk result (λ lists. All (λ list. AreFetched uid gid file.now size (seen_by pass.new.main) (mine_of pass.new.main) list.items) lists.items) }
 {
     let mut made = make_jobs(alloc, shared, pass, jobs, size, from)?;
@@ -502,11 +272,17 @@ fn fetch_round<R: Threads + Wait + Sync, I: Source + Send, O: Sink + Send>(
 }
 
 /// Reads the pieces of one round by jobs, and writes them in order of offset.
-fn read_round<R: Threads + Wait + Sync, I: Source + Send, O: Sink + Send, K: Sink>(
+fn read_round<
+    R: Threads + Wait + Sync,
+    I: Source + Send,
+    O: Sink + Send,
+    C: CallRule + Send,
+    K: Sink,
+>(
     rt: &R,
     alloc: Global,
-    shared: &SharedRequester<I, O>,
-    pass: &mut Pass<I, O>,
+    shared: &SharedRequester<I, O, C>,
+    pass: &mut Pass<I, O, C>,
     uid: u32,
     gid: u32,
     file: &Handle,
@@ -515,12 +291,13 @@ fn read_round<R: Threads + Wait + Sync, I: Source + Send, O: Sink + Send, K: Sin
     at: &mut u64,
     out: &mut K,
 ) -> Result<(), ClientEnd>
+    requires rule { IsRuleOf C.allows uid gid file.now }
     requires jobs { (0 < jobs) × (jobs ≤ jobs_max) }
     requires below { at.old < size }
     requires rests { SharedRests shared.now pass.old }
     ensures rests { SharedRests shared.now pass.new }
     ensures source { seen_by pass.new.source ≡ seen_by pass.old.source }
-    ensures grows { Grows (IsOfFile uid gid file.now) pass.old.main pass.new.main }
+    ensures grows { Grows (IsPiece uid gid file.now size) pass.old.main pass.new.main }
     ensures more { OnOk result (at.old < at.new) }
     ensures ok { OnOk result (ReadsMore uid gid file.now size at.old at.new pass.old.main pass.new.main (K.taken out.old) (K.taken out.new)) }
     ensures err { IfErr result (λ why. EndsMore uid gid file.now size at.old pass.old.main pass.new.main (K.taken out.old) (K.taken out.new) (Err why)) }
@@ -548,11 +325,17 @@ fn read_round<R: Threads + Wait + Sync, I: Source + Send, O: Sink + Send, K: Sin
 }
 
 /// Reads all pieces of a file of this size by jobs.
-fn read_rounds<R: Threads + Wait + Sync, I: Source + Send, O: Sink + Send, K: Sink>(
+fn read_rounds<
+    R: Threads + Wait + Sync,
+    I: Source + Send,
+    O: Sink + Send,
+    C: CallRule + Send,
+    K: Sink,
+>(
     rt: &R,
     alloc: Global,
-    shared: &SharedRequester<I, O>,
-    pass: &mut Pass<I, O>,
+    shared: &SharedRequester<I, O, C>,
+    pass: &mut Pass<I, O, C>,
     uid: u32,
     gid: u32,
     file: &Handle,
@@ -560,11 +343,12 @@ fn read_rounds<R: Threads + Wait + Sync, I: Source + Send, O: Sink + Send, K: Si
     size: u64,
     out: &mut K,
 ) -> Result<(), ClientEnd>
+    requires rule { IsRuleOf C.allows uid gid file.now }
     requires jobs { (0 < jobs) × (jobs ≤ jobs_max) }
     requires rests { SharedRests shared.now pass.old }
     ensures rests { SharedRests shared.now pass.new }
     ensures source { seen_by pass.new.source ≡ seen_by pass.old.source }
-    ensures grows { Grows (IsOfFile uid gid file.now) pass.old.main pass.new.main }
+    ensures grows { Grows (IsPiece uid gid file.now size) pass.old.main pass.new.main }
     ensures ends { EndsMore uid gid file.now size 0 pass.old.main pass.new.main (K.taken out.old) (K.taken out.new) result }
     ensures out_faults { OutputFaults result (K.faults out.old) (K.faults out.new) }
 {
@@ -581,17 +365,24 @@ fn read_rounds<R: Threads + Wait + Sync, I: Source + Send, O: Sink + Send, K: Si
 }
 
 /// Reads a file into an output by this many jobs, 1 to 16.
-pub(crate) fn read_by_jobs<R: Threads + Wait + Sync, I: Source + Send, O: Sink + Send, K: Sink>(
+pub(crate) fn read_by_jobs<
+    R: Threads + Wait + Sync,
+    I: Source + Send,
+    O: Sink + Send,
+    C: CallRule + Send,
+    K: Sink,
+>(
     rt: &R,
     alloc: Global,
-    shared: &SharedRequester<I, O>,
-    pass: &mut Pass<I, O>,
+    shared: &SharedRequester<I, O, C>,
+    pass: &mut Pass<I, O, C>,
     uid: u32,
     gid: u32,
     file: &Handle,
     jobs: usize,
     out: &mut K,
 ) -> Result<(), ClientEnd>
+    requires rule { IsRuleOf C.allows uid gid file.now }
     requires jobs { (0 < jobs) × (jobs ≤ jobs_max) }
     requires own { mine_of pass.old.main ≡ [] }
     requires rests { SharedRests shared.now pass.old }
@@ -623,22 +414,15 @@ pub(crate) fn read_by_jobs<R: Threads + Wait + Sync, I: Source + Send, O: Sink +
     )
 }
 
-/// Whether a requester hasn't run out of memory for a frame.
-pub(crate) fn has_memory(requester: &Requester) -> bool
-    ensures yes { result ≡ true → requester.now.state.side.ended ≢ Some ends.Memory }
-    ensures no { result ≡ false → requester.now.state.side.ended ≡ Some ends.Memory }
-{
-    match requester.end() {
-        None => true,
-        Some(end) => match end {
-            End::Memory => false,
-            _ => true,
-        },
-    }
-}
-
 /// Shares a requester with its source and its sink, reads a file into an output by jobs, and gives the source and the sink back.
-pub(crate) fn read_shared<N: Appended, R: Threads + Wait + Sync, I: Source, O: Sink, K: Sink>(
+pub(crate) fn read_shared<
+    N: Appended,
+    C: CallRule + Send,
+    R: Threads + Wait + Sync,
+    I: Source,
+    O: Sink,
+    K: Sink,
+>(
     rt: &R,
     alloc: Global,
     requester: Requester,
@@ -656,11 +440,13 @@ where
     requires entry { entries.Initial (record { requester = requester; faults = O.faults sink; taken = O.taken sink }) ≡ N.entry }
     requires has_memory { requester.state.side.ended ≢ Some ends.Memory }
     requires fed { fed_bytes requester ≤ bytes_before }
+    requires rule { IsRuleOf C.allows uid gid file.now }
+    requires only { (call : Call) (form : Form) → C.allows call form → FileCalls uid gid file.now call form }
     requires jobs { (0 < jobs) × (jobs ≤ jobs_max) }
     ensures reads { ReadsShared I.left I.given I.faults O.taken O.faults uid gid file.now requester source sink result.1 result.2 (K.taken out.old) (K.taken out.new) result.0 }
     ensures out_faults { OutputFaults result.0 (K.faults out.old) (K.faults out.new) }
 {
-    let (shared, mut pass) = match share::<N, R, I, O>(rt, alloc, requester, source, sink) {
+    let (shared, mut pass) = match share::<N, R, I, O, C>(rt, alloc, requester, source, sink) {
         Ok(opened) => opened,
         Err((requester, source, sink)) => {
             drop(requester);

@@ -22,9 +22,11 @@ mod reasons;
 mod requests;
 mod results;
 mod session;
+mod shared_calls;
 mod transfer;
 mod walking;
 mod write_file;
+mod written_pieces;
 
 pub use call_end::CallEnd;
 pub use client_end::{ClientEnd, RpcKind};

@@ -1,6 +1,7 @@
 //! A session of a client: requests of a user over one link.
 
-ghost use Rattle.std.specs.Prelude.{◌≡◌, ◌<◌, ◌≤◌, ℕ, [], OnOk, IfOk, IfErr, IfSome};
+ghost use Rattle.std.specs.Prelude.{◌≡◌, ◌≢◌, ◌<◌, ◌≤◌, ℕ, true, false, Some, [], OnOk, IfOk, IfErr, IfSome};
+ghost use Rattle.nr_link.specs.declared.end.End.TheVariants as ends;
 ghost use Rattle.nr_nfs_base.specs.declared.attributes.Attributes.{Attributes};
 ghost use Rattle.nr_links.specs.Asked.{Asks as AsksFor};
 ghost use Rattle.nr_links.specs.Links.{CountsLost, EndsLink, HasOpenLink, IsNewLink, IsTold, MakesLink, ended_link};
@@ -22,7 +23,7 @@ ghost use Rattle.nr_client.specs.Walking.{parent_next, walk_next};
 use crate::asking::{ask_nfs, mount_over};
 use crate::call_end::CallEnd;
 use crate::client_end::ClientEnd;
-use crate::jobs::{has_memory, read_shared};
+use crate::jobs::read_shared;
 use crate::limits::CREDITS;
 use crate::link::Link;
 use crate::listing::list_over;
@@ -38,10 +39,25 @@ use nr_links::{Dialer, LinkNumber, LinkSink, LinkSource, NumberedSink, NumberedS
 use nr_nfs_base::{Attributes, Handle, MountPath, Name, Path, WccData};
 use nr_nfs_res::{CreateOk, LookupOk, ReadlinkOk};
 use nr_outside::{Sink, Source};
+use nr_requester::Requester;
 use std::alloc::Global;
 use std::marker::{Brand, Model};
 use std::sync::Wait;
 use std::thread::Threads;
+
+/// Whether a requester hasn't run out of memory for a frame.
+fn has_memory(requester: &Requester) -> bool
+    ensures yes { result ≡ true → requester.now.state.side.ended ≢ Some ends.Memory }
+    ensures no { result ≡ false → requester.now.state.side.ended ≡ Some ends.Memory }
+{
+    match requester.end() {
+        None => true,
+        Some(end) => match end {
+            End::Memory => false,
+            _ => true,
+        },
+    }
+}
 
 /// Requests of a user over one link. Each call has an AUTH_SYS credential with the user and the group, the machine `nfsrdma` and no
 /// further groups.
@@ -369,7 +385,7 @@ impl<I: Source, O: Sink> Session<I, O> {
             let end = CallEnd::Ended(End::Memory);
             return (Err(ClientEnd::Link(end)), source, sink);
         }
-        read_shared::<Brand, R, I, O, K>(
+        read_shared::<Brand, Brand, R, I, O, K>(
             rt, alloc, requester, source, sink, uid, gid, file, jobs, out,
         )
     }

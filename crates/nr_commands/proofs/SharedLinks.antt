@@ -1,24 +1,27 @@
 -- A link that jobs shared, by what is known of its source and its sink.
 use Rattle.std.proofs.Common.{◌≡◌, ◌⊎◌, inl, inr, ℕ, List, Option, Result, ap, subst}
 use Rattle.nr_outside.specs.Streams.{SinkAt, SourceAt, sink_at, source_at}
+use Rattle.nr_reduce.specs.declared.call.Call.{Call}
+use Rattle.nr_reduce.specs.declared.call.Form.{Form}
 use Rattle.nr_requester.specs.RequesterState.{RequesterSide}
 use Rattle.nr_shared.specs.declared.entry.Entry.{Entry}
 use Rattle.nr_shared.specs.Opening.{GivesBack}
 use Rattle.nr_client.specs.declared.client_end.ClientEnd.{ClientEnd}
 use Rattle.nr_client.specs.Dialing.{DialerAt}
-use Rattle.nr_client.specs.Jobs.{ReadsFileByJobs, ReadsShared}
+use Rattle.nr_client.specs.Jobs.{FileCalls, ReadsFileByJobs, ReadsShared}
 use Rattle.nr_commands.specs.ByJobs.{ReadsAndCloses}
 use Rattle.nr_commands.specs.Sessions.{SessionAt}
 
 module _ {I O : Type 0} where
-  of_back : (left given : I → Option (List ℕ)) (source_faults : I → ℕ) (taken : O → Option (List ℕ)) (sink_faults : O → ℕ) (seen : List Entry) (mine : List ℕ) (first : I) (r : RequesterSide) (source : I) (sink : O)
-      → GivesBack left given source_faults taken sink_faults seen mine first r source sink
-      → GivesBack {I = SourceAt} {O = SinkAt} (λ x. x.left) (λ x. x.given) (λ x. x.faults) (λ x. x.taken) (λ x. x.faults) seen mine (source_at (left first) (given first) (source_faults first)) r
+  of_back : (left given : I → Option (List ℕ)) (source_faults : I → ℕ) (taken : O → Option (List ℕ)) (sink_faults : O → ℕ) (allows : Call → Form → Type 0) (seen : List Entry) (mine : List ℕ) (first : I) (r : RequesterSide) (source : I) (sink : O)
+      → GivesBack left given source_faults taken sink_faults allows seen mine first r source sink
+      → GivesBack {I = SourceAt} {O = SinkAt} (λ x. x.left) (λ x. x.given) (λ x. x.faults) (λ x. x.taken) (λ x. x.faults) allows seen mine (source_at (left first) (given first) (source_faults first)) r
       (source_at (left source) (given source) (source_faults source)) (sink_at (taken sink) (sink_faults sink))
-  of_back left given source_faults taken sink_faults seen mine first r source sink b = record {
+  of_back left given source_faults taken sink_faults allows seen mine first r source sink b = record {
     history = b.history;
     begins = b.begins;
     lies = b.lies;
+    stays_open = b.stays_open;
     earlier = b.earlier;
     initial = b.initial;
     is_initial = b.is_initial;
@@ -28,7 +31,7 @@ module _ {I O : Type 0} where
     sink_count = b.sink_count;
     sink_failed = b.sink_failed;
     in_order = b.in_order;
-    previous = b.previous;
+    allowed = b.allowed;
     output = b.output;
     gave = b.gave;
     source_count = b.source_count;
@@ -47,7 +50,7 @@ module _ {I O : Type 0} where
     of_requester = s.of_requester;
     of_sink = s.of_sink;
     requester = s.requester;
-    back = of_back left given source_faults taken sink_faults s.seen s.mine source s.requester source' sink' s.back;
+    back = of_back left given source_faults taken sink_faults (FileCalls uid gid file) s.seen s.mine source s.requester source' sink' s.back;
     reads = s.reads;
   }
 

@@ -1,15 +1,15 @@
 -- Feeding a server all that waits for it leaves less work.
-use Rattle.std.specs.Prelude.{◌-◌, ◌&&◌, ◌<◌, ◌≤◌, not, filter, sum_by}
+use Rattle.std.specs.Prelude.{◌-◌, ◌&&◌, ◌||◌, ◌<◌, ◌≤◌, not, filter, sum_by}
 use Rattle.std.specs.List.{concat, AllByRecursion}
 use Rattle.std.proofs.Common.{◌≡◌, ◌≢◌, ℕ, suc, ◌+◌, ◌⊎◌, inl, inr, arith, cond, eqb, Bool, true, false, List, [], ◌∷◌, ◌++◌, length, map, take, drop, Option, None, Some, Result, Ok, Err, refl, sym, ap, subst, ◌∙◌, append-nil, ne_eqb}
 use Rattle.std.proofs.Math.Seq.{drop-length}
 use Rattle.std.proofs.lemmas.List.Sums.{sum_by-cons}
 use Rattle.std.proofs.lemmas.List.{take_all, length-append, take-append-drop}
-use Rattle.nr_wire.specs.Constants.{OPCODE_READ_RESPONSE, REASON_OPCODE}
+use Rattle.nr_wire.specs.Constants.{OPCODE_READ_RESPONSE, OPCODE_SEND, OPCODE_SEND_INVALIDATE, REASON_OPCODE}
 use Rattle.nr_wire.specs.declared.hello.Side.{Side}
 use Rattle.nr_wire.specs.declared.hello.Side.TheVariants.{Initiator, Responder}
 use Rattle.nr_wire.specs.declared.stream.Awaited.TheVariants.{Hello as HelloFrom}
-use Rattle.nr_wire.specs.Segment.{Segment, segment_of, frame_reason}
+use Rattle.nr_wire.specs.Segment.{Segment, opcode_of, opcode_in, segment_of, frame_reason}
 use Rattle.nr_wire.specs.Fields.{half_word_of}
 use Rattle.nr_wire.specs.Segment.Segment.{Tagged, Untagged}
 use Rattle.nr_wire.specs.Stream.{AreFrames, awaited_after, split}
@@ -20,7 +20,8 @@ use Rattle.nr_link.specs.Frames.{Frame, frames_from, frames_of, frames_completed
 use Rattle.nr_link.specs.Limits.{open_reads_max}
 use Rattle.nr_reduce.specs.Hellos.{server_hello}
 use Rattle.nr_link.specs.ReceiveState.{begun_bytes}
-use Rattle.nr_link.specs.Ending.{frame_segment, is_not_taken, segment_taken}
+use Rattle.nr_link.specs.Ending.{frame_segment, is_not_taken, opcode_is_judged, segment_taken}
+use Rattle.nr_link.proofs.TakenSegments.{frame_read, read_opcode}
 use Rattle.nr_link.proofs.Streams.{frames_completed_split}
 use Rattle.nr_reduce.specs.declared.mark.Mark.{Mark}
 use Rattle.nr_reduce.specs.declared.mark.Mark.TheVariants as marks
@@ -102,11 +103,32 @@ tagged_lessens k place opcode last = by (eqb opcode OPCODE_READ_RESPONSE && last
     by true = response_lessens k place k.reads refl
     by false = nothing_done k
 
-effect_lessens : (k : ServerState) (f : Frame) (r : Result Segment ℕ) → is_send_segment r ≡ false → Lessens k (effect_in k f r)
-effect_lessens k f (Err reason) e = nothing_done k
-effect_lessens k f (Ok (Untagged last opcode w queue msn offset payload)) e =
-    subst (λ (b : Bool). Lessens k (by_message k f.end (cond b (Some (begun_bytes k.received.begun ++ payload)) None))) (sym e) (nothing_done k)
-effect_lessens k f (Ok (Tagged last opcode stag to payload)) e = tagged_lessens (with_access k f (Tagged last opcode stag to payload)) f.end opcode last
+-- a frame that a server takes is no Send with Invalidate
+not_named : (f : Frame) (s : Segment) → frame_segment f ≡ Ok s → eqb (opcode_in s) OPCODE_SEND_INVALIDATE ≡ false
+unfolding frame_segment segment_taken
+not_named f s is = by (eqb (opcode_of f.bytes) OPCODE_SEND_INVALIDATE) refl
+  where
+    reads : segment_of f.bytes ≡ Ok s
+    reads = frame_read f s is
+
+    by : (b : Bool) → eqb (opcode_of f.bytes) OPCODE_SEND_INVALIDATE ≡ b → eqb (opcode_in s) OPCODE_SEND_INVALIDATE ≡ false
+    by false e = ap (λ (n : ℕ). eqb n OPCODE_SEND_INVALIDATE) (sym (read_opcode f.bytes s reads)) ∙ e
+    by true e =
+        let bad : segment_taken false f.bytes ≡ Err REASON_OPCODE = (λ i. cond (e i && opcode_is_judged (reads i)) (Err REASON_OPCODE) (segment_of f.bytes)) in
+        absurd (let wrong : Err REASON_OPCODE ≡ Ok s = sym bad ∙ is in cc)
+
+neither_ends : (a b last : Bool) → a && last ≡ false → b ≡ false → (a || b) && last ≡ false
+neither_ends a true last e none = absurd cc
+neither_ends true false last e none = e
+neither_ends false false last e none = refl
+
+effect_lessens : (k : ServerState) (f : Frame) (r : Result Segment ℕ) → frame_segment f ≡ r → is_send_segment r ≡ false → Lessens k (effect_in k f r)
+effect_lessens k f (Err reason) is e = nothing_done k
+effect_lessens k f (Ok (Untagged last opcode w queue msn offset payload)) is e =
+    let none : (eqb opcode OPCODE_SEND || eqb opcode OPCODE_SEND_INVALIDATE) && last ≡ false =
+    neither_ends (eqb opcode OPCODE_SEND) (eqb opcode OPCODE_SEND_INVALIDATE) last e (not_named f (Untagged last opcode w queue msn offset payload) is) in
+    subst (λ (b : Bool). Lessens k (by_message k f.end (cond b (Some (begun_bytes k.received.begun ++ payload)) None))) (sym none) (nothing_done k)
+effect_lessens k f (Ok (Tagged last opcode stag to payload)) is e = tagged_lessens (with_access k f (Tagged last opcode stag to payload)) f.end opcode last
 
 -- ===== and what such frames make of it
 
@@ -120,7 +142,7 @@ not_send f appended none = (λ i. cond (sym appended i) false (is_send_segment (
 frame_lowers : (o : LinkParameters) (k : ServerState) (f : Frame) → is_hello f ≡ false → is_send f ≡ false → Lowers k (server_state_after o k (FrameReceived f)) (server_output o k (FrameReceived f))
 unfolding server_state_after server_output frame_effect
 frame_lowers o k f appended none =
-    subst (λ (b : Bool). Lowers k (cond b (with_own_hello o k f) (with_effect k f e)) (cond b (server_hello o f) (effect_output k e))) (sym appended) (by (effect_lessens k f (frame_segment f) (not_send f appended none)))
+    subst (λ (b : Bool). Lowers k (cond b (with_own_hello o k f) (with_effect k f e)) (cond b (server_hello o f) (effect_output k e))) (sym appended) (by (effect_lessens k f (frame_segment f) refl (not_send f appended none)))
   where
     e : FrameEffect
     e = frame_effect k f

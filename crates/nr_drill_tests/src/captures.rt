@@ -13,13 +13,13 @@ use std::process::Abort;
 
 /// A text that is read and written again, and how many marks it has.
 static TEXTS: [(&[u8], usize); 4] = [
-    (b"clients 1 credits 64\n", 0),
+    (b"clients 1 credits 64 invalidate\n", 0),
     (
         b"clients 2 credits 4\nsubmit 1 1 auto 100003.3 0 none -\nout 1 client 4d5041\nin 2 server 00ff\n",
         3,
     ),
     (
-        b"clients 1 credits 1 capacity 0 sizes 1 16\nsubmit 1 1 given:read@4=5,6;write=;reply=7 100003.3 6 1000.100 00\n",
+        b"clients 1 credits 1 capacity 0 sizes 1 16 invalidate\nsubmit 1 1 given:read@4=5,6;write=;reply=7 100003.3 6 1000.100 00\n",
         1,
     ),
     (

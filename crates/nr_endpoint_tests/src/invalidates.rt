@@ -211,13 +211,13 @@ fn messages_name_stags(rt: HostRuntime) {
 }
 
 /// Whether each of the regions 1 to 3 is reached by the peer.
-fn live(endpoint: &TestEndpoint) -> [bool; 3] {
+fn live(endpoint: &TestEndpoint) -> (bool, bool, bool) {
     let endpoint = endpoint.endpoint();
-    [
+    (
         endpoint.is_live(1),
         endpoint.is_live(2),
         endpoint.is_live(3),
-    ]
+    )
 }
 
 /// No region has an STag any more that was released, was not given, is dead, or is 0: then nothing changes.
@@ -236,13 +236,14 @@ fn regions_die(rt: HostRuntime) {
     let bytes = joined_text(&rt, alloc, &SAYING_REPLY, text);
     feed_pieces(&rt, 0, &mut endpoint, bytes.as_slice(), 1000);
     same(&rt, 1, next_named(&mut endpoint), Some(Some(1)));
-    same(&rt, 2, live(&endpoint), [true, true, true]);
+    same(&rt, 2, live(&endpoint), (true, true, true));
     same(&rt, 3, endpoint.invalidate(1), Ok(()));
-    same(&rt, 4, live(&endpoint), [false, true, true]);
+    same(&rt, 4, live(&endpoint), (false, true, true));
     not_live(&rt, &mut endpoint);
-    same(&rt, 5, live(&endpoint), [false, true, true]);
+    same(&rt, 5, live(&endpoint), (false, true, true));
     same(&rt, 6, endpoint.invalidate(3), Ok(()));
-    same(&rt, 7, endpoint.release(&rt).as_slice(), &[0; 8]);
+    let kept = endpoint.release(&rt);
+    same(&rt, 7, kept.as_slice(), &[0; 8]);
     ends_by_dead(&rt, alloc, &mut endpoint);
     drop(endpoint);
 }

@@ -30,17 +30,17 @@ none_has more is = subst HasOwnReason (sym is) tt
 next_has : (others : List (List ℕ)) (more : Option Unanswered) (reason : NoReply) → IsOwnReason reason → IsNext others more reason → HasOwnReason more
 next_has others more reason own next = subst HasOwnReason (sym next.more_is) own
 
-module _ {O : Type 0} where
-  un_other : (e e' : GateEnd) (reason : NoReply) (p q : Pass (RequesterWithSink O) Entry) (bytes : List ℕ) → IsOwnReason reason → Unforwarded e reason p q bytes → Unforwarded e' reason p q bytes
+module _ {O C : Type 0} where
+  un_other : (e e' : GateEnd) (reason : NoReply) (p q : Pass (RequesterWithSink O C) Entry) (bytes : List ℕ) → IsOwnReason reason → Unforwarded e reason p q bytes → Unforwarded e' reason p q bytes
   un_other e e' reasons.NotCall p q bytes own un = un
   un_other e e' reasons.Memory p q bytes own un = un
   un_other e e' reasons.Other p q bytes own un = absurd own
 
-  gates_other : (e e' : GateEnd) (p q : Pass (RequesterWithSink O) Entry) (xs : List Exchange) (more : Option Unanswered) → HasOwnReason more → Gates e p q xs more → Gates e' p q xs more
+  gates_other : (e e' : GateEnd) (p q : Pass (RequesterWithSink O C) Entry) (xs : List Exchange) (more : Option Unanswered) → HasOwnReason more → Gates e p q xs more → Gates e' p q xs more
   gates_other e e' p q xs None own gates = gates
   gates_other e e' p q xs (Some x) own (m, (all, un)) = (m, (all, un_other e e' x.reason m q x.call own un))
 
-  remote_loop : (e : GateEnd) (p q : Pass (RequesterWithSink O) Entry) (bytes : List ℕ) → EndsRemotely e p q bytes → loop_end e ≡ loops.Unanswered
+  remote_loop : (e : GateEnd) (p q : Pass (RequesterWithSink O C) Entry) (bytes : List ℕ) → EndsRemotely e p q bytes → loop_end e ≡ loops.Unanswered
   remote_loop (ends.Remote end) p q bytes ended = refl
   remote_loop ends.Chunk p q bytes ended = refl
   remote_loop (ends.Version low high) p q bytes ended = refl
@@ -52,7 +52,7 @@ module _ {O : Type 0} where
   remote_loop (ends.Budget read) p q bytes ended = absurd ended
   remote_loop ends.Memory p q bytes ended = absurd ended
 
-  module _ {S : Type 0} (main_of : S → Pass (RequesterWithSink O) Entry) (ended_of : S → Option GateEnd) (left given taken left' given' taken' : Option (List ℕ)) (u u' : S) where
+  module _ {S : Type 0} (main_of : S → Pass (RequesterWithSink O C) Entry) (ended_of : S → Option GateEnd) (left given taken left' given' taken' : Option (List ℕ)) (u u' : S) where
     abbrev Did : S → S → List Exchange → Option Unanswered → Type 0
     Did a b xs more = Gates (kept_end (ended_of b)) (main_of a) (main_of b) xs more
 

@@ -42,9 +42,9 @@ loop_end ends.Memory = loops.Memory
 loop_end end = loops.Unanswered
 
 -- p and q are what the connection's pass knew before and after
-module _ {O : Type 0} where
+module _ {O C : Type 0} where
   -- The record was forwarded by one call in the form Auto, and is answered by the server's reply with the record's own xid.
-  pub record IsForwarded (p q : Pass (RequesterWithSink O) Entry) (bytes reply : List ℕ) : Type 0 where
+  pub record IsForwarded (p q : Pass (RequesterWithSink O C) Entry) (bytes reply : List ℕ) : Type 0 where
     pub xid : ℕ
     pub asked : Call
     pub asks : Asks bytes xid asked
@@ -55,37 +55,37 @@ module _ {O : Type 0} where
     pub reply_is : reply ≡ with_xid xid payload
 
   -- The record is a call of another version of RPC. It is answered at once (RFC 5531 section 9), and nothing is forwarded.
-  pub record IsMismatch (p q : Pass (RequesterWithSink O) Entry) (bytes reply : List ℕ) : Type 0 where
+  pub record IsMismatch (p q : Pass (RequesterWithSink O C) Entry) (bytes reply : List ℕ) : Type 0 where
     pub xid : ℕ
     pub rpcvers : ℕ
     pub head : call_of bytes ≡ Ok (calls.Other xid rpcvers)
     pub reply_is : reply ≡ reply_encoding (replies.RpcMismatch xid RPC_VERSION RPC_VERSION) []
     pub unchanged : q ≡ p
 
-  abbrev pub Forwards : Pass (RequesterWithSink O) Entry → Pass (RequesterWithSink O) Entry → (bytes reply : List ℕ) → Type 0
+  abbrev pub Forwards : Pass (RequesterWithSink O C) Entry → Pass (RequesterWithSink O C) Entry → (bytes reply : List ℕ) → Type 0
   Forwards p q bytes reply = IsForwarded p q bytes reply ⊎ IsMismatch p q bytes reply
 
   -- these records were, one after another
-  abbrev pub ForwardsAll : Pass (RequesterWithSink O) Entry → Pass (RequesterWithSink O) Entry → List Exchange → Type 0
+  abbrev pub ForwardsAll : Pass (RequesterWithSink O C) Entry → Pass (RequesterWithSink O C) Entry → List Exchange → Type 0
   ForwardsAll p q [] = q ≡ p
-  ForwardsAll p q (x ∷ xs) = (m : Pass (RequesterWithSink O) Entry) × (Forwards p m x.call x.reply × ForwardsAll m q xs)
+  ForwardsAll p q (x ∷ xs) = (m : Pass (RequesterWithSink O C) Entry) × (Forwards p m x.call x.reply × ForwardsAll m q xs)
 
   -- The record's call was made, and answered so.
-  pub record Makes (p q : Pass (RequesterWithSink O) Entry) (bytes : List ℕ) (result : Result Done CallEnd) : Type 0 where
+  pub record Makes (p q : Pass (RequesterWithSink O C) Entry) (bytes : List ℕ) (result : Result Done CallEnd) : Type 0 where
     pub xid : ℕ
     pub asked : Call
     pub asks : Asks bytes xid asked
     pub made : Calls p q asked forms.Auto result
 
   -- the same, with an outcome that is no reply
-  pub record HasOutcome (p q : Pass (RequesterWithSink O) Entry) (bytes : List ℕ) (outcome : Outcome) : Type 0 where
+  pub record HasOutcome (p q : Pass (RequesterWithSink O C) Entry) (bytes : List ℕ) (outcome : Outcome) : Type 0 where
     pub done : Done
     pub makes : Makes p q bytes (Ok done)
     pub outcome_is : done.outcome ≡ outcome
 
   -- Why the record's call has no reply, by the end that it made: the remote call ended so, for another reason than out of
   -- memory, or its outcome was an error message.
-  abbrev pub EndsRemotely : GateEnd → Pass (RequesterWithSink O) Entry → Pass (RequesterWithSink O) Entry → (bytes : List ℕ) → Type 0
+  abbrev pub EndsRemotely : GateEnd → Pass (RequesterWithSink O C) Entry → Pass (RequesterWithSink O C) Entry → (bytes : List ℕ) → Type 0
   EndsRemotely (ends.Remote call_ends.Memory) p q bytes = ⊥
   EndsRemotely (ends.Remote end) p q bytes = Makes p q bytes (Err end)
   EndsRemotely ends.Chunk p q bytes = HasOutcome p q bytes outcomes.Chunk
@@ -93,19 +93,19 @@ module _ {O : Type 0} where
   EndsRemotely end p q bytes = ⊥
 
   -- memory ran out: before the record's call was made, before it was submitted, or for a reply that isn't fit
-  abbrev pub RunsOut : Pass (RequesterWithSink O) Entry → Pass (RequesterWithSink O) Entry → (bytes : List ℕ) → Type 0
+  abbrev pub RunsOut : Pass (RequesterWithSink O C) Entry → Pass (RequesterWithSink O C) Entry → (bytes : List ℕ) → Type 0
   RunsOut p q bytes = (q ≡ p) ⊎ (Makes p q bytes (Err call_ends.Memory) ⊎ ((payload : List ℕ) × (IsUnfit payload × HasOutcome p q bytes (outcomes.Reply payload))))
 
-  abbrev pub Unforwarded : GateEnd → NoReply → Pass (RequesterWithSink O) Entry → Pass (RequesterWithSink O) Entry → (bytes : List ℕ) → Type 0
+  abbrev pub Unforwarded : GateEnd → NoReply → Pass (RequesterWithSink O C) Entry → Pass (RequesterWithSink O C) Entry → (bytes : List ℕ) → Type 0
   Unforwarded end reasons.NotCall p q bytes = q ≡ p
   Unforwarded end reasons.Memory p q bytes = RunsOut p q bytes
   Unforwarded end reasons.Other p q bytes = EndsRemotely end p q bytes
 
   -- these records were forwarded, or answered at once, one after another, and then this one, if there is one, wasn't
-  abbrev pub Gates : GateEnd → Pass (RequesterWithSink O) Entry → Pass (RequesterWithSink O) Entry → List Exchange → Option Unanswered → Type 0
+  abbrev pub Gates : GateEnd → Pass (RequesterWithSink O C) Entry → Pass (RequesterWithSink O C) Entry → List Exchange → Option Unanswered → Type 0
   Gates end p q xs None = ForwardsAll p q xs
-  Gates end p q xs (Some x) = (m : Pass (RequesterWithSink O) Entry) × (ForwardsAll p m xs × Unforwarded end x.reason m q x.call)
+  Gates end p q xs (Some x) = (m : Pass (RequesterWithSink O C) Entry) × (ForwardsAll p m xs × Unforwarded end x.reason m q x.call)
 
   -- A connection was served to its end. Its end is that of the loop over its records, or what the remote call of a record made.
-  abbrev pub IsGated : (before after : Loop (Pass (RequesterWithSink O) Entry)) → GateEnd → Type 0
+  abbrev pub IsGated : (before after : Loop (Pass (RequesterWithSink O C) Entry)) → GateEnd → Type 0
   IsGated before after end = IsServedBy (Gates end) before after (loop_end end)

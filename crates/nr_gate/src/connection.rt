@@ -11,7 +11,7 @@ use crate::forwarding::ForwardedCalls;
 use crate::gate_end::GateEnd;
 use nr_outside::{Sink, Source};
 use nr_record_loop::{LoopEnd, serve_calls};
-use nr_shared::{Pass, SharedRequester};
+use nr_shared::{AnyCall, Pass, SharedRequester};
 use std::alloc::Global;
 use std::sync::Wait;
 
@@ -64,8 +64,8 @@ pub fn gate_connection<R: Wait, I: Source, O: Sink, J: Source, K: Sink>(
     alloc: Global,
     source: &mut I,
     sink: &mut O,
-    remote: &SharedRequester<J, K>,
-    pass: &mut Pass<J, K>,
+    remote: &SharedRequester<J, K, AnyCall>,
+    pass: &mut Pass<J, K, AnyCall>,
 ) -> GateEnd
     requires { SharedRests remote.now pass.old }
     ensures rests { SharedRests remote.now pass.new }

@@ -17,7 +17,7 @@ use nr_record_loop::{Answers, NoReply};
 use nr_reduce::{Call, Form, Outcome};
 use nr_requester::Done;
 use nr_rpc::{RPC_VERSION, ReplyHead, write_reply};
-use nr_shared::{CallEnd, Pass, SharedRequester};
+use nr_shared::{AnyCall, CallEnd, Pass, SharedRequester};
 use nr_xdr::Octets;
 use std::alloc::Global;
 use std::sync::Wait;
@@ -41,8 +41,8 @@ pub(crate) enum Failure {
 #[derive(Drop)]
 pub(crate) struct ForwardedCalls<'a, I: Source, O: Sink, R> {
     pub(crate) rt: &'a R,
-    pub(crate) remote: &'a SharedRequester<I, O>,
-    pub(crate) pass: &'a mut Pass<I, O>,
+    pub(crate) remote: &'a SharedRequester<I, O, AnyCall>,
+    pub(crate) pass: &'a mut Pass<I, O, AnyCall>,
     pub(crate) ended: Option<GateEnd>,
 }
 
@@ -147,8 +147,8 @@ fn reply_of(alloc: Global, done: Done, xid: u32) -> Result<Octets, Failure>
 fn forward<I: Source, O: Sink, R: Wait>(
     rt: &R,
     alloc: Global,
-    remote: &SharedRequester<I, O>,
-    pass: &mut Pass<I, O>,
+    remote: &SharedRequester<I, O, AnyCall>,
+    pass: &mut Pass<I, O, AnyCall>,
     xid: u32,
     asked: Call,
 ) -> Result<Octets, Failure>

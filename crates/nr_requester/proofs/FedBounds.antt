@@ -1,7 +1,7 @@
 -- What a step on a piece leaves within its bounds.
 use Rattle.std.proofs.Common.{◌≡◌, ℕ, ◌≤◌, ◌⊎◌, inl, inr, Bool, true, false, cond, eqb, List, [], length, Option, None, Some, Result, Ok, Err, refl, sym, ap, subst, ◌∙◌, arith}
 use Rattle.std.specs.Prelude.{is_some}
-use Rattle.nr_regions.specs.RegisteredMemory.{Region, RegisteredMemory, held_region, after_place}
+use Rattle.nr_regions.specs.RegisteredMemory.{Region, RegisteredMemory, after_place}
 use Rattle.nr_regions.specs.Table.{IsTotal}
 use Rattle.std.specs.FinMap.{FinMap}
 use Rattle.std.specs.Ordering.{nat_cmp}
@@ -24,7 +24,7 @@ use Rattle.nr_endpoint.specs.Calls.Call.{FeedOne, NextEvent, Post, Stop, OutOfMe
 use Rattle.nr_endpoint.proofs.AlongFrames.{feed_one_keeps}
 use Rattle.nr_requester.specs.declared.answer.AnsweredCall.{AnsweredCall}
 use Rattle.nr_requester.specs.declared.outstanding.OutstandingCall.{OutstandingCall}
-use Rattle.nr_requester.specs.HeldBytes.{QueueFits, RegionsFit, RegionsHave, region_max, region_size, IsCount, in_bytes, claims_total, unsent, IsBounded}
+use Rattle.nr_requester.specs.HeldBytes.{QueueFits, region_size, IsCount, in_bytes, claims_total, unsent, IsBounded}
 use Rattle.nr_requester.specs.AfterPiece.{dead_memory}
 use Rattle.nr_requester.specs.Buffers.{with_memory}
 use Rattle.nr_requester.specs.Fed.{StopsDead}

@@ -43,7 +43,7 @@ use Rattle.nr_reduce.proofs.Taking.{kept_takes}
 use Rattle.nr_requester.specs.RequesterState.{RequesterState, kept_calls, queue_of, kept_client}
 use Rattle.nr_requester.specs.Standing.{LinkKeeps}
 use Rattle.nr_requester.specs.AfterCalls.{stags_for}
-use Rattle.nr_requester.specs.AfterPiece.{dead_memory, with_dead, answer_to, call_of, with_message, judged, with_deliveries, unless_ended, after_fpdu}
+use Rattle.nr_requester.specs.AfterPiece.{dead_memory, with_dead, call_of, with_message, judged, with_deliveries, unless_ended, after_fpdu}
 use Rattle.nr_requester.specs.declared.answer.AnsweredCall.{AnsweredCall}
 use Rattle.nr_requester.proofs.KeptCalls.{stags_alike}
 use Rattle.nr_requester.proofs.DeadRegions.{dead_bytes, dead_answer}

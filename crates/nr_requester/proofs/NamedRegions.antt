@@ -7,7 +7,7 @@ use Rattle.nr_header.specs.declared.fault.HeaderFault.{HeaderFault}
 use Rattle.nr_header.specs.declared.header.Header.{Header}
 use Rattle.nr_header.specs.Reading.{header_of}
 use Rattle.nr_regions.specs.RegisteredMemory.{RegisteredMemory}
-use Rattle.nr_reduce.specs.KeptCalls.{KeptCall, kept_by, kept_in, own_of, own_if, kept_named}
+use Rattle.nr_reduce.specs.KeptCalls.{KeptCall, kept_by, kept_in, own_if, kept_named}
 use Rattle.nr_reduce.specs.KeptClient.{AreRising, released_all, stags_in, stags_for}
 use Rattle.nr_requester.specs.AfterPiece.{dead_memory}
 use Rattle.nr_requester.proofs.DeadRegions.{dead_released}

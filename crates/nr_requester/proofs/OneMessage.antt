@@ -22,7 +22,6 @@ use Rattle.nr_requester.specs.declared.answer.AnsweredCall.{AnsweredCall}
 use Rattle.nr_requester.specs.declared.outstanding.OutstandingCall.{OutstandingCall}
 use Rattle.nr_requester.specs.Judged.{SameCalls}
 use Rattle.nr_requester.specs.Fed.{OneWaits, CallsSound, StopsDead, JudgesTo}
-use Rattle.nr_requester.specs.HeldClaims.{AreHeldFrom, all_claims}
 use Rattle.nr_requester.proofs.DeadRegions.{dead_sound}
 
 -- what holds of a result, of its value

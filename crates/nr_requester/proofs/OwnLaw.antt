@@ -1,8 +1,7 @@
 -- A requester keeps the law of its side, so far.
 use Rattle.std.proofs.Common.{ℕ, List, [], ◌++◌, take, drop, refl, sym, subst, ◌∙◌, append-nil, take-append-drop}
-use Rattle.nr_wire.specs.declared.hello.Side.TheVariants.{Initiator, Responder}
+use Rattle.nr_wire.specs.declared.hello.Side.TheVariants.{Initiator}
 use Rattle.nr_reduce.specs.declared.call.Submission.TheVariants as submissions
-use Rattle.nr_reduce.specs.declared.mark.LinkParameters.{LinkParameters}
 use Rattle.nr_reduce.specs.declared.mark.Mark.{Mark}
 use Rattle.nr_reduce.specs.declared.mark.Mark.TheVariants as marks
 use Rattle.nr_reduce.specs.Asked.{AskedMark}

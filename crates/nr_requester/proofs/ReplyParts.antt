@@ -1,12 +1,12 @@
 -- What a reply brings, for the code.
-use Rattle.std.proofs.Common.{◌≡◌, ℕ, ◌≤◌, Bool, true, false, cond, not, eqb, List, [], ◌++◌, append_assoc, length, take, drop, Option, Result, None, Some, Ok, Err, refl, sym, ap, ◌∙◌, arith}
+use Rattle.std.proofs.Common.{◌≡◌, ℕ, ◌≤◌, Bool, true, false, cond, not, eqb, List, [], ◌++◌, append_assoc, length, take, drop, Result, None, Some, Ok, Err, refl, sym, ap, ◌∙◌, arith}
 use Rattle.std.proofs.lemmas.List.{take-append-drop}
 use Rattle.nr_xdr.specs.Item.{IsBytes}
 use Rattle.nr_rpc.specs.Reading.{reply_of}
 use Rattle.nr_rpc.specs.declared.head.ReplyHead.{ReplyHead}
 use Rattle.nr_rpc.proofs.Replies.{reply_begins, begins_reply}
 use Rattle.nr_header.specs.declared.header.RdmaSegment.{RdmaSegment}
-use Rattle.nr_regions.specs.RegisteredMemory.{RegisteredMemory, Claim, IsHeld, held_region, live_region, bytes_in}
+use Rattle.nr_regions.specs.RegisteredMemory.{RegisteredMemory, Claim, held_region, bytes_in}
 use Rattle.nr_reduce.specs.declared.fault.Mismatch.{Mismatch}
 use Rattle.nr_reduce.specs.declared.fault.Mismatch.TheVariants as mismatches
 use Rattle.nr_reduce.specs.declared.item.Item.{Item}

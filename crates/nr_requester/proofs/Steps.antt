@@ -30,7 +30,7 @@ use Rattle.nr_requester.specs.RequesterState.{RequesterState, RequesterFeeding, 
 use Rattle.nr_requester.specs.AfterCalls.{stags_for, live_count}
 use Rattle.nr_requester.specs.Buffers.{with_memory}
 use Rattle.nr_requester.specs.CountedMarks.{with_releases}
-use Rattle.nr_requester.specs.AfterPiece.{taken, dead_memory, with_dead, without_call, answer_to, call_of, judged, with_deliveries, unless_ended, requester_ended, after_frame, RanOut}
+use Rattle.nr_requester.specs.AfterPiece.{taken, dead_memory, with_dead, without_call, answer_to, call_of, judged, with_deliveries, unless_ended}
 use Rattle.nr_requester.specs.Judged.{kept_views}
 use Rattle.nr_requester.specs.Fed.{OneWaits, CallsSound, IsReady, StopsDead, JudgesTo, with_deliveries_side, TakesDeliveries, one_step, StepOut, IsStep}
 use Rattle.nr_requester.specs.Views.{RequesterInvariant, stored_view, requester_view}

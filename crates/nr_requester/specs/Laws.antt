@@ -1,7 +1,7 @@
 -- A requester stands for the marks of its link: each call of its owner is one mark more.
 use Rattle.std.specs.Prelude.{true, ◌≡◌, ℕ, ◌+◌, ◌^◌, ◌<◌, ◌≤◌, ◌||◌, Bool, List, [], ◌∷◌, ◌++◌, false, length, map, take, None, Ok, ◌==◌, is_some, Some}
 use Rattle.std.specs.List.{AllByRecursion, Contains, list_any, range_with_len}
-use Rattle.nr_wire.specs.declared.hello.Side.TheVariants.{Initiator, Responder}
+use Rattle.nr_wire.specs.declared.hello.Side.TheVariants.{Initiator}
 use Rattle.nr_link.specs.declared.end.End.{End}
 use Rattle.nr_link.specs.declared.end.End.TheVariants as ends
 use Rattle.nr_requester.specs.declared.answer.AnsweredCall.{AnsweredCall}

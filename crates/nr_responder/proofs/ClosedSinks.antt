@@ -84,7 +84,7 @@ same_left calls reads sinks later at d l m lt over is link =
 -- ---- One sink is released before the others
 
 removed_twice : {A : Type 0} (m : FinMap nat_cmp A) (a b q : ℕ) → get (remove_key (remove_key m a) b) q ≡ get (remove_key (remove_key m b) a) q
-removed_twice m a b q = by (cases_eq q b) (cases_eq q a)
+removed_twice {A = A} m a b q = by (cases_eq q b) (cases_eq q a)
   where
     gone : (n : FinMap nat_cmp A) (k : ℕ) → q ≡ k → get (remove_key n k) q ≡ None
     gone n k same = ap (λ (p : ℕ). get (remove_key n k) p) same ∙ get_remove_here n k

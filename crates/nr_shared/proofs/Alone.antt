@@ -15,14 +15,17 @@ use Rattle.nr_shared.specs.declared.entry.Entry.TheVariants as entries
 use Rattle.nr_shared.specs.declared.entry.InitialState.{InitialState}
 use Rattle.nr_shared.specs.declared.requester_with_sink.RequesterWithSink.{RequesterWithSink}
 use Rattle.nr_shared.specs.Chains.{last_from, last_place}
-use Rattle.nr_shared.specs.Histories.{closes_of, is_feeding, last_feeding, FeedsInOrder, first_of, initial_in, initial_of, after_initial, fed_by, bytes_fed, stop_in, stop_of}
+use Rattle.nr_shared.specs.Histories.{closes_of, is_feeding, last_feeding, FeedsInOrder, first_of, initial_of, fed_by, bytes_fed, stop_in, stop_of}
 use Rattle.nr_shared.specs.Standing.{Stands}
 use Rattle.nr_shared.specs.Callers.{IsFeeding, Writes}
 use Rattle.nr_shared.specs.Draining.{AreWrites}
+use Rattle.nr_shared.proofs.Adding.{closes_own_on, got}
 use Rattle.nr_shared.proofs.Calls.{none_some}
 use Rattle.nr_shared.proofs.Lists.{at_after, at_either, in_more}
 use Rattle.nr_shared.proofs.Chains.{last_same, no_link_after}
-use Rattle.nr_shared.proofs.Histories.{initial_more, since_more}
+use Rattle.nr_shared.proofs.Histories.{initial_more}
+use Rattle.nr_reduce.specs.declared.call.Call.{Call}
+use Rattle.nr_reduce.specs.declared.call.Form.{Form}
 
 true_false : true ≡ false → ⊥
 true_false e = absurd cc
@@ -32,8 +35,7 @@ quiet_bytes : (e : Entry) → is_feeding e ≡ false → fed_by e ≡ []
 quiet_bytes (entries.Initial initial) none = refl
 quiet_bytes (entries.Submit call form xid) none = refl
 quiet_bytes (entries.Wrote bytes) none = refl
-quiet_bytes (entries.Fed bytes None) none = refl
-quiet_bytes (entries.Fed bytes (Some k)) none = absurd (true_false none)
+quiet_bytes (entries.Fed bytes previous) none = absurd (true_false none)
 quiet_bytes (entries.Done xid outcome submit) none = refl
 quiet_bytes (entries.Lost xid submit) none = refl
 quiet_bytes (entries.Forget xid submit) none = refl
@@ -79,26 +81,25 @@ stop_both [] ys = refl
 stop_both (x ∷ xs) ys = ap (λ o. first_of (stop_in x) o) (stop_both xs ys) ∙ first_assoc (stop_in x) (stop_of xs) (stop_of ys)
 
 -- what was fed, and why no more is, of a history with such entries
-pub bytes_quiet : (xs ys : List Entry) (c : InitialState) → initial_of xs ≡ Some c → AreQuiet ys → bytes_fed (xs ++ ys) ≡ bytes_fed xs
-bytes_quiet xs ys c is quiet = ap (λ (l : List Entry). flat_map fed_by l) (since_more xs ys c is)
-    ∙ (flat_map-append fed_by (after_initial xs) ys ∙ (ap (λ (l : List ℕ). flat_map fed_by (after_initial xs) ++ l) (none_fed ys quiet) ∙ append-nil (flat_map fed_by (after_initial xs))))
+pub bytes_quiet : (xs ys : List Entry) → AreQuiet ys → bytes_fed (xs ++ ys) ≡ bytes_fed xs
+bytes_quiet xs ys quiet = flat_map-append fed_by xs ys ∙ (ap (λ (l : List ℕ). flat_map fed_by xs ++ l) (none_fed ys quiet) ∙ append-nil (flat_map fed_by xs))
 
 pub stop_quiet : (xs ys : List Entry) → AreQuiet ys → stop_of (xs ++ ys) ≡ stop_of xs
 stop_quiet xs ys quiet = stop_both xs ys ∙ (ap (λ (o : Option Stop). first_of (stop_of xs) o) (none_stops ys quiet) ∙ first_none (stop_of xs))
 
 -- what a pass that fed last knows of feeding is so still
-pub record FeedsAlone {O : Type 0} (p q : Pass (RequesterWithSink O) Entry) : Type 0 where
+pub record FeedsAlone {O C : Type 0} (p q : Pass (RequesterWithSink O C) Entry) : Type 0 where
   pub feeding : IsFeeding q
   pub bytes : bytes_fed (seen_by q) ≡ bytes_fed (seen_by p)
   pub stop : stop_of (seen_by q) ≡ stop_of (seen_by p)
 
-pub alone : {O : Type 0} (taken : O → Option (List ℕ)) (faults : O → ℕ) (t : Turnstile (RequesterWithSink O) Entry) (p q : Pass (RequesterWithSink O) Entry) (y : RequesterWithSink O) → Lies (seen_by p) (mine_of p) → Gets (Stands taken faults) closes_of t p q → Stands taken faults y (seen_by q)
+pub alone : {O C : Type 0} (taken : O → Option (List ℕ)) (faults : O → ℕ) (allows : Call → Form → Type 0) (t : Turnstile (RequesterWithSink O C) Entry) (p q : Pass (RequesterWithSink O C) Entry) (y : RequesterWithSink O C) → Lies (seen_by p) (mine_of p) → Gets (Stands taken faults allows) closes_of t p q → Stands taken faults allows y (seen_by q)
     → IsFeeding p → FeedsAlone p q
-alone taken faults t p q y lies g st fe =
+alone taken faults allows t p q y lies g st fe =
     let xs = seen_by p in
     let ys = g.3.0 in
     let seen : seen_by q ≡ xs ++ ys = g.3.1 in
-    let stays = stays_open (Stands taken faults) closes_of t p q fe.last lies fe.is_open g in
+    let stays = stays_open (Stands taken faults allows) closes_of t p q fe.last lies fe.is_open g in
     let quiet : AreQuiet ys = no_link_after closes_of is_feeding xs ys fe.last (subst FeedsInOrder seen st.in_order) fe.is_last
     (λ e i link closes. let (n, (is, at)) = at_after xs ys i.0 e i.1 in stays.1 n e (subst (λ (l : List Entry). get_elem? l n ≡ some e) (sym seen) at) closes) in
     record {
@@ -108,8 +109,9 @@ alone taken faults t p q y lies g st fe =
         last = fe.last;
         is_last = ap (λ (l : List Entry). last_feeding l) seen ∙ (last_same is_feeding xs ys quiet ∙ fe.is_last);
         is_open = stays;
+        closes_own = closes_own_on closes_of p q [] lies fe.closes_own (got (Stands taken faults allows) closes_of t p q g) (λ e i k closes. absurd (some-ne-none e (sym i.1)));
       };
-      bytes = ap (λ (l : List Entry). bytes_fed l) seen ∙ bytes_quiet xs ys fe.initial fe.is_initial quiet;
+      bytes = ap (λ (l : List Entry). bytes_fed l) seen ∙ bytes_quiet xs ys quiet;
       stop = ap (λ (l : List Entry). stop_of l) seen ∙ stop_quiet xs ys quiet;
     }
 
@@ -146,7 +148,7 @@ writes_close (entries.Stopped cause previous ∷ es) all i e at = absurd all
 writes_close (entries.OutOfMemory piece previous ∷ es) all i e at = absurd all
 
 -- an open place stays open
-pub open_writes : {O : Type 0} (p q : Pass (RequesterWithSink O) Entry) (k : ℕ) → Writes p q → IsOpen closes_of (seen_by p) (mine_of p) k → IsOpen closes_of (seen_by q) (mine_of q) k
+pub open_writes : {O C : Type 0} (p q : Pass (RequesterWithSink O C) Entry) (k : ℕ) → Writes p q → IsOpen closes_of (seen_by p) (mine_of p) k → IsOpen closes_of (seen_by q) (mine_of q) k
 open_writes p q k w o = (
   subst (IsIn k) (sym w.adds.mine) (in_more (mine_of p) w.adds.places k o.0),
   λ n e at closes. ⊎_elim
@@ -155,8 +157,8 @@ open_writes p q k w o = (
       (at_either (seen_by p) w.es n e (subst (λ (l : List Entry). get_elem? l n ≡ some e) w.seen at)),
 )
 
-pub alone_writes : {O : Type 0} (p q : Pass (RequesterWithSink O) Entry) → Writes p q → IsFeeding p → FeedsAlone p q
-alone_writes p q w fe =
+pub alone_writes : {O C : Type 0} (p q : Pass (RequesterWithSink O C) Entry) → Writes p q → Lies (seen_by p) (mine_of p) → IsFeeding p → FeedsAlone p q
+alone_writes p q w lies fe =
     let xs = seen_by p in
     let quiet = writes_quiet w.es w.are in
     record {
@@ -166,7 +168,8 @@ alone_writes p q w fe =
         last = fe.last;
         is_last = ap (λ (l : List Entry). last_feeding l) w.seen ∙ (last_same is_feeding xs w.es quiet ∙ fe.is_last);
         is_open = open_writes p q fe.last w fe.is_open;
+        closes_own = closes_own_on closes_of p q w.es lies fe.closes_own w.adds (λ e i k closes. absurd (none_some k (sym (writes_close w.es w.are i.0 e i.1) ∙ closes)));
       };
-      bytes = ap (λ (l : List Entry). bytes_fed l) w.seen ∙ bytes_quiet xs w.es fe.initial fe.is_initial quiet;
+      bytes = ap (λ (l : List Entry). bytes_fed l) w.seen ∙ bytes_quiet xs w.es quiet;
       stop = ap (λ (l : List Entry). stop_of l) w.seen ∙ stop_quiet xs w.es quiet;
     }

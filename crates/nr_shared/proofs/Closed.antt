@@ -7,7 +7,7 @@ use Rattle.atomic_table.proofs.Lists.{at_longer}
 use Rattle.nr_outside.proofs.Moves.{HandsOut_nil}
 use Rattle.nr_outside.specs.Content.{HandsOut}
 use Rattle.nr_turnstile.specs.declared.turnstile.Pass.{Pass as TurnPass}
-use Rattle.nr_turnstile.specs.Rule.{Begins, Earlier, IsIn, Lies, Owns, in_order}
+use Rattle.nr_turnstile.specs.Rule.{Begins, Earlier, IsIn, Lies, Owns, Rising, in_order}
 use Rattle.nr_turnstile.specs.Passes.{Joins, mine_of, seen_by}
 use Rattle.nr_shared.specs.declared.entry.Entry.{Entry}
 use Rattle.nr_shared.specs.declared.entry.InitialState.{InitialState}
@@ -23,17 +23,21 @@ use Rattle.nr_shared.specs.Standing.{RepresentsHistory, Stands}
 use Rattle.nr_shared.proofs.Adding.{begins_then}
 use Rattle.nr_shared.proofs.Alone.{AreQuiet, bytes_quiet, stop_quiet}
 use Rattle.nr_shared.proofs.Chains.{no_link_after}
-use Rattle.nr_shared.proofs.Lists.{at_after, at_begin, in_ordered, still_ordered}
+use Rattle.nr_shared.proofs.Histories.{allowed_by}
+use Rattle.nr_requester.specs.RequesterState.{RequesterSide}
+use Rattle.nr_shared.proofs.Lists.{at_after, at_begin, in_ordered, not_twice, still_first, still_ordered}
 use Rattle.nr_shared.proofs.Resting.{seen_one}
+use Rattle.nr_reduce.specs.declared.call.Call.{Call}
+use Rattle.nr_reduce.specs.declared.call.Form.{Form}
 
 true_false : true ≡ false → ⊥
 true_false e = absurd cc
 
-module _ {O : Type 0} where
+module _ {O C : Type 0} where
   -- After what the pass that feeds has seen the history has no entry that feeds: such an entry closes a place of this pass, so that it is an entry
   -- of this pass, or of the caller's into which it was joined. It isn't the first, since it comes after what that pass has seen; and a
   -- caller's entries don't feed.
-  after_feeding : (p f j : TurnPass (RequesterWithSink O) Entry) (h : List Entry) (b : Begins (seen_by f) h) → IsCaller p → (fe : IsFeeding f) → Lies (seen_by f) (mine_of f) → FeedsInOrder h
+  after_feeding : (p f j : TurnPass (RequesterWithSink O C) Entry) (h : List Entry) (b : Begins (seen_by f) h) → IsCaller p → (fe : IsFeeding f) → Lies (seen_by f) (mine_of f) → FeedsInOrder h
       → Begins (seen_by p) (seen_by j) → mine_of j ≡ in_order (mine_of p) (mine_of f) → Begins (seen_by j) h → Owns closes_of h (mine_of j) → AreQuiet b.0
   after_feeding p f j h b c fe lies chained first mine whole owns =
       let xs = seen_by f in
@@ -56,20 +60,25 @@ module _ {O : Type 0} where
 pub same_initial_source : {A : Type 0} (b c : A) (p q : List A) → p ≡ b ∷ [] → q ≡ c ∷ [] → Begins p q → c ≡ b
 same_initial_source b c p q one two begins = some-injective c b (ap (λ l. get_elem? l 0) (sym two ∙ (seen_one p q b c one two begins ∙ one)))
 
-module _ {I O : Type 0} (left given : I → Option (List ℕ)) (source_faults : I → ℕ) (taken : O → Option (List ℕ)) (sink_faults : O → ℕ) where
-  pub gives_back : (p j : TurnPass (RequesterWithSink O) Entry) (s : SourceReader I O) (m : RequesterWithSink O) (b : InitialSource I O) (h : List Entry) → IsCaller p → FeedsFor left given source_faults b s
-      → Joins closes_of p s.pass j → Stands taken sink_faults m h → Begins (seen_by j) h → ((n : ℕ) → IsIn n (mine_of j) → n < length h) → Owns closes_of h (mine_of j) → Earlier closes_of h
-      → GivesBack left given source_faults taken sink_faults (seen_by p) (mine_of p) b.source.value m.requester s.source m.sink
+module _ {I O C : Type 0} (left given : I → Option (List ℕ)) (source_faults : I → ℕ) (taken : O → Option (List ℕ)) (sink_faults : O → ℕ) (allows : Call → Form → Type 0) where
+  pub gives_back : (p j : TurnPass (RequesterWithSink O C) Entry) (s : SourceReader I O C) (m : RequesterWithSink O C) (b : InitialSource I O C) (h : List Entry) → IsCaller p → FeedsFor left given source_faults b s
+      → Joins closes_of p s.pass j → Stands taken sink_faults allows m h → Begins (seen_by j) h → ((n : ℕ) → IsIn n (mine_of j) → n < length h) → Owns closes_of h (mine_of j) → Earlier closes_of h
+      → GivesBack left given source_faults taken sink_faults allows (seen_by p) (mine_of p) b.source.value m.requester s.source m.sink
   gives_back p j s m b h c f (longer_is, first, second, mine, rising, own, lies_j, missed) st whole inside owns earlier =
       let begins : Begins (seen_by p) h = begins_then (seen_by p) (seen_by j) h first whole in
       let fed : Begins (seen_by s.pass) h = begins_then (seen_by s.pass) (seen_by j) h second whole in
       let quiet = after_feeding p s.pass j h fed c f.feeding f.lies st.in_order first mine whole owns in
-      let bytes : bytes_fed h ≡ bytes_fed (seen_by s.pass) = ap (λ (l : List Entry). bytes_fed l) fed.1 ∙ bytes_quiet (seen_by s.pass) fed.0 f.feeding.initial f.feeding.is_initial quiet in
+      let bytes : bytes_fed h ≡ bytes_fed (seen_by s.pass) = ap (λ (l : List Entry). bytes_fed l) fed.1 ∙ bytes_quiet (seen_by s.pass) fed.0 quiet in
       let stop : stop_of h ≡ stop_of (seen_by s.pass) = ap (λ (l : List Entry). stop_of l) fed.1 ∙ stop_quiet (seen_by s.pass) fed.0 quiet in
       let read : s.read ≡ length (bytes_fed h) = f.read ∙ ap length (sym bytes) in
       record {
         history = h;
         begins = begins;
+        stays_open = λ k o n e at closes. (let own_j = owns k n e (subst (IsIn k) (sym mine) (still_first (mine_of p) (mine_of s.pass) k o.0)) at closes in ⊎_elim
+            (λ (caller : IsIn n (mine_of p)). o.1 n e (at_begin (seen_by p) begins.0 n e (c.lies n caller) (subst (λ (l : List Entry). get_elem? l n ≡ some e) begins.1 at)) closes)
+            (λ (feeds : IsIn n (mine_of s.pass)). not_twice (mine_of p) (mine_of s.pass) k (subst Rising mine rising) o.0
+            (f.feeding.closes_own n k e feeds (at_begin (seen_by s.pass) fed.0 n e (f.lies n feeds) (subst (λ (l : List Entry). get_elem? l n ≡ some e) fed.1 at)) closes))
+            (in_ordered (mine_of p) (mine_of s.pass) n (subst (IsIn n) mine own_j)));
         lies = λ k i. (let old = c.lies k i in let len = ap length begins.1 ∙ length-append (seen_by p) begins.0 in omega (arith, old, len));
         earlier = earlier;
         initial = st.initial;
@@ -80,7 +89,7 @@ module _ {I O : Type 0} (left given : I → Option (List ℕ)) (source_faults : 
         sink_count = st.never_falls;
         sink_failed = λ is. st.sink_failed (st.write_failed ∙ is);
         in_order = st.in_order;
-        previous = st.previous;
+        allowed = st.allowed;
         output = st.output;
         gave = subst (λ (l : List ℕ). HandsOut (left b.source.value) (given b.source.value) (left s.source) (given s.source) l) (sym bytes) f.gave;
         source_count = f.never_falls;
@@ -89,12 +98,13 @@ module _ {I O : Type 0} (left given : I → Option (List ℕ)) (source_faults : 
       }
 
   -- what wasn't shared
-  pub unshared : (m : RequesterWithSink O) (h : List Entry) (source : I) → Stands taken sink_faults m h → Earlier closes_of h → bytes_fed h ≡ [] → stop_of h ≡ None
-      → GivesBack left given source_faults taken sink_faults h [] source m.requester source m.sink
+  pub unshared : (m : RequesterWithSink O C) (h : List Entry) (source : I) → Stands taken sink_faults allows m h → Earlier closes_of h → bytes_fed h ≡ [] → stop_of h ≡ None
+      → GivesBack left given source_faults taken sink_faults allows h [] source m.requester source m.sink
   unshared m h source st earlier none going = record {
     history = h;
     begins = ([], sym (append-nil h));
     lies = λ k i. absurd (some-ne-none k (sym i.1));
+    stays_open = λ k o. absurd (some-ne-none k (sym o.0.1));
     earlier = earlier;
     initial = st.initial;
     is_initial = st.is_initial;
@@ -104,9 +114,33 @@ module _ {I O : Type 0} (left given : I → Option (List ℕ)) (source_faults : 
     sink_count = st.never_falls;
     sink_failed = λ is. st.sink_failed (st.write_failed ∙ is);
     in_order = st.in_order;
-    previous = st.previous;
+    allowed = st.allowed;
     output = st.output;
     gave = subst (λ (l : List ℕ). HandsOut (left source) (given source) (left source) (given source) l) (sym none) (HandsOut_nil (left source) (given source));
     source_count = omega arith;
     stop = subst (λ (o : Option Stop). StopHolds o (source_faults source) (source_faults source) (left source) (length (bytes_fed h))) (sym going) tt;
   }
+
+-- by another rule, which allows what this one does
+pub back_by : {I O : Type 0} (left given : I → Option (List ℕ)) (source_faults : I → ℕ) (taken : O → Option (List ℕ)) (sink_faults : O → ℕ) (allows allows' : Call → Form → Type 0) → ((call : Call) (form : Form) → allows call form → allows' call form)
+    → (seen : List Entry) (mine : List ℕ) (first : I) (r : RequesterSide) (source : I) (sink : O) → GivesBack left given source_faults taken sink_faults allows seen mine first r source sink → GivesBack left given source_faults taken sink_faults allows' seen mine first r source sink
+back_by left given source_faults taken sink_faults allows allows' more seen mine first r source sink b = record {
+  history = b.history;
+  begins = b.begins;
+  lies = b.lies;
+  stays_open = b.stays_open;
+  earlier = b.earlier;
+  initial = b.initial;
+  is_initial = b.is_initial;
+  represents = b.represents;
+  calls = b.calls;
+  took = b.took;
+  sink_count = b.sink_count;
+  sink_failed = b.sink_failed;
+  in_order = b.in_order;
+  allowed = allowed_by allows allows' b.history more b.allowed;
+  output = b.output;
+  gave = b.gave;
+  source_count = b.source_count;
+  stop = b.stop;
+}

@@ -77,18 +77,22 @@ not_out o c r h P other represents next = by_out (is_out_of_memory o) represents
 pub other_end : (r : RequesterSide) (end : End) → r.state.side.ended ≡ Some end → (IsMemory end → ⊥) → r.state.side.ended ≡ Some ends.Memory → ⊥
 other_end r end is other memory = other (subst IsMemory (sym (end_is end r.state.side.ended is memory)) tt)
 
-module _ {O : Type 0} (taken : O → Option (List ℕ)) (faults : O → ℕ) where
-  memory_ended : (m : RequesterWithSink O) (h : List Entry) → Stands taken faults m h → m.requester.state.side.ended ≡ Some ends.Memory → stop_of h ≡ Some causes.Memory
+module _ {O C : Type 0} (taken : O → Option (List ℕ)) (faults : O → ℕ) (allows : Call → Form → Type 0) where
+  -- a requester that hasn't run out of memory
+  pub has_memory : (m : RequesterWithSink O C) (h : List Entry) → Stands taken faults allows m h → (m.requester.state.side.ended ≡ Some ends.Memory → ⊥) → stop_of h ≢ Some causes.Memory
+  has_memory m h st other bad = other ((subst (λ (o : Option Stop). RepresentsHistory st.initial m.requester o h) (st.stopped ∙ bad) st.represents).0)
+
+  memory_ended : (m : RequesterWithSink O C) (h : List Entry) → Stands taken faults allows m h → m.requester.state.side.ended ≡ Some ends.Memory → stop_of h ≡ Some causes.Memory
   memory_ended m h st is = sym st.stopped ∙ by_out (is_out_of_memory m.stopped) refl where
     by_out : (b : Bool) → is_out_of_memory m.stopped ≡ b → m.stopped ≡ Some causes.Memory
     by_out true out = out_is m.stopped out
     by_out false out = absurd ((subst (λ b. RepresentsHistoryIf b st.initial m.requester h) out st.represents).0 is)
 
-  other_ended : (m : RequesterWithSink O) (h : List Entry) (end : End) → Stands taken faults m h → (IsMemory end → ⊥) → m.requester.state.side.ended ≡ Some end → ClientEnded end h
+  other_ended : (m : RequesterWithSink O C) (h : List Entry) (end : End) → Stands taken faults allows m h → (IsMemory end → ⊥) → m.requester.state.side.ended ≡ Some end → ClientEnded end h
   other_ended m h end st other is = not_out m.stopped st.initial m.requester h (ClientEnded end h) (other_end m.requester end is other) st.represents (λ f. client_ended st.initial m.requester h end st.is_initial f is)
 
   -- the requester has ended so
-  pub ended_is : (m : RequesterWithSink O) (h : List Entry) (end : End) → Stands taken faults m h → m.requester.state.side.ended ≡ Some end → HasEnded end h
+  pub ended_is : (m : RequesterWithSink O C) (h : List Entry) (end : End) → Stands taken faults allows m h → m.requester.state.side.ended ≡ Some end → HasEnded end h
   ended_is m h ends.Memory st is = memory_ended m h st is
   ended_is m h (ends.Bad at reason) st is = other_ended m h (ends.Bad at reason) st (λ no. no) is
   ended_is m h (ends.Denied stag to why) st is = other_ended m h (ends.Denied stag to why) st (λ no. no) is
@@ -184,26 +188,29 @@ out_counts opened link r run out =
       out.stands.out.keeps.grant ∙ sym (ap (λ (e : EndState ClientState). e.state.grant) same),
     )
 
-module _ {O : Type 0} (taken : O → Option (List ℕ)) (faults : O → ℕ) where
-  client_refuses : (m : RequesterWithSink O) (h : List Entry) (call : Call) (form : Form) (why : Refused) → Stands taken faults m h → end_in_refused why ≡ None → NotMemory why → SaysSo m.requester.state call form why → ClientRefuses why call form h
+module _ {O C : Type 0} (taken : O → Option (List ℕ)) (faults : O → ℕ) (allows : Call → Form → Type 0) where
+  client_refuses : (m : RequesterWithSink O C) (h : List Entry) (call : Call) (form : Form) (why : Refused) → Stands taken faults allows m h → end_in_refused why ≡ None → NotMemory why → SaysSo m.requester.state call form why → ClientRefuses why call form h
   client_refuses m h call form why st no_end other says =
       let is = said m.requester.state call form why other says in
       let live : m.requester.state.side.ended ≡ None = sym (answers_end m.requester.state call form) ∙ (ap end_in is ∙ no_end) in
       not_out m.stopped st.initial m.requester h (ClientRefuses why call form h) (λ memory. none_memory (sym live ∙ memory)) st.represents
-      (λ f opened link before fits. (let l = f.1 opened link before (fits_initial h st.initial opened link before st.is_initial fits) in
-      sym (answers_as_client opened link m.requester (run_of before 0 link h) call form l.stands) ∙ is))
+      (λ f. (
+        has_memory taken faults allows m h st (λ memory. none_memory (sym live ∙ memory)),
+        λ opened link before fits. (let l = f.1 opened link before (fits_initial h st.initial opened link before st.is_initial fits) in
+            sym (answers_as_client opened link m.requester (run_of before 0 link h) call form l.stands) ∙ is),
+      ))
 
   -- what the requester says of a call that it refuses is said of the history
-  pub refused_is : (m : RequesterWithSink O) (h : List Entry) (call : Call) (form : Form) (why : Refused) → Stands taken faults m h → SaysSo m.requester.state call form why → IsRefused why call form h
+  pub refused_is : (m : RequesterWithSink O C) (h : List Entry) (call : Call) (form : Form) (why : Refused) → Stands taken faults allows m h → SaysSo m.requester.state call form why → IsRefused why call form h
   refused_is m h call form refusals.Memory st says = tt
   refused_is m h call form (refusals.Ended end) st says =
-      ended_is taken faults m h end st (sym (answers_end m.requester.state call form) ∙ ap end_in (said m.requester.state call form (refusals.Ended end) tt says))
+      ended_is taken faults allows m h end st (sym (answers_end m.requester.state call form) ∙ ap end_in (said m.requester.state call form (refusals.Ended end) tt says))
   refused_is m h call form (refusals.TooLarge need room) st says = client_refuses m h call form (refusals.TooLarge need room) st refl tt says
   refused_is m h call form (refusals.NoCredit out grant) st says = client_refuses m h call form (refusals.NoCredit out grant) st refl tt says
   refused_is m h call form (refusals.Spent left need) st says = client_refuses m h call form (refusals.Spent left need) st refl tt says
 
   -- whether a credit is left
-  pub says_credit : (m : RequesterWithSink O) (h : List Entry) → Stands taken faults m h → SaysCredit (nat_lt (length m.requester.state.outstanding) m.requester.state.grant) h
+  pub says_credit : (m : RequesterWithSink O C) (h : List Entry) → Stands taken faults allows m h → SaysCredit (nat_lt (length m.requester.state.outstanding) m.requester.state.grant) h
   says_credit m h st other opened link before fits = by_out (is_out_of_memory m.stopped) refl where
     by_out : (b : Bool) → is_out_of_memory m.stopped ≡ b → nat_lt (length m.requester.state.outstanding) m.requester.state.grant ≡ nat_lt (calls_outstanding opened link (run_of before 0 link h)) (credits_granted opened link (run_of before 0 link h))
     by_out true out = absurd (other (sym st.stopped ∙ out_is m.stopped out))
@@ -213,7 +220,7 @@ module _ {O : Type 0} (taken : O → Option (List ℕ)) (faults : O → ℕ) whe
         let counts = counts_as_client opened link m.requester (run_of before 0 link h) l.stands in
         ap (λ (n : ℕ). nat_lt n m.requester.state.grant) counts.0 ∙ ap (λ (n : ℕ). nat_lt (calls_outstanding opened link (run_of before 0 link h)) n) counts.1
 
-  pub says_credit_out_of_memory : (m : RequesterWithSink O) (h : List Entry) → Stands taken faults m h → SaysCreditOutOfMemory (nat_lt (length m.requester.state.outstanding) m.requester.state.grant) h
+  pub says_credit_out_of_memory : (m : RequesterWithSink O C) (h : List Entry) → Stands taken faults allows m h → SaysCreditOutOfMemory (nat_lt (length m.requester.state.outstanding) m.requester.state.grant) h
   says_credit_out_of_memory m h st memory =
       let f = subst (λ b. RepresentsHistoryIf b st.initial m.requester h) (ap is_out_of_memory (st.stopped ∙ memory)) st.represents in (
         f.1.0,
@@ -223,14 +230,14 @@ module _ {O : Type 0} (taken : O → Option (List ℕ)) (faults : O → ℕ) whe
       )
 
   -- the history keeps the law
-  pub law_of : (m : RequesterWithSink O) (h : List Entry) → Stands taken faults m h → KeepsLaw h
+  pub law_of : (m : RequesterWithSink O C) (h : List Entry) → Stands taken faults allows m h → KeepsLaw h
   law_of m h st = by_out (is_out_of_memory m.stopped) st.represents where
     by_out : (b : Bool) → RepresentsHistoryIf b st.initial m.requester h → KeepsLaw h
     by_out false f = record { n = 0; law = λ opened link before fits. (let l = f.1 opened link before (fits_initial h st.initial opened link before st.is_initial fits) in (l.asked, l.granted)); output = st.output; in_order = st.in_order }
     by_out true f = record { n = f.1.0; law = λ opened link before fits. (let l = f.1.1 opened link before (fits_initial h st.initial opened link before st.is_initial fits) in (l.asked, l.granted)); output = st.output; in_order = st.in_order }
 
   -- told of the pass after its turn
-  pub law_put_back : (t : Turn (RequesterWithSink O) Entry) (s : Pass (RequesterWithSink O) Entry) → IsReady taken faults t → seen_by s ≡ seen_by (pass_of t) → KeepsLaw (seen_by s)
+  pub law_put_back : (t : Turn (RequesterWithSink O C) Entry) (s : Pass (RequesterWithSink O C) Entry) → IsReady taken faults allows t → seen_by s ≡ seen_by (pass_of t) → KeepsLaw (seen_by s)
   law_put_back t s r seen = subst KeepsLaw (sym seen) (law_of r.value (seen_by (pass_of t)) r.stands)
 
 pub law_joined : (xs ys zs : List Entry) → zs ≡ longer xs ys → KeepsLaw xs → KeepsLaw ys → KeepsLaw zs

@@ -23,7 +23,7 @@ use Rattle.nr_shared.specs.Feeding.{Feeds, FeedsFor, StopHolds}
 use Rattle.nr_shared.specs.Histories.{bytes_fed, stop_in, stop_of}
 use Rattle.nr_shared.proofs.Moving.{rises_from}
 
-pub lies_same : {O : Type 0} (r s : Pass (RequesterWithSink O) Entry) → seen_by s ≡ seen_by r → mine_of s ≡ mine_of r → Lies (seen_by r) (mine_of r) → Lies (seen_by s) (mine_of s)
+pub lies_same : {O C : Type 0} (r s : Pass (RequesterWithSink O C) Entry) → seen_by s ≡ seen_by r → mine_of s ≡ mine_of r → Lies (seen_by r) (mine_of r) → Lies (seen_by s) (mine_of s)
 lies_same r s seen mine l = subst (λ (x : List Entry). Lies x (mine_of s)) (sym seen) (subst (λ (m : List ℕ). Lies (seen_by r) m) (sym mine) l)
 
 -- whether memory ran out for a piece
@@ -38,9 +38,9 @@ holds_since causes.Closed before faults faults' left read le is = is
 holds_since causes.Budget before faults faults' left read le is = is
 holds_since causes.Memory before faults faults' left read le is = tt
 
-module _ {I O : Type 0} (left given : I → Option (List ℕ)) (faults : I → ℕ) where
+module _ {I O C : Type 0} (left given : I → Option (List ℕ)) (faults : I → ℕ) where
   -- the pass that feeds has taken a turn
-  pub feeds_turned : (b : InitialSource I O) (s t : SourceReader I O) → FeedsFor left given faults b s → t.source ≡ s.source → t.read ≡ s.read → t.buf ≡ s.buf → home_of t.pass ≡ home_of s.pass → IsOutside t.pass → Lies (seen_by t.pass) (mine_of t.pass) → IsFeeding t.pass
+  pub feeds_turned : (b : InitialSource I O C) (s t : SourceReader I O C) → FeedsFor left given faults b s → t.source ≡ s.source → t.read ≡ s.read → t.buf ≡ s.buf → home_of t.pass ≡ home_of s.pass → IsOutside t.pass → Lies (seen_by t.pass) (mine_of t.pass) → IsFeeding t.pass
       → bytes_fed (seen_by t.pass) ≡ bytes_fed (seen_by s.pass) → stop_of (seen_by t.pass) ≡ stop_of (seen_by s.pass) → FeedsFor left given faults b t
   feeds_turned b s t f source read buf home outside lies feeding bytes stop = record {
     home = home ∙ f.home;
@@ -59,7 +59,7 @@ module _ {I O : Type 0} (left given : I → Option (List ℕ)) (faults : I → �
   }
 
   -- a piece was read and fed
-  pub feeds_more : (b : InitialSource I O) (s t : SourceReader I O) (piece : List ℕ) (out : Bool) → FeedsFor left given faults b s → HandsOut (left s.source) (given s.source) (left t.source) (given t.source) piece → faults s.source ≤ faults t.source
+  pub feeds_more : (b : InitialSource I O C) (s t : SourceReader I O C) (piece : List ℕ) (out : Bool) → FeedsFor left given faults b s → HandsOut (left s.source) (given s.source) (left t.source) (given t.source) piece → faults s.source ≤ faults t.source
       → t.read ≡ s.read + length piece → t.read ≤ read_max → length t.buf.items ≡ piece_max → home_of t.pass ≡ home_of s.pass → IsOutside t.pass → Lies (seen_by t.pass) (mine_of t.pass) → IsFeeding t.pass
       → bytes_fed (seen_by t.pass) ≡ bytes_fed (seen_by s.pass) ++ piece → MatchBool out (stop_of (seen_by t.pass) ≡ Some causes.Memory) (stop_of (seen_by t.pass) ≡ None) → FeedsFor left given faults b t
   feeds_more b s t piece out f gave rises read within room home outside lies feeding bytes stop = record {
@@ -80,7 +80,7 @@ module _ {I O : Type 0} (left given : I → Option (List ℕ)) (faults : I → �
     by_out false is = subst (λ (o : Option Stop). StopHolds o (faults b.source.value) (faults t.source) (left t.source) t.read) (sym is) tt
 
   -- no more is fed
-  pub feeds_stopped : (b : InitialSource I O) (s t : SourceReader I O) (cause : Stop) → FeedsFor left given faults b s → HandsOut (left s.source) (given s.source) (left t.source) (given t.source) [] → faults s.source ≤ faults t.source
+  pub feeds_stopped : (b : InitialSource I O C) (s t : SourceReader I O C) (cause : Stop) → FeedsFor left given faults b s → HandsOut (left s.source) (given s.source) (left t.source) (given t.source) [] → faults s.source ≤ faults t.source
       → t.read ≡ s.read → length t.buf.items ≡ piece_max → home_of t.pass ≡ home_of s.pass → IsOutside t.pass → Lies (seen_by t.pass) (mine_of t.pass) → IsFeeding t.pass
       → bytes_fed (seen_by t.pass) ≡ bytes_fed (seen_by s.pass) → stop_of (seen_by t.pass) ≡ Some cause → StopHolds (Some cause) (faults s.source) (faults t.source) (left t.source) t.read → FeedsFor left given faults b t
   feeds_stopped b s t cause f gave rises read room home outside lies feeding bytes stop holds = record {
@@ -99,7 +99,7 @@ module _ {I O : Type 0} (left given : I → Option (List ℕ)) (faults : I → �
   }
 
   -- the value of the source's turn
-  pub feeds_value : (b : InitialSource I O) (s t : SourceReader I O) (h : List (InitialSource I O)) → h ≡ b ∷ [] → Feeds left given faults s h → s ≡ t → FeedsFor left given faults b t
-  feeds_value b s t h one (d, two, f) same = subst (FeedsFor left given faults b) same (subst (λ (x : InitialSource I O). FeedsFor left given faults x s) (only d b (sym two ∙ one)) f) where
-    only : (x y : InitialSource I O) → x ∷ [] ≡ y ∷ [] → x ≡ y
-    only x y is = some-injective x y (ap (λ (l : List (InitialSource I O)). get_elem? l 0) is)
+  pub feeds_value : (b : InitialSource I O C) (s t : SourceReader I O C) (h : List (InitialSource I O C)) → h ≡ b ∷ [] → Feeds left given faults s h → s ≡ t → FeedsFor left given faults b t
+  feeds_value b s t h one (d, two, f) same = subst (FeedsFor left given faults b) same (subst (λ (x : InitialSource I O C). FeedsFor left given faults x s) (only d b (sym two ∙ one)) f) where
+    only : (x y : InitialSource I O C) → x ∷ [] ≡ y ∷ [] → x ≡ y
+    only x y is = some-injective x y (ap (λ (l : List (InitialSource I O C)). get_elem? l 0) is)

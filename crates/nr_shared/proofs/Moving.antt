@@ -23,7 +23,7 @@ use Rattle.nr_shared.specs.Histories.{mark_at, closes_of, is_feeding, bytes_fed,
 use Rattle.nr_shared.specs.Draining.{taken_between}
 use Rattle.nr_shared.specs.Standing.{is_out_of_memory, RepresentsHistory, RepresentsHistoryIf, one_if, IsWithin, Stands, Becomes}
 use Rattle.nr_shared.proofs.Chains.{chained_end}
-use Rattle.nr_shared.proofs.Histories.{run_same, initial_end, previous_end, written_end, written_same, fed_same, write_failed_end, write_failed_same, stop_same}
+use Rattle.nr_shared.proofs.Histories.{run_same, initial_end, allowed_end, written_end, written_same, fed_same, write_failed_end, write_failed_same, stop_same}
 use Rattle.nr_shared.proofs.Calls.{calls_kept}
 use Rattle.nr_shared.specs.declared.entry.InitialState.{InitialState}
 use Rattle.nr_shared.specs.Marks.{IsLive, IsOut}
@@ -31,6 +31,8 @@ use Rattle.nr_reduce.specs.declared.mark.Mark.{Mark}
 use Rattle.nr_reduce.specs.declared.mark.LinkParameters.{LinkParameters}
 use Rattle.nr_shared.proofs.Output.{output_same}
 use Rattle.nr_shared.proofs.Steps.{follows_on, false_true}
+use Rattle.nr_reduce.specs.declared.call.Call.{Call}
+use Rattle.nr_reduce.specs.declared.call.Form.{Form}
 
 drained_ended : (r s : RequesterSide) (n : ℕ) → s ≡ after_drain n r → s.state.side.ended ≡ r.state.side.ended
 unfolding after_drain
@@ -91,13 +93,13 @@ or_true false = refl
 pub rises_from : (a b c : ℕ) → a ≤ b → Rises b c → Rises a c
 rises_from a b c le up = ⊎_elim (λ (more : b < c). inl (omega (arith, le, more))) (λ last. inr last) up
 
-module _ {O : Type 0} (taken : O → Option (List ℕ)) (faults : O → ℕ) where
+module _ {O C : Type 0} (taken : O → Option (List ℕ)) (faults : O → ℕ) (allows : Call → Form → Type 0) where
   -- nothing changed
-  pub nothing_moves : (m : RequesterWithSink O) → Becomes taken faults m m []
-  nothing_moves m h st = subst (λ (l : List Entry). Stands taken faults m l) (sym (append-nil h)) st
+  pub nothing_moves : (m : RequesterWithSink O C) → Becomes taken faults allows m m []
+  nothing_moves m h st = subst (λ (l : List Entry). Stands taken faults allows m l) (sym (append-nil h)) st
 
   -- what a drain gave: `n` bytes were taken
-  pub record Drains (m m' : RequesterWithSink O) (n : ℕ) : Type 0 where
+  pub record Drains (m m' : RequesterWithSink O C) (n : ℕ) : Type 0 where
     pub stopped : m'.stopped ≡ m.stopped
     pub some : n ≤ length (queue_of m.requester.state)
     pub takes : Appends (taken m.sink) (taken m'.sink) (take n (queue_of m.requester.state))
@@ -109,7 +111,7 @@ module _ {O : Type 0} (taken : O → Option (List ℕ)) (faults : O → ℕ) whe
     pub fed : fed_bytes m'.requester ≡ fed_bytes m.requester
 
   -- the requester follows the entry of what was written
-  follows_wrote : (m m' : RequesterWithSink O) (n : ℕ) (c : InitialState) (h : List Entry) → Drains m m' n → RepresentsHistory c m.requester m.stopped h → RepresentsHistory c m'.requester m'.stopped (h ++ entries.Wrote (take n (queue_of m.requester.state)) ∷ [])
+  follows_wrote : (m m' : RequesterWithSink O C) (n : ℕ) (c : InitialState) (h : List Entry) → Drains m m' n → RepresentsHistory c m.requester m.stopped h → RepresentsHistory c m'.requester m'.stopped (h ++ entries.Wrote (take n (queue_of m.requester.state)) ∷ [])
   follows_wrote m m' n c h d represents =
       let bytes = take n (queue_of m.requester.state) in
       let e : Entry = entries.Wrote bytes in
@@ -119,8 +121,8 @@ module _ {O : Type 0} (taken : O → Option (List ℕ)) (faults : O → ℕ) whe
       (λ opened link stop run out asked grant. (drain_out_keeps_law opened link m.requester stop run n out asked, drain_keeps_grant opened link run bytes grant)) represents)
 
   -- the sink took all that waited
-  wrote : (m m' : RequesterWithSink O) (n : ℕ) (h : List Entry) → m.pending ≡ true → m.write_failed ≡ false → Drains m m' n → n ≡ length (queue_of m.requester.state) → m'.entries ≡ m.entries + 1 → m'.pending ≡ false → m'.write_failed ≡ false
-      → Stands taken faults m h → Stands taken faults m' (h ++ entries.Wrote (take n (queue_of m.requester.state)) ∷ [])
+  wrote : (m m' : RequesterWithSink O C) (n : ℕ) (h : List Entry) → m.pending ≡ true → m.write_failed ≡ false → Drains m m' n → n ≡ length (queue_of m.requester.state) → m'.entries ≡ m.entries + 1 → m'.pending ≡ false → m'.write_failed ≡ false
+      → Stands taken faults allows m h → Stands taken faults allows m' (h ++ entries.Wrote (take n (queue_of m.requester.state)) ∷ [])
   wrote m m' n h was whole d all count pending sink_failed st =
       let bytes = take n (queue_of m.requester.state) in
       let e : Entry = entries.Wrote bytes in
@@ -132,25 +134,25 @@ module _ {O : Type 0} (taken : O → Option (List ℕ)) (faults : O → ℕ) whe
         entries = (let k = st.entries in omega (arith, k, len, count));
         represents = follows_wrote m m' n c h d st.represents;
         calls = calls_kept m.requester.state m'.requester.state h e (λ xid. refl) d.keeps st.calls;
-        took = subst (Appends c.taken (taken m'.sink)) (sym (written_end h e c st.is_initial)) (Appends-trans c.taken (taken m.sink) (taken m'.sink) (bytes_written h) bytes st.took d.takes);
+        took = subst (Appends c.taken (taken m'.sink)) (sym (written_end h e)) (Appends-trans c.taken (taken m.sink) (taken m'.sink) (bytes_written h) bytes st.took d.takes);
         never_falls = (let f = st.never_falls in let g = d.never in omega (arith, f, g));
         write_failed = sink_failed ∙ (sym whole ∙ (st.write_failed ∙ sym (write_failed_same h e refl)));
         sink_failed = λ is. absurd (false_true (sym sink_failed ∙ is));
         stopped = d.stopped ∙ (st.stopped ∙ sym (stop_same h e refl));
         in_order = chained_end closes_of is_feeding 0 None h e st.in_order (λ is. absurd (false_true is));
-        previous = previous_end h e c st.is_initial refl st.previous;
+        allowed = allowed_end allows h e st.allowed tt;
         output = output_same h e refl st.output;
         pending = λ is. drained_all m.requester m'.requester n d.after all;
         within = subst (λ b. IsWithin m'.requester m'.pending b m'.stopped (h ++ e ∷ [])) (sym sink_failed)
             (subst (λ b. IsWithin m'.requester b false m'.stopped (h ++ e ∷ [])) (sym pending)
             (subst (λ o. IsWithin m'.requester false false o (h ++ e ∷ [])) (sym d.stopped)
-            (within_moved m.requester m'.requester true false false false m.stopped h (h ++ e ∷ []) 1 (fed_same h e c st.is_initial refl) len (omega arith) d.keeps (drained_next m.requester m'.requester n d.after) d.fed
+            (within_moved m.requester m'.requester true false false false m.stopped h (h ++ e ∷ []) 1 (fed_same h e refl) len (omega arith) d.keeps (drained_next m.requester m'.requester n d.after) d.fed
             (subst (λ b. IsWithin m.requester b false m.stopped h) was (subst (λ b. IsWithin m.requester m.pending b m.stopped h) whole st.within)))));
       }
 
   -- the sink took the first bytes, and a write failed
-  wrote_then_failed : (m m' : RequesterWithSink O) (n : ℕ) (h : List Entry) → m.pending ≡ true → m.write_failed ≡ false → Drains m m' n → Rises (faults m.sink) (faults m'.sink) → m'.entries ≡ m.entries + 2 → m'.pending ≡ true → m'.write_failed ≡ true
-      → Stands taken faults m h → Stands taken faults m' ((h ++ entries.Wrote (take n (queue_of m.requester.state)) ∷ []) ++ entries.WriteFailed ∷ [])
+  wrote_then_failed : (m m' : RequesterWithSink O C) (n : ℕ) (h : List Entry) → m.pending ≡ true → m.write_failed ≡ false → Drains m m' n → Rises (faults m.sink) (faults m'.sink) → m'.entries ≡ m.entries + 2 → m'.pending ≡ true → m'.write_failed ≡ true
+      → Stands taken faults allows m h → Stands taken faults allows m' ((h ++ entries.Wrote (take n (queue_of m.requester.state)) ∷ []) ++ entries.WriteFailed ∷ [])
   wrote_then_failed m m' n h was whole d up count pending sink_failed st =
       let bytes = take n (queue_of m.requester.state) in
       let e : Entry = entries.Wrote bytes in
@@ -166,29 +168,29 @@ module _ {O : Type 0} (taken : O → Option (List ℕ)) (faults : O → ℕ) whe
         entries = (let k = st.entries in omega (arith, k, len, len2, count));
         represents = follows_same m'.stopped c m'.requester l f (λ k link. refl) (follows_wrote m m' n c h d st.represents);
         calls = calls_kept m'.requester.state m'.requester.state l f (λ xid. refl) (λ xid. refl) (calls_kept m.requester.state m'.requester.state h e (λ xid. refl) d.keeps st.calls);
-        took = subst (Appends c.taken (taken m'.sink)) (sym (written_same l f c initial_l refl ∙ written_end h e c st.is_initial)) (Appends-trans c.taken (taken m.sink) (taken m'.sink) (bytes_written h) bytes st.took d.takes);
+        took = subst (Appends c.taken (taken m'.sink)) (sym (written_same l f refl ∙ written_end h e)) (Appends-trans c.taken (taken m.sink) (taken m'.sink) (bytes_written h) bytes st.took d.takes);
         never_falls = (let k = st.never_falls in let j = d.never in omega (arith, k, j));
         write_failed = sink_failed ∙ sym (write_failed_end l f ∙ or_true (has_write_failed l));
         sink_failed = λ is. rises_from c.faults (faults m.sink) (faults m'.sink) st.never_falls up;
         stopped = d.stopped ∙ (st.stopped ∙ (sym (stop_same h e refl) ∙ sym (stop_same l f refl)));
         in_order = chained_end closes_of is_feeding 0 None l f (chained_end closes_of is_feeding 0 None h e st.in_order (λ is. absurd (false_true is))) (λ is. absurd (false_true is));
-        previous = previous_end l f c initial_l refl (previous_end h e c st.is_initial refl st.previous);
+        allowed = allowed_end allows l f (allowed_end allows h e st.allowed tt) tt;
         output = output_same l f refl (output_same h e refl st.output);
         pending = λ is. absurd (false_true (sym is ∙ pending));
         within = subst (λ b. IsWithin m'.requester m'.pending b m'.stopped (l ++ f ∷ [])) (sym sink_failed)
             (subst (λ b. IsWithin m'.requester b true m'.stopped (l ++ f ∷ [])) (sym pending)
             (subst (λ o. IsWithin m'.requester true true o (l ++ f ∷ [])) (sym d.stopped)
-            (within_moved m.requester m'.requester true true false true m.stopped h (l ++ f ∷ []) 2 (fed_same l f c initial_l refl ∙ fed_same h e c st.is_initial refl) (omega (arith, len, len2)) (omega arith) d.keeps (drained_next m.requester m'.requester n d.after) d.fed
+            (within_moved m.requester m'.requester true true false true m.stopped h (l ++ f ∷ []) 2 (fed_same l f refl ∙ fed_same h e refl) (omega (arith, len, len2)) (omega arith) d.keeps (drained_next m.requester m'.requester n d.after) d.fed
             (subst (λ b. IsWithin m.requester b false m.stopped h) was (subst (λ b. IsWithin m.requester m.pending b m.stopped h) whole st.within)))));
       }
 
-  pub drains_all : (m m' : RequesterWithSink O) (n : ℕ) → m.pending ≡ true → m.write_failed ≡ false → Drains m m' n → n ≡ length (queue_of m.requester.state) → m'.entries ≡ m.entries + 1 → m'.pending ≡ false → m'.write_failed ≡ false
-      → Becomes taken faults m m' (entries.Wrote (taken_between m.requester.state m'.requester.state) ∷ [])
-  drains_all m m' n was whole d all count pending sink_failed h st = subst (λ (b : List ℕ). Stands taken faults m' (h ++ entries.Wrote b ∷ [])) (took_them m.requester m'.requester n d.after d.some) (wrote m m' n h was whole d all count pending sink_failed st)
+  pub drains_all : (m m' : RequesterWithSink O C) (n : ℕ) → m.pending ≡ true → m.write_failed ≡ false → Drains m m' n → n ≡ length (queue_of m.requester.state) → m'.entries ≡ m.entries + 1 → m'.pending ≡ false → m'.write_failed ≡ false
+      → Becomes taken faults allows m m' (entries.Wrote (taken_between m.requester.state m'.requester.state) ∷ [])
+  drains_all m m' n was whole d all count pending sink_failed h st = subst (λ (b : List ℕ). Stands taken faults allows m' (h ++ entries.Wrote b ∷ [])) (took_them m.requester m'.requester n d.after d.some) (wrote m m' n h was whole d all count pending sink_failed st)
 
-  pub drains_some : (m m' : RequesterWithSink O) (n : ℕ) → m.pending ≡ true → m.write_failed ≡ false → Drains m m' n → Rises (faults m.sink) (faults m'.sink) → m'.entries ≡ m.entries + 2 → m'.pending ≡ true → m'.write_failed ≡ true
-      → Becomes taken faults m m' (entries.Wrote (taken_between m.requester.state m'.requester.state) ∷ entries.WriteFailed ∷ [])
+  pub drains_some : (m m' : RequesterWithSink O C) (n : ℕ) → m.pending ≡ true → m.write_failed ≡ false → Drains m m' n → Rises (faults m.sink) (faults m'.sink) → m'.entries ≡ m.entries + 2 → m'.pending ≡ true → m'.write_failed ≡ true
+      → Becomes taken faults allows m m' (entries.Wrote (taken_between m.requester.state m'.requester.state) ∷ entries.WriteFailed ∷ [])
   drains_some m m' n was whole d up count pending sink_failed h st =
       let bytes = take n (queue_of m.requester.state) in
-      subst (λ (b : List ℕ). Stands taken faults m' (h ++ entries.Wrote b ∷ entries.WriteFailed ∷ [])) (took_them m.requester m'.requester n d.after d.some)
-      (subst (λ (l : List Entry). Stands taken faults m' l) (append_assoc h (entries.Wrote bytes ∷ []) (entries.WriteFailed ∷ [])) (wrote_then_failed m m' n h was whole d up count pending sink_failed st))
+      subst (λ (b : List ℕ). Stands taken faults allows m' (h ++ entries.Wrote b ∷ entries.WriteFailed ∷ [])) (took_them m.requester m'.requester n d.after d.some)
+      (subst (λ (l : List Entry). Stands taken faults allows m' l) (append_assoc h (entries.Wrote bytes ∷ []) (entries.WriteFailed ∷ [])) (wrote_then_failed m m' n h was whole d up count pending sink_failed st))

@@ -27,15 +27,17 @@ use Rattle.nr_shared.specs.declared.source_reader.SourceReader.{SourceReader}
 use Rattle.nr_shared.specs.declared.requester_with_sink.RequesterWithSink.{RequesterWithSink}
 use Rattle.nr_shared.specs.Callers.{IsFeeding}
 use Rattle.nr_shared.specs.Feeding.{FeedsFor, StopHolds}
-use Rattle.nr_shared.specs.Histories.{FitsInitialState, IsCallAt, submitted_call, bytes_fed, closes_of, initial_of, last_feeding, run_of, stop_of}
+use Rattle.nr_shared.specs.Histories.{AreAllowed, FitsInitialState, IsCallAt, submitted_call, bytes_fed, closes_of, initial_of, last_feeding, run_of, stop_of}
 use Rattle.nr_shared.specs.Opening.{IsInitialHistory}
 use Rattle.nr_shared.specs.Marks.{IsLive}
 use Rattle.nr_shared.specs.Standing.{RepresentsHistory, Stands, one_if}
 use Rattle.nr_shared.proofs.Asking.{none_closed}
 use Rattle.nr_shared.proofs.Calls.{none_some}
+use Rattle.nr_shared.proofs.Histories.{allowed_end}
 use Rattle.nr_shared.proofs.Lists.{at_below, at_end, in_places, place_in, places_len}
 use Rattle.nr_shared.proofs.Output.{output_none}
 use Rattle.nr_shared.proofs.Steps.{false_true}
+use Rattle.nr_reduce.specs.declared.call.Form.{Form}
 
 -- ---- The initial state
 
@@ -45,6 +47,9 @@ earlier_first c p q f at is = ⊎_elim
     (λ (old : get_elem? [] q ≡ some f). absurd (some-ne-none f (sym old)))
     (λ (new : (q ≡ 0) × (entries.Initial c ≡ f)). absurd (none_closed p (ap closes_of new.1 ∙ is)))
     (at_end [] (entries.Initial c) f q at)
+
+initial_allowed : (allows : Call → Form → Type 0) (c : InitialState) → AreAllowed allows (entries.Initial c ∷ [])
+initial_allowed allows c = allowed_end allows [] (entries.Initial c) (λ k e at. absurd (some-ne-none e (sym at))) tt
 
 not_asked : (e : Entry) (xid k : ℕ) (call : Call) → submitted_call xid e ≡ None → IsCallAt (e ∷ []) xid k call → ⊥
 not_asked e xid zero call none (f, at, is) = none_some call (sym none ∙ (ap (λ (x : Entry). submitted_call xid x) (some-injective e f at) ∙ is))
@@ -63,20 +68,20 @@ below_next r xid fresh there = ⊎_elim
     (λ (ge : r.next_xid ≤ xid). (let f = fresh xid ge in absurd (false_true (sym (ap is_some (is_none (found_call xid r) (found_answer xid r) f.0 f.1)) ∙ there))))
     (cases_lt xid r.next_xid)
 
-module _ {O : Type 0} (taken : O → Option (List ℕ)) (faults : O → ℕ) where
-  live_first : (opened : LinkParameters) (link : ℕ) (before : List Mark) (c : InitialState) (r : RequesterSide) → c.requester ≡ r → FitsInitialState c opened link before → IsLive opened link r (run_of before 0 link (entries.Initial c ∷ []))
-  unfolding run_of
-  live_first opened link before c r is fits = subst (IsLive opened link r) (sym (append-nil before)) (subst (λ (x : RequesterSide). IsLive opened link x before) is fits.live)
+live_first : (opened : LinkParameters) (link : ℕ) (before : List Mark) (c : InitialState) (r : RequesterSide) → c.requester ≡ r → FitsInitialState c opened link before → IsLive opened link r (run_of before 0 link (entries.Initial c ∷ []))
+unfolding run_of
+live_first opened link before c r is fits = subst (IsLive opened link r) (sym (append-nil before)) (subst (λ (x : RequesterSide). IsLive opened link x before) is fits.live)
 
-  pub opens : (m : RequesterWithSink O) (history : List Entry) → IsInitialHistory taken faults m.requester m.sink history → m.entries ≡ 1 → m.pending ≡ true → m.write_failed ≡ false → m.stopped ≡ None
-      → ((x : ℕ) → m.requester.state.next_xid ≤ x → IsFresh m.requester.state x) → m.requester.state.next_xid ≤ 2 ^ 32 → Stands taken faults m history
+module _ {O C : Type 0} (taken : O → Option (List ℕ)) (faults : O → ℕ) (allows : Call → Form → Type 0) where
+  pub opens : (m : RequesterWithSink O C) (history : List Entry) → IsInitialHistory taken faults m.requester m.sink history → m.entries ≡ 1 → m.pending ≡ true → m.write_failed ≡ false → m.stopped ≡ None
+      → ((x : ℕ) → m.requester.state.next_xid ≤ x → IsFresh m.requester.state x) → m.requester.state.next_xid ≤ 2 ^ 32 → Stands taken faults allows m history
   opens m history o count pending whole going fresh small =
       let c = o.initial in
       let e : Entry = entries.Initial c in
       let n : length (places m.requester.state.next_xid) ≡ m.requester.state.next_xid = places_len m.requester.state.next_xid 0 in
       let is_due : one_if m.pending ≡ 1 = ap one_if pending in
       let fed = o.fed in
-      subst (Stands taken faults m) (sym o.history_is) (record {
+      subst (Stands taken faults allows m) (sym o.history_is) (record {
         initial = c;
         is_initial = refl;
         entries = count;
@@ -88,7 +93,7 @@ module _ {O : Type 0} (taken : O → Option (List ℕ)) (faults : O → ℕ) whe
         sink_failed = λ is. absurd (false_true (sym whole ∙ is));
         stopped = going;
         in_order = ((λ is. refl), tt);
-        previous = tt;
+        allowed = initial_allowed allows c;
         output = output_none (e ∷ []) (refl, tt);
         pending = λ is. absurd (false_true (sym is ∙ pending));
         within = (let none : length (bytes_fed (e ∷ [])) ≡ 0 = refl in record {
@@ -101,8 +106,9 @@ module _ {O : Type 0} (taken : O → Option (List ℕ)) (faults : O → ℕ) whe
         });
       })
 
-  -- ---- The first pass
+-- ---- The first pass
 
+module _ {O : Type 0} (taken : O → Option (List ℕ)) (faults : O → ℕ) where
   pub earlier_opened : (r : RequesterSide) (sink : O) (history : List Entry) → IsInitialHistory taken faults r sink history → Earlier closes_of history
   earlier_opened r sink history o = subst (Earlier closes_of) (sym o.history_is) (earlier_first o.initial)
 
@@ -111,7 +117,14 @@ module _ {O : Type 0} (taken : O → Option (List ℕ)) (faults : O → ℕ) whe
       let len : length history ≡ 1 = ap length o.history_is in
       omega (arith, len)
 
-  pub first_feeds : (r : RequesterSide) (sink : O) (history : List Entry) (p : Pass (RequesterWithSink O) Entry) → IsInitialHistory taken faults r sink history → seen_by p ≡ history → mine_of p ≡ places (length history) → IsFeeding p
+  pub opened_fed : (r : RequesterSide) (sink : O) (history : List Entry) → IsInitialHistory taken faults r sink history → bytes_fed history ≡ []
+  opened_fed r sink history o = ap (λ (l : List Entry). bytes_fed l) o.history_is
+
+  pub opened_stop : (r : RequesterSide) (sink : O) (history : List Entry) → IsInitialHistory taken faults r sink history → stop_of history ≡ None
+  opened_stop r sink history o = ap (λ (l : List Entry). stop_of l) o.history_is
+
+module _ {O C : Type 0} (taken : O → Option (List ℕ)) (faults : O → ℕ) where
+  pub first_feeds : (r : RequesterSide) (sink : O) (history : List Entry) (p : Pass (RequesterWithSink O C) Entry) → IsInitialHistory taken faults r sink history → seen_by p ≡ history → mine_of p ≡ places (length history) → IsFeeding p
   first_feeds r sink history p o seen mine =
       let c = o.initial in
       let e : Entry = entries.Initial c in
@@ -128,22 +141,17 @@ module _ {O : Type 0} (taken : O → Option (List ℕ)) (faults : O → ℕ) whe
           subst (IsIn 0) (sym mine) (place_in (length history) 0 (omega (arith, len))),
           λ q f at closes. (let l = earlier 0 q f at closes in let b = at_below (seen_by p) q f at in omega (arith, l, b, len, seen_len)),
         );
+        closes_own = λ n k f i at closes. absurd (let l = earlier k n f at closes in let b = at_below (seen_by p) n f at in omega (arith, l, b, len, seen_len));
       }
 
-  pub first_lies : (history : List Entry) (p : Pass (RequesterWithSink O) Entry) → seen_by p ≡ history → mine_of p ≡ places (length history) → Lies (seen_by p) (mine_of p)
+  pub first_lies : (history : List Entry) (p : Pass (RequesterWithSink O C) Entry) → seen_by p ≡ history → mine_of p ≡ places (length history) → Lies (seen_by p) (mine_of p)
   first_lies history p seen mine k i =
       let l = in_places (length history) 0 k (subst (IsIn k) mine i) in
       let same : length (seen_by p) ≡ length history = ap length seen in
       omega (arith, l, same)
 
-  pub opened_fed : (r : RequesterSide) (sink : O) (history : List Entry) → IsInitialHistory taken faults r sink history → bytes_fed history ≡ []
-  opened_fed r sink history o = ap (λ (l : List Entry). bytes_fed l) o.history_is
-
-  pub opened_stop : (r : RequesterSide) (sink : O) (history : List Entry) → IsInitialHistory taken faults r sink history → stop_of history ≡ None
-  opened_stop r sink history o = ap (λ (l : List Entry). stop_of l) o.history_is
-
 -- its source
-pub first_reader : {I O : Type 0} (left given : I → Option (List ℕ)) (faults : I → ℕ) (b : InitialSource I O) (s : SourceReader I O) → home_of s.pass ≡ home_of b.pass.value → IsOutside s.pass → Lies (seen_by s.pass) (mine_of s.pass) → IsFeeding s.pass
+pub first_reader : {I O C : Type 0} (left given : I → Option (List ℕ)) (faults : I → ℕ) (b : InitialSource I O C) (s : SourceReader I O C) → home_of s.pass ≡ home_of b.pass.value → IsOutside s.pass → Lies (seen_by s.pass) (mine_of s.pass) → IsFeeding s.pass
     → s.source ≡ b.source.value → bytes_fed (seen_by s.pass) ≡ [] → stop_of (seen_by s.pass) ≡ None → s.read ≡ 0 → length s.buf.items ≡ piece_max → FeedsFor left given faults b s
 first_reader left given faults b s home outside lies feeding source none going read room = record {
   home = home;

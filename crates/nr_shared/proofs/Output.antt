@@ -36,6 +36,8 @@ use Rattle.nr_shared.specs.Output.{HasWrittenOutput, OutputBeforeInput, is_piece
 use Rattle.nr_shared.specs.private.Flushed.{HasFlushed, IsFlushed}
 use Rattle.nr_shared.specs.Standing.{RepresentsHistoryIf, Stands, is_out_of_memory}
 use Rattle.nr_shared.proofs.Ends.{fits_initial, out_is}
+use Rattle.nr_reduce.specs.declared.call.Call.{Call}
+use Rattle.nr_reduce.specs.declared.call.Form.{Form}
 
 true_false : true ≡ false → ⊥
 true_false e = absurd cc
@@ -108,8 +110,8 @@ written_now : (opened : LinkParameters) (link : ℕ) (run : List Mark) (r : Requ
 written_now opened link run r none live =
     sym (append-nil (bytes_sent link Initiator run)) ∙ ap (λ (l : List ℕ). bytes_sent link Initiator run ++ l) (sym none) ∙ live.stands.keeps.kept.output
 
-module _ {O : Type 0} (taken : O → Option (List ℕ)) (faults : O → ℕ) where
-  pub output_written : (m : RequesterWithSink O) (h : List Entry) → IsFlushed m → Stands taken faults m h → HasWrittenOutput h
+module _ {O C : Type 0} (taken : O → Option (List ℕ)) (faults : O → ℕ) (allows : Call → Form → Type 0) where
+  pub output_written : (m : RequesterWithSink O C) (h : List Entry) → IsFlushed m → Stands taken faults allows m h → HasWrittenOutput h
   output_written m h (inl sink_failed) st whole going opened link before fits = absurd (true_false (sym sink_failed ∙ (st.write_failed ∙ whole)))
   output_written m h (inr none) st whole going opened link before fits = by_out (is_out_of_memory m.stopped) refl where
     by_out : (b : Bool) → is_out_of_memory m.stopped ≡ b → HasWritten opened link Initiator (run_of before 0 link h)
@@ -118,7 +120,7 @@ module _ {O : Type 0} (taken : O → Option (List ℕ)) (faults : O → ℕ) whe
         let f = subst (λ b. RepresentsHistoryIf b st.initial m.requester h) out st.represents in
         written_now opened link (run_of before 0 link h) m.requester (st.pending none) (f.1 opened link before (fits_initial h st.initial opened link before st.is_initial fits))
 
-  pub turn_written : (t : Turn (RequesterWithSink O) Entry) → IsReady taken faults t → HasFlushed t → HasWrittenOutput (seen_by (pass_of t))
+  pub turn_written : (t : Turn (RequesterWithSink O C) Entry) → IsReady taken faults allows t → HasFlushed t → HasWrittenOutput (seen_by (pass_of t))
   turn_written t r flushed = output_written r.value (seen_by (pass_of t)) (flushed r.value r.has) r.stands
 
 -- ---- The buffers of an answer
@@ -140,9 +142,9 @@ out_placed : (opened : LinkParameters) (link : ℕ) (r : RequesterSide) (run : L
 out_placed opened link r run xid a out there = answer_placed opened link r run xid _ a out.stands.answers
     (subst (λ (e : EndState ClientState). AreReceived (length (bytes_received link Initiator out.stopped)) e.state.accesses_received) (sym out.stands.same) out.stands.out.keeps.accesses) there
 
-module _ {O : Type 0} (taken : O → Option (List ℕ)) (faults : O → ℕ) where
+module _ {O C : Type 0} (taken : O → Option (List ℕ)) (faults : O → ℕ) (allows : Call → Form → Type 0) where
   -- an answer that the requester has
-  pub have_placed : (m : RequesterWithSink O) (h : List Entry) (xid : ℕ) (a : AnsweredCall) → found_answer xid m.requester.state ≡ Some a → Stands taken faults m h → HavePlaced xid a.buffers h
+  pub have_placed : (m : RequesterWithSink O C) (h : List Entry) (xid : ℕ) (a : AnsweredCall) → found_answer xid m.requester.state ≡ Some a → Stands taken faults allows m h → HavePlaced xid a.buffers h
   have_placed m h xid a there st = by_out (is_out_of_memory m.stopped) st.represents where
     by_out : (b : Bool) → RepresentsHistoryIf b st.initial m.requester h → HavePlaced xid a.buffers h
     by_out false f = record { n = 0; placed = λ opened link before fits. live_placed opened link m.requester (run_of before 0 link h) xid a (f.1 opened link before (fits_initial h st.initial opened link before st.is_initial fits)) there }

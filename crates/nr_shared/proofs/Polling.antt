@@ -23,8 +23,8 @@ use Rattle.nr_shared.proofs.Asking.{asked_on, closes_own}
 use Rattle.nr_shared.proofs.Resting.{caller_on}
 use Rattle.nr_shared.proofs.Taking.{lost_closes, lost_quiet}
 
-module _ {O : Type 0} where
-  pub asked_same : (r s : Pass (RequesterWithSink O) Entry) (xid : ℕ) → seen_by s ≡ seen_by r → mine_of s ≡ mine_of r → HasOpenCall r xid → HasOpenCall s xid
+module _ {O C : Type 0} where
+  pub asked_same : (r s : Pass (RequesterWithSink O C) Entry) (xid : ℕ) → seen_by s ≡ seen_by r → mine_of s ≡ mine_of r → HasOpenCall r xid → HasOpenCall s xid
   asked_same r s xid seen mine a = record {
     at = a.at;
     call = a.call;
@@ -33,27 +33,27 @@ module _ {O : Type 0} where
     lies = subst (λ (l : List Entry). Lies l (mine_of s)) (sym seen) (subst (λ (m : List ℕ). Lies (seen_by r) m) (sym mine) a.lies);
   }
 
-  pub keeps_same : (r s : Pass (RequesterWithSink O) Entry) → seen_by s ≡ seen_by r → mine_of s ≡ mine_of r → KeepsOpen r s
+  pub keeps_same : (r s : Pass (RequesterWithSink O C) Entry) → seen_by s ≡ seen_by r → mine_of s ≡ mine_of r → KeepsOpen r s
   keeps_same r s seen mine k o = subst (λ (l : List Entry). IsOpen closes_of l (mine_of s) k) (sym seen) (subst (λ (m : List ℕ). IsOpen closes_of (seen_by r) m k) (sym mine) o)
 
   -- a call of the pass's own, after turns that kept its place open
-  pub still_open_call : (p q : Pass (RequesterWithSink O) Entry) (xid : ℕ) → Begins (seen_by p) (seen_by q) → KeepsOpen p q → Lies (seen_by q) (mine_of q) → HasOpenCall p xid → HasOpenCall q xid
+  pub still_open_call : (p q : Pass (RequesterWithSink O C) Entry) (xid : ℕ) → Begins (seen_by p) (seen_by q) → KeepsOpen p q → Lies (seen_by q) (mine_of q) → HasOpenCall p xid → HasOpenCall q xid
   still_open_call p q xid begins keeps lies a = record { at = a.at; call = a.call; is_call = asked_on (seen_by p) (seen_by q) xid a.at a.call begins a.is_call; stays = keeps a.at a.stays; lies = lies }
 
-  others_after : (p q r s : Pass (RequesterWithSink O) Entry) (c : ℕ) → KeepsOpen p q → KeepsOthers c q r → seen_by s ≡ seen_by r → mine_of s ≡ mine_of r → KeepsOthers c p s
+  others_after : (p q r s : Pass (RequesterWithSink O C) Entry) (c : ℕ) → KeepsOpen p q → KeepsOthers c q r → seen_by s ≡ seen_by r → mine_of s ≡ mine_of r → KeepsOthers c p s
   others_after p q r s c a b seen mine k differs o = keeps_same r s seen mine k (b k differs (a k o))
 
-  pub takes_after : (p q r s : Pass (RequesterWithSink O) Entry) (xid : ℕ) (done : Done) → Adds p q [] → KeepsOpen p q → TakesAnswer q r xid done → seen_by s ≡ seen_by r → mine_of s ≡ mine_of r → TakesAnswer p s xid done
+  pub takes_after : (p q r s : Pass (RequesterWithSink O C) Entry) (xid : ℕ) (done : Done) → Adds p q [] → KeepsOpen p q → TakesAnswer q r xid done → seen_by s ≡ seen_by r → mine_of s ≡ mine_of r → TakesAnswer p s xid done
   takes_after p q r s xid done a keeps b seen mine k call asked o =
       let t = b k call (asked_on (seen_by p) (seen_by q) xid k call a.seen asked) (keeps k o) in
       record { own = t.own; adds = adds_same p r s (entries.Done xid done.outcome k ∷ []) (adds_both p q r [] (entries.Done xid done.outcome k ∷ []) a t.adds) seen mine; keeps = others_after p q r s k keeps t.keeps seen mine; before = t.before; seen = seen ∙ t.seen; buffers = t.buffers }
 
-  pub forgets_after : (p q r s : Pass (RequesterWithSink O) Entry) (xid : ℕ) → Adds p q [] → KeepsOpen p q → ForgetsCall q r xid → seen_by s ≡ seen_by r → mine_of s ≡ mine_of r → ForgetsCall p s xid
+  pub forgets_after : (p q r s : Pass (RequesterWithSink O C) Entry) (xid : ℕ) → Adds p q [] → KeepsOpen p q → ForgetsCall q r xid → seen_by s ≡ seen_by r → mine_of s ≡ mine_of r → ForgetsCall p s xid
   forgets_after p q r s xid a keeps b seen mine k call asked o =
       let t = b k call (asked_on (seen_by p) (seen_by q) xid k call a.seen asked) (keeps k o) in
       record { adds = adds_same p r s (entries.Forget xid k ∷ []) (adds_both p q r [] (entries.Forget xid k ∷ []) a t.adds) seen mine; keeps = others_after p q r s k keeps t.keeps seen mine }
 
-  pub gives_after : (p q r s : Pass (RequesterWithSink O) Entry) (xid : ℕ) (end : CallEnd) → Adds p q [] → KeepsOpen p q → GivesUp q r xid end → seen_by s ≡ seen_by r → mine_of s ≡ mine_of r → GivesUp p s xid end
+  pub gives_after : (p q r s : Pass (RequesterWithSink O C) Entry) (xid : ℕ) (end : CallEnd) → Adds p q [] → KeepsOpen p q → GivesUp q r xid end → seen_by s ≡ seen_by r → mine_of s ≡ mine_of r → GivesUp p s xid end
   gives_after p q r s xid end a keeps b seen mine k call asked o =
       let t = b k call (asked_on (seen_by p) (seen_by q) xid k call a.seen asked) (keeps k o) in
       record {
@@ -65,7 +65,7 @@ module _ {O : Type 0} where
         unanswered = t.unanswered;
       }
 
-  pub tries_after : (p q r s : Pass (RequesterWithSink O) Entry) (xid : ℕ) (take : Take) → Adds p q [] → KeepsOpen p q → IsTakeTurn q r xid take → seen_by s ≡ seen_by r → mine_of s ≡ mine_of r → IsTakeTurn p s xid take
+  pub tries_after : (p q r s : Pass (RequesterWithSink O C) Entry) (xid : ℕ) (take : Take) → Adds p q [] → KeepsOpen p q → IsTakeTurn q r xid take → seen_by s ≡ seen_by r → mine_of s ≡ mine_of r → IsTakeTurn p s xid take
   tries_after p q r s xid (takes.Done done) a keeps b seen mine = takes_after p q r s xid done a keeps b seen mine
   tries_after p q r s xid (takes.NotYet ticket) a keeps (is, (still, (b, kept))) seen mine =
       (is, (subst (λ (l : List Entry). IsAwaitedStill xid l) (sym seen) still, (adds_same p r s [] (adds_both p q r [] [] a b) seen mine, λ k o. keeps_same r s seen mine k (kept k (keeps k o)))))
@@ -81,23 +81,23 @@ module _ {O : Type 0} where
         lost = t.lost;
       })
 
-  pub polls_after : (p q r s : Pass (RequesterWithSink O) Entry) (xid : ℕ) (poll_turn : PollTurn) → Adds p q [] → KeepsOpen p q → IsPollTurn q r xid poll_turn → seen_by s ≡ seen_by r → mine_of s ≡ mine_of r → IsPollTurn p s xid poll_turn
+  pub polls_after : (p q r s : Pass (RequesterWithSink O C) Entry) (xid : ℕ) (poll_turn : PollTurn) → Adds p q [] → KeepsOpen p q → IsPollTurn q r xid poll_turn → seen_by s ≡ seen_by r → mine_of s ≡ mine_of r → IsPollTurn p s xid poll_turn
   polls_after p q r s xid (polls.Answered done) a keeps b seen mine = takes_after p q r s xid done a keeps b seen mine
   polls_after p q r s xid (polls.NotYet ticket) a keeps (is, (b, kept)) seen mine = (is, (adds_same p r s [] (adds_both p q r [] [] a b) seen mine, λ k o. keeps_same r s seen mine k (kept k (keeps k o))))
   polls_after p q r s xid (polls.Ended end) a keeps b seen mine = gives_after p q r s xid end a keeps b seen mine
 
   -- ---- Callers
 
-  pub caller_takes : (p q : Pass (RequesterWithSink O) Entry) (xid : ℕ) (done : Done) → IsCaller p → HasOpenCall p xid → TakesAnswer p q xid done → IsCaller q
+  pub caller_takes : (p q : Pass (RequesterWithSink O C) Entry) (xid : ℕ) (done : Done) → IsCaller p → HasOpenCall p xid → TakesAnswer p q xid done → IsCaller q
   caller_takes p q xid done c a t = caller_on p q (entries.Done xid done.outcome a.at ∷ []) c (t a.at a.call a.is_call a.stays).adds ((refl, λ k is. closes_own (mine_of p) a.at a.stays.0 k is), tt)
 
-  pub caller_gives : (p q : Pass (RequesterWithSink O) Entry) (xid : ℕ) (end : CallEnd) → IsCaller p → HasOpenCall p xid → GivesUp p q xid end → IsCaller q
+  pub caller_gives : (p q : Pass (RequesterWithSink O C) Entry) (xid : ℕ) (end : CallEnd) → IsCaller p → HasOpenCall p xid → GivesUp p q xid end → IsCaller q
   caller_gives p q xid end c a t = caller_on p q (entries.Forget xid a.at ∷ []) c (t a.at a.call a.is_call a.stays).adds ((refl, λ k is. closes_own (mine_of p) a.at a.stays.0 k is), tt)
 
-  pub caller_forgets : (p q : Pass (RequesterWithSink O) Entry) (xid : ℕ) → IsCaller p → HasOpenCall p xid → ForgetsCall p q xid → IsCaller q
+  pub caller_forgets : (p q : Pass (RequesterWithSink O C) Entry) (xid : ℕ) → IsCaller p → HasOpenCall p xid → ForgetsCall p q xid → IsCaller q
   caller_forgets p q xid c a t = caller_on p q (entries.Forget xid a.at ∷ []) c (t a.at a.call a.is_call a.stays).adds ((refl, λ k is. closes_own (mine_of p) a.at a.stays.0 k is), tt)
 
-  pub caller_tries : (p q : Pass (RequesterWithSink O) Entry) (xid : ℕ) (take : Take) → IsCaller p → HasOpenCall p xid → IsTakeTurn p q xid take → IsCaller q
+  pub caller_tries : (p q : Pass (RequesterWithSink O C) Entry) (xid : ℕ) (take : Take) → IsCaller p → HasOpenCall p xid → IsTakeTurn p q xid take → IsCaller q
   caller_tries p q xid (takes.Done done) c a t = caller_takes p q xid done c a t
   caller_tries p q xid (takes.NotYet ticket) c a t = caller_on p q [] c t.1.1.0 tt
   caller_tries p q xid (takes.Failed d buffers end) c a t = caller_on p q (lost_entry end xid buffers a.at ∷ []) c (t a.at a.call a.is_call a.stays).adds

@@ -10,12 +10,12 @@ use Rattle.nr_shared.specs.declared.entry.Entry.{Entry}
 use Rattle.nr_shared.specs.declared.requester_with_sink.RequesterWithSink.{RequesterWithSink}
 use Rattle.nr_shared.specs.declared.shared.SharedRequester.{SharedRequester}
 use Rattle.nr_shared.specs.declared.shared.Pass.{Pass}
-use Rattle.nr_shared.specs.Adding.{Adds, AreAt}
+use Rattle.nr_shared.specs.Adding.{Adds}
 use Rattle.nr_shared.specs.Draining.{AreWrites}
 use Rattle.nr_shared.specs.Callers.{IsCaller, KeepsLaw, KeepsOpen}
 use Rattle.nr_shared.specs.Histories.{closes_of, is_feeding}
 use Rattle.nr_shared.specs.Sharing.{SharedRests}
-use Rattle.nr_shared.proofs.Adding.{adds_none}
+use Rattle.nr_shared.proofs.Adding.{adds_none, at_one, closes_own_on}
 use Rattle.nr_shared.proofs.Alone.{AreQuiet, writes_close, writes_quiet}
 use Rattle.nr_shared.proofs.Calls.{none_some}
 use Rattle.nr_shared.proofs.Lists.{all_in, at_begin, at_below, in_either, in_more, in_ordered, not_twice, still_first, still_ordered}
@@ -30,38 +30,29 @@ joined_one p o q b c is one two = is ∙ (ap (λ l. longer l o) one ∙ ap (λ l
 
 -- ---- Callers
 
--- the entry at one of these places is one of these
-at_one : {E : Type 0} (xs : List E) (ks : List ℕ) (es : List E) (k : ℕ) → AreAt xs ks es → IsIn k ks → (e : E) × (IsIn e es × (get_elem? xs k ≡ some e))
-at_one xs [] [] k at i = absurd (some-ne-none k (sym i.1))
-at_one xs [] (e ∷ es) k at i = absurd at
-at_one xs (j ∷ ks) [] k at i = absurd at
-at_one xs (j ∷ ks) (e ∷ es) k at (zero, is) = (e, ((0, refl), subst (λ (n : ℕ). get_elem? xs n ≡ some e) (some-injective j k is) at.0))
-at_one xs (j ∷ ks) (e ∷ es) k at (suc n, is) = let (f, (i, there)) = at_one xs ks es k at.1 (n, is) in (f, ((suc i.0, i.1), there))
-
-module _ {O : Type 0} where
+module _ {O C : Type 0} where
   -- entries of a caller: they don't feed, and close only its own places
-  abbrev pub OfCaller : TurnPass (RequesterWithSink O) Entry → Entry → Type 0
+  abbrev pub OfCaller : TurnPass (RequesterWithSink O C) Entry → Entry → Type 0
   OfCaller p e = (is_feeding e ≡ false) × ((k : ℕ) → closes_of e ≡ Some k → IsIn k (mine_of p))
 
-  abbrev pub AreOfCaller : TurnPass (RequesterWithSink O) Entry → List Entry → Type 0
+  abbrev pub AreOfCaller : TurnPass (RequesterWithSink O C) Entry → List Entry → Type 0
   AreOfCaller p es = AllByRecursion (λ (e : Entry). OfCaller p e) es
 
-  of_quiet : (p : TurnPass (RequesterWithSink O) Entry) (es : List Entry) → AreQuiet es → ((e : Entry) → IsIn e es → (k : ℕ) → closes_of e ≡ Some k → IsIn k (mine_of p)) → AreOfCaller p es
+  of_quiet : (p : TurnPass (RequesterWithSink O C) Entry) (es : List Entry) → AreQuiet es → ((e : Entry) → IsIn e es → (k : ℕ) → closes_of e ≡ Some k → IsIn k (mine_of p)) → AreOfCaller p es
   of_quiet p [] quiet own = tt
   of_quiet p (e ∷ es) quiet own = ((quiet.0, own e (0, refl)), of_quiet p es quiet.1 (λ f i. own f (suc i.0, i.1)))
 
-  pub of_writes : (p : TurnPass (RequesterWithSink O) Entry) (es : List Entry) → AreWrites es → AreOfCaller p es
+  pub of_writes : (p : TurnPass (RequesterWithSink O C) Entry) (es : List Entry) → AreWrites es → AreOfCaller p es
   of_writes p es are = of_quiet p es (writes_quiet es are) (λ e i k closes. absurd (none_some k (sym (writes_close es are i.0 e i.1) ∙ closes)))
 
-  pub of_both : (p : TurnPass (RequesterWithSink O) Entry) (xs ys : List Entry) → AreOfCaller p xs → AreOfCaller p ys → AreOfCaller p (xs ++ ys)
+  pub of_both : (p : TurnPass (RequesterWithSink O C) Entry) (xs ys : List Entry) → AreOfCaller p xs → AreOfCaller p ys → AreOfCaller p (xs ++ ys)
   of_both p [] ys one two = two
   of_both p (x ∷ xs) ys one two = (one.0, of_both p xs ys one.1 two)
 
   -- a caller that adds such entries
-  pub caller_on : (p q : TurnPass (RequesterWithSink O) Entry) (es : List Entry) → IsCaller p → Adds p q es → AreOfCaller p es → IsCaller q
+  pub caller_on : (p q : TurnPass (RequesterWithSink O C) Entry) (es : List Entry) → IsCaller p → Adds p q es → AreOfCaller p es → IsCaller q
   caller_on p q es c a of_it =
       let more : length (seen_by p) ≤ length (seen_by q) = (let l = ap length a.seen.1 ∙ length-append (seen_by p) a.seen.0 in omega (arith, l)) in
-      let still : (k : ℕ) → IsIn k (mine_of p) → IsIn k (mine_of q) = λ k i. subst (IsIn k) (sym a.mine) (in_more (mine_of p) a.places k i) in
       let old_at : (k : ℕ) (e : Entry) → IsIn k (mine_of p) → get_elem? (seen_by q) k ≡ some e → get_elem? (seen_by p) k ≡ some e =
       λ k e old at. at_begin (seen_by p) a.seen.0 k e (c.lies k old) (subst (λ (l : List Entry). get_elem? l k ≡ some e) a.seen.1 at) in
       let new_of : (k : ℕ) (e : Entry) → IsIn k a.places → get_elem? (seen_by q) k ≡ some e → OfCaller p e =
@@ -72,20 +63,17 @@ module _ {O : Type 0} where
             (λ (old : IsIn k (mine_of p)). let l = c.lies k old in omega (arith, l, more))
             (λ (new : IsIn k a.places). let (e, (one, at)) = at_one (seen_by q) a.places es k a.at new in at_below (seen_by q) k e at)
             (in_either (mine_of p) a.places k (subst (IsIn k) a.mine i));
-        closes_own = λ n k e i at closes. ⊎_elim
-            (λ (old : IsIn n (mine_of p)). still k (c.closes_own n k e old (old_at n e old at) closes))
-            (λ (new : IsIn n a.places). still k ((new_of n e new at).1 k closes))
-            (in_either (mine_of p) a.places n (subst (IsIn n) a.mine i));
+        closes_own = closes_own_on closes_of p q es c.lies c.closes_own a (λ e i k closes. (all_in (λ (x : Entry). OfCaller p x) es e of_it i).1 k closes);
         feeds_none = λ k e i at. ⊎_elim
             (λ (old : IsIn k (mine_of p)). c.feeds_none k e old (old_at k e old at))
             (λ (new : IsIn k a.places). (new_of k e new at).0)
             (in_either (mine_of p) a.places k (subst (IsIn k) a.mine i));
       }
 
-  pub caller_same : (p q : TurnPass (RequesterWithSink O) Entry) → seen_by q ≡ seen_by p → mine_of q ≡ mine_of p → IsCaller p → IsCaller q
+  pub caller_same : (p q : TurnPass (RequesterWithSink O C) Entry) → seen_by q ≡ seen_by p → mine_of q ≡ mine_of p → IsCaller p → IsCaller q
   caller_same p q seen mine c = caller_on p q [] c (adds_none p q ([], seen ∙ sym (append-nil (seen_by p))) mine) tt
 
-  pub new_caller : (p : TurnPass (RequesterWithSink O) Entry) → mine_of p ≡ [] → IsCaller p
+  pub new_caller : (p : TurnPass (RequesterWithSink O C) Entry) → mine_of p ≡ [] → IsCaller p
   new_caller p none = record {
     lies = λ k i. absurd (let j = subst (IsIn k) none i in some-ne-none k (sym j.1));
     closes_own = λ n k e i at closes. absurd (let j = subst (IsIn n) none i in some-ne-none n (sym j.1));
@@ -93,10 +81,10 @@ module _ {O : Type 0} where
   }
 
   -- a caller that takes in another
-  own_at : (p q : TurnPass (RequesterWithSink O) Entry) (k : ℕ) (e : Entry) → IsCaller p → Begins (seen_by p) (seen_by q) → IsIn k (mine_of p) → get_elem? (seen_by q) k ≡ some e → get_elem? (seen_by p) k ≡ some e
+  own_at : (p q : TurnPass (RequesterWithSink O C) Entry) (k : ℕ) (e : Entry) → IsCaller p → Begins (seen_by p) (seen_by q) → IsIn k (mine_of p) → get_elem? (seen_by q) k ≡ some e → get_elem? (seen_by p) k ≡ some e
   own_at p q k e c begins i at = at_begin (seen_by p) begins.0 k e (c.lies k i) (subst (λ (l : List Entry). get_elem? l k ≡ some e) begins.1 at)
 
-  pub caller_joined : (p o q : TurnPass (RequesterWithSink O) Entry) → IsCaller p → IsCaller o → Joins closes_of p o q → IsCaller q
+  pub caller_joined : (p o q : TurnPass (RequesterWithSink O C) Entry) → IsCaller p → IsCaller o → Joins closes_of p o q → IsCaller q
   caller_joined p o q c d (is, first, second, mine, rising, owns, lies, missed) = record {
     lies = lies;
     closes_own = λ n k e i at closes. ⊎_elim
@@ -110,7 +98,7 @@ module _ {O : Type 0} where
   }
 
   -- the open places of both stay open
-  pub keeps_first : (p o q : TurnPass (RequesterWithSink O) Entry) → IsCaller p → IsCaller o → Joins closes_of p o q → KeepsOpen p q
+  pub keeps_first : (p o q : TurnPass (RequesterWithSink O C) Entry) → IsCaller p → IsCaller o → Joins closes_of p o q → KeepsOpen p q
   keeps_first p o q c d (is, first, second, mine, rising, owns, lies, missed) k open_place = (
     subst (IsIn k) (sym mine) (still_first (mine_of p) (mine_of o) k open_place.0),
     λ n e at closes. ⊎_elim
@@ -119,7 +107,7 @@ module _ {O : Type 0} where
         (in_ordered (mine_of p) (mine_of o) n (subst (IsIn n) mine (owns k n e (subst (IsIn k) (sym mine) (still_first (mine_of p) (mine_of o) k open_place.0)) at closes))),
   )
 
-  pub keeps_second : (p o q : TurnPass (RequesterWithSink O) Entry) → IsCaller p → IsCaller o → Joins closes_of p o q → KeepsOpen o q
+  pub keeps_second : (p o q : TurnPass (RequesterWithSink O C) Entry) → IsCaller p → IsCaller o → Joins closes_of p o q → KeepsOpen o q
   keeps_second p o q c d (is, first, second, mine, rising, owns, lies, missed) k open_place = (
     subst (IsIn k) (sym mine) (still_ordered (mine_of p) (mine_of o) k open_place.0),
     λ n e at closes. ⊎_elim
@@ -128,12 +116,12 @@ module _ {O : Type 0} where
         (in_ordered (mine_of p) (mine_of o) n (subst (IsIn n) mine (owns k n e (subst (IsIn k) (sym mine) (still_ordered (mine_of p) (mine_of o) k open_place.0)) at closes))),
   )
 
-module _ {I O : Type 0} where
-  pub rests_on : (s : SharedRequester I O) (p q : Pass I O) → SharedRests s p → Rests s.main q.main → Rests s.source q.source → seen_by q.source ≡ seen_by p.source → IsCaller q.main → KeepsLaw (seen_by q.main) → SharedRests s q
+module _ {I O C : Type 0} where
+  pub rests_on : (s : SharedRequester I O C) (p q : Pass I O C) → SharedRests s p → Rests s.main q.main → Rests s.source q.source → seen_by q.source ≡ seen_by p.source → IsCaller q.main → KeepsLaw (seen_by q.main) → SharedRests s q
   rests_on s p q r main source seen caller law = record { main = main; source = source; initial_source = r.initial_source; has_seen = seen ∙ r.has_seen; home = r.home; caller = caller; law = law }
 
   -- the turn was taken
-  pub rests_missed : (s : SharedRequester I O) (p : Pass I O) (m : TurnPass (RequesterWithSink O) Entry) → SharedRests s p → Misses p.main m → SharedRests s (record { main = m; source = p.source })
+  pub rests_missed : (s : SharedRequester I O C) (p : Pass I O C) (m : TurnPass (RequesterWithSink O C) Entry) → SharedRests s p → Misses p.main m → SharedRests s (record { main = m; source = p.source })
   rests_missed s p m r miss = record {
     main = (miss.0.0 ∙ r.main.0, miss.1, ap (λ v. v.stage) miss.2);
     source = r.source;

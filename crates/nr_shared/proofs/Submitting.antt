@@ -57,9 +57,9 @@ link_cause (calls.Spent left need) call form h is = absurd is
 link_cause (calls.TooLarge need room) call form h is = absurd is
 link_cause calls.Memory call form h is = absurd is
 
-module _ {O : Type 0} where
+module _ {O C : Type 0} where
   -- A call is submitted in a turn: bytes are written, the Submit is added, and bytes are written.
-  pub sends : (p q r s : Pass (RequesterWithSink O) Entry) (call : Call) (form : Form) (xid : ℕ) → Writes p q → Adds q r (entries.Submit call form xid ∷ []) → seen_by r ≡ seen_by q ++ entries.Submit call form xid ∷ [] → KeepsOpen q r
+  pub sends : (p q r s : Pass (RequesterWithSink O C) Entry) (call : Call) (form : Form) (xid : ℕ) → Writes p q → Adds q r (entries.Submit call form xid ∷ []) → seen_by r ≡ seen_by q ++ entries.Submit call form xid ∷ [] → KeepsOpen q r
       → IsOpen closes_of (seen_by r) (mine_of r) (length (seen_by q)) → Writes r s → HasWrittenOutput (seen_by s) → Sends p s call form xid
   sends p q r s call form xid one adds seen keeps opened two all_written =
       let e : Entry = entries.Submit call form xid in
@@ -80,7 +80,7 @@ module _ {O : Type 0} where
       }
 
   -- a turn in which a call is submitted, and nothing else is done
-  pub opens_call : (p q r s : Pass (RequesterWithSink O) Entry) (call : Call) (form : Form) (xid : ℕ) → Adds p q [] → KeepsOpen p q → Adds q r (entries.Submit call form xid ∷ []) → seen_by r ≡ seen_by q ++ entries.Submit call form xid ∷ [] → KeepsOpen q r
+  pub opens_call : (p q r s : Pass (RequesterWithSink O C) Entry) (call : Call) (form : Form) (xid : ℕ) → Adds p q [] → KeepsOpen p q → Adds q r (entries.Submit call form xid ∷ []) → seen_by r ≡ seen_by q ++ entries.Submit call form xid ∷ [] → KeepsOpen q r
       → IsOpen closes_of (seen_by r) (mine_of r) (length (seen_by q)) → seen_by s ≡ seen_by r → mine_of s ≡ mine_of r → OpensCall p s call form xid
   opens_call p q r s call form xid none kept adds more keeps opened seen mine =
       let e : Entry = entries.Submit call form xid in
@@ -95,13 +95,13 @@ module _ {O : Type 0} where
       }
 
   -- a turn in which the call is submitted: what keeps calls from being submitted is looked for between
-  pub submit_turn_sends : (p q r u s : Pass (RequesterWithSink O) Entry) (call : Call) (form : Form) (xid : ℕ) → Writes p q → seen_by r ≡ seen_by q → mine_of r ≡ mine_of q → Adds r u (entries.Submit call form xid ∷ []) → seen_by u ≡ seen_by r ++ entries.Submit call form xid ∷ [] → KeepsOpen r u
+  pub submit_turn_sends : (p q r u s : Pass (RequesterWithSink O C) Entry) (call : Call) (form : Form) (xid : ℕ) → Writes p q → seen_by r ≡ seen_by q → mine_of r ≡ mine_of q → Adds r u (entries.Submit call form xid ∷ []) → seen_by u ≡ seen_by r ++ entries.Submit call form xid ∷ [] → KeepsOpen r u
       → IsOpen closes_of (seen_by u) (mine_of u) (length (seen_by r)) → Writes u s → HasWrittenOutput (seen_by s) → Sends p s call form xid
   submit_turn_sends p q r u s call form xid w seen mine adds longer keeps opened two all_written =
       sends p r u s call form xid (record { es = w.es; are = w.are; seen = seen ∙ w.seen; adds = adds_same p q r w.es w.adds seen mine }) adds longer keeps opened two all_written
 
   -- the same told of the pass before, and after turns that added nothing
-  sends_from : (p q r : Pass (RequesterWithSink O) Entry) (call : Call) (form : Form) (xid : ℕ) (es : List Entry) → AreWrites es → Adds p q es → KeepsOpen p q → Sends q r call form xid → Sends p r call form xid
+  sends_from : (p q r : Pass (RequesterWithSink O C) Entry) (call : Call) (form : Form) (xid : ℕ) (es : List Entry) → AreWrites es → Adds p q es → KeepsOpen p q → Sends q r call form xid → Sends p r call form xid
   sends_from p q r call form xid es are a keeps s = record {
     writes_before = es ++ s.writes_before;
     are_writes_before = both_write es s.writes_before are s.are_writes_before;
@@ -116,7 +116,7 @@ module _ {O : Type 0} where
     written = s.written;
   }
 
-  sends_to : (p r s : Pass (RequesterWithSink O) Entry) (call : Call) (form : Form) (xid : ℕ) → Sends p r call form xid → seen_by s ≡ seen_by r → mine_of s ≡ mine_of r → Sends p s call form xid
+  sends_to : (p r s : Pass (RequesterWithSink O C) Entry) (call : Call) (form : Form) (xid : ℕ) → Sends p r call form xid → seen_by s ≡ seen_by r → mine_of s ≡ mine_of r → Sends p s call form xid
   sends_to p r s call form xid t seen mine = record {
     writes_before = t.writes_before;
     are_writes_before = t.are_writes_before;
@@ -131,17 +131,17 @@ module _ {O : Type 0} where
     written = subst HasWrittenOutput (sym seen) t.written;
   }
 
-  none_from : (p q r : Pass (RequesterWithSink O) Entry) (call : Call) (form : Form) (end : CallEnd) (es : List Entry) → AreWrites es → Adds p q es → KeepsOpen p q → SendsNone q r call form end → SendsNone p r call form end
+  none_from : (p q r : Pass (RequesterWithSink O C) Entry) (call : Call) (form : Form) (end : CallEnd) (es : List Entry) → AreWrites es → Adds p q es → KeepsOpen p q → SendsNone q r call form end → SendsNone p r call form end
   none_from p q r call form end es are a keeps s = record { writes_before = es ++ s.writes_before; are_writes_before = both_write es s.writes_before are s.are_writes_before; adds = adds_both p q r es s.writes_before a s.adds; keeps = λ k o. s.keeps k (keeps k o); cause = s.cause }
 
-  none_to : (p r s : Pass (RequesterWithSink O) Entry) (call : Call) (form : Form) (end : CallEnd) → SendsNone p r call form end → seen_by s ≡ seen_by r → mine_of s ≡ mine_of r → SendsNone p s call form end
+  none_to : (p r s : Pass (RequesterWithSink O C) Entry) (call : Call) (form : Form) (end : CallEnd) → SendsNone p r call form end → seen_by s ≡ seen_by r → mine_of s ≡ mine_of r → SendsNone p s call form end
   none_to p r s call form end t seen mine = record { writes_before = t.writes_before; are_writes_before = t.are_writes_before; adds = adds_same p r s t.writes_before t.adds seen mine; keeps = λ k o. keeps_same r s seen mine k (t.keeps k o); cause = subst (λ (l : List Entry). IsCause end call form l) (sym seen) t.cause }
 
   -- a call that isn't submitted in a turn
-  pub sends_none : (p q r : Pass (RequesterWithSink O) Entry) (call : Call) (form : Form) (end : CallEnd) → Writes p q → seen_by r ≡ seen_by q → mine_of r ≡ mine_of q → IsCause end call form (seen_by q) → SendsNone p r call form end
+  pub sends_none : (p q r : Pass (RequesterWithSink O C) Entry) (call : Call) (form : Form) (end : CallEnd) → Writes p q → seen_by r ≡ seen_by q → mine_of r ≡ mine_of q → IsCause end call form (seen_by q) → SendsNone p r call form end
   sends_none p q r call form end w seen mine cause = none_to p q r call form end (record { writes_before = w.es; are_writes_before = w.are; adds = w.adds; keeps = λ k o. open_writes p q k w o; cause = cause }) seen mine
 
-  pub refused_none : (p q r u : Pass (RequesterWithSink O) Entry) (call : Call) (form : Form) (end : CallEnd) → Writes p q → seen_by r ≡ seen_by q → mine_of r ≡ mine_of q → Adds r u [] → KeepsOpen r u → seen_by u ≡ seen_by r → IsCause end call form (seen_by r) → SendsNone p u call form end
+  pub refused_none : (p q r u : Pass (RequesterWithSink O C) Entry) (call : Call) (form : Form) (end : CallEnd) → Writes p q → seen_by r ≡ seen_by q → mine_of r ≡ mine_of q → Adds r u [] → KeepsOpen r u → seen_by u ≡ seen_by r → IsCause end call form (seen_by r) → SendsNone p u call form end
   refused_none p q r u call form end w seen mine adds keeps kept cause = record {
     writes_before = w.es;
     are_writes_before = w.are;
@@ -150,61 +150,61 @@ module _ {O : Type 0} where
     cause = subst (λ (l : List Entry). IsCause end call form l) (sym kept) cause;
   }
 
-  pub lacks : (p q r : Pass (RequesterWithSink O) Entry) (call : Call) (form : Form) → Writes p q → seen_by r ≡ seen_by q → mine_of r ≡ mine_of q → LacksCredit p r call call form form
+  pub lacks : (p q r : Pass (RequesterWithSink O C) Entry) (call : Call) (form : Form) → Writes p q → seen_by r ≡ seen_by q → mine_of r ≡ mine_of q → LacksCredit p r call call form form
   lacks p q r call form w seen mine = record { writes_before = w.es; are_writes_before = w.are; adds = adds_same p q r w.es w.adds seen mine; keeps = λ k o. keeps_same q r seen mine k (open_writes p q k w o); same_call = refl; same_form = refl }
 
-  lacks_from : (p q r : Pass (RequesterWithSink O) Entry) (call c : Call) (form f : Form) (es : List Entry) → AreWrites es → Adds p q es → KeepsOpen p q → LacksCredit q r call c form f → LacksCredit p r call c form f
+  lacks_from : (p q r : Pass (RequesterWithSink O C) Entry) (call c : Call) (form f : Form) (es : List Entry) → AreWrites es → Adds p q es → KeepsOpen p q → LacksCredit q r call c form f → LacksCredit p r call c form f
   lacks_from p q r call c form f es are a keeps s = record { writes_before = es ++ s.writes_before; are_writes_before = both_write es s.writes_before are s.are_writes_before; adds = adds_both p q r es s.writes_before a s.adds; keeps = λ k o. s.keeps k (keeps k o); same_call = s.same_call; same_form = s.same_form }
 
-  lacks_to : (p r s : Pass (RequesterWithSink O) Entry) (call c : Call) (form f : Form) → LacksCredit p r call c form f → seen_by s ≡ seen_by r → mine_of s ≡ mine_of r → LacksCredit p s call c form f
+  lacks_to : (p r s : Pass (RequesterWithSink O C) Entry) (call c : Call) (form f : Form) → LacksCredit p r call c form f → seen_by s ≡ seen_by r → mine_of s ≡ mine_of r → LacksCredit p s call c form f
   lacks_to p r s call c form f t seen mine = record { writes_before = t.writes_before; are_writes_before = t.are_writes_before; adds = adds_same p r s t.writes_before t.adds seen mine; keeps = λ k o. keeps_same r s seen mine k (t.keeps k o); same_call = t.same_call; same_form = t.same_form }
 
-  pub submit_turns_after : (p q r s : Pass (RequesterWithSink O) Entry) (call : Call) (form : Form) (tried : SubmitTurn) → Adds p q [] → KeepsOpen p q → IsSubmitTurn q r call form tried → seen_by s ≡ seen_by r → mine_of s ≡ mine_of r → IsSubmitTurn p s call form tried
+  pub submit_turns_after : (p q r s : Pass (RequesterWithSink O C) Entry) (call : Call) (form : Form) (tried : SubmitTurn) → Adds p q [] → KeepsOpen p q → IsSubmitTurn q r call form tried → seen_by s ≡ seen_by r → mine_of s ≡ mine_of r → IsSubmitTurn p s call form tried
   submit_turns_after p q r s call form (submit_turns.Accepted xid) a keeps t seen mine = sends_to p r s call form xid (sends_from p q r call form xid [] tt a keeps t) seen mine
   submit_turns_after p q r s call form (submit_turns.NoCredit c f) a keeps t seen mine = lacks_to p r s call c form f (lacks_from p q r call c form f [] tt a keeps t) seen mine
   submit_turns_after p q r s call form (submit_turns.Ended end) a keeps t seen mine = none_to p r s call form end (none_from p q r call form end [] tt a keeps t) seen mine
 
   -- turns before that only wrote
-  pub sends_later : (p q r : Pass (RequesterWithSink O) Entry) (call c : Call) (form f : Form) (xid : ℕ) (es : List Entry) → AreWrites es → Adds p q es → KeepsOpen p q → c ≡ call → f ≡ form → Sends q r c f xid → Sends p r call form xid
+  pub sends_later : (p q r : Pass (RequesterWithSink O C) Entry) (call c : Call) (form f : Form) (xid : ℕ) (es : List Entry) → AreWrites es → Adds p q es → KeepsOpen p q → c ≡ call → f ≡ form → Sends q r c f xid → Sends p r call form xid
   sends_later p q r call c form f xid es are a keeps one two s = subst (λ (x : Call). Sends p r x form xid) one (subst (λ (x : Form). Sends p r c x xid) two (sends_from p q r c f xid es are a keeps s))
 
-  pub none_later : (p q r : Pass (RequesterWithSink O) Entry) (call c : Call) (form f : Form) (end : CallEnd) (es : List Entry) → AreWrites es → Adds p q es → KeepsOpen p q → c ≡ call → f ≡ form → SendsNone q r c f end → SendsNone p r call form end
+  pub none_later : (p q r : Pass (RequesterWithSink O C) Entry) (call c : Call) (form f : Form) (end : CallEnd) (es : List Entry) → AreWrites es → Adds p q es → KeepsOpen p q → c ≡ call → f ≡ form → SendsNone q r c f end → SendsNone p r call form end
   none_later p q r call c form f end es are a keeps one two s = subst (λ (x : Call). SendsNone p r x form end) one (subst (λ (x : Form). SendsNone p r c x end) two (none_from p q r c f end es are a keeps s))
 
-  pub lacks_later : (p q r : Pass (RequesterWithSink O) Entry) (call c d : Call) (form f g : Form) (es : List Entry) → AreWrites es → Adds p q es → KeepsOpen p q → c ≡ call → f ≡ form → LacksCredit q r c d f g → LacksCredit p r call d form g
+  pub lacks_later : (p q r : Pass (RequesterWithSink O C) Entry) (call c d : Call) (form f g : Form) (es : List Entry) → AreWrites es → Adds p q es → KeepsOpen p q → c ≡ call → f ≡ form → LacksCredit q r c d f g → LacksCredit p r call d form g
   lacks_later p q r call c d form f g es are a keeps one two s =
       let t = lacks_from p q r c d f g es are a keeps s in
       record { writes_before = t.writes_before; are_writes_before = t.are_writes_before; adds = t.adds; keeps = t.keeps; same_call = t.same_call ∙ one; same_form = t.same_form ∙ two }
 
   -- ---- Callers
 
-  pub caller_sends : (p q : Pass (RequesterWithSink O) Entry) (call : Call) (form : Form) (xid : ℕ) → IsCaller p → Sends p q call form xid → IsCaller q
+  pub caller_sends : (p q : Pass (RequesterWithSink O C) Entry) (call : Call) (form : Form) (xid : ℕ) → IsCaller p → Sends p q call form xid → IsCaller q
   caller_sends p q call form xid c s = caller_on p q (s.writes_before ++ entries.Submit call form xid ∷ s.writes_after) c s.adds
       (of_both p s.writes_before (entries.Submit call form xid ∷ s.writes_after) (of_writes p s.writes_before s.are_writes_before) ((refl, λ k is. absurd (none_closed k is)), of_writes p s.writes_after s.are_writes_after))
 
-  pub caller_none : (p q : Pass (RequesterWithSink O) Entry) (call : Call) (form : Form) (end : CallEnd) → IsCaller p → SendsNone p q call form end → IsCaller q
+  pub caller_none : (p q : Pass (RequesterWithSink O C) Entry) (call : Call) (form : Form) (end : CallEnd) → IsCaller p → SendsNone p q call form end → IsCaller q
   caller_none p q call form end c s = caller_on p q s.writes_before c s.adds (of_writes p s.writes_before s.are_writes_before)
 
-  pub caller_lacks : (p q : Pass (RequesterWithSink O) Entry) (call d : Call) (form f : Form) → IsCaller p → LacksCredit p q call d form f → IsCaller q
+  pub caller_lacks : (p q : Pass (RequesterWithSink O C) Entry) (call d : Call) (form f : Form) → IsCaller p → LacksCredit p q call d form f → IsCaller q
   caller_lacks p q call d form f c s = caller_on p q s.writes_before c s.adds (of_writes p s.writes_before s.are_writes_before)
 
   -- ---- A call with all its turns
 
-  stands_on : (p q : Pass (RequesterWithSink O) Entry) (e : Entry) (k : ℕ) → Begins (seen_by p) (seen_by q) → get_elem? (seen_by p) k ≡ some e → get_elem? (seen_by q) k ≡ some e
+  stands_on : (p q : Pass (RequesterWithSink O C) Entry) (e : Entry) (k : ℕ) → Begins (seen_by p) (seen_by q) → get_elem? (seen_by p) k ≡ some e → get_elem? (seen_by q) k ≡ some e
   stands_on p q e k begins at = subst (λ (l : List Entry). get_elem? l k ≡ some e) (sym begins.1) (at_longer (seen_by p) begins.0 k e at)
 
-  own_on : (q r : Pass (RequesterWithSink O) Entry) (k : ℕ) (es : List Entry) → Adds q r es → IsIn k (mine_of q) → IsIn k (mine_of r)
+  own_on : (q r : Pass (RequesterWithSink O C) Entry) (k : ℕ) (es : List Entry) → Adds q r es → IsIn k (mine_of q) → IsIn k (mine_of r)
   own_on q r k es a i = subst (IsIn k) (sym a.mine) (in_more (mine_of q) a.places k i)
 
   -- the place of a call that is new isn't one of before
-  not_new : (p : Pass (RequesterWithSink O) Entry) (n k : ℕ) → Lies (seen_by p) (mine_of p) → length (seen_by p) ≤ n → IsIn k (mine_of p) → k ≢ n
+  not_new : (p : Pass (RequesterWithSink O C) Entry) (n k : ℕ) → Lies (seen_by p) (mine_of p) → length (seen_by p) ≤ n → IsIn k (mine_of p) → k ≢ n
   not_new p n k lies new i same = let l = lies k i in omega (arith, l, new, same)
 
   -- the call that was submitted is the pass's own
-  pub sent_open_call : (p q : Pass (RequesterWithSink O) Entry) (call : Call) (form : Form) (xid : ℕ) → Lies (seen_by q) (mine_of q) → Sends p q call form xid → HasOpenCall q xid
+  pub sent_open_call : (p q : Pass (RequesterWithSink O C) Entry) (call : Call) (form : Form) (xid : ℕ) → Lies (seen_by q) (mine_of q) → Sends p q call form xid → HasOpenCall q xid
   sent_open_call p q call form xid lies s = record { at = s.at; call = call; is_call = (entries.Submit call form xid, s.stands, asked_just xid call form); stays = s.opened; lies = lies }
 
-  pub own_answer : (p q r : Pass (RequesterWithSink O) Entry) (call : Call) (form : Form) (xid : ℕ) (done : Done) → Lies (seen_by p) (mine_of p) → Sends p q call form xid → TakesAnswer q r xid done → OwnAnswer p r call form done
+  pub own_answer : (p q r : Pass (RequesterWithSink O C) Entry) (call : Call) (form : Form) (xid : ℕ) (done : Done) → Lies (seen_by p) (mine_of p) → Sends p q call form xid → TakesAnswer q r xid done → OwnAnswer p r call form done
   own_answer p q r call form xid done lies s takes =
       let e0 : Entry = entries.Submit call form xid in
       let t = takes s.at call (e0, s.stands, asked_just xid call form) s.opened in
@@ -226,7 +226,7 @@ module _ {O : Type 0} where
         buffers = t.buffers;
       }
 
-  pub no_answer : (p q r : Pass (RequesterWithSink O) Entry) (call : Call) (form : Form) (xid : ℕ) (end : CallEnd) → Lies (seen_by p) (mine_of p) → Sends p q call form xid → GivesUp q r xid end → NoAnswer p r call form end
+  pub no_answer : (p q r : Pass (RequesterWithSink O C) Entry) (call : Call) (form : Form) (xid : ℕ) (end : CallEnd) → Lies (seen_by p) (mine_of p) → Sends p q call form xid → GivesUp q r xid end → NoAnswer p r call form end
   no_answer p q r call form xid end lies s gives =
       let e0 : Entry = entries.Submit call form xid in
       let g = gives s.at call (e0, s.stands, asked_just xid call form) s.opened in

@@ -20,27 +20,33 @@ use Rattle.nr_shared.specs.Adding.{Adds}
 use Rattle.nr_shared.specs.Draining.{AreWrites}
 use Rattle.nr_shared.specs.Output.{OutputBeforeInput}
 use Rattle.nr_shared.specs.Standing.{Stands}
+use Rattle.nr_reduce.specs.declared.call.Form.{Form}
 
 -- The turn has the value, which stands for the history that its pass has seen. The pass's places lie in it, and an entry closes only an earlier place.
-pub record IsReady {O : Type 0} (taken : O → Option (List ℕ)) (faults : O → ℕ) (t : Turn (RequesterWithSink O) Entry) : Type 0 where
-  pub value : RequesterWithSink O
+pub record IsReady {O C : Type 0} (taken : O → Option (List ℕ)) (faults : O → ℕ) (allows : Call → Form → Type 0) (t : Turn (RequesterWithSink O C) Entry) : Type 0 where
+  pub value : RequesterWithSink O C
   pub has : Has t value
-  pub stands : Stands taken faults value (seen_by (pass_of t))
+  pub stands : Stands taken faults allows value (seen_by (pass_of t))
   pub lies : Lies (seen_by (pass_of t)) (mine_of (pass_of t))
   pub earlier : Earlier closes_of (seen_by (pass_of t))
 
--- The pass fed last: the last entry that feeds is its own, and open.
-pub record IsFeeding {O : Type 0} (p : Pass (RequesterWithSink O) Entry) : Type 0 where
+-- each entry of the pass closes only a place of its own
+abbrev pub ClosesOwn : {O C : Type 0} → Pass (RequesterWithSink O C) Entry → Type 0
+ClosesOwn p = (n k : ℕ) (e : Entry) → IsIn n (mine_of p) → get_elem? (seen_by p) n ≡ some e → closes_of e ≡ Some k → IsIn k (mine_of p)
+
+-- The pass fed last: the last entry that feeds is its own, and open. Its entries close only its own places.
+pub record IsFeeding {O C : Type 0} (p : Pass (RequesterWithSink O C) Entry) : Type 0 where
   pub initial : InitialState
   pub is_initial : initial_of (seen_by p) ≡ Some initial
   pub last : ℕ
   pub is_last : last_feeding (seen_by p) ≡ Some last
   pub is_open : IsOpen closes_of (seen_by p) (mine_of p) last
+  pub closes_own : ClosesOwn p
 
 -- The pass is a caller's: none of its own entries feeds, and each closes only a place of its own. All its places lie in what it has seen.
-pub record IsCaller {O : Type 0} (p : Pass (RequesterWithSink O) Entry) : Type 0 where
+pub record IsCaller {O C : Type 0} (p : Pass (RequesterWithSink O C) Entry) : Type 0 where
   pub lies : Lies (seen_by p) (mine_of p)
-  pub closes_own : (n k : ℕ) (e : Entry) → IsIn n (mine_of p) → get_elem? (seen_by p) n ≡ some e → closes_of e ≡ Some k → IsIn k (mine_of p)
+  pub closes_own : ClosesOwn p
   pub feeds_none : (k : ℕ) (e : Entry) → IsIn k (mine_of p) → get_elem? (seen_by p) k ≡ some e → is_feeding e ≡ false
 
 -- The marks of the history keep the law of the client's side, and the last grant; `n` is how many bytes were fed of the piece at which memory ran out.
@@ -52,7 +58,7 @@ pub record KeepsLaw (history : List Entry) : Type 0 where
   pub in_order : FeedsInOrder history
 
 -- A call of this xid stands at a place of the pass's own, which is open. All places of the pass lie in what it has seen.
-pub record HasOpenCall {O : Type 0} (p : Pass (RequesterWithSink O) Entry) (xid : ℕ) : Type 0 where
+pub record HasOpenCall {O C : Type 0} (p : Pass (RequesterWithSink O C) Entry) (xid : ℕ) : Type 0 where
   pub at : ℕ
   pub call : Call
   pub is_call : IsCallAt (seen_by p) xid at call
@@ -60,14 +66,14 @@ pub record HasOpenCall {O : Type 0} (p : Pass (RequesterWithSink O) Entry) (xid 
   pub lies : Lies (seen_by p) (mine_of p)
 
 -- each place of the pass that was open is open still; or each but one
-abbrev pub KeepsOpen : {O : Type 0} → Pass (RequesterWithSink O) Entry → Pass (RequesterWithSink O) Entry → Type 0
+abbrev pub KeepsOpen : {O C : Type 0} → Pass (RequesterWithSink O C) Entry → Pass (RequesterWithSink O C) Entry → Type 0
 KeepsOpen p q = (k : ℕ) → IsOpen closes_of (seen_by p) (mine_of p) k → IsOpen closes_of (seen_by q) (mine_of q) k
 
-abbrev pub KeepsOthers : {O : Type 0} → ℕ → Pass (RequesterWithSink O) Entry → Pass (RequesterWithSink O) Entry → Type 0
+abbrev pub KeepsOthers : {O C : Type 0} → ℕ → Pass (RequesterWithSink O C) Entry → Pass (RequesterWithSink O C) Entry → Type 0
 KeepsOthers closed p q = (k : ℕ) → k ≢ closed → IsOpen closes_of (seen_by p) (mine_of p) k → IsOpen closes_of (seen_by q) (mine_of q) k
 
 -- The turn added entries of bytes that were written, and that a write failed, and no others; and the pass has seen no others.
-pub record Writes {O : Type 0} (p q : Pass (RequesterWithSink O) Entry) : Type 0 where
+pub record Writes {O C : Type 0} (p q : Pass (RequesterWithSink O C) Entry) : Type 0 where
   pub es : List Entry
   pub are : AreWrites es
   pub seen : seen_by q ≡ seen_by p ++ es

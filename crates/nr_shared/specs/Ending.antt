@@ -1,5 +1,5 @@
 -- Why a call has no answer, by the history of the shared requester.
-use Rattle.std.specs.Prelude.{◌≡◌, ⊤, ℕ, true, List, Some}
+use Rattle.std.specs.Prelude.{◌≡◌, ◌≢◌, ⊤, ℕ, true, List, Some}
 use Rattle.nr_link.specs.declared.end.End.{End}
 use Rattle.nr_link.specs.declared.end.End.TheVariants as ends
 use Rattle.nr_links.specs.Limits.{read_max}
@@ -27,10 +27,10 @@ abbrev pub HasEnded : End → List Entry → Type 0
 HasEnded ends.Memory history = stop_of history ≡ Some causes.Memory
 HasEnded end history = ClientEnded end history
 
--- the client of the run refuses the call so
+-- memory hasn't run out for a frame, and the client of the run refuses the call so
 abbrev pub ClientRefuses : Refused → Call → Form → List Entry → Type 0
-ClientRefuses why call form history = (opened : LinkParameters) (link : ℕ) (before : List Mark) → FitsHistory history opened link before →
-    submit_answer (client opened link (run_of before 0 link history)) call form ≡ submissions.Refused why
+ClientRefuses why call form history = (stop_of history ≢ Some causes.Memory) × ((opened : LinkParameters) (link : ℕ) (before : List Mark) → FitsHistory history opened link before →
+    submit_answer (client opened link (run_of before 0 link history)) call form ≡ submissions.Refused why)
 
 -- Why a call is refused: its requester has ended, the client of the run refuses it, or memory ran out.
 abbrev pub IsRefused : Refused → Call → Form → List Entry → Type 0

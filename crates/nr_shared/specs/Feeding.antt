@@ -13,7 +13,7 @@ use Rattle.nr_shared.specs.declared.source_reader.InitialSource.{InitialSource}
 use Rattle.nr_shared.specs.Callers.{IsFeeding}
 use Rattle.nr_shared.specs.Histories.{bytes_fed, stop_of}
 
-abbrev pub closes_none : {I O : Type 0} → InitialSource I O → Option ℕ
+abbrev pub closes_none : {I O C : Type 0} → InitialSource I O C → Option ℕ
 closes_none b = None
 
 -- Why the history says that no more is fed, by the source: a read failed since it was shared; it is at its end; the maximum was read.
@@ -24,7 +24,7 @@ StopHolds (Some causes.Budget) faults faults' left read = read ≡ read_max
 StopHolds stopped faults faults' left read = ⊤
 
 -- What was fed is what the source gave since it was shared. The last entry that feeds is the pass's own and open: so no other pass can feed.
-pub record FeedsFor {I O : Type 0} (left given : I → Option (List ℕ)) (faults : I → ℕ) (b : InitialSource I O) (s : SourceReader I O) : Type 0 where
+pub record FeedsFor {I O C : Type 0} (left given : I → Option (List ℕ)) (faults : I → ℕ) (b : InitialSource I O C) (s : SourceReader I O C) : Type 0 where
   pub home : home_of s.pass ≡ home_of b.pass.value
   pub outside : IsOutside s.pass
   pub lies : Lies (seen_by s.pass) (mine_of s.pass)
@@ -37,5 +37,5 @@ pub record FeedsFor {I O : Type 0} (left given : I → Option (List ℕ)) (fault
   pub room : length s.buf.items ≡ piece_max
 
 -- it has one entry: the source when it was shared, and the pass that fed first
-abbrev pub Feeds : {I O : Type 0} → (I → Option (List ℕ)) → (I → Option (List ℕ)) → (I → ℕ) → SourceReader I O → List (InitialSource I O) → Type 0
-Feeds {I} {O} left given faults s history = (b : InitialSource I O) × (history ≡ b ∷ []) × FeedsFor left given faults b s
+abbrev pub Feeds : {I O C : Type 0} → (I → Option (List ℕ)) → (I → Option (List ℕ)) → (I → ℕ) → SourceReader I O C → List (InitialSource I O C) → Type 0
+Feeds {I} {O} {C} left given faults s history = (b : InitialSource I O C) × (history ≡ b ∷ []) × FeedsFor left given faults b s

@@ -1,5 +1,5 @@
 -- What goes back to a caller that takes its answer, and what the buffers have.
-use Rattle.std.specs.Prelude.{◌≡◌, ◌≢◌, ℕ, ◌==◌, List, None, map, Contains}
+use Rattle.std.specs.Prelude.{◌≡◌, ◌≢◌, ℕ, ◌==◌, List, None, Some, map, Contains}
 use Rattle.std.specs.List.{filter}
 use Rattle.nr_wire.specs.declared.hello.Side.TheVariants.{Initiator}
 use Rattle.nr_reduce.specs.declared.mark.LinkParameters.{LinkParameters}
@@ -14,7 +14,8 @@ use Rattle.nr_requester.specs.Buffers.{bytes_of_buffers}
 use Rattle.nr_requester.specs.KeptAnswers.{buffers_in}
 use Rattle.nr_shared.specs.declared.entry.Entry.{Entry}
 use Rattle.nr_shared.specs.declared.entry.Entry.TheVariants as entries
-use Rattle.nr_shared.specs.Histories.{FitsHistory, place_of, place_or_none, run_of}
+use Rattle.nr_shared.specs.declared.entry.Stop.TheVariants as causes
+use Rattle.nr_shared.specs.Histories.{FitsHistory, place_of, place_or_none, run_of, stop_of}
 
 -- what each region of a call holds by these marks, in the order read chunk, write chunk, reply chunk
 abbrev pub regions_placed : LinkParameters → (link : ℕ) → List Mark → (xid : ℕ) → List (List ℕ)
@@ -36,10 +37,10 @@ pub record IsUnanswered (xid : ℕ) (history : List Entry) : Type 0 where
   pub n : ℕ
   pub none : (opened : LinkParameters) (link : ℕ) (before : List Mark) → FitsHistory history opened link before → (c : CompletedCall) → Contains (client opened link (run_of before n link history)).state.outcomes c → c.xid ≢ xid
 
--- The client of the run hasn't ended, and no message brought an outcome of the call.
+-- Memory hasn't run out for a frame, the client of the run hasn't ended, and no message brought an outcome of the call.
 abbrev pub IsAwaitedStill : (xid : ℕ) → List Entry → Type 0
-IsAwaitedStill xid history = (opened : LinkParameters) (link : ℕ) (before : List Mark) → FitsHistory history opened link before →
-    ((client opened link (run_of before 0 link history)).ended ≡ None) × ((c : CompletedCall) → Contains (client opened link (run_of before 0 link history)).state.outcomes c → c.xid ≢ xid)
+IsAwaitedStill xid history = (stop_of history ≢ Some causes.Memory) × ((opened : LinkParameters) (link : ℕ) (before : List Mark) → FitsHistory history opened link before →
+    ((client opened link (run_of before 0 link history)).ended ≡ None) × ((c : CompletedCall) → Contains (client opened link (run_of before 0 link history)).state.outcomes c → c.xid ≢ xid))
 
 -- A call that stands at this place is lost; or, if memory ran out for a frame, so that the client of the run hasn't ended, its memory is revoked.
 abbrev pub lost_entry : End → (xid : ℕ) → Buffers → (submit : ℕ) → Entry

@@ -1,11 +1,12 @@
 -- The history of a shared requester: the marks of its run, and which entries close which.
-use Rattle.std.specs.Prelude.{◌≡◌, ℕ, Bool, true, false, ◌==◌, ◌||◌, is_some, take, if◌then◌else◌, List, [], ◌∷◌, ◌++◌, Option, None, Some}
-use Rattle.std.specs.List.{AllByRecursion, flat_map}
+use Rattle.std.specs.Prelude.{◌≡◌, ⊤, ℕ, Bool, true, false, ◌==◌, ◌||◌, is_some, take, if◌then◌else◌, List, [], ◌∷◌, ◌++◌, Option, None, Some}
+use Rattle.std.specs.List.{flat_map}
 use mathlib.Core.Option.{some}
 use lib.ListN.{get_elem?}
 use Rattle.nr_wire.specs.declared.hello.Side.TheVariants.{Initiator}
 use Rattle.nr_reduce.specs.declared.call.Submission.TheVariants as submissions
 use Rattle.nr_reduce.specs.declared.call.Call.{Call}
+use Rattle.nr_reduce.specs.declared.call.Form.{Form}
 use Rattle.nr_reduce.specs.declared.call.Outcome.{Outcome}
 use Rattle.nr_reduce.specs.declared.mark.LinkParameters.{LinkParameters}
 use Rattle.nr_reduce.specs.declared.mark.Mark.{Mark}
@@ -42,9 +43,9 @@ run_of before n link history = before ++ flat_map (mark_at n link) history
 -- ---- What an entry closes
 
 abbrev pub closes_of : Entry → Option ℕ
-closes_of (entries.Fed bytes previous) = previous
-closes_of (entries.Stopped cause previous) = previous
-closes_of (entries.OutOfMemory piece previous) = previous
+closes_of (entries.Fed bytes previous) = Some previous
+closes_of (entries.Stopped cause previous) = Some previous
+closes_of (entries.OutOfMemory piece previous) = Some previous
 closes_of (entries.Done xid outcome submit) = Some submit
 closes_of (entries.Lost xid submit) = Some submit
 closes_of (entries.Forget xid submit) = Some submit
@@ -57,13 +58,9 @@ IsUnclosed history k = (n : ℕ) (e : Entry) → get_elem? history n ≡ some e 
 
 -- ---- The entries of the pass that feeds: the initial state, what was fed since, and that no more is
 
-abbrev pub has_some : Option ℕ → Bool
-has_some None = false
-has_some (Some k) = true
-
 abbrev pub is_feeding : Entry → Bool
 is_feeding (entries.Initial initial) = true
-is_feeding (entries.Fed bytes previous) = has_some previous
+is_feeding (entries.Fed bytes previous) = true
 is_feeding (entries.Stopped cause previous) = true
 is_feeding (entries.OutOfMemory piece previous) = true
 is_feeding entry = false
@@ -71,58 +68,37 @@ is_feeding entry = false
 abbrev pub last_feeding : List Entry → Option ℕ
 last_feeding history = last_place is_feeding history
 
--- bytes that are fed after the initial state have the place of the entry that fed before
-abbrev pub has_previous : Entry → Bool
-has_previous (entries.Fed bytes previous) = has_some previous
-has_previous entry = true
-
 -- each of them closes the one before it
 abbrev pub FeedsInOrder : List Entry → Type 0
 FeedsInOrder history = Chained closes_of is_feeding history
 
 -- ---- The initial state, and what moved since
 
-abbrev pub first_of : {A : Type 0} → Option A → Option A → Option A
-first_of (Some x) y = Some x
-first_of None y = y
-
-abbrev pub initial_in : Entry → Option InitialState
-initial_in (entries.Initial initial) = Some initial
-initial_in entry = None
-
+-- a history begins with the initial state
 abbrev pub initial_of : List Entry → Option InitialState
-initial_of [] = None
-initial_of (e ∷ es) = first_of (initial_in e) (initial_of es)
-
--- the entries after the initial state
-abbrev pub after_initial : List Entry → List Entry
-after_initial [] = []
-after_initial (e ∷ es) = if is_some (initial_in e) then es else after_initial es
-
-abbrev pub HavePrevious : List Entry → Type 0
-HavePrevious history = AllByRecursion (λ (e : Entry). has_previous e ≡ true) (after_initial history)
+initial_of (entries.Initial initial ∷ es) = Some initial
+initial_of history = None
 
 abbrev pub written_by : Entry → List ℕ
 written_by (entries.Wrote bytes) = bytes
 written_by entry = []
 
--- bytes that were fed before the requester was shared have no such place
-abbrev pub fed_if : Option ℕ → List ℕ → List ℕ
-fed_if None bytes = []
-fed_if (Some k) bytes = bytes
-
 abbrev pub fed_by : Entry → List ℕ
-fed_by (entries.Fed bytes previous) = fed_if previous bytes
+fed_by (entries.Fed bytes previous) = bytes
 fed_by (entries.OutOfMemory piece previous) = piece
 fed_by entry = []
 
 abbrev pub bytes_written : List Entry → List ℕ
-bytes_written history = flat_map written_by (after_initial history)
+bytes_written history = flat_map written_by history
 
 abbrev pub bytes_fed : List Entry → List ℕ
-bytes_fed history = flat_map fed_by (after_initial history)
+bytes_fed history = flat_map fed_by history
 
 -- ---- Why bytes don't move any more
+
+abbrev pub first_of : {A : Type 0} → Option A → Option A → Option A
+first_of (Some x) y = Some x
+first_of None y = y
 
 abbrev pub write_failed : Entry → Bool
 write_failed entries.WriteFailed = true
@@ -144,6 +120,15 @@ stop_of [] = None
 stop_of (e ∷ es) = first_of (stop_in e) (stop_of es)
 
 -- ---- The calls
+
+-- a call that an entry submits is one that callers may make
+abbrev pub Allows : (Call → Form → Type 0) → Entry → Type 0
+Allows allows (entries.Submit call form xid) = allows call form
+Allows allows entry = ⊤
+
+-- so is each call of the history
+abbrev pub AreAllowed : (Call → Form → Type 0) → List Entry → Type 0
+AreAllowed allows history = (k : ℕ) (e : Entry) → get_elem? history k ≡ some e → Allows allows e
 
 -- the call that an entry submits under this xid
 abbrev pub submitted_call : ℕ → Entry → Option Call

@@ -6,14 +6,16 @@ use Rattle.nr_outside.specs.Faults.{Rises}
 use Rattle.nr_link.specs.declared.end.End.TheVariants as ends
 use Rattle.nr_requester.specs.RequesterState.{RequesterSide}
 use Rattle.nr_requester.specs.Fed.{fed_bytes}
-use Rattle.nr_turnstile.specs.Rule.{Begins, Earlier, Lies}
+use Rattle.nr_turnstile.specs.Rule.{Begins, Earlier, IsOpen, Lies}
 use Rattle.nr_shared.specs.declared.entry.Entry.{Entry}
 use Rattle.nr_shared.specs.declared.entry.Entry.TheVariants as entries
 use Rattle.nr_shared.specs.declared.entry.InitialState.{InitialState}
-use Rattle.nr_shared.specs.Histories.{FeedsInOrder, HavePrevious, closes_of, initial_of, bytes_written, bytes_fed, has_write_failed, stop_of}
+use Rattle.nr_shared.specs.Histories.{AreAllowed, FeedsInOrder, IsUnclosed, closes_of, initial_of, bytes_written, bytes_fed, has_write_failed, stop_of}
 use Rattle.nr_shared.specs.Standing.{RepresentsHistory, KeepsCalls, bytes_before}
 use Rattle.nr_shared.specs.Feeding.{StopHolds}
 use Rattle.nr_shared.specs.Output.{OutputBeforeInput}
+use Rattle.nr_reduce.specs.declared.call.Call.{Call}
+use Rattle.nr_reduce.specs.declared.call.Form.{Form}
 
 -- The history has the initial state of this requester and this sink, and nothing else. The requester hasn't run out of memory.
 pub record IsInitialHistory {O : Type 0} (taken : O → Option (List ℕ)) (faults : O → ℕ) (r : RequesterSide) (sink : O) (history : List Entry) : Type 0 where
@@ -25,13 +27,14 @@ pub record IsInitialHistory {O : Type 0} (taken : O → Option (List ℕ)) (faul
   pub sink_taken : initial.taken ≡ taken sink
   pub sink_faults : initial.faults ≡ faults sink
 
--- What is given back, by a caller that has seen this history and has these places, stands for a history that begins so and has the places. The
--- requester represents it, and has each call whose place isn't closed. Since the initial state the sink took the bytes that it says were written, and the
+-- What is given back, by a caller that has seen this history and has these places, stands for a history that begins so and has the places; those that
+-- were open are so still. Each call of it is one that callers may make. The requester represents it, and has each call whose place isn't closed. Since the initial state the sink took the bytes that it says were written, and the
 -- source gave those that it says were fed. The fault counts, and what the source has left, are as it says why bytes don't move any more.
-pub record GivesBack {I O : Type 0} (left given : I → Option (List ℕ)) (source_faults : I → ℕ) (taken : O → Option (List ℕ)) (sink_faults : O → ℕ) (seen : List Entry) (mine : List ℕ) (first : I) (r : RequesterSide) (source : I) (sink : O) : Type 0 where
+pub record GivesBack {I O : Type 0} (left given : I → Option (List ℕ)) (source_faults : I → ℕ) (taken : O → Option (List ℕ)) (sink_faults : O → ℕ) (allows : Call → Form → Type 0) (seen : List Entry) (mine : List ℕ) (first : I) (r : RequesterSide) (source : I) (sink : O) : Type 0 where
   pub history : List Entry
   pub begins : Begins seen history
   pub lies : Lies history mine
+  pub stays_open : (k : ℕ) → IsOpen closes_of seen mine k → IsUnclosed history k
   pub earlier : Earlier closes_of history
   pub initial : InitialState
   pub is_initial : initial_of history ≡ Some initial
@@ -41,7 +44,7 @@ pub record GivesBack {I O : Type 0} (left given : I → Option (List ℕ)) (sour
   pub sink_count : initial.faults ≤ sink_faults sink
   pub sink_failed : has_write_failed history ≡ true → Rises initial.faults (sink_faults sink)
   pub in_order : FeedsInOrder history
-  pub previous : HavePrevious history
+  pub allowed : AreAllowed allows history
   pub output : OutputBeforeInput history
   pub gave : HandsOut (left first) (given first) (left source) (given source) (bytes_fed history)
   pub source_count : source_faults first ≤ source_faults source

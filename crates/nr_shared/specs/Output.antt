@@ -7,7 +7,7 @@ use Rattle.nr_reduce.specs.Run.{HasWritten}
 use Rattle.nr_shared.specs.declared.entry.Stop.TheVariants as causes
 use Rattle.nr_shared.specs.declared.entry.Entry.{Entry}
 use Rattle.nr_shared.specs.declared.entry.Entry.TheVariants as entries
-use Rattle.nr_shared.specs.Histories.{FitsHistory, has_write_failed, has_some, run_of, stop_of}
+use Rattle.nr_shared.specs.Histories.{FitsHistory, has_write_failed, run_of, stop_of}
 
 -- All output that is due by this history is written, unless a write failed or memory ran out.
 abbrev pub HasWrittenOutput : List Entry → Type 0
@@ -16,7 +16,7 @@ HasWrittenOutput history = has_write_failed history ≡ false → stop_of histor
 
 -- a piece of the server's stream that was fed since the initial state
 abbrev pub is_piece : Entry → Bool
-is_piece (entries.Fed bytes previous) = has_some previous
+is_piece (entries.Fed bytes previous) = true
 is_piece (entries.OutOfMemory piece previous) = true
 is_piece entry = false
 

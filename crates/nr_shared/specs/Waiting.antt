@@ -28,9 +28,9 @@ use Rattle.nr_shared.specs.Ending.{HasEnded, IsCause, LinkEnded}
 use Rattle.nr_shared.specs.HandedBack.{HavePlaced, IsAwaitedStill, IsLostWith, IsUnanswered, lost_entry}
 use Rattle.nr_shared.specs.Output.{HasWrittenOutput}
 
-module _ {O : Type 0} where
+module _ {O C : Type 0} where
   -- the outcome of the call that stands at this place is delivered, with what its regions hold by the history before
-  pub record TakesAt (p q : Pass (RequesterWithSink O) Entry) (xid k : ℕ) (call : Call) (done : Done) : Type 0 where
+  pub record TakesAt (p q : Pass (RequesterWithSink O C) Entry) (xid k : ℕ) (call : Call) (done : Done) : Type 0 where
     pub own : done.call ≡ call
     pub adds : Adds p q (entries.Done xid done.outcome k ∷ [])
     pub keeps : KeepsOthers k p q
@@ -39,12 +39,12 @@ module _ {O : Type 0} where
     pub buffers : HavePlaced xid done.buffers before
 
   -- the call that stands at this place is forgotten
-  pub record ForgetsAt (p q : Pass (RequesterWithSink O) Entry) (xid k : ℕ) : Type 0 where
+  pub record ForgetsAt (p q : Pass (RequesterWithSink O C) Entry) (xid k : ℕ) : Type 0 where
     pub adds : Adds p q (entries.Forget xid k ∷ [])
     pub keeps : KeepsOthers k p q
 
   -- the same, since the link had ended so by the history before, and no answer had come
-  pub record GivesUpAt (p q : Pass (RequesterWithSink O) Entry) (xid k : ℕ) (end : CallEnd) : Type 0 where
+  pub record GivesUpAt (p q : Pass (RequesterWithSink O C) Entry) (xid k : ℕ) (end : CallEnd) : Type 0 where
     pub adds : Adds p q (entries.Forget xid k ∷ [])
     pub keeps : KeepsOthers k p q
     pub before : List Entry
@@ -53,20 +53,20 @@ module _ {O : Type 0} where
     pub unanswered : IsUnanswered xid before
 
   -- such is so of the place at which a call of this xid stands, open and the pass's own
-  abbrev pub AtCall : Pass (RequesterWithSink O) Entry → ℕ → (ℕ → Call → Type 0) → Type 0
+  abbrev pub AtCall : Pass (RequesterWithSink O C) Entry → ℕ → (ℕ → Call → Type 0) → Type 0
   AtCall p xid Says = (k : ℕ) (call : Call) → IsCallAt (seen_by p) xid k call → IsOpen closes_of (seen_by p) (mine_of p) k → Says k call
 
-  abbrev pub TakesAnswer : Pass (RequesterWithSink O) Entry → Pass (RequesterWithSink O) Entry → ℕ → Done → Type 0
+  abbrev pub TakesAnswer : Pass (RequesterWithSink O C) Entry → Pass (RequesterWithSink O C) Entry → ℕ → Done → Type 0
   TakesAnswer p q xid done = AtCall p xid (λ k call. TakesAt p q xid k call done)
 
-  abbrev pub ForgetsCall : Pass (RequesterWithSink O) Entry → Pass (RequesterWithSink O) Entry → ℕ → Type 0
+  abbrev pub ForgetsCall : Pass (RequesterWithSink O C) Entry → Pass (RequesterWithSink O C) Entry → ℕ → Type 0
   ForgetsCall p q xid = AtCall p xid (λ k call. ForgetsAt p q xid k)
 
-  abbrev pub GivesUp : Pass (RequesterWithSink O) Entry → Pass (RequesterWithSink O) Entry → ℕ → CallEnd → Type 0
+  abbrev pub GivesUp : Pass (RequesterWithSink O C) Entry → Pass (RequesterWithSink O C) Entry → ℕ → CallEnd → Type 0
   GivesUp p q xid end = AtCall p xid (λ k call. GivesUpAt p q xid k end)
 
   -- the call that stands at this place comes back with its buffers, since the requester had ended so by the history before
-  pub record LosesAt (p q : Pass (RequesterWithSink O) Entry) (xid k : ℕ) (call c : Call) (buffers : Buffers) (end : End) : Type 0 where
+  pub record LosesAt (p q : Pass (RequesterWithSink O C) Entry) (xid k : ℕ) (call c : Call) (buffers : Buffers) (end : End) : Type 0 where
     pub own : c ≡ call
     pub adds : Adds p q (lost_entry end xid buffers k ∷ [])
     pub keeps : KeepsOthers k p q
@@ -76,24 +76,24 @@ module _ {O : Type 0} where
     pub lost : IsLostWith xid buffers before
 
   -- What a ticket is answered: the outcome is delivered; or neither it nor an end has come, and nothing is added; or the call is lost.
-  abbrev pub IsTakeTurn : Pass (RequesterWithSink O) Entry → Pass (RequesterWithSink O) Entry → ℕ → Take → Type 0
+  abbrev pub IsTakeTurn : Pass (RequesterWithSink O C) Entry → Pass (RequesterWithSink O C) Entry → ℕ → Take → Type 0
   IsTakeTurn p q xid (takes.Done done) = TakesAnswer p q xid done
   IsTakeTurn p q xid (takes.NotYet ticket) = (ticket ≡ xid) × (IsAwaitedStill xid (seen_by q) × (Adds p q [] × KeepsOpen p q))
   IsTakeTurn p q xid (takes.Failed c buffers end) = AtCall p xid (λ k call. LosesAt p q xid k call c buffers end)
 
   -- The answer is delivered; or it isn't there, and nothing is added; or none comes, and the call is forgotten.
-  abbrev pub IsPollTurn : Pass (RequesterWithSink O) Entry → Pass (RequesterWithSink O) Entry → ℕ → PollTurn → Type 0
+  abbrev pub IsPollTurn : Pass (RequesterWithSink O C) Entry → Pass (RequesterWithSink O C) Entry → ℕ → PollTurn → Type 0
   IsPollTurn p q xid (polls.Answered done) = TakesAnswer p q xid done
   IsPollTurn p q xid (polls.NotYet ticket) = (ticket ≡ xid) × (Adds p q [] × KeepsOpen p q)
   IsPollTurn p q xid (polls.Ended end) = GivesUp p q xid end
 
   -- the same, with all turns that it took
-  abbrev pub Waits : Pass (RequesterWithSink O) Entry → Pass (RequesterWithSink O) Entry → ℕ → Result Done CallEnd → Type 0
+  abbrev pub Waits : Pass (RequesterWithSink O C) Entry → Pass (RequesterWithSink O C) Entry → ℕ → Result Done CallEnd → Type 0
   Waits p q xid (Ok done) = TakesAnswer p q xid done
   Waits p q xid (Err end) = GivesUp p q xid end
 
   -- The call is submitted: the Submit is added, and its place is open.
-  pub record OpensCall (p q : Pass (RequesterWithSink O) Entry) (call : Call) (form : Form) (xid : ℕ) : Type 0 where
+  pub record OpensCall (p q : Pass (RequesterWithSink O C) Entry) (call : Call) (form : Form) (xid : ℕ) : Type 0 where
     pub adds : Adds p q (entries.Submit call form xid ∷ [])
     pub keeps : KeepsOpen p q
     pub at : ℕ
@@ -102,7 +102,7 @@ module _ {O : Type 0} where
     pub opened : IsOpen closes_of (seen_by q) (mine_of q) at
 
   -- The call is submitted. Before that and after it bytes are written: all that is due.
-  pub record Sends (p q : Pass (RequesterWithSink O) Entry) (call : Call) (form : Form) (xid : ℕ) : Type 0 where
+  pub record Sends (p q : Pass (RequesterWithSink O C) Entry) (call : Call) (form : Form) (xid : ℕ) : Type 0 where
     pub writes_before : List Entry
     pub are_writes_before : AreWrites writes_before
     pub writes_after : List Entry
@@ -116,7 +116,7 @@ module _ {O : Type 0} where
     pub written : HasWrittenOutput (seen_by q)
 
   -- the call is not submitted, since the history says so; bytes are written
-  pub record SendsNone (p q : Pass (RequesterWithSink O) Entry) (call : Call) (form : Form) (end : CallEnd) : Type 0 where
+  pub record SendsNone (p q : Pass (RequesterWithSink O C) Entry) (call : Call) (form : Form) (end : CallEnd) : Type 0 where
     pub writes_before : List Entry
     pub are_writes_before : AreWrites writes_before
     pub adds : Adds p q writes_before
@@ -124,7 +124,7 @@ module _ {O : Type 0} where
     pub cause : IsCause end call form (seen_by q)
 
   -- no credit is left, and the call comes back; bytes are written
-  pub record LacksCredit (p q : Pass (RequesterWithSink O) Entry) (call c : Call) (form f : Form) : Type 0 where
+  pub record LacksCredit (p q : Pass (RequesterWithSink O C) Entry) (call c : Call) (form f : Form) : Type 0 where
     pub writes_before : List Entry
     pub are_writes_before : AreWrites writes_before
     pub adds : Adds p q writes_before
@@ -132,18 +132,18 @@ module _ {O : Type 0} where
     pub same_call : c ≡ call
     pub same_form : f ≡ form
 
-  abbrev pub IsSubmitTurn : Pass (RequesterWithSink O) Entry → Pass (RequesterWithSink O) Entry → Call → Form → SubmitTurn → Type 0
+  abbrev pub IsSubmitTurn : Pass (RequesterWithSink O C) Entry → Pass (RequesterWithSink O C) Entry → Call → Form → SubmitTurn → Type 0
   IsSubmitTurn p q call form (submit_turns.Accepted xid) = Sends p q call form xid
   IsSubmitTurn p q call form (submit_turns.NoCredit c f) = LacksCredit p q call c form f
   IsSubmitTurn p q call form (submit_turns.Ended end) = SendsNone p q call form end
 
-  abbrev pub Submits : Pass (RequesterWithSink O) Entry → Pass (RequesterWithSink O) Entry → Call → Form → Result ℕ CallEnd → Type 0
+  abbrev pub Submits : Pass (RequesterWithSink O C) Entry → Pass (RequesterWithSink O C) Entry → Call → Form → Result ℕ CallEnd → Type 0
   Submits p q call form (Ok xid) = Sends p q call form xid
   Submits p q call form (Err end) = SendsNone p q call form end
 
   -- The call has its own answer: a Submit of it, and the Done that closes the Submit's place, with bytes that are written before and between.
   -- Its buffers have what its regions hold by the history before.
-  pub record OwnAnswer (p q : Pass (RequesterWithSink O) Entry) (asked : Call) (form : Form) (done : Done) : Type 0 where
+  pub record OwnAnswer (p q : Pass (RequesterWithSink O C) Entry) (asked : Call) (form : Form) (done : Done) : Type 0 where
     pub writes_before : List Entry
     pub are_writes_before : AreWrites writes_before
     pub writes_after : List Entry
@@ -161,7 +161,7 @@ module _ {O : Type 0} where
     pub buffers : HavePlaced xid done.buffers before
 
   -- The call was submitted and forgotten, since the link had ended so by the history before, and no answer had come.
-  pub record NoAnswer (p q : Pass (RequesterWithSink O) Entry) (call : Call) (form : Form) (end : CallEnd) : Type 0 where
+  pub record NoAnswer (p q : Pass (RequesterWithSink O C) Entry) (call : Call) (form : Form) (end : CallEnd) : Type 0 where
     pub writes_before : List Entry
     pub are_writes_before : AreWrites writes_before
     pub writes_after : List Entry
@@ -178,6 +178,6 @@ module _ {O : Type 0} where
     pub ended : LinkEnded end before
     pub unanswered : IsUnanswered xid before
 
-  abbrev pub Calls : Pass (RequesterWithSink O) Entry → Pass (RequesterWithSink O) Entry → Call → Form → Result Done CallEnd → Type 0
+  abbrev pub Calls : Pass (RequesterWithSink O C) Entry → Pass (RequesterWithSink O C) Entry → Call → Form → Result Done CallEnd → Type 0
   Calls p q call form (Ok done) = OwnAnswer p q call form done
   Calls p q call form (Err end) = SendsNone p q call form end ⊎ NoAnswer p q call form end

@@ -10,6 +10,7 @@ ghost use Rattle.nr_shared.specs.Draining.{fed_after, stopped_after, taken_betwe
 ghost use Rattle.nr_requester.specs.Buffers.{bytes_of_buffers};
 ghost use Rattle.nr_shared.specs.HandedBack.{lost_by};
 
+use crate::call_rule::CallRule;
 use crate::entry::{Entry, Stop};
 use crate::requester_with_sink::MainTurn;
 use nr_link::End;
@@ -43,134 +44,140 @@ impl<K: Appended> EntryName<Entry> for EntryOf<K> {
 }
 
 /// Appends the Submit of a call that was accepted.
-pub(crate) fn append_submit<O: Sink, K: Appended>(
-    turn: &mut MainTurn<'_, O>,
+pub(crate) fn append_submit<O: Sink, C: CallRule, K: Appended>(
+    turn: &mut MainTurn<'_, O, C>,
     _call: &Snapshot<Call>,
     _form: &Snapshot<Form>,
     _ticket: &Ticket,
 )
     requires entry { entries.Submit _call.now.value _form.now.value _ticket.now ≡ K.entry }
-    requires value { (y : RequesterWithSink O) × Has turn.old y }
+    requires value { (y : RequesterWithSink O C) × Has turn.old y }
     requires may { MayStep closes_of (pass_of turn.old) (entries.Submit _call.now.value _form.now.value _ticket.now) }
     ensures same { IsSameTurn turn.old turn.new }
-    ensures held { (y : RequesterWithSink O) → Has turn.old y → Has turn.new y }
+    ensures held { (y : RequesterWithSink O C) → Has turn.old y → Has turn.new y }
     ensures step { Steps (pass_of turn.old) (pass_of turn.new) (entries.Submit _call.now.value _form.now.value _ticket.now) }
 {
     turn.step::<EntryOf<K>>();
 }
 
 /// Appends the Done of an outcome that is delivered.
-pub(crate) fn append_done<O: Sink, K: Appended>(
-    turn: &mut MainTurn<'_, O>,
+pub(crate) fn append_done<O: Sink, C: CallRule, K: Appended>(
+    turn: &mut MainTurn<'_, O, C>,
     _xid: u32,
     _outcome: &Snapshot<Outcome>,
 )
     requires entry { done_by (seen_by (pass_of turn.old)) _xid _outcome.now.value ≡ K.entry }
-    requires value { (y : RequesterWithSink O) × Has turn.old y }
+    requires value { (y : RequesterWithSink O C) × Has turn.old y }
     requires may { MayStep closes_of (pass_of turn.old) (done_by (seen_by (pass_of turn.old)) _xid _outcome.now.value) }
     ensures same { IsSameTurn turn.old turn.new }
-    ensures held { (y : RequesterWithSink O) → Has turn.old y → Has turn.new y }
+    ensures held { (y : RequesterWithSink O C) → Has turn.old y → Has turn.new y }
     ensures step { Steps (pass_of turn.old) (pass_of turn.new) (done_by (seen_by (pass_of turn.old)) _xid _outcome.now.value) }
 {
     turn.step::<EntryOf<K>>();
 }
 
 /// Appends the Forget of a call.
-pub(crate) fn append_forget<O: Sink, K: Appended>(turn: &mut MainTurn<'_, O>, _xid: u32)
+pub(crate) fn append_forget<O: Sink, C: CallRule, K: Appended>(
+    turn: &mut MainTurn<'_, O, C>,
+    _xid: u32,
+)
     requires entry { forget_by (seen_by (pass_of turn.old)) _xid ≡ K.entry }
-    requires value { (y : RequesterWithSink O) × Has turn.old y }
+    requires value { (y : RequesterWithSink O C) × Has turn.old y }
     requires may { MayStep closes_of (pass_of turn.old) (forget_by (seen_by (pass_of turn.old)) _xid) }
     ensures same { IsSameTurn turn.old turn.new }
-    ensures held { (y : RequesterWithSink O) → Has turn.old y → Has turn.new y }
+    ensures held { (y : RequesterWithSink O C) → Has turn.old y → Has turn.new y }
     ensures step { Steps (pass_of turn.old) (pass_of turn.new) (forget_by (seen_by (pass_of turn.old)) _xid) }
 {
     turn.step::<EntryOf<K>>();
 }
 
 /// Appends the Wrote of the bytes that the sink took between two moments of the requester.
-pub(crate) fn append_wrote<O: Sink, K: Appended>(
-    turn: &mut MainTurn<'_, O>,
+pub(crate) fn append_wrote<O: Sink, C: CallRule, K: Appended>(
+    turn: &mut MainTurn<'_, O, C>,
     _before: &Snapshot<Requester>,
     _after: &Snapshot<Requester>,
 )
     requires entry { entries.Wrote (taken_between _before.now.value.state _after.now.value.state) ≡ K.entry }
-    requires value { (y : RequesterWithSink O) × Has turn.old y }
+    requires value { (y : RequesterWithSink O C) × Has turn.old y }
     requires may { MayStep closes_of (pass_of turn.old) (entries.Wrote (taken_between _before.now.value.state _after.now.value.state)) }
     ensures same { IsSameTurn turn.old turn.new }
-    ensures held { (y : RequesterWithSink O) → Has turn.old y → Has turn.new y }
+    ensures held { (y : RequesterWithSink O C) → Has turn.old y → Has turn.new y }
     ensures step { Steps (pass_of turn.old) (pass_of turn.new) (entries.Wrote (taken_between _before.now.value.state _after.now.value.state)) }
 {
     turn.step::<EntryOf<K>>();
 }
 
 /// Appends that a write failed.
-pub(crate) fn append_write_failed<O: Sink, K: Appended>(turn: &mut MainTurn<'_, O>)
+pub(crate) fn append_write_failed<O: Sink, C: CallRule, K: Appended>(turn: &mut MainTurn<'_, O, C>)
     requires entry { entries.WriteFailed ≡ K.entry }
-    requires value { (y : RequesterWithSink O) × Has turn.old y }
+    requires value { (y : RequesterWithSink O C) × Has turn.old y }
     requires may { MayStep closes_of (pass_of turn.old) entries.WriteFailed }
     ensures same { IsSameTurn turn.old turn.new }
-    ensures held { (y : RequesterWithSink O) → Has turn.old y → Has turn.new y }
+    ensures held { (y : RequesterWithSink O C) → Has turn.old y → Has turn.new y }
     ensures step { Steps (pass_of turn.old) (pass_of turn.new) entries.WriteFailed }
 {
     turn.step::<EntryOf<K>>();
 }
 
 /// Appends the Revoke of a call.
-pub(crate) fn append_revoke<O: Sink, K: Appended>(
-    turn: &mut MainTurn<'_, O>,
+pub(crate) fn append_revoke<O: Sink, C: CallRule, K: Appended>(
+    turn: &mut MainTurn<'_, O, C>,
     _xid: u32,
     _buffers: &Snapshot<Buffers>,
 )
     requires entry { revoke_by (seen_by (pass_of turn.old)) _xid (bytes_of_buffers _buffers.now.value) ≡ K.entry }
-    requires value { (y : RequesterWithSink O) × Has turn.old y }
+    requires value { (y : RequesterWithSink O C) × Has turn.old y }
     requires may { MayStep closes_of (pass_of turn.old) (revoke_by (seen_by (pass_of turn.old)) _xid (bytes_of_buffers _buffers.now.value)) }
     ensures same { IsSameTurn turn.old turn.new }
-    ensures held { (y : RequesterWithSink O) → Has turn.old y → Has turn.new y }
+    ensures held { (y : RequesterWithSink O C) → Has turn.old y → Has turn.new y }
     ensures step { Steps (pass_of turn.old) (pass_of turn.new) (revoke_by (seen_by (pass_of turn.old)) _xid (bytes_of_buffers _buffers.now.value)) }
 {
     turn.step::<EntryOf<K>>();
 }
 
 /// Appends the entry of a call that is lost.
-pub(crate) fn append_lost<O: Sink, K: Appended>(
-    turn: &mut MainTurn<'_, O>,
+pub(crate) fn append_lost<O: Sink, C: CallRule, K: Appended>(
+    turn: &mut MainTurn<'_, O, C>,
     _end: End,
     _xid: u32,
     _buffers: &Snapshot<Buffers>,
 )
     requires entry { lost_by (seen_by (pass_of turn.old)) _end _xid _buffers.now.value ≡ K.entry }
-    requires value { (y : RequesterWithSink O) × Has turn.old y }
+    requires value { (y : RequesterWithSink O C) × Has turn.old y }
     requires may { MayStep closes_of (pass_of turn.old) (lost_by (seen_by (pass_of turn.old)) _end _xid _buffers.now.value) }
     ensures same { IsSameTurn turn.old turn.new }
-    ensures held { (y : RequesterWithSink O) → Has turn.old y → Has turn.new y }
+    ensures held { (y : RequesterWithSink O C) → Has turn.old y → Has turn.new y }
     ensures step { Steps (pass_of turn.old) (pass_of turn.new) (lost_by (seen_by (pass_of turn.old)) _end _xid _buffers.now.value) }
 {
     turn.step::<EntryOf<K>>();
 }
 
 /// Appends the entry of a piece that is fed.
-pub(crate) fn append_fed<O: Sink, K: Appended>(
-    turn: &mut MainTurn<'_, O>,
+pub(crate) fn append_fed<O: Sink, C: CallRule, K: Appended>(
+    turn: &mut MainTurn<'_, O, C>,
     _out_of_memory: bool,
     _piece: &[u8],
 )
     requires entry { fed_after (seen_by (pass_of turn.old)) _out_of_memory _piece.now ≡ K.entry }
-    requires value { (y : RequesterWithSink O) × Has turn.old y }
+    requires value { (y : RequesterWithSink O C) × Has turn.old y }
     requires may { MayStep closes_of (pass_of turn.old) (fed_after (seen_by (pass_of turn.old)) _out_of_memory _piece.now) }
     ensures same { IsSameTurn turn.old turn.new }
-    ensures held { (y : RequesterWithSink O) → Has turn.old y → Has turn.new y }
+    ensures held { (y : RequesterWithSink O C) → Has turn.old y → Has turn.new y }
     ensures step { Steps (pass_of turn.old) (pass_of turn.new) (fed_after (seen_by (pass_of turn.old)) _out_of_memory _piece.now) }
 {
     turn.step::<EntryOf<K>>();
 }
 
 /// Appends the Stopped of the end of feeding.
-pub(crate) fn append_stopped<O: Sink, K: Appended>(turn: &mut MainTurn<'_, O>, _cause: Stop)
+pub(crate) fn append_stopped<O: Sink, C: CallRule, K: Appended>(
+    turn: &mut MainTurn<'_, O, C>,
+    _cause: Stop,
+)
     requires entry { stopped_after (seen_by (pass_of turn.old)) _cause ≡ K.entry }
-    requires value { (y : RequesterWithSink O) × Has turn.old y }
+    requires value { (y : RequesterWithSink O C) × Has turn.old y }
     requires may { MayStep closes_of (pass_of turn.old) (stopped_after (seen_by (pass_of turn.old)) _cause) }
     ensures same { IsSameTurn turn.old turn.new }
-    ensures held { (y : RequesterWithSink O) → Has turn.old y → Has turn.new y }
+    ensures held { (y : RequesterWithSink O C) → Has turn.old y → Has turn.new y }
     ensures step { Steps (pass_of turn.old) (pass_of turn.new) (stopped_after (seen_by (pass_of turn.old)) _cause) }
 {
     turn.step::<EntryOf<K>>();

@@ -13,6 +13,7 @@ ghost use Rattle.nr_shared.specs.Sharing.{SaysCredit, SaysCreditOutOfMemory};
 ghost use Rattle.nr_shared.specs.Waiting.{IsSubmitTurn, IsPollTurn};
 
 use crate::call_end::CallEnd;
+use crate::call_rule::CallRule;
 use crate::requester_with_sink::MainTurn;
 use crate::turns::{drain_under, forget_under, submit_under, try_take_under};
 use nr_outside::Sink;
@@ -53,11 +54,14 @@ pub enum CreditState {
 }
 
 /// Takes the answer of a call of the pass's own, if it is there; or forgets the call, if none comes any more.
-pub(crate) fn poll_under<O: Sink>(turn: &mut MainTurn<'_, O>, ticket: Ticket) -> PollTurn
-    requires ready { IsReady O.taken O.faults turn.old }
+pub(crate) fn poll_under<O: Sink, C: CallRule>(
+    turn: &mut MainTurn<'_, O, C>,
+    ticket: Ticket,
+) -> PollTurn
+    requires ready { IsReady O.taken O.faults C.allows turn.old }
     requires has_call { HasOpenCall (pass_of turn.old) ticket }
     ensures same { IsSameTurn turn.old turn.new }
-    ensures ready { IsReady O.taken O.faults turn.new }
+    ensures ready { IsReady O.taken O.faults C.allows turn.new }
     ensures polled { IsPollTurn (pass_of turn.old) (pass_of turn.new) ticket result }
 {
     let with_sink = turn.value();
@@ -80,10 +84,10 @@ pub(crate) fn poll_under<O: Sink>(turn: &mut MainTurn<'_, O>, ticket: Ticket) ->
 }
 
 /// Whether a credit is left, or the link has ended.
-fn credit_state_under<O: Sink>(turn: &mut MainTurn<'_, O>) -> CreditState
-    requires ready { IsReady O.taken O.faults turn.old }
+fn credit_state_under<O: Sink, C: CallRule>(turn: &mut MainTurn<'_, O, C>) -> CreditState
+    requires ready { IsReady O.taken O.faults C.allows turn.old }
     ensures same { IsSameTurn turn.old turn.new }
-    ensures ready { IsReady O.taken O.faults turn.new }
+    ensures ready { IsReady O.taken O.faults C.allows turn.new }
     ensures seen { seen_by (pass_of turn.new) ≡ seen_by (pass_of turn.old) }
     ensures mine { mine_of (pass_of turn.new) ≡ mine_of (pass_of turn.old) }
     ensures found { IsCreditState turn.new result }
@@ -100,15 +104,16 @@ fn credit_state_under<O: Sink>(turn: &mut MainTurn<'_, O>) -> CreditState
 }
 
 /// Writes the output that is due. Then, if a credit is left, submits a call and writes it.
-pub(crate) fn submit_if_credit_under<O: Sink>(
-    turn: &mut MainTurn<'_, O>,
+pub(crate) fn submit_if_credit_under<O: Sink, C: CallRule>(
+    turn: &mut MainTurn<'_, O, C>,
     call: Call,
     form: Form,
 ) -> SubmitTurn
     requires writable { CanWriteCred call.cred }
-    requires ready { IsReady O.taken O.faults turn.old }
+    requires allowed { C.allows call form }
+    requires ready { IsReady O.taken O.faults C.allows turn.old }
     ensures same { IsSameTurn turn.old turn.new }
-    ensures ready { IsReady O.taken O.faults turn.new }
+    ensures ready { IsReady O.taken O.faults C.allows turn.new }
     ensures submitted { IsSubmitTurn (pass_of turn.old) (pass_of turn.new) call form result }
 {
     drain_under(turn);
@@ -130,13 +135,13 @@ pub(crate) fn submit_if_credit_under<O: Sink>(
 }
 
 /// Whether more of the stream is needed: nothing has ended, and the answer of the call isn't there, or no credit is left.
-pub(crate) fn needs_input_under<O: Sink>(
-    turn: &mut MainTurn<'_, O>,
+pub(crate) fn needs_input_under<O: Sink, C: CallRule>(
+    turn: &mut MainTurn<'_, O, C>,
     ticket: Option<&Ticket>,
 ) -> bool
-    requires ready { IsReady O.taken O.faults turn.old }
+    requires ready { IsReady O.taken O.faults C.allows turn.old }
     ensures same { IsSameTurn turn.old turn.new }
-    ensures ready { IsReady O.taken O.faults turn.new }
+    ensures ready { IsReady O.taken O.faults C.allows turn.new }
     ensures seen { seen_by (pass_of turn.new) ≡ seen_by (pass_of turn.old) }
     ensures mine { mine_of (pass_of turn.new) ≡ mine_of (pass_of turn.old) }
     ensures needs_input { result ≡ true → stop_of (seen_by (pass_of turn.old)) ≡ None }
@@ -152,10 +157,10 @@ pub(crate) fn needs_input_under<O: Sink>(
 }
 
 /// Whether a credit is left.
-pub(crate) fn credit_under<O: Sink>(turn: &mut MainTurn<'_, O>) -> bool
-    requires ready { IsReady O.taken O.faults turn.old }
+pub(crate) fn credit_under<O: Sink, C: CallRule>(turn: &mut MainTurn<'_, O, C>) -> bool
+    requires ready { IsReady O.taken O.faults C.allows turn.old }
     ensures same { IsSameTurn turn.old turn.new }
-    ensures ready { IsReady O.taken O.faults turn.new }
+    ensures ready { IsReady O.taken O.faults C.allows turn.new }
     ensures seen { seen_by (pass_of turn.new) ≡ seen_by (pass_of turn.old) }
     ensures mine { mine_of (pass_of turn.new) ≡ mine_of (pass_of turn.old) }
     ensures credit { SaysCredit result (seen_by (pass_of turn.old)) }

@@ -10,6 +10,7 @@ ghost use Rattle.nr_shared.specs.Sharing.{SaysCredit, SaysCreditOutOfMemory, Sha
 ghost use Rattle.nr_shared.specs.Waiting.{IsSubmitTurn, Calls, ForgetsCall, IsPollTurn, Submits, Waits};
 
 use crate::call_end::CallEnd;
+use crate::call_rule::CallRule;
 use crate::caller_turns::{PollTurn, SubmitTurn, credit_under, poll_under, submit_if_credit_under};
 use crate::requester_with_sink::MainPass;
 use crate::shared::{Pass, SharedRequester};
@@ -19,17 +20,18 @@ use nr_reduce::{Call, Form};
 use nr_requester::{Done, Ticket};
 use std::sync::Wait;
 
-impl<I: Source, O: Sink> SharedRequester<I, O> {
-    /// Makes a call, and waits for its outcome. It is submitted once a credit is left. If there is no outcome, a call that was submitted is
+impl<I: Source, O: Sink, C: CallRule> SharedRequester<I, O, C> {
+    /// Makes a call that the rule allows, and waits for its outcome. It is submitted once a credit is left. If there is no outcome, a call that was submitted is
     /// forgotten.
     pub fn call<R: Wait>(
         &self,
         rt: &R,
-        pass: &mut Pass<I, O>,
+        pass: &mut Pass<I, O, C>,
         call: Call,
         form: Form,
     ) -> Result<Done, CallEnd>
         requires writable { CanWriteCred call.cred }
+        requires allowed { C.allows call form }
         requires rests { SharedRests self.now pass.old }
         ensures rests { SharedRests self.now pass.new }
         ensures source { seen_by pass.new.source ≡ seen_by pass.old.source }
@@ -45,15 +47,16 @@ impl<I: Source, O: Sink> SharedRequester<I, O> {
         }
     }
 
-    /// Submits a call once a credit is left. `wait`, `forget` or `try_revoke` takes its ticket.
+    /// Submits a call that the rule allows, once a credit is left. `wait`, `forget` or `try_revoke` takes its ticket.
     pub fn submit<R: Wait>(
         &self,
         rt: &R,
-        pass: &mut Pass<I, O>,
+        pass: &mut Pass<I, O, C>,
         call: Call,
         form: Form,
     ) -> Result<Ticket, CallEnd>
         requires writable { CanWriteCred call.cred }
+        requires allowed { C.allows call form }
         requires rests { SharedRests self.now pass.old }
         ensures rests { SharedRests self.now pass.new }
         ensures source { seen_by pass.new.source ≡ seen_by pass.old.source }
@@ -79,7 +82,7 @@ impl<I: Source, O: Sink> SharedRequester<I, O> {
     pub fn wait<R: Wait>(
         &self,
         rt: &R,
-        pass: &mut Pass<I, O>,
+        pass: &mut Pass<I, O, C>,
         ticket: Ticket,
     ) -> Result<Done, CallEnd>
         requires rests { SharedRests self.now pass.old }
@@ -101,7 +104,7 @@ impl<I: Source, O: Sink> SharedRequester<I, O> {
     }
 
     /// Forgets a call of the pass's own, whether or not its answer has come.
-    pub fn forget<R: Wait>(&self, rt: &R, pass: &mut Pass<I, O>, ticket: Ticket)
+    pub fn forget<R: Wait>(&self, rt: &R, pass: &mut Pass<I, O, C>, ticket: Ticket)
         requires rests { SharedRests self.now pass.old }
         requires has_call { HasOpenCall pass.old.main ticket }
         ensures rests { SharedRests self.now pass.new }
@@ -112,7 +115,7 @@ impl<I: Source, O: Sink> SharedRequester<I, O> {
     }
 
     /// Whether a credit is left at this moment.
-    pub fn has_credit<R: Wait>(&self, rt: &R, pass: &mut Pass<I, O>) -> bool
+    pub fn has_credit<R: Wait>(&self, rt: &R, pass: &mut Pass<I, O, C>) -> bool
         requires { SharedRests self.now pass.old }
         ensures rests { SharedRests self.now pass.new }
         ensures source { seen_by pass.new.source ≡ seen_by pass.old.source }
@@ -128,11 +131,12 @@ impl<I: Source, O: Sink> SharedRequester<I, O> {
     fn submit_turn<R: Wait>(
         &self,
         rt: &R,
-        main: &mut MainPass<O>,
+        main: &mut MainPass<O, C>,
         call: Call,
         form: Form,
     ) -> SubmitTurn
         requires writable { CanWriteCred call.cred }
+        requires allowed { C.allows call form }
         requires rests { Rests self.now.main main.old }
         requires lies { Lies (seen_by main.old) (mine_of main.old) }
         ensures rests { Rests self.now.main main.new }
@@ -146,7 +150,7 @@ impl<I: Source, O: Sink> SharedRequester<I, O> {
     }
 
     // One turn of a caller that gives a call up.
-    fn forget_turn<R: Wait>(&self, rt: &R, main: &mut MainPass<O>, ticket: Ticket)
+    fn forget_turn<R: Wait>(&self, rt: &R, main: &mut MainPass<O, C>, ticket: Ticket)
         requires rests { Rests self.now.main main.old }
         requires has_call { HasOpenCall main.old ticket }
         ensures rests { Rests self.now.main main.new }
@@ -159,7 +163,7 @@ impl<I: Source, O: Sink> SharedRequester<I, O> {
     }
 
     // One turn of a caller that asks for a credit.
-    fn credit_turn<R: Wait>(&self, rt: &R, main: &mut MainPass<O>) -> bool
+    fn credit_turn<R: Wait>(&self, rt: &R, main: &mut MainPass<O, C>) -> bool
         requires rests { Rests self.now.main main.old }
         requires lies { Lies (seen_by main.old) (mine_of main.old) }
         ensures rests { Rests self.now.main main.new }
@@ -176,7 +180,7 @@ impl<I: Source, O: Sink> SharedRequester<I, O> {
     }
 
     // One turn of a caller that waits.
-    fn poll_turn<R: Wait>(&self, rt: &R, main: &mut MainPass<O>, ticket: Ticket) -> PollTurn
+    fn poll_turn<R: Wait>(&self, rt: &R, main: &mut MainPass<O, C>, ticket: Ticket) -> PollTurn
         requires rests { Rests self.now.main main.old }
         requires has_call { HasOpenCall main.old ticket }
         ensures rests { Rests self.now.main main.new }

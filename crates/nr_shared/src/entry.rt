@@ -28,7 +28,7 @@ pub struct InitialState {
 }
 
 /// An entry. `submit` is the place of the call's Submit, which the entry closes. `previous` is the place of the entry that fed
-/// before, which the entry closes.
+/// before, which the entry closes: the first one closes `Initial`.
 pub enum Entry {
     /// The requester was shared, in this state.
     Initial(InitialState),
@@ -42,10 +42,10 @@ pub enum Entry {
     Wrote {
         bytes: LinkedList<u8>,
     },
-    /// Bytes were fed. `previous` is none for bytes that were fed before the requester was shared.
+    /// Bytes were fed.
     Fed {
         bytes: LinkedList<u8>,
-        previous: Option<u64>,
+        previous: u64,
     },
     /// The outcome of a call was delivered.
     Done {
@@ -74,11 +74,11 @@ pub enum Entry {
     /// No bytes are fed any more, for a cause other than out of memory.
     Stopped {
         cause: Stop,
-        previous: Option<u64>,
+        previous: u64,
     },
     /// Memory ran out for a frame of this piece. Its first bytes, up to that frame, were fed.
     OutOfMemory {
         piece: LinkedList<u8>,
-        previous: Option<u64>,
+        previous: u64,
     },
 }

@@ -10,6 +10,7 @@
 
 mod appending;
 mod call_end;
+mod call_rule;
 mod caller_turns;
 mod calling;
 mod entry;
@@ -23,6 +24,7 @@ mod turns;
 
 pub use appending::Appended;
 pub use call_end::CallEnd;
+pub use call_rule::{AnyCall, CallRule};
 pub use entry::{Entry, InitialState, Stop};
 pub use laws::opened_requesters_fit;
 pub use opening::InitialHistory;

@@ -9,6 +9,7 @@ ghost use Rattle.nr_shared.specs.Opening.{GivesBack, IsInitialHistory};
 ghost use Rattle.nr_shared.specs.Sharing.{SharedRests};
 
 use crate::appending::Appended;
+use crate::call_rule::CallRule;
 use crate::entry::Entry;
 use crate::requester_with_sink::RequesterWithSink;
 use crate::shared::{Pass, SharedRequester};
@@ -32,13 +33,13 @@ impl<K: Appended> OpeningHistory<Entry> for InitialHistory<K> {
 }
 
 /// The history of a source, for the proof.
-pub trait SourceHistory<I, O> {
+pub trait SourceHistory<I, O, C> {
     ghost use Rattle.nr_shared.specs.declared.source_reader.InitialSource.{InitialSource};
 
-    ghost source_history: { List (InitialSource I O) };
+    ghost source_history: { List (InitialSource I O C) };
 }
 
-impl<I, O> SourceHistory<I, O> for Brand {
+impl<I, O, C> SourceHistory<I, O, C> for Brand {
     ghost source_history = { [] };
 }
 
@@ -47,23 +48,24 @@ pub struct SourceHistoryOf<K> {
     of: PhantomData<K>,
 }
 
-impl<I: Source, O: Sink, K: SourceHistory<I, O>> OpeningHistory<InitialSource<I, O>>
-    for SourceHistoryOf<K> {
+impl<I: Source, O: Sink, C: CallRule, K: SourceHistory<I, O, C>> OpeningHistory<
+    InitialSource<I, O, C>,
+> for SourceHistoryOf<K> {
     ghost history = { K.source_history };
 }
 
 /// Puts the source, with the pass that feeds, in a turnstile.
-fn share_reader<I: Source, O: Sink, K: SourceHistory<I, O>>(
+fn share_reader<I: Source, O: Sink, C: CallRule, K: SourceHistory<I, O, C>>(
     alloc: Global,
-    reader: SourceReader<I, O>,
+    reader: SourceReader<I, O, C>,
     _source: &Snapshot<I>,
-    _pass: &Snapshot<nr_turnstile::Pass<RequesterWithSink<O>>>,
+    _pass: &Snapshot<nr_turnstile::Pass<RequesterWithSink<O, C>>>,
 ) -> Result<
     (
-        Turnstile<SourceReader<I, O>>,
-        nr_turnstile::Pass<SourceReader<I, O>>,
+        Turnstile<SourceReader<I, O, C>>,
+        nr_turnstile::Pass<SourceReader<I, O, C>>,
     ),
-    SourceReader<I, O>,
+    SourceReader<I, O, C>,
 >
 where
     I: Drop,
@@ -80,16 +82,16 @@ where
 }
 
 /// Takes the requester and the sink out of their turnstile, with the pass of a caller and the one that feeds.
-fn take_back<R: Wait, I: Source, O: Sink>(
+fn take_back<R: Wait, I: Source, O: Sink, C: CallRule>(
     rt: &R,
-    main: Turnstile<RequesterWithSink<O>>,
-    mut caller: nr_turnstile::Pass<RequesterWithSink<O>>,
-    reader: SourceReader<I, O>,
+    main: Turnstile<RequesterWithSink<O, C>>,
+    mut caller: nr_turnstile::Pass<RequesterWithSink<O, C>>,
+    reader: SourceReader<I, O, C>,
 ) -> (Requester, I, O)
     requires rests { Rests main caller }
     requires caller { IsCaller caller }
-    requires feeds { (b : InitialSource I O) × (FeedsFor I.left I.given I.faults b reader × (home_of b.pass.value ≡ id_of main)) }
-    ensures { (b : InitialSource I O) → FeedsFor I.left I.given I.faults b reader → GivesBack I.left I.given I.faults O.taken O.faults (seen_by caller) (mine_of caller) b.source.value result.0 result.1 result.2 }
+    requires feeds { (b : InitialSource I O C) × (FeedsFor I.left I.given I.faults b reader × (home_of b.pass.value ≡ id_of main)) }
+    ensures { (b : InitialSource I O C) → FeedsFor I.left I.given I.faults b reader → GivesBack I.left I.given I.faults O.taken O.faults C.allows (seen_by caller) (mine_of caller) b.source.value result.0 result.1 result.2 }
 {
     let SourceReader {
         source,
@@ -105,7 +107,7 @@ fn take_back<R: Wait, I: Source, O: Sink>(
     (requester, source, sink)
 }
 
-impl<I: Source, O: Sink> SharedRequester<I, O> {
+impl<I: Source, O: Sink, C: CallRule> SharedRequester<I, O, C> {
     /// Lets callers share a requester with its source and its sink. `H` names the history that it begins with, whose one entry is the initial
     /// state. The pass has seen this history, and nothing is its own. After out of memory all three come back.
     pub fn new<H: OpeningHistory<Entry>, R: Wait>(
@@ -114,15 +116,15 @@ impl<I: Source, O: Sink> SharedRequester<I, O> {
         requester: Requester,
         source: I,
         sink: O,
-    ) -> Result<(SharedRequester<I, O>, Pass<I, O>), (Requester, I, O)>
+    ) -> Result<(SharedRequester<I, O, C>, Pass<I, O, C>), (Requester, I, O)>
     where
         I: Drop,
         O: Drop,
         requires { IsInitialHistory O.taken O.faults requester sink H.history }
         ensures rests { IfOk result (λ t. SharedRests t.0 t.1) }
         ensures seen { IfOk result (λ t. (seen_by t.1.main ≡ H.history) × (mine_of t.1.main ≡ [])) }
-        ensures source { IfOk result (λ t. (b : InitialSource I O) × ((seen_by t.1.source ≡ b ∷ []) × (b.source.value ≡ source))) }
-        ensures err { IfErr result (λ back. GivesBack I.left I.given I.faults O.taken O.faults H.history [] source back.0 back.1 back.2) }
+        ensures source { IfOk result (λ t. (b : InitialSource I O C) × ((seen_by t.1.source ≡ b ∷ []) × (b.source.value ≡ source))) }
+        ensures err { IfErr result (λ back. GivesBack I.left I.given I.faults O.taken O.faults C.allows H.history [] source back.0 back.1 back.2) }
     {
         let with_sink = RequesterWithSink::of_parts(requester, sink);
         let Ok(buf) = vec![in alloc; 0u8; PIECE_MAX] else {
@@ -154,7 +156,7 @@ impl<I: Source, O: Sink> SharedRequester<I, O> {
             read: 0,
             buf,
         };
-        match share_reader::<I, O, Brand>(alloc, reader, &first_source, &first) {
+        match share_reader::<I, O, C, Brand>(alloc, reader, &first_source, &first) {
             Ok((source, pass)) => Ok((
                 SharedRequester { main, source },
                 Pass {
@@ -167,9 +169,9 @@ impl<I: Source, O: Sink> SharedRequester<I, O> {
     }
 
     /// Waits until both turns are free, and gives the requester, the source and the sink back.
-    pub fn close<R: Wait>(self, rt: &R, pass: Pass<I, O>) -> (Requester, I, O)
+    pub fn close<R: Wait>(self, rt: &R, pass: Pass<I, O, C>) -> (Requester, I, O)
         requires { SharedRests self pass }
-        ensures { (b : InitialSource I O) × ((seen_by pass.source ≡ b ∷ []) × GivesBack I.left I.given I.faults O.taken O.faults (seen_by pass.main) (mine_of pass.main) b.source.value result.0 result.1 result.2) }
+        ensures { (b : InitialSource I O C) × ((seen_by pass.source ≡ b ∷ []) × GivesBack I.left I.given I.faults O.taken O.faults C.allows (seen_by pass.main) (mine_of pass.main) b.source.value result.0 result.1 result.2) }
     {
         let SharedRequester { main, source } = self;
         let Pass {

@@ -10,6 +10,7 @@ ghost use Rattle.nr_shared.specs.Callers.{IsFeeding};
 ghost use Rattle.nr_shared.specs.Feeding.{FeedsFor};
 ghost use Rattle.nr_shared.specs.Histories.{bytes_fed, stop_of};
 
+use crate::call_rule::CallRule;
 use crate::caller_turns::needs_input_under;
 use crate::entry::Stop;
 use crate::requester_with_sink::MainPass;
@@ -20,16 +21,16 @@ use nr_outside::{Sink, Source};
 use nr_requester::Ticket;
 use std::sync::Wait;
 
-impl<I: Source, O: Sink> SharedRequester<I, O> {
+impl<I: Source, O: Sink, C: CallRule> SharedRequester<I, O, C> {
     // The source's turn: reads a piece and feeds it, if the answer of the call isn't there, or no credit is left.
     pub(crate) fn receive<R: Wait>(
         &self,
         rt: &R,
-        source: &mut nr_turnstile::Pass<SourceReader<I, O>>,
+        source: &mut nr_turnstile::Pass<SourceReader<I, O, C>>,
         ticket: Option<&Ticket>,
     )
         requires rests { Rests self.now.source source.old }
-        requires initial_source { (b : InitialSource I O) × ((seen_by source.old ≡ b ∷ []) × (home_of b.pass.value ≡ id_of self.now.main)) }
+        requires initial_source { (b : InitialSource I O C) × ((seen_by source.old ≡ b ∷ []) × (home_of b.pass.value ≡ id_of self.now.main)) }
         ensures rests { Rests self.now.source source.new }
         ensures seen { seen_by source.new ≡ seen_by source.old }
     {
@@ -43,11 +44,11 @@ impl<I: Source, O: Sink> SharedRequester<I, O> {
     fn receive_piece<R: Wait>(
         &self,
         rt: &R,
-        reader: &mut SourceReader<I, O>,
+        reader: &mut SourceReader<I, O, C>,
         ticket: Option<&Ticket>,
     )
-        requires { (b : InitialSource I O) × (FeedsFor I.left I.given I.faults b reader.old × (home_of b.pass.value ≡ id_of self.now.main)) }
-        ensures { (b : InitialSource I O) → FeedsFor I.left I.given I.faults b reader.old → home_of b.pass.value ≡ id_of self.now.main → FeedsFor I.left I.given I.faults b reader.new }
+        requires { (b : InitialSource I O C) × (FeedsFor I.left I.given I.faults b reader.old × (home_of b.pass.value ≡ id_of self.now.main)) }
+        ensures { (b : InitialSource I O C) → FeedsFor I.left I.given I.faults b reader.old → home_of b.pass.value ≡ id_of self.now.main → FeedsFor I.left I.given I.faults b reader.new }
     {
         if !self.needs_input(rt, &mut reader.pass, ticket) {
             return;
@@ -65,7 +66,7 @@ impl<I: Source, O: Sink> SharedRequester<I, O> {
     fn needs_input<R: Wait>(
         &self,
         rt: &R,
-        feeding: &mut MainPass<O>,
+        feeding: &mut MainPass<O, C>,
         ticket: Option<&Ticket>,
     ) -> bool
         requires rests { Rests self.now.main feeding.old }
@@ -86,7 +87,7 @@ impl<I: Source, O: Sink> SharedRequester<I, O> {
     }
 
     // A piece is fed by the pass that feeds. Output that is due is written before it and after it. Answers whether memory ran out for a frame of it.
-    fn feed<R: Wait>(&self, rt: &R, feeding: &mut MainPass<O>, piece: &[u8]) -> bool
+    fn feed<R: Wait>(&self, rt: &R, feeding: &mut MainPass<O, C>, piece: &[u8]) -> bool
         requires rests { Rests self.now.main feeding.old }
         requires feeding { IsFeeding feeding.old }
         requires lies { Lies (seen_by feeding.old) (mine_of feeding.old) }
@@ -108,7 +109,7 @@ impl<I: Source, O: Sink> SharedRequester<I, O> {
     }
 
     // No more is fed: the pass that feeds appends that.
-    fn stop<R: Wait>(&self, rt: &R, feeding: &mut MainPass<O>, cause: Stop)
+    fn stop<R: Wait>(&self, rt: &R, feeding: &mut MainPass<O, C>, cause: Stop)
         requires rests { Rests self.now.main feeding.old }
         requires feeding { IsFeeding feeding.old }
         requires lies { Lies (seen_by feeding.old) (mine_of feeding.old) }

@@ -9,6 +9,7 @@ ghost use Rattle.nr_requester.specs.Answers.{answer_of};
 ghost use Rattle.nr_requester.specs.OpenCalls.{found_answer};
 
 use crate::call_end::CallEnd;
+use crate::call_rule::CallRule;
 use crate::entry::{Entry, Stop};
 use nr_link::End;
 use nr_links::READ_MAX;
@@ -16,6 +17,7 @@ use nr_outside::Sink;
 use nr_reduce::{Call, Form, Refused};
 use nr_requester::{Buffers, Done, Requester, Take, Ticket};
 use nr_turnstile::{Machine, Pass, Turn};
+use std::marker::PhantomData;
 
 /// What a drain did.
 #[derive(Clone, Copy)]
@@ -30,7 +32,7 @@ pub enum Drained {
 
 /// A requester with its sink.
 #[derive(Drop)]
-pub struct RequesterWithSink<O> {
+pub struct RequesterWithSink<O, C> {
     pub(crate) requester: Requester,
     pub(crate) sink: O,
     // The length of the history.
@@ -41,20 +43,21 @@ pub struct RequesterWithSink<O> {
     pub(crate) write_failed: bool,
     // Why no more is fed.
     pub(crate) stopped: Option<Stop>,
+    pub(crate) rule: PhantomData<C>,
 }
 
 /// A turn of a caller, and what it takes turns with.
-pub(crate) type MainTurn<'a, O> = Turn<'a, RequesterWithSink<O>>;
+pub(crate) type MainTurn<'a, O, C> = Turn<'a, RequesterWithSink<O, C>>;
 
-pub(crate) type MainPass<O> = Pass<RequesterWithSink<O>>;
+pub(crate) type MainPass<O, C> = Pass<RequesterWithSink<O, C>>;
 
-impl<O: Sink> Machine for RequesterWithSink<O> {
+impl<O: Sink, C: CallRule> Machine for RequesterWithSink<O, C> {
     ghost use Rattle.nr_shared.specs.Standing.{Stands};
     ghost use Rattle.nr_shared.specs.Histories.{closes_of};
 
     type Entry = Entry;
 
-    ghost stands = { Stands O.taken O.faults };
+    ghost stands = { Stands O.taken O.faults C.allows };
 
     ghost closes = { closes_of };
 
@@ -63,7 +66,7 @@ impl<O: Sink> Machine for RequesterWithSink<O> {
     }
 }
 
-impl<O: Sink> RequesterWithSink<O> {
+impl<O: Sink, C: CallRule> RequesterWithSink<O, C> {
     ghost use Rattle.nr_shared.specs.declared.entry.Entry.{Entry};
     ghost use Rattle.nr_shared.specs.declared.entry.Entry.TheVariants as entries;
     ghost use Rattle.nr_shared.specs.Standing.{Stands, Becomes};
@@ -79,8 +82,8 @@ impl<O: Sink> RequesterWithSink<O> {
     ghost use Rattle.nr_shared.specs.Opening.{IsInitialHistory};
 
     /// A requester that is shared, with its sink. Output may be pending.
-    pub(crate) fn of_parts(requester: Requester, sink: O) -> RequesterWithSink<O>
-        ensures { (history : List Entry) → IsInitialHistory O.taken O.faults requester sink history → Stands O.taken O.faults result history }
+    pub(crate) fn of_parts(requester: Requester, sink: O) -> RequesterWithSink<O, C>
+        ensures { (history : List Entry) → IsInitialHistory O.taken O.faults requester sink history → Stands O.taken O.faults C.allows result history }
     {
         requester.facts();
         RequesterWithSink {
@@ -90,12 +93,13 @@ impl<O: Sink> RequesterWithSink<O> {
             pending: true,
             write_failed: false,
             stopped: None,
+            rule: PhantomData,
         }
     }
 
     /// Why no answer comes any more, if so.
     pub(crate) fn end(&self) -> Option<CallEnd>
-        ensures some { IfSome result (λ end. (history : List Entry) → Stands O.taken O.faults self.now history → LinkEnded end history) }
+        ensures some { IfSome result (λ end. (history : List Entry) → Stands O.taken O.faults C.allows self.now history → LinkEnded end history) }
         ensures none { result ≡ None → (self.now.requester.state.side.ended ≡ None) × (self.now.stopped ≡ None) }
     {
         if let Some(end) = self.requester.end() {
@@ -123,8 +127,9 @@ impl<O: Sink> RequesterWithSink<O> {
     /// Submits a call.
     pub(crate) fn submit(&mut self, call: Call, form: Form) -> Result<Ticket, (Call, Refused)>
         requires writable { CanWriteCred call.cred }
-        requires stands { (history : List Entry) × Stands O.taken O.faults self.old history }
-        ensures accepted { IfOk result (λ xid. Becomes O.taken O.faults self.old self.new (entries.Submit call form xid ∷ [])) }
+        requires allowed { C.allows call form }
+        requires stands { (history : List Entry) × Stands O.taken O.faults C.allows self.old history }
+        ensures accepted { IfOk result (λ xid. Becomes O.taken O.faults C.allows self.old self.new (entries.Submit call form xid ∷ [])) }
         ensures refused { IfErr result (λ e. e.1 ≢ refusals.Memory → answer_of self.old.requester.state call form ≡ submissions.Refused e.1) }
         ensures returned { IfErr result (λ e. e.0 ≡ call) }
         ensures err { OnErr result (self.new ≡ self.old) }
@@ -141,8 +146,8 @@ impl<O: Sink> RequesterWithSink<O> {
 
     /// Hands the output to the sink, unless a write failed before.
     pub(crate) fn drain(&mut self) -> Drained
-        requires stands { (history : List Entry) × Stands O.taken O.faults self.old history }
-        ensures drained { Becomes O.taken O.faults self.old self.new (drained_entries self.old.requester.state self.new.requester.state result) }
+        requires stands { (history : List Entry) × Stands O.taken O.faults C.allows self.old history }
+        ensures drained { Becomes O.taken O.faults C.allows self.old self.new (drained_entries self.old.requester.state self.new.requester.state result) }
         ensures tickets { KeepsTickets self.old.requester.state self.new.requester.state }
         ensures stopped { self.new.stopped ≡ self.old.stopped }
         ensures flushed { IsFlushed self.new }
@@ -172,9 +177,9 @@ impl<O: Sink> RequesterWithSink<O> {
         requires some { 0 < length piece.now }
         requires goes { self.old.stopped ≡ None }
         requires flushed { IsFlushed self.old }
-        requires stands { (history : List Entry) × (Stands O.taken O.faults self.old history × (length (bytes_fed history) + length piece.now ≤ read_max)) }
-        ensures fed { (history : List Entry) (last : ℕ) → Stands O.taken O.faults self.old history → last_feeding history ≡ Some last → length (bytes_fed history) + length piece.now ≤ read_max →
-            Stands O.taken O.faults self.new (history ++ fed_entry result piece.now last ∷ []) }
+        requires stands { (history : List Entry) × (Stands O.taken O.faults C.allows self.old history × (length (bytes_fed history) + length piece.now ≤ read_max)) }
+        ensures fed { (history : List Entry) (last : ℕ) → Stands O.taken O.faults C.allows self.old history → last_feeding history ≡ Some last → length (bytes_fed history) + length piece.now ≤ read_max →
+            Stands O.taken O.faults C.allows self.new (history ++ fed_entry result piece.now last ∷ []) }
         ensures tickets { KeepsTickets self.old.requester.state self.new.requester.state }
     {
         self.entries += 1;
@@ -195,9 +200,9 @@ impl<O: Sink> RequesterWithSink<O> {
     pub(crate) fn stop(&mut self, cause: Stop)
         requires cause { cause ≢ causes.Memory }
         requires goes { self.old.stopped ≡ None }
-        requires stands { (history : List Entry) × Stands O.taken O.faults self.old history }
-        ensures stopped { (history : List Entry) (last : ℕ) → Stands O.taken O.faults self.old history → last_feeding history ≡ Some last →
-            Stands O.taken O.faults self.new (history ++ entries.Stopped cause (Some last) ∷ []) }
+        requires stands { (history : List Entry) × Stands O.taken O.faults C.allows self.old history }
+        ensures stopped { (history : List Entry) (last : ℕ) → Stands O.taken O.faults C.allows self.old history → last_feeding history ≡ Some last →
+            Stands O.taken O.faults C.allows self.new (history ++ entries.Stopped cause last ∷ []) }
     {
         self.stopped = Some(cause);
         self.entries += 1;
@@ -205,9 +210,9 @@ impl<O: Sink> RequesterWithSink<O> {
 
     /// Takes the answer of a call; or the call comes back with its buffers, if the requester has ended before.
     pub(crate) fn try_take(&mut self, ticket: Ticket) -> Take
-        requires has_call { (history : List Entry) × (k : ℕ) × (call : Call) × (Stands O.taken O.faults self.old history × (IsCallAt history ticket k call × IsUnclosed history k)) }
-        ensures taken { (history : List Entry) (k : ℕ) (call : Call) → Stands O.taken O.faults self.old history → IsCallAt history ticket k call → IsUnclosed history k →
-            TakenBy O.taken O.faults history ticket k call result self.new }
+        requires has_call { (history : List Entry) × (k : ℕ) × (call : Call) × (Stands O.taken O.faults C.allows self.old history × (IsCallAt history ticket k call × IsUnclosed history k)) }
+        ensures taken { (history : List Entry) (k : ℕ) (call : Call) → Stands O.taken O.faults C.allows self.old history → IsCallAt history ticket k call → IsUnclosed history k →
+            TakenBy O.taken O.faults C.allows history ticket k call result self.new }
         ensures there { is_some (found_answer ticket self.old.requester.state) ≡ true → IsDone result }
     {
         match self.requester.try_take(ticket) {
@@ -225,9 +230,9 @@ impl<O: Sink> RequesterWithSink<O> {
 
     /// Forgets a call.
     pub(crate) fn forget(&mut self, ticket: Ticket)
-        requires has_call { (history : List Entry) × (k : ℕ) × (call : Call) × (Stands O.taken O.faults self.old history × (IsCallAt history ticket k call × IsUnclosed history k)) }
-        ensures forgotten { (history : List Entry) (k : ℕ) (call : Call) → Stands O.taken O.faults self.old history → IsCallAt history ticket k call → IsUnclosed history k →
-            Stands O.taken O.faults self.new (history ++ entries.Forget ticket k ∷ []) }
+        requires has_call { (history : List Entry) × (k : ℕ) × (call : Call) × (Stands O.taken O.faults C.allows self.old history × (IsCallAt history ticket k call × IsUnclosed history k)) }
+        ensures forgotten { (history : List Entry) (k : ℕ) (call : Call) → Stands O.taken O.faults C.allows self.old history → IsCallAt history ticket k call → IsUnclosed history k →
+            Stands O.taken O.faults C.allows self.new (history ++ entries.Forget ticket k ∷ []) }
     {
         self.requester.forget(ticket);
         self.entries += 1;
@@ -235,9 +240,9 @@ impl<O: Sink> RequesterWithSink<O> {
 
     /// Revokes the memory of a call. The call and its buffers come back.
     pub(crate) fn revoke(&mut self, ticket: Ticket) -> (Call, Buffers)
-        requires has_call { (history : List Entry) × (k : ℕ) × (call : Call) × (Stands O.taken O.faults self.old history × (IsCallAt history ticket k call × IsUnclosed history k)) }
-        ensures revoked { (history : List Entry) (k : ℕ) (call : Call) → Stands O.taken O.faults self.old history → IsCallAt history ticket k call → IsUnclosed history k →
-            Stands O.taken O.faults self.new (history ++ entries.Revoke ticket (bytes_of_buffers result.1) k ∷ []) × (result.0 ≡ call) }
+        requires has_call { (history : List Entry) × (k : ℕ) × (call : Call) × (Stands O.taken O.faults C.allows self.old history × (IsCallAt history ticket k call × IsUnclosed history k)) }
+        ensures revoked { (history : List Entry) (k : ℕ) (call : Call) → Stands O.taken O.faults C.allows self.old history → IsCallAt history ticket k call → IsUnclosed history k →
+            Stands O.taken O.faults C.allows self.new (history ++ entries.Revoke ticket (bytes_of_buffers result.1) k ∷ []) × (result.0 ≡ call) }
     {
         let given = self.requester.revoke(ticket);
         self.entries += 1;

@@ -6,6 +6,7 @@ ghost use Rattle.nr_outside.specs.Content.{HandsOut};
 ghost use Rattle.nr_outside.specs.Faults.{Rises};
 ghost use Rattle.nr_links.specs.Limits.{piece_max, read_max};
 
+use crate::call_rule::CallRule;
 use crate::entry::Stop;
 use crate::requester_with_sink::RequesterWithSink;
 use nr_links::{PIECE_MAX, READ_MAX};
@@ -15,9 +16,9 @@ use std::snapshot::Snapshot;
 
 /// The source of a link, with the one pass that feeds what it gives.
 #[derive(Drop)]
-pub struct SourceReader<I, O: Sink> {
+pub struct SourceReader<I, O: Sink, C: CallRule> {
     pub(crate) source: I,
-    pub(crate) pass: Pass<RequesterWithSink<O>>,
+    pub(crate) pass: Pass<RequesterWithSink<O, C>>,
     // How many bytes were read.
     pub(crate) read: u64,
     // What is read is put into it.
@@ -25,15 +26,15 @@ pub struct SourceReader<I, O: Sink> {
 }
 
 /// The source when it was shared, and the first pass that fed. No value of it is made.
-pub struct InitialSource<I, O: Sink> {
+pub struct InitialSource<I, O: Sink, C: CallRule> {
     pub source: Snapshot<I>,
-    pub pass: Snapshot<Pass<RequesterWithSink<O>>>,
+    pub pass: Snapshot<Pass<RequesterWithSink<O, C>>>,
 }
 
-impl<I: Source, O: Sink> Machine for SourceReader<I, O> {
+impl<I: Source, O: Sink, C: CallRule> Machine for SourceReader<I, O, C> {
     ghost use Rattle.nr_shared.specs.Feeding.{Feeds, closes_none};
 
-    type Entry = InitialSource<I, O>;
+    type Entry = InitialSource<I, O, C>;
 
     ghost stands = { Feeds I.left I.given I.faults };
 
@@ -44,7 +45,7 @@ impl<I: Source, O: Sink> Machine for SourceReader<I, O> {
     }
 }
 
-impl<I: Source, O: Sink> SourceReader<I, O> {
+impl<I: Source, O: Sink, C: CallRule> SourceReader<I, O, C> {
     ghost use Rattle.nr_shared.specs.Feeding.{StopHolds};
     ghost use Rattle.nr_shared.specs.declared.entry.Stop.TheVariants as causes;
 

@@ -26,6 +26,7 @@ use crate::appending::{
     append_done, append_fed, append_forget, append_lost, append_revoke, append_stopped,
     append_submit, append_write_failed, append_wrote,
 };
+use crate::call_rule::CallRule;
 use crate::entry::Stop;
 use crate::requester_with_sink::{Drained, MainTurn};
 use nr_outside::Sink;
@@ -35,15 +36,16 @@ use std::marker::Brand;
 use std::snapshot::Snapshot;
 
 /// Submits a call.
-pub(crate) fn submit_under<O: Sink>(
-    turn: &mut MainTurn<'_, O>,
+pub(crate) fn submit_under<O: Sink, C: CallRule>(
+    turn: &mut MainTurn<'_, O, C>,
     call: Call,
     form: Form,
 ) -> Result<Ticket, (Call, Refused)>
     requires writable { CanWriteCred call.cred }
-    requires ready { IsReady O.taken O.faults turn.old }
+    requires allowed { C.allows call form }
+    requires ready { IsReady O.taken O.faults C.allows turn.old }
     ensures same { IsSameTurn turn.old turn.new }
-    ensures ready { IsReady O.taken O.faults turn.new }
+    ensures ready { IsReady O.taken O.faults C.allows turn.new }
     ensures accepted { IfOk result (λ xid. Adds (pass_of turn.old) (pass_of turn.new) (entries.Submit call form xid ∷ []) × HasOpenCall (pass_of turn.new) xid) }
     ensures refused { OnErr result (Adds (pass_of turn.old) (pass_of turn.new) []) }
     ensures returned { IfErr result (λ e. e.0 ≡ call) }
@@ -59,7 +61,7 @@ pub(crate) fn submit_under<O: Sink>(
     let with_sink = turn.value();
     match with_sink.submit(call, form) {
         Ok(ticket) => {
-            append_submit::<O, Brand>(turn, &asked, &asked_in, &ticket);
+            append_submit::<O, C, Brand>(turn, &asked, &asked_in, &ticket);
             Ok(ticket)
         }
         Err(refused) => Err(refused),
@@ -67,13 +69,16 @@ pub(crate) fn submit_under<O: Sink>(
 }
 
 /// Takes the answer of a call of the pass's own; or the call comes back with its buffers, if the requester has ended before.
-pub(crate) fn try_take_under<O: Sink>(turn: &mut MainTurn<'_, O>, ticket: Ticket) -> Take
-    requires ready { IsReady O.taken O.faults turn.old }
+pub(crate) fn try_take_under<O: Sink, C: CallRule>(
+    turn: &mut MainTurn<'_, O, C>,
+    ticket: Ticket,
+) -> Take
+    requires ready { IsReady O.taken O.faults C.allows turn.old }
     requires has_call { HasOpenCall (pass_of turn.old) ticket }
     ensures same { IsSameTurn turn.old turn.new }
-    ensures ready { IsReady O.taken O.faults turn.new }
+    ensures ready { IsReady O.taken O.faults C.allows turn.new }
     ensures taken { IsTakeTurn (pass_of turn.old) (pass_of turn.new) ticket result }
-    ensures there { ((y : RequesterWithSink O) → Has turn.old y → is_some (found_answer ticket y.requester.state) ≡ true) → IsDone result }
+    ensures there { ((y : RequesterWithSink O C) → Has turn.old y → is_some (found_answer ticket y.requester.state) ≡ true) → IsDone result }
 {
     let xid = ticket.xid();
     let with_sink = turn.value();
@@ -81,37 +86,37 @@ pub(crate) fn try_take_under<O: Sink>(turn: &mut MainTurn<'_, O>, ticket: Ticket
         Take::NotYet(ticket) => Take::NotYet(ticket),
         Take::Done(done) => {
             let outcome = Snapshot::of(&done.outcome);
-            append_done::<O, Brand>(turn, xid, &outcome);
+            append_done::<O, C, Brand>(turn, xid, &outcome);
             Take::Done(done)
         }
         Take::Failed { call, buffers, end } => {
             let held = Snapshot::of(&buffers);
-            append_lost::<O, Brand>(turn, end, xid, &held);
+            append_lost::<O, C, Brand>(turn, end, xid, &held);
             Take::Failed { call, buffers, end }
         }
     }
 }
 
 /// Forgets a call of the pass's own.
-pub(crate) fn forget_under<O: Sink>(turn: &mut MainTurn<'_, O>, ticket: Ticket)
-    requires ready { IsReady O.taken O.faults turn.old }
+pub(crate) fn forget_under<O: Sink, C: CallRule>(turn: &mut MainTurn<'_, O, C>, ticket: Ticket)
+    requires ready { IsReady O.taken O.faults C.allows turn.old }
     requires has_call { HasOpenCall (pass_of turn.old) ticket }
     ensures same { IsSameTurn turn.old turn.new }
-    ensures ready { IsReady O.taken O.faults turn.new }
+    ensures ready { IsReady O.taken O.faults C.allows turn.new }
     ensures forgotten { ForgetsCall (pass_of turn.old) (pass_of turn.new) ticket }
     ensures seen { seen_by (pass_of turn.new) ≡ seen_by (pass_of turn.old) ++ forget_by (seen_by (pass_of turn.old)) ticket ∷ [] }
 {
     let xid = ticket.xid();
     let with_sink = turn.value();
     with_sink.forget(ticket);
-    append_forget::<O, Brand>(turn, xid);
+    append_forget::<O, C, Brand>(turn, xid);
 }
 
 /// Hands the output to the sink, unless a write failed before.
-pub(crate) fn drain_under<O: Sink>(turn: &mut MainTurn<'_, O>)
-    requires ready { IsReady O.taken O.faults turn.old }
+pub(crate) fn drain_under<O: Sink, C: CallRule>(turn: &mut MainTurn<'_, O, C>)
+    requires ready { IsReady O.taken O.faults C.allows turn.old }
     ensures same { IsSameTurn turn.old turn.new }
-    ensures ready { IsReady O.taken O.faults turn.new }
+    ensures ready { IsReady O.taken O.faults C.allows turn.new }
     ensures wrote { Writes (pass_of turn.old) (pass_of turn.new) }
     ensures flushed { HasFlushed turn.new }
 {
@@ -121,63 +126,66 @@ pub(crate) fn drain_under<O: Sink>(turn: &mut MainTurn<'_, O>)
     let after = Snapshot::of(&with_sink.requester);
     match drained {
         Drained::Nothing => {}
-        Drained::Wrote => append_wrote::<O, Brand>(turn, &before, &after),
+        Drained::Wrote => append_wrote::<O, C, Brand>(turn, &before, &after),
         Drained::WriteFailed => {
-            append_wrote::<O, Brand>(turn, &before, &after);
-            append_write_failed::<O, Brand>(turn);
+            append_wrote::<O, C, Brand>(turn, &before, &after);
+            append_write_failed::<O, C, Brand>(turn);
         }
     }
 }
 
 /// Revokes the memory of a call of the pass's own.
-pub(crate) fn revoke_under<O: Sink>(turn: &mut MainTurn<'_, O>, ticket: Ticket) -> (Call, Buffers)
-    requires ready { IsReady O.taken O.faults turn.old }
+pub(crate) fn revoke_under<O: Sink, C: CallRule>(
+    turn: &mut MainTurn<'_, O, C>,
+    ticket: Ticket,
+) -> (Call, Buffers)
+    requires ready { IsReady O.taken O.faults C.allows turn.old }
     requires has_call { HasOpenCall (pass_of turn.old) ticket }
     ensures same { IsSameTurn turn.old turn.new }
-    ensures ready { IsReady O.taken O.faults turn.new }
+    ensures ready { IsReady O.taken O.faults C.allows turn.new }
     ensures revoked { AtCall (pass_of turn.old) ticket (λ k asked. (result.0 ≡ asked) × (Adds (pass_of turn.old) (pass_of turn.new) (entries.Revoke ticket (bytes_of_buffers result.1) k ∷ []) × KeepsOthers k (pass_of turn.old) (pass_of turn.new))) }
 {
     let xid = ticket.xid();
     let with_sink = turn.value();
     let given = with_sink.revoke(ticket);
     let buffers = Snapshot::of(&given.1);
-    append_revoke::<O, Brand>(turn, xid, &buffers);
+    append_revoke::<O, C, Brand>(turn, xid, &buffers);
     given
 }
 
 /// Feeds a piece that was read, after a drain. Answers whether memory ran out for a frame of it.
-pub(crate) fn feed_under<O: Sink>(turn: &mut MainTurn<'_, O>, piece: &[u8]) -> bool
-    requires ready { IsReady O.taken O.faults turn.old }
+pub(crate) fn feed_under<O: Sink, C: CallRule>(turn: &mut MainTurn<'_, O, C>, piece: &[u8]) -> bool
+    requires ready { IsReady O.taken O.faults C.allows turn.old }
     requires feeding { IsFeeding (pass_of turn.old) }
-    requires goes { (y : RequesterWithSink O) → Has turn.old y → y.stopped ≡ None }
+    requires goes { (y : RequesterWithSink O C) → Has turn.old y → y.stopped ≡ None }
     requires flushed { HasFlushed turn.old }
     requires some { 0 < length piece.now }
     requires room { length (bytes_fed (seen_by (pass_of turn.old))) + length piece.now ≤ read_max }
     ensures same { IsSameTurn turn.old turn.new }
-    ensures ready { IsReady O.taken O.faults turn.new }
+    ensures ready { IsReady O.taken O.faults C.allows turn.new }
     ensures feeding { IsFeeding (pass_of turn.new) }
     ensures seen { seen_by (pass_of turn.new) ≡ seen_by (pass_of turn.old) ++ fed_after (seen_by (pass_of turn.old)) result piece.now ∷ [] }
     ensures fed { Adds (pass_of turn.old) (pass_of turn.new) (fed_after (seen_by (pass_of turn.old)) result piece.now ∷ []) }
 {
     let with_sink = turn.value();
     let out_of_memory = with_sink.feed(piece);
-    append_fed::<O, Brand>(turn, out_of_memory, piece);
+    append_fed::<O, C, Brand>(turn, out_of_memory, piece);
     out_of_memory
 }
 
 /// No more is fed.
-pub(crate) fn stop_under<O: Sink>(turn: &mut MainTurn<'_, O>, cause: Stop)
-    requires ready { IsReady O.taken O.faults turn.old }
+pub(crate) fn stop_under<O: Sink, C: CallRule>(turn: &mut MainTurn<'_, O, C>, cause: Stop)
+    requires ready { IsReady O.taken O.faults C.allows turn.old }
     requires feeding { IsFeeding (pass_of turn.old) }
-    requires goes { (y : RequesterWithSink O) → Has turn.old y → y.stopped ≡ None }
+    requires goes { (y : RequesterWithSink O C) → Has turn.old y → y.stopped ≡ None }
     requires cause { cause ≢ causes.Memory }
     ensures same { IsSameTurn turn.old turn.new }
-    ensures ready { IsReady O.taken O.faults turn.new }
+    ensures ready { IsReady O.taken O.faults C.allows turn.new }
     ensures feeding { IsFeeding (pass_of turn.new) }
     ensures seen { seen_by (pass_of turn.new) ≡ seen_by (pass_of turn.old) ++ stopped_after (seen_by (pass_of turn.old)) cause ∷ [] }
     ensures stopped { Adds (pass_of turn.old) (pass_of turn.new) (stopped_after (seen_by (pass_of turn.old)) cause ∷ []) }
 {
     let with_sink = turn.value();
     with_sink.stop(cause);
-    append_stopped::<O, Brand>(turn, cause);
+    append_stopped::<O, C, Brand>(turn, cause);
 }

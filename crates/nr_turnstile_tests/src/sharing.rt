@@ -10,16 +10,16 @@ use nr_outside::{MemSink, MemSource, Sink, Source};
 use nr_reduce::{Call, Outcome};
 use nr_requester::{Done, Requester};
 use nr_rpc::Cred;
-use nr_shared::{Appended, CallEnd, InitialHistory, Pass, SharedRequester};
+use nr_shared::{AnyCall, Appended, CallEnd, InitialHistory, Pass, SharedRequester};
 use nr_xdr::Octets;
 use std::alloc::Global;
 use std::marker::Brand;
 use std::process::Abort;
 use std::sync::{Arc, Wait};
 
-pub type Shared = SharedRequester<HeldSource<MemSource>, HeldSink<MemSink>>;
+pub type Shared = SharedRequester<HeldSource<MemSource>, HeldSink<MemSink>, AnyCall>;
 
-pub type Caller = Pass<HeldSource<MemSource>, HeldSink<MemSink>>;
+pub type Caller = Pass<HeldSource<MemSource>, HeldSink<MemSink>, AnyCall>;
 
 /// The server's hello after its first word (RFC 5044 section 7.1).
 static HELLO: [u32; 4] = [0x49442052, 0x65702046, 0x72616d65, 0x00010000];
@@ -128,7 +128,7 @@ fn shared<K: Appended, I: Source, O: Sink>(
     requester: Requester,
     source: I,
     sink: O,
-) -> (SharedRequester<I, O>, Pass<I, O>)
+) -> (SharedRequester<I, O, AnyCall>, Pass<I, O, AnyCall>)
 where
     I: Drop,
     O: Drop,

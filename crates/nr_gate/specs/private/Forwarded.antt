@@ -37,7 +37,7 @@ kept_end None = ends.Closed
 kept_end (Some end) = end
 
 -- why a call that was made has no reply
-abbrev pub FailsSo : {O : Type 0} → Failure → (p q : Pass (RequesterWithSink O) Entry) → (bytes : List ℕ) → Type 0
+abbrev pub FailsSo : {O C : Type 0} → Failure → (p q : Pass (RequesterWithSink O C) Entry) → (bytes : List ℕ) → Type 0
 FailsSo failures.Memory p q bytes = RunsOut p q bytes
 FailsSo (failures.Ended end) p q bytes = EndsRemotely end p q bytes
 

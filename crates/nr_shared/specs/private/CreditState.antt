@@ -10,10 +10,10 @@ use Rattle.nr_shared.specs.declared.requester_with_sink.RequesterWithSink.{Reque
 use Rattle.nr_shared.specs.Ending.{LinkEnded}
 
 -- the value that the turn has has a credit left
-abbrev pub LeavesCredit : {O : Type 0} → Turn (RequesterWithSink O) Entry → Type 0
-LeavesCredit {O} t = (y : RequesterWithSink O) → Has t y → length y.requester.state.outstanding < y.requester.state.grant
+abbrev pub LeavesCredit : {O C : Type 0} → Turn (RequesterWithSink O C) Entry → Type 0
+LeavesCredit {O} {C} t = (y : RequesterWithSink O C) → Has t y → length y.requester.state.outstanding < y.requester.state.grant
 
-abbrev pub IsCreditState : {O : Type 0} → Turn (RequesterWithSink O) Entry → CreditState → Type 0
+abbrev pub IsCreditState : {O C : Type 0} → Turn (RequesterWithSink O C) Entry → CreditState → Type 0
 IsCreditState t credit_states.Left = LeavesCredit t
 IsCreditState t credit_states.NoCredit = ⊤
 IsCreditState t (credit_states.Ended end) = LinkEnded end (seen_by (pass_of t))

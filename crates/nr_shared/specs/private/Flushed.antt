@@ -6,9 +6,9 @@ use Rattle.nr_shared.specs.declared.entry.Entry.{Entry}
 use Rattle.nr_shared.specs.declared.requester_with_sink.RequesterWithSink.{RequesterWithSink}
 
 -- a write failed, or no output is pending
-abbrev pub IsFlushed : {O : Type 0} → RequesterWithSink O → Type 0
+abbrev pub IsFlushed : {O C : Type 0} → RequesterWithSink O C → Type 0
 IsFlushed m = (m.write_failed ≡ true) ⊎ (m.pending ≡ false)
 
 -- the value that the turn has is so
-abbrev pub HasFlushed : {O : Type 0} → Turn (RequesterWithSink O) Entry → Type 0
-HasFlushed {O} t = (y : RequesterWithSink O) → Has t y → IsFlushed y
+abbrev pub HasFlushed : {O C : Type 0} → Turn (RequesterWithSink O C) Entry → Type 0
+HasFlushed {O} {C} t = (y : RequesterWithSink O C) → Has t y → IsFlushed y

@@ -1,7 +1,7 @@
 use Rattle.std.proofs.Common.{◌≡◌, ◌<◌, ◌≤◌, ◌⊎◌, ⊎_elim, inl, inr, ℕ, List, arith, refl, ◌∙◌}
 use Rattle.std.specs.List.{All, slice_index_or}
 use Rattle.nr_turnstile.specs.Passes.{mine_of, seen_by}
-use Rattle.nr_client.specs.Jobs.{IsOfFile}
+use Rattle.nr_client.specs.Jobs.{IsPiece}
 use Rattle.nr_client.specs.private.JobReads.{AreFetched, Grows}
 use Rattle.nr_client.proofs.JobCalls.{fetched_on, grows_none, grows_then}
 use Rattle.nr_client.proofs.JobReading.{memory_out, read_same}
@@ -11,7 +11,7 @@ use Rattle.nr_client.proofs.jobs.read_round.Goals as goal
 pub returns-in-Err-clause-err : goal.returns-in-Err-clause-err
 returns-in-Err-clause-err g c taken so_far =
     memory_out c.args.uid c.args.gid c.args.file.now c.args.size c.args.at.now c.fetch_round.new.pass.main taken (g.K.Sink.taken c.args.out.now)
-    (read_same (IsOfFile c.args.uid c.args.gid c.args.file.now) c.args.uid c.args.gid c.args.file.now c.args.size c.args.at.now c.args.pass.now.main c.fetch_round.new.pass.main taken (g.K.Sink.taken c.args.out.now) c.fetch_round.ensures.grows so_far)
+    (read_same (IsPiece c.args.uid c.args.gid c.args.file.now c.args.size) c.args.uid c.args.gid c.args.file.now c.args.size c.args.at.now c.args.pass.now.main c.fetch_round.new.pass.main taken (g.K.Sink.taken c.args.out.now) c.fetch_round.ensures.grows so_far)
 
 pub pieces-init : goal.pieces-init
 pieces-init g c = (
@@ -22,7 +22,7 @@ pieces-init g c = (
   omega arith,
   inr (omega (arith, c.requires.jobs)),
   refl,
-  λ taken so_far. read_same (IsOfFile c.args.uid c.args.gid c.args.file.now) c.args.uid c.args.gid c.args.file.now c.args.size c.args.at.now c.args.pass.now.main c.fetch_round.new.pass.main taken (g.K.Sink.taken c.args.out.now) c.fetch_round.ensures.grows so_far,
+  λ taken so_far. read_same (IsPiece c.args.uid c.args.gid c.args.file.now c.args.size) c.args.uid c.args.gid c.args.file.now c.args.size c.args.at.now c.args.pass.now.main c.fetch_round.new.pass.main taken (g.K.Sink.taken c.args.out.now) c.fetch_round.ensures.grows so_far,
 )
 
 pub write_piece-requires-clause-fetched : goal.write_piece-requires-clause-fetched
@@ -38,7 +38,7 @@ pieces-preserved g c =
     let ends = c.in-Ok-write_piece.ensures.end in (
       c.write_piece.ensures.rests,
       c.write_piece.ensures.source ∙ source,
-      grows_then (IsOfFile c.args.uid c.args.gid c.args.file.now) c.args.pass.now.main p q rests.caller.lies grows step,
+      grows_then (IsPiece c.args.uid c.args.gid c.args.file.now c.args.size) c.args.pass.now.main p q rests.caller.lies grows step,
       (λ k d lt. fetched_on (seen_by p) (seen_by q) (mine_of p) (mine_of q) c.args.uid c.args.gid c.args.file.now c.args.size _ step.seen step.mine (lists k d lt)),
       grind (arith, ends, further),
       inl (grind (arith, ends, further)),
@@ -54,7 +54,7 @@ returns-in-Err-take_next-clause-err g c taken so_far =
 pub returns-in-Err-write_piece-clause-grows : goal.returns-in-Err-write_piece-clause-grows
 returns-in-Err-write_piece-clause-grows g c =
     let (rests, source, grows, got, further, begun, outs, on) = c.pieces.invariant in
-    grows_then (IsOfFile c.args.uid c.args.gid c.args.file.now) c.args.pass.now.main c.pieces.pass.main c.write_piece.new.pass.main rests.caller.lies grows c.write_piece.ensures.grows
+    grows_then (IsPiece c.args.uid c.args.gid c.args.file.now c.args.size) c.args.pass.now.main c.pieces.pass.main c.write_piece.new.pass.main rests.caller.lies grows c.write_piece.ensures.grows
 
 pub returns-in-Err-write_piece-clause-err : goal.returns-in-Err-write_piece-clause-err
 returns-in-Err-write_piece-clause-err g c taken so_far =

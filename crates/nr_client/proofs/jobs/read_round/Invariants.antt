@@ -2,7 +2,7 @@ use Rattle.std.proofs.Common.{◌≡◌, ◌<◌, ◌≤◌, ◌⊎◌, ℕ}
 use Rattle.std.specs.List.{All}
 use Rattle.nr_turnstile.specs.Passes.{mine_of, seen_by}
 use Rattle.nr_shared.specs.Sharing.{SharedRests}
-use Rattle.nr_client.specs.Jobs.{IsOfFile}
+use Rattle.nr_client.specs.Jobs.{IsPiece}
 use Rattle.nr_client.specs.private.JobReads.{AreFetched, Grows, ReadsMore}
 use Rattle.nr_client.proofs.jobs.read_round.Given as goal
 
@@ -10,7 +10,7 @@ abbrev pub invariant-pieces : goal.invariant-pieces
 invariant-pieces g l =
     SharedRests l.shared l.pass
     × (seen_by l.pass.source ≡ seen_by l.fn.pass.source)
-    × Grows (IsOfFile l.uid l.gid l.file) l.fn.pass.main l.pass.main
+    × Grows (IsPiece l.uid l.gid l.file l.size) l.fn.pass.main l.pass.main
     × All (λ list. AreFetched l.uid l.gid l.file l.size (seen_by l.pass.main) (mine_of l.pass.main) list.items) l.lists.items
     × (l.fn.at ≤ l.at)
     × ((l.fn.at < l.at) ⊎ (0 < l.left))

@@ -1,18 +1,18 @@
 use Rattle.std.proofs.Common.{◌≤◌, arith, refl, ◌∙◌}
-use Rattle.nr_client.specs.Jobs.{IsOfFile}
+use Rattle.nr_client.specs.Jobs.{IsPiece}
 use Rattle.nr_client.proofs.JobCalls.{grows_none, grows_then}
 use Rattle.nr_client.proofs.JobReading.{all_came}
 use Rattle.nr_client.proofs.jobs.read_rounds.Goals as goal
 
 pub rounds-init : goal.rounds-init
-rounds-init g c = (c.requires.rests, refl, grows_none (IsOfFile c.args.uid c.args.gid c.args.file.now) c.args.pass.now.main c.args.pass.now.main refl refl, refl, λ taken so_far. so_far)
+rounds-init g c = (c.requires.rests, refl, grows_none (IsPiece c.args.uid c.args.gid c.args.file.now c.args.size) c.args.pass.now.main c.args.pass.now.main refl refl, refl, λ taken so_far. so_far)
 
 pub rounds-preserved : goal.rounds-preserved
 rounds-preserved g c =
     let (rests, source, grows, outs, on) = c.rounds.invariant in (
       c.read_round.ensures.rests,
       c.read_round.ensures.source ∙ source,
-      grows_then (IsOfFile c.args.uid c.args.gid c.args.file.now) c.args.pass.now.main c.rounds.pass.main c.read_round.new.pass.main rests.caller.lies grows c.read_round.ensures.grows,
+      grows_then (IsPiece c.args.uid c.args.gid c.args.file.now c.args.size) c.args.pass.now.main c.rounds.pass.main c.read_round.new.pass.main rests.caller.lies grows c.read_round.ensures.grows,
       c.in-Ok.ensures.out_faults ∙ outs,
       λ taken so_far. c.in-Ok.ensures.ok taken (on taken so_far),
     )
@@ -20,7 +20,7 @@ rounds-preserved g c =
 pub returns-in-Err-clause-grows : goal.returns-in-Err-clause-grows
 returns-in-Err-clause-grows g c =
     let (rests, source, grows, outs, on) = c.rounds.invariant in
-    grows_then (IsOfFile c.args.uid c.args.gid c.args.file.now) c.args.pass.now.main c.rounds.pass.main c.read_round.new.pass.main rests.caller.lies grows c.read_round.ensures.grows
+    grows_then (IsPiece c.args.uid c.args.gid c.args.file.now c.args.size) c.args.pass.now.main c.rounds.pass.main c.read_round.new.pass.main rests.caller.lies grows c.read_round.ensures.grows
 
 pub returns-in-Err-clause-ends : goal.returns-in-Err-clause-ends
 returns-in-Err-clause-ends g c taken so_far =

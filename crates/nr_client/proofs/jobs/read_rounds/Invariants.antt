@@ -1,7 +1,7 @@
 use Rattle.std.proofs.Common.{◌≡◌, ◌-◌, ℕ}
 use Rattle.nr_turnstile.specs.Passes.{seen_by}
 use Rattle.nr_shared.specs.Sharing.{SharedRests}
-use Rattle.nr_client.specs.Jobs.{IsOfFile}
+use Rattle.nr_client.specs.Jobs.{IsPiece}
 use Rattle.nr_client.specs.private.JobReads.{Grows, ReadsMore}
 use Rattle.nr_client.proofs.jobs.read_rounds.Given as goal
 
@@ -9,7 +9,7 @@ abbrev pub invariant-rounds : goal.invariant-rounds
 invariant-rounds g l =
     SharedRests l.shared l.pass
     × (seen_by l.pass.source ≡ seen_by l.initial.pass.source)
-    × Grows (IsOfFile l.uid l.gid l.file) l.initial.pass.main l.pass.main
+    × Grows (IsPiece l.uid l.gid l.file l.size) l.initial.pass.main l.pass.main
     × (g.K.Sink.faults l.out ≡ g.K.Sink.faults l.initial.out)
     × ReadsMore l.uid l.gid l.file l.size 0 l.at l.initial.pass.main l.pass.main (g.K.Sink.taken l.initial.out) (g.K.Sink.taken l.out)
 

@@ -1,6 +1,7 @@
 use Rattle.std.proofs.Common.{◌≡◌, [], ◌∷◌, refl, sym, subst}
 use Rattle.nr_turnstile.specs.Passes.{mine_of, seen_by}
 use Rattle.nr_shared.specs.Opening.{GivesBack}
+use Rattle.nr_shared.proofs.Closed.{back_by}
 use Rattle.nr_client.proofs.JobReading.{initial_first, initial_on, none_read, one_same}
 use Rattle.nr_client.proofs.jobs.read_shared.Goals as goal
 
@@ -13,7 +14,7 @@ returns-in-Err-clause-reads g c = record {
   of_requester = refl;
   of_sink = (refl, refl);
   requester = _;
-  back = c.in-Err.ensures.err;
+  back = back_by _ _ _ _ _ g.C.CallRule.allows _ c.requires.only _ _ _ _ _ _ c.in-Err.ensures.err;
   reads = none_read c.args.uid c.args.gid c.args.file.now (g.N.Appended.entry ∷ []) (g.K.Sink.taken c.args.out.now);
 }
 
@@ -28,7 +29,7 @@ returns-clause-reads g c =
       of_requester = refl;
       of_sink = (refl, refl);
       requester = c.close-requester.result.0;
-      back = subst (λ i. GivesBack g.I.Source.left g.I.Source.given g.I.Source.faults g.O.Sink.taken g.O.Sink.faults (seen_by q.main) (mine_of q.main) i c.close-requester.result.0 c.close-requester.result.1 c.close-requester.result.2) value
-          (subst (λ x. GivesBack g.I.Source.left g.I.Source.given g.I.Source.faults g.O.Sink.taken g.O.Sink.faults (seen_by q.main) (mine_of q.main) x.source.value c.close-requester.result.0 c.close-requester.result.1 c.close-requester.result.2) same back);
+      back = back_by _ _ _ _ _ g.C.CallRule.allows _ c.requires.only _ _ _ _ _ _ (subst (λ i. GivesBack g.I.Source.left g.I.Source.given g.I.Source.faults g.O.Sink.taken g.O.Sink.faults g.C.CallRule.allows (seen_by q.main) (mine_of q.main) i c.close-requester.result.0 c.close-requester.result.1 c.close-requester.result.2) value
+          (subst (λ x. GivesBack g.I.Source.left g.I.Source.given g.I.Source.faults g.O.Sink.taken g.O.Sink.faults g.C.CallRule.allows (seen_by q.main) (mine_of q.main) x.source.value c.close-requester.result.0 c.close-requester.result.1 c.close-requester.result.2) same back));
       reads = c.read_by_jobs-result.ensures.reads;
     }

@@ -1,5 +1,4 @@
-use Rattle.std.proofs.Common.{length, false, ◌≡◌, sym, ◌∙◌}
-use Rattle.nr_requester.specs.Views.{names_another}
+use Rattle.std.proofs.Common.{length, sym, ◌∙◌}
 use Rattle.nr_reduce.specs.KeptClient.{bytes_under}
 use Rattle.nr_requester.specs.Judged.{kept_view, kept_views}
 use Rattle.nr_requester.proofs.MessageBodies.{own_none, own_call, no_call, named_call, by_call, one_offers, one_room, one_held, same_all, same_set, brings_lem, own_given, header_with}

@@ -1,6 +1,4 @@
-use Rattle.std.proofs.Common.{Option, inl, inr, ap, sym, ◌∙◌}
-use Rattle.nr_regions.specs.RegisteredMemory.{RegisteredMemory}
-use Rattle.nr_endpoint.specs.LinkState.{LinkSide}
+use Rattle.std.proofs.Common.{inl, ◌∙◌}
 use Rattle.nr_requester.specs.AfterPiece.{dead_memory}
 use Rattle.nr_requester.specs.Buffers.{with_memory}
 use Rattle.nr_requester.proofs.OneMessage.{stop_memory}

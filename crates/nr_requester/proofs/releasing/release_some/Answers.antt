@@ -1,5 +1,5 @@
 use Rattle.std.proofs.Common.{List, ℕ, Option, Some, ap, sym, ◌∙◌}
-use Rattle.nr_regions.specs.RegisteredMemory.{Region, Claim, bytes_in}
+use Rattle.nr_regions.specs.RegisteredMemory.{Claim}
 use Rattle.nr_requester.specs.AfterPiece.{buffer_under}
 use Rattle.nr_requester.proofs.OutsideBounds.{released_outside}
 use Rattle.nr_requester.proofs.releasing.release_some.Goals as goal

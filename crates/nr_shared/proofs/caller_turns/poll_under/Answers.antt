@@ -18,7 +18,7 @@ try_take_under-requires-clause-ready g c =
     record {
       value = f;
       has = (r.has.0, written _ _ f e, r.has.2);
-      stands = subst (λ (z : RequesterWithSink g.row.O.Denot). Stands g.O.Sink.taken g.O.Sink.faults z (seen_by (pass_of c.args.turn.now))) (same_value _ r.value f r.has.1 e) r.stands;
+      stands = subst (λ (z : RequesterWithSink g.row.O.Denot g.row.C.Denot). Stands g.O.Sink.taken g.O.Sink.faults g.C.CallRule.allows z (seen_by (pass_of c.args.turn.now))) (same_value _ r.value f r.has.1 e) r.stands;
       lies = r.lies;
       earlier = r.earlier;
     }
@@ -29,7 +29,7 @@ forget_under-requires-clause-ready g c =
     record {
       value = f;
       has = (r.has.0, written _ _ f e, r.has.2);
-      stands = subst (λ (z : RequesterWithSink g.row.O.Denot). Stands g.O.Sink.taken g.O.Sink.faults z (seen_by (pass_of c.args.turn.now))) (same_value _ r.value f r.has.1 e) r.stands;
+      stands = subst (λ (z : RequesterWithSink g.row.O.Denot g.row.C.Denot). Stands g.O.Sink.taken g.O.Sink.faults g.C.CallRule.allows z (seen_by (pass_of c.args.turn.now))) (same_value _ r.value f r.has.1 e) r.stands;
       lies = r.lies;
       earlier = r.earlier;
     }
@@ -40,7 +40,7 @@ returns-in-None-clause-ready g c =
     record {
       value = f;
       has = (r.has.0, written _ _ f e, r.has.2);
-      stands = subst (λ (z : RequesterWithSink g.row.O.Denot). Stands g.O.Sink.taken g.O.Sink.faults z (seen_by (pass_of c.args.turn.now))) (same_value _ r.value f r.has.1 e) r.stands;
+      stands = subst (λ (z : RequesterWithSink g.row.O.Denot g.row.C.Denot). Stands g.O.Sink.taken g.O.Sink.faults g.C.CallRule.allows z (seen_by (pass_of c.args.turn.now))) (same_value _ r.value f r.has.1 e) r.stands;
       lies = r.lies;
       earlier = r.earlier;
     }
@@ -51,7 +51,7 @@ returns-in-None-clause-polled g c = let p = pass_of c.args.turn.now in (refl, (a
 pub returns-in-Some-clause-polled : goal.returns-in-Some-clause-polled
 returns-in-Some-clause-polled g c = λ k call asked o.
     (let r = c.requires.ready in let f = c.value-with_sink.result.now in let seen = seen_by (pass_of c.args.turn.now) in
-    let st : Stands g.O.Sink.taken g.O.Sink.faults f seen = subst (λ (z : RequesterWithSink g.row.O.Denot). Stands g.O.Sink.taken g.O.Sink.faults z seen) (same_value _ r.value f r.has.1 c.value-with_sink.ensures.value) r.stands in
+    let st : Stands g.O.Sink.taken g.O.Sink.faults g.C.CallRule.allows f seen = subst (λ (z : RequesterWithSink g.row.O.Denot g.row.C.Denot). Stands g.O.Sink.taken g.O.Sink.faults g.C.CallRule.allows z seen) (same_value _ r.value f r.has.1 c.value-with_sink.ensures.value) r.stands in
     let t = c.forget_under.ensures.forgotten k call asked o in
     record {
       adds = record { seen = t.adds.seen; places = t.adds.places; mine = t.adds.mine; rising = t.adds.rising; at = t.adds.at; new = t.adds.new };
@@ -59,7 +59,7 @@ returns-in-Some-clause-polled g c = λ k call asked o.
       before = seen;
       seen = c.forget_under.ensures.seen ∙ ap (λ n. seen ++ entries.Forget c.args.ticket (place_or_none n) ∷ []) (st.calls c.args.ticket k call asked o.1).0;
       ended = c.in-Some.ensures.some seen st;
-      unanswered = none_has_come g.O.Sink.taken g.O.Sink.faults f seen c.args.ticket k call (sym c.has_outcome-there.ensures ∙ c.if-there.false) asked o.1 st;
+      unanswered = none_has_come g.O.Sink.taken g.O.Sink.faults g.C.CallRule.allows f seen c.args.ticket k call (sym c.has_outcome-there.ensures ∙ c.if-there.false) asked o.1 st;
     })
 
 pub returns-in-Done-clause-polled : goal.returns-in-Done-clause-polled
@@ -76,8 +76,8 @@ returns-in-Done-clause-polled g c = λ k call asked o.
 
 pub unreachable-requires : goal.unreachable-requires
 unreachable-requires g c = let f = c.value-with_sink.result.now in let e = c.value-with_sink.ensures.value in
-    c.in-NotYet.ensures.there (λ y has. ap (λ (z : RequesterWithSink g.row.O.Denot). is_some (found_answer c.args.ticket z.requester.state)) (same_value _ y f has.1 (written _ _ f e)) ∙ (sym c.has_outcome-there.ensures ∙ c.if-there.true))
+    c.in-NotYet.ensures.there (λ y has. ap (λ (z : RequesterWithSink g.row.O.Denot g.row.C.Denot). is_some (found_answer c.args.ticket z.requester.state)) (same_value _ y f has.1 (written _ _ f e)) ∙ (sym c.has_outcome-there.ensures ∙ c.if-there.true))
 
 pub unreachable-requires-in-Failed : goal.unreachable-requires-in-Failed
 unreachable-requires-in-Failed g c = let f = c.value-with_sink.result.now in let e = c.value-with_sink.ensures.value in
-    c.in-Failed.ensures.there (λ y has. ap (λ (z : RequesterWithSink g.row.O.Denot). is_some (found_answer c.args.ticket z.requester.state)) (same_value _ y f has.1 (written _ _ f e)) ∙ (sym c.has_outcome-there.ensures ∙ c.if-there.true))
+    c.in-Failed.ensures.there (λ y has. ap (λ (z : RequesterWithSink g.row.O.Denot g.row.C.Denot). is_some (found_answer c.args.ticket z.requester.state)) (same_value _ y f has.1 (written _ _ f e)) ∙ (sym c.has_outcome-there.ensures ∙ c.if-there.true))

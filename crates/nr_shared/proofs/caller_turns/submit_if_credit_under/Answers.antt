@@ -28,7 +28,7 @@ returns-in-Ok-clause-submitted g c = let p = pass_of c.args.turn.now in let q = 
     let a = c.in-Ok.ensures.accepted in
     submit_turn_sends p q r (pass_of c.submit_under.new.turn) (pass_of c.drain_under-in-Ok.new.turn) c.args.call c.args.form c.in-Ok.ticket c.drain_under.ensures.wrote c.credit_state_under.ensures.seen c.credit_state_under.ensures.mine
     a.0 c.in-Ok.ensures.seen c.in-Ok.ensures.keeps c.in-Ok.ensures.opened c.drain_under-in-Ok.ensures.wrote
-    (turn_written g.O.Sink.taken g.O.Sink.faults c.drain_under-in-Ok.new.turn c.drain_under-in-Ok.ensures.ready c.drain_under-in-Ok.ensures.flushed)
+    (turn_written g.O.Sink.taken g.O.Sink.faults g.C.CallRule.allows c.drain_under-in-Ok.new.turn c.drain_under-in-Ok.ensures.ready c.drain_under-in-Ok.ensures.flushed)
 
 pub returns-in-Err-clause-submitted : goal.returns-in-Err-clause-submitted
 returns-in-Err-clause-submitted g c = let p = pass_of c.args.turn.now in let q = pass_of c.drain_under.new.turn in let r = pass_of c.credit_state_under.new.turn in let u = pass_of c.submit_under.new.turn in

@@ -49,7 +49,7 @@ pub returns-clause-sound : goal.returns-clause-sound
 returns-clause-sound c =
     let q = c.in_ok-sent.ensures.queued in
     let one = kept_receive 0 c.args.self.now.endpoint.link.state c.args.self.now.calls.items c.args.self.now.ready.items c.args.self.now.used.items _ _ _ c.args.at c.remove-call.result c.requires.at c.remove-call.ensures.value c.requires.sound.0 in (
-      sound_room_as 0 c.queue_answer.new.endpoint.link.state c.remove-call.new.self.items c.pop_front.new.self.items c.push_back_reserved.new.self.items _ _ _ _ _ _ (search rules) (search rules) (search rules) (sound_answered c.args.self.now.endpoint.link.state c.queue_answer.new.endpoint.link.state (writes_output q.writes) _ c.args.at c.remove-call.result c.args.self.now.calls.items c.remove-call.new.self.items c.args.self.now.ready.items c.pop_front.new.self.items
+      sound_room_as 0 c.queue_answer.new.endpoint.link.state c.remove-call.new.self.items c.pop_front.new.self.items c.push_back_reserved.new.self.items _ _ _ _ _ _ (search rules) (search rules) (search rules) (sound_answered c.args.self.now.endpoint.link.state c.queue_answer.new.endpoint.link.state (writes_output q.writes) _ _ c.args.at c.remove-call.result c.args.self.now.calls.items c.remove-call.new.self.items c.args.self.now.ready.items c.pop_front.new.self.items
           c.args.self.now.used.items c.push_back_reserved.new.self.items _ _ _ (ap (λ (l : LinkSide). l.state) (q.link ∙ answer_link c.args.self.now.endpoint.link q.writes _ _ c.requires.live)) c.requires.at one c.remove-call.ensures.items (search rules) c.requires.next (search rules) c.requires.sound.0),
       fetched_removed c.args.self.now.endpoint c.queue_answer.new.endpoint c.args.at c.index.result.now c.args.self.now.calls.items c.remove-call.new.self.items c.args.self.now.reads.items c.args.self.now.sinks.items (ap (λ (l : LinkSide). l.state.memory) (q.link ∙ answer_link c.args.self.now.endpoint.link q.writes _ _ c.requires.live)) c.queue_answer.ensures.outside c.requires.at (c.requires.none c.index.result.now) c.remove-call.ensures.items c.requires.sound.1,
     )

@@ -39,7 +39,7 @@ returns-in-Ok-share_reader-clause-rests g c =
       has_seen = t.1;
       home = ap home_of c.of-first.ensures ∙ (u.0.0 ∙ m.0.0);
       caller = new_caller c.split-caller.result (ap (λ w. w.mine) n.1);
-      law = subst KeepsLaw (sym seen) (law_of g.O.Sink.taken g.O.Sink.faults c.of_parts-with_sink.result history (c.of_parts-with_sink.ensures history c.requires));
+      law = subst KeepsLaw (sym seen) (law_of g.O.Sink.taken g.O.Sink.faults g.C.CallRule.allows c.of_parts-with_sink.result history (c.of_parts-with_sink.ensures history c.requires));
     }
 
 pub returns-in-Ok-share_reader-clause-source : goal.returns-in-Ok-share_reader-clause-source
@@ -50,13 +50,13 @@ returns-in-Ok-share_reader-clause-source g c = (record { source = c.of-first_sou
 pub returns-in_default-clause-err : goal.returns-in_default-clause-err
 returns-in_default-clause-err g c =
     let o = c.requires in let t = g.O.Sink.taken in let f = g.O.Sink.faults in let r = c.args.requester in let k = c.args.sink in let history = g.H.OpeningHistory.history in
-    unshared g.I.Source.left g.I.Source.given g.I.Source.faults t f c.of_parts-with_sink.result history c.args.source (c.of_parts-with_sink.ensures history o) (earlier_opened t f r k history o) (opened_fed t f r k history o) (opened_stop t f r k history o)
+    unshared g.I.Source.left g.I.Source.given g.I.Source.faults t f g.C.CallRule.allows c.of_parts-with_sink.result history c.args.source (c.of_parts-with_sink.ensures history o) (earlier_opened t f r k history o) (opened_fed t f r k history o) (opened_stop t f r k history o)
 
 pub returns-in-Err-clause-err : goal.returns-in-Err-clause-err
 returns-in-Err-clause-err g c =
     let o = c.requires in let t = g.O.Sink.taken in let f = g.O.Sink.faults in let r = c.args.requester in let k = c.args.sink in let history = g.H.OpeningHistory.history in
-    subst (λ m. GivesBack g.I.Source.left g.I.Source.given g.I.Source.faults t f history [] c.args.source m.requester c.args.source m.sink) (sym c.in-Err.ensures.err)
-    (unshared g.I.Source.left g.I.Source.given g.I.Source.faults t f c.of_parts-with_sink.result history c.args.source (c.of_parts-with_sink.ensures history o) (earlier_opened t f r k history o) (opened_fed t f r k history o) (opened_stop t f r k history o))
+    subst (λ m. GivesBack g.I.Source.left g.I.Source.given g.I.Source.faults t f g.C.CallRule.allows history [] c.args.source m.requester c.args.source m.sink) (sym c.in-Err.ensures.err)
+    (unshared g.I.Source.left g.I.Source.given g.I.Source.faults t f g.C.CallRule.allows c.of_parts-with_sink.result history c.args.source (c.of_parts-with_sink.ensures history o) (earlier_opened t f r k history o) (opened_fed t f r k history o) (opened_stop t f r k history o))
 
 pub take_back-requires-clause-caller : goal.take_back-requires-clause-caller
 take_back-requires-clause-caller g c = new_caller c.split-caller.result (ap (λ w. w.mine) c.split-caller.ensures.new.1)
@@ -71,7 +71,7 @@ returns-clause-err g c =
     let m = c.in-Ok-new_or_value.ensures.ok in let n = c.split-caller.ensures.new in let history = g.H.OpeningHistory.history in let r = c.take_back.result in let caller = c.split-caller.result in
     let seen : seen_by caller ≡ history = ap (λ w. w.seen) n.1 ∙ ap (λ v. v.seen) m.1 in
     let mine : mine_of caller ≡ [] = ap (λ w. w.mine) n.1 in
-    subst (λ (l : List Entry). GivesBack g.I.Source.left g.I.Source.given g.I.Source.faults g.O.Sink.taken g.O.Sink.faults l [] c.args.source r.0 r.1 r.2) seen
-    (subst (λ (ks : List ℕ). GivesBack g.I.Source.left g.I.Source.given g.I.Source.faults g.O.Sink.taken g.O.Sink.faults (seen_by caller) ks c.args.source r.0 r.1 r.2) mine
-    (subst (λ i. GivesBack g.I.Source.left g.I.Source.given g.I.Source.faults g.O.Sink.taken g.O.Sink.faults (seen_by caller) (mine_of caller) i r.0 r.1 r.2) c.of-first_source.ensures
+    subst (λ (l : List Entry). GivesBack g.I.Source.left g.I.Source.given g.I.Source.faults g.O.Sink.taken g.O.Sink.faults g.C.CallRule.allows l [] c.args.source r.0 r.1 r.2) seen
+    (subst (λ (ks : List ℕ). GivesBack g.I.Source.left g.I.Source.given g.I.Source.faults g.O.Sink.taken g.O.Sink.faults g.C.CallRule.allows (seen_by caller) ks c.args.source r.0 r.1 r.2) mine
+    (subst (λ i. GivesBack g.I.Source.left g.I.Source.given g.I.Source.faults g.O.Sink.taken g.O.Sink.faults g.C.CallRule.allows (seen_by caller) (mine_of caller) i r.0 r.1 r.2) c.of-first_source.ensures
     (c.take_back.ensures (record { source = c.of-first_source.result; pass = c.of-first.result }) c.in-Err-share_reader.ensures.err)))

@@ -23,5 +23,5 @@ put_back-requires g c = let t = c.take_turn-turn.ensures.got.1 in let (b, (one, 
 
 pub returns-clause-seen : goal.returns-clause-seen
 returns-clause-seen g c = let t = c.take_turn-turn.ensures.got.1 in let (b, (one, home)) = c.requires.initial_source in
-    subst (λ (z : Pass (SourceReader g.row.I.Denot g.row.O.Denot) (InitialSource g.row.I.Denot g.row.O.Denot)). seen_by z ≡ seen_by c.args.source.now) (sym (c.source-1.given.1 (sym c.take_turn-turn.ensures.borrow)))
+    subst (λ (z : Pass (SourceReader g.row.I.Denot g.row.O.Denot g.row.C.Denot) (InitialSource g.row.I.Denot g.row.O.Denot g.row.C.Denot)). seen_by z ≡ seen_by c.args.source.now) (sym (c.source-1.given.1 (sym c.take_turn-turn.ensures.borrow)))
     (c.put_back.ensures.1 ∙ seen_one (seen_by c.args.source.now) (seen_by (pass_of c.take_turn-turn.result)) b t.2.0 one t.2.1 t.3)

@@ -23,7 +23,7 @@ pub read_piece-requires-clause-within : goal.read_piece-requires-clause-within
 read_piece-requires-clause-within g c = let (b, (f, home)) = c.requires in f.within
 
 pub feed-requires-clause-lies : goal.feed-requires-clause-lies
-feed-requires-clause-lies g c = subst (λ (z : Pass (RequesterWithSink g.row.O.Denot) Entry). Lies (seen_by z) (mine_of z)) (sym c.read_piece.ensures.pass) c.needs_input.ensures.lies
+feed-requires-clause-lies g c = subst (λ (z : Pass (RequesterWithSink g.row.O.Denot g.row.C.Denot) Entry). Lies (seen_by z) (mine_of z)) (sym c.read_piece.ensures.pass) c.needs_input.ensures.lies
 
 pub stop-requires-clause-lies : goal.stop-requires-clause-lies
-stop-requires-clause-lies g c = subst (λ (z : Pass (RequesterWithSink g.row.O.Denot) Entry). Lies (seen_by z) (mine_of z)) (sym c.read_piece.ensures.pass) c.needs_input.ensures.lies
+stop-requires-clause-lies g c = subst (λ (z : Pass (RequesterWithSink g.row.O.Denot g.row.C.Denot) Entry). Lies (seen_by z) (mine_of z)) (sym c.read_piece.ensures.pass) c.needs_input.ensures.lies

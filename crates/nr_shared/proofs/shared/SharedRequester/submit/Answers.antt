@@ -1,5 +1,6 @@
 use Rattle.std.proofs.Common.{◌≡◌, [], refl, sym, subst, ◌∙◌}
 use Rattle.nr_reduce.specs.declared.call.Call.{Call}
+use Rattle.nr_reduce.specs.declared.call.Form.{Form}
 use Rattle.nr_rpc.specs.Credential.{CanWriteCred}
 use Rattle.nr_shared.proofs.Adding.{adds_none}
 use Rattle.nr_shared.proofs.Lists.{begins_self}
@@ -13,6 +14,10 @@ loop-init g c = (c.requires.rests, (refl, record { writes_before = []; are_write
 
 pub submit_turn-requires-clause-writable : goal.submit_turn-requires-clause-writable
 submit_turn-requires-clause-writable g c = subst (λ (x : Call). CanWriteCred x.cred) (sym c.loop.invariant.1.1.same_call) c.requires.writable
+
+pub submit_turn-requires-clause-allowed : goal.submit_turn-requires-clause-allowed
+submit_turn-requires-clause-allowed g c = let l = c.loop.invariant.1.1 in
+    subst (λ (x : Call). g.C.CallRule.allows x c.loop.unsent_form) (sym l.same_call) (subst (λ (f : Form). g.C.CallRule.allows c.args.call f) (sym l.same_form) c.requires.allowed)
 
 pub receive-requires-clause-initial_source : goal.receive-requires-clause-initial_source
 receive-requires-clause-initial_source g c = let r = c.loop.invariant.0 in (r.initial_source, (r.has_seen, r.home))

@@ -6,7 +6,7 @@ use Rattle.nr_client.specs.declared.client_end.ClientEnd.TheVariants as client
 use Rattle.nr_client.specs.Jobs.{IsExchange, LacksAnswer}
 use Rattle.nr_client.proofs.Outcomes.{same_asked}
 use Rattle.nr_client.proofs.JobCalls.{call_grows, exchanged, grows_none, lacks}
-use Rattle.nr_client.proofs.jobs.outcome_of.Goals as goal
+use Rattle.nr_client.proofs.shared_calls.outcome_of.Goals as goal
 
 pub returns-in-Err-clause-grows : goal.returns-in-Err-clause-grows
 returns-in-Err-clause-grows g c asked is = grows_none (λ (d : Call). d ≡ asked) _ _ refl refl

@@ -1,6 +1,6 @@
 use Rattle.std.proofs.Common.{[], ◌∷◌, refl, sym, ap}
 use Rattle.nr_shared.specs.declared.entry.Entry.{Entry}
-use Rattle.nr_client.proofs.jobs.share.Goals as goal
+use Rattle.nr_client.proofs.shared_calls.share.Goals as goal
 
 pub new-requires : goal.new-requires
 new-requires g c = record {

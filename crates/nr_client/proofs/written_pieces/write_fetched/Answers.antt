@@ -2,7 +2,7 @@ use Rattle.std.proofs.Common.{ℕ, ◌+◌, refl, subst}
 use Rattle.nr_client.specs.Reading.{piece_left}
 use Rattle.nr_client.specs.private.OpenReads.{GivesNone}
 use Rattle.nr_client.proofs.JobReading.{up_to_more}
-use Rattle.nr_client.proofs.jobs.write_fetched.Goals as goal
+use Rattle.nr_client.proofs.written_pieces.write_fetched.Goals as goal
 
 pub returns-in-Err-clause-err : goal.returns-in-Err-clause-err
 returns-in-Err-clause-err g c = subst (λ (n : ℕ). GivesNone n c.args.outcome c.in-Err.end (g.K.Sink.taken c.args.out.now) (g.K.Sink.taken c.write_data.new.out)) c.piece_left-count.ensures.is c.in-Err.ensures.err

@@ -2,7 +2,7 @@ use Rattle.std.proofs.Common.{◌≡◌, ℕ, ◌+◌, inr, arith, Option, sym, 
 use Rattle.nr_reduce.specs.declared.call.Outcome.{Outcome}
 use Rattle.nr_turnstile.specs.Passes.{mine_of, seen_by}
 use Rattle.nr_client.specs.private.JobReads.{IsFetched}
-use Rattle.nr_client.proofs.jobs.write_piece.Goals as goal
+use Rattle.nr_client.proofs.written_pieces.write_piece.Goals as goal
 
 pub read_rest-requires-clause-piece : goal.read_rest-requires-clause-piece
 read_rest-requires-clause-piece g c = inr (omega (arith, c.piece_left.ensures.some), ap (λ (n : ℕ). c.args.at.now + n) (sym c.piece_left.ensures.is))

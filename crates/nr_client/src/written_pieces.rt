@@ -1,0 +1,196 @@
+//! The pieces of a file that jobs read are written in order, and what no job has read is read.
+
+ghost use Rattle.std.specs.Prelude.{◌≡◌, ◌<◌, ◌≤◌, ℕ, ◌+◌, Some, None, Err, IfErr, OnOk};
+ghost use Rattle.nr_turnstile.specs.Passes.{mine_of, seen_by};
+ghost use Rattle.nr_shared.specs.Sharing.{SharedRests};
+ghost use Rattle.nr_client.specs.Jobs.{IsPiece};
+ghost use Rattle.nr_client.specs.Reading.{OutputFaults, piece_left};
+ghost use Rattle.nr_client.specs.private.JobReads.{EndsMore, Grows, IsFetched, IsRuleOf, IsUpTo, ReadsMore};
+ghost use Rattle.nr_client.specs.private.OpenReads.{GivesData, GivesNone};
+
+use crate::client_end::ClientEnd;
+use crate::file_calls::read_call;
+use crate::read_data::{piece_left, write_data};
+use crate::shared_calls::outcome_of;
+use nr_nfs_base::Handle;
+use nr_outside::{Sink, Source};
+use nr_reduce::Outcome;
+use nr_shared::{CallRule, Pass, SharedRequester};
+use std::alloc::Global;
+use std::sync::Wait;
+
+/// One READ by a call of the caller's own, of what is left of its piece. Its data are written to the output.
+fn read_on<R: Wait, I: Source, O: Sink, C: CallRule, K: Sink>(
+    rt: &R,
+    alloc: Global,
+    shared: &SharedRequester<I, O, C>,
+    pass: &mut Pass<I, O, C>,
+    uid: u32,
+    gid: u32,
+    file: &Handle,
+    size: u64,
+    end: u64,
+    at: &mut u64,
+    out: &mut K,
+) -> Result<(), ClientEnd>
+    requires rule { IsRuleOf C.allows uid gid file.now }
+    requires below { at.old < size }
+    requires within { at.old < end }
+    requires piece { IsUpTo size at.old end }
+    requires rests { SharedRests shared.now pass.old }
+    ensures rests { SharedRests shared.now pass.new }
+    ensures source { seen_by pass.new.source ≡ seen_by pass.old.source }
+    ensures grows { Grows (IsPiece uid gid file.now size) pass.old.main pass.new.main }
+    ensures piece { OnOk result (IsUpTo size at.new end) }
+    ensures more { OnOk result (at.old < at.new) }
+    ensures ok { OnOk result (ReadsMore uid gid file.now size at.old at.new pass.old.main pass.new.main (K.taken out.old) (K.taken out.new)) }
+    ensures err { IfErr result (λ why. EndsMore uid gid file.now size at.old pass.old.main pass.new.main (K.taken out.old) (K.taken out.new) (Err why)) }
+    ensures out_faults { OutputFaults result (K.faults out.old) (K.faults out.new) }
+{
+    let count = piece_left(size, *at);
+    let outcome = match outcome_of(
+        rt,
+        shared,
+        pass,
+        read_call(alloc, uid, gid, file, *at, count),
+    ) {
+        Ok(outcome) => outcome,
+        Err(end) => return Err(end),
+    };
+    let step = match write_data(alloc, outcome, count, out) {
+        Ok(step) => step,
+        Err(end) => return Err(end),
+    };
+    *at += step as u64;
+    Ok(())
+}
+
+/// READs by calls of the caller's own of the rest of a piece, one after another.
+fn read_rest<R: Wait, I: Source, O: Sink, C: CallRule, K: Sink>(
+    rt: &R,
+    alloc: Global,
+    shared: &SharedRequester<I, O, C>,
+    pass: &mut Pass<I, O, C>,
+    uid: u32,
+    gid: u32,
+    file: &Handle,
+    size: u64,
+    end: u64,
+    at: &mut u64,
+    out: &mut K,
+) -> Result<(), ClientEnd>
+    requires rule { IsRuleOf C.allows uid gid file.now }
+    requires within { end ≤ size }
+    requires piece { IsUpTo size at.old end }
+    requires rests { SharedRests shared.now pass.old }
+    ensures rests { SharedRests shared.now pass.new }
+    ensures source { seen_by pass.new.source ≡ seen_by pass.old.source }
+    ensures grows { Grows (IsPiece uid gid file.now size) pass.old.main pass.new.main }
+    ensures end { OnOk result (at.new ≡ end) }
+    ensures ok { OnOk result (ReadsMore uid gid file.now size at.old at.new pass.old.main pass.new.main (K.taken out.old) (K.taken out.new)) }
+    ensures err { IfErr result (λ why. EndsMore uid gid file.now size at.old pass.old.main pass.new.main (K.taken out.old) (K.taken out.new) (Err why)) }
+    ensures out_faults { OutputFaults result (K.faults out.old) (K.faults out.new) }
+{
+    'rest: while *at < end {
+        match read_on(rt, alloc, shared, pass, uid, gid, file, size, end, at, out) {
+            Ok(()) => {}
+            Err(why) => return Err(why),
+        }
+    }
+    Ok(())
+}
+
+/// Writes the data of the first READ of a piece, which a job has made.
+fn write_fetched<K: Sink>(
+    alloc: Global,
+    size: u64,
+    outcome: Outcome,
+    at: &mut u64,
+    out: &mut K,
+) -> Result<(), ClientEnd>
+    requires below { at.old < size }
+    ensures piece { OnOk result (IsUpTo size at.new (at.old + piece_left size at.old)) }
+    ensures ok { OnOk result ((count step : ℕ) × ((count ≡ piece_left size at.old) × ((at.new ≡ at.old + step) × GivesData count outcome step (K.taken out.old) (K.taken out.new)))) }
+    ensures err { IfErr result (λ why. GivesNone (piece_left size at.old) outcome why (K.taken out.old) (K.taken out.new)) }
+    ensures out_faults { OutputFaults result (K.faults out.old) (K.faults out.new) }
+{
+    let count = piece_left(size, *at);
+    let step = match write_data(alloc, outcome, count, out) {
+        Ok(step) => step,
+        Err(end) => return Err(end),
+    };
+    *at += step as u64;
+    Ok(())
+}
+
+/// Writes the data of a piece whose first READ a job has made, and reads what is left of it.
+fn finish_piece<R: Wait, I: Source, O: Sink, C: CallRule, K: Sink>(
+    rt: &R,
+    alloc: Global,
+    shared: &SharedRequester<I, O, C>,
+    pass: &mut Pass<I, O, C>,
+    uid: u32,
+    gid: u32,
+    file: &Handle,
+    size: u64,
+    outcome: Outcome,
+    at: &mut u64,
+    out: &mut K,
+) -> Result<(), ClientEnd>
+    requires rule { IsRuleOf C.allows uid gid file.now }
+    requires below { at.old < size }
+    requires fetched { IsFetched uid gid file.now size at.old (Some outcome) (seen_by pass.old.main) (mine_of pass.old.main) }
+    requires rests { SharedRests shared.now pass.old }
+    ensures rests { SharedRests shared.now pass.new }
+    ensures source { seen_by pass.new.source ≡ seen_by pass.old.source }
+    ensures grows { Grows (IsPiece uid gid file.now size) pass.old.main pass.new.main }
+    ensures end { OnOk result (at.new ≡ at.old + piece_left size at.old) }
+    ensures ok { OnOk result (ReadsMore uid gid file.now size at.old at.new pass.old.main pass.new.main (K.taken out.old) (K.taken out.new)) }
+    ensures err { IfErr result (λ why. EndsMore uid gid file.now size at.old pass.old.main pass.new.main (K.taken out.old) (K.taken out.new) (Err why)) }
+    ensures out_faults { OutputFaults result (K.faults out.old) (K.faults out.new) }
+{
+    let end = *at + piece_left(size, *at) as u64;
+    match write_fetched(alloc, size, outcome, at, out) {
+        Ok(()) => {}
+        Err(why) => return Err(why),
+    }
+    match read_rest(rt, alloc, shared, pass, uid, gid, file, size, end, at, out) {
+        Ok(()) => Ok(()),
+        Err(why) => Err(why),
+    }
+}
+
+/// Writes the data of one piece: those that a job has read, if it has, and what is left of it by calls of the caller's own.
+pub(crate) fn write_piece<R: Wait, I: Source, O: Sink, C: CallRule, K: Sink>(
+    rt: &R,
+    alloc: Global,
+    shared: &SharedRequester<I, O, C>,
+    pass: &mut Pass<I, O, C>,
+    uid: u32,
+    gid: u32,
+    file: &Handle,
+    size: u64,
+    outcome: Option<Outcome>,
+    at: &mut u64,
+    out: &mut K,
+) -> Result<(), ClientEnd>
+    requires rule { IsRuleOf C.allows uid gid file.now }
+    requires below { at.old < size }
+    requires fetched { IsFetched uid gid file.now size at.old outcome (seen_by pass.old.main) (mine_of pass.old.main) }
+    requires rests { SharedRests shared.now pass.old }
+    ensures rests { SharedRests shared.now pass.new }
+    ensures source { seen_by pass.new.source ≡ seen_by pass.old.source }
+    ensures grows { Grows (IsPiece uid gid file.now size) pass.old.main pass.new.main }
+    ensures end { OnOk result (at.new ≡ at.old + piece_left size at.old) }
+    ensures ok { OnOk result (ReadsMore uid gid file.now size at.old at.new pass.old.main pass.new.main (K.taken out.old) (K.taken out.new)) }
+    ensures err { IfErr result (λ why. EndsMore uid gid file.now size at.old pass.old.main pass.new.main (K.taken out.old) (K.taken out.new) (Err why)) }
+    ensures out_faults { OutputFaults result (K.faults out.old) (K.faults out.new) }
+{
+    let end = *at + piece_left(size, *at) as u64;
+    match outcome {
+        None => read_rest(rt, alloc, shared, pass, uid, gid, file, size, end, at, out),
+        Some(outcome) => finish_piece(
+            rt, alloc, shared, pass, uid, gid, file, size, outcome, at, out,
+        ),
+    }
+}
