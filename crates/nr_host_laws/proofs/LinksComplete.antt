@@ -18,7 +18,7 @@ use Rattle.nr_record_host.specs.Completing.{AnswersRecords, HasCallHead, IsCompl
 use Rattle.nr_record_host.specs.declared.record_end.RecordEnd.{RecordEnd}
 use Rattle.nr_record_host.specs.declared.record_end.RecordEnd.TheVariants as record_ends
 use Rattle.nr_record_host.proofs.Completing as record_completing
-use Rattle.nr_record_host.proofs.Readers.{encoding_some}
+use Rattle.nr_record_loop.proofs.Readers.{encoding_some}
 use Rattle.nr_host.specs.Connections.{Outside}
 use Rattle.nr_host.specs.Ending.{SourceCount}
 use Rattle.nr_host.specs.LinkServing.{HELLO_BYTE, IsKindFor, LinkSinkCount, LinkSourceCount, LooksAndServes, holding}
