@@ -65,25 +65,25 @@ begins_same xs ys same = ([], same ∙ sym (append-nil xs))
 
 -- ---- what a pass has seen grows
 
-module _ {O : Type 0} where
-  one_grows : (p q : Pass (RequesterWithSink O) Entry) (bytes reply : List ℕ) → Forwards p q bytes reply → Begins (seen_by p) (seen_by q)
+module _ {O C : Type 0} where
+  one_grows : (p q : Pass (RequesterWithSink O C) Entry) (bytes reply : List ℕ) → Forwards p q bytes reply → Begins (seen_by p) (seen_by q)
   one_grows p q bytes reply f = ⊎_elim
       (λ (own : IsForwarded p q bytes reply). own.answer.adds.seen)
       (λ (at_once : IsMismatch p q bytes reply). begins_same (seen_by p) (seen_by q) (ap seen_by at_once.unchanged))
       f
 
-  all_grow : (p q : Pass (RequesterWithSink O) Entry) (xs : List Exchange) → ForwardsAll p q xs → Begins (seen_by p) (seen_by q)
+  all_grow : (p q : Pass (RequesterWithSink O C) Entry) (xs : List Exchange) → ForwardsAll p q xs → Begins (seen_by p) (seen_by q)
   all_grow p q [] is = begins_same (seen_by p) (seen_by q) (ap seen_by is)
   all_grow p q (x ∷ xs) (m, (one, later)) = begins_then (seen_by p) (seen_by m) (seen_by q) (one_grows p m x.call x.reply one) (all_grow m q xs later)
 
-  call_grows : (p q : Pass (RequesterWithSink O) Entry) (asked : Call) (result : Result Done CallEnd) → Calls p q asked forms.Auto result → Begins (seen_by p) (seen_by q)
+  call_grows : (p q : Pass (RequesterWithSink O C) Entry) (asked : Call) (result : Result Done CallEnd) → Calls p q asked forms.Auto result → Begins (seen_by p) (seen_by q)
   call_grows p q asked (Ok done) c = c.adds.seen
   call_grows p q asked (Err end) c = ⊎_elim
       (λ (none : SendsNone p q asked forms.Auto end). none.adds.seen)
       (λ (lost : NoAnswer p q asked forms.Auto end). lost.adds.seen)
       c
 
-  ended_grows : (end : GateEnd) (p q : Pass (RequesterWithSink O) Entry) (bytes : List ℕ) → EndsRemotely end p q bytes → Begins (seen_by p) (seen_by q)
+  ended_grows : (end : GateEnd) (p q : Pass (RequesterWithSink O C) Entry) (bytes : List ℕ) → EndsRemotely end p q bytes → Begins (seen_by p) (seen_by q)
   ended_grows (ends.Remote end) p q bytes ended = (let m = remote_made end p q bytes ended in call_grows p q m.asked (Err end) m.made)
   ended_grows ends.Chunk p q bytes made = call_grows p q made.makes.asked (Ok made.done) made.makes.made
   ended_grows (ends.Version low high) p q bytes made = call_grows p q made.makes.asked (Ok made.done) made.makes.made
@@ -95,7 +95,7 @@ module _ {O : Type 0} where
   ended_grows (ends.Budget read) p q bytes made = absurd made
   ended_grows ends.Memory p q bytes made = absurd made
 
-  last_grows : (end : GateEnd) (reason : NoReply) (p q : Pass (RequesterWithSink O) Entry) (bytes : List ℕ) → Unforwarded end reason p q bytes → Begins (seen_by p) (seen_by q)
+  last_grows : (end : GateEnd) (reason : NoReply) (p q : Pass (RequesterWithSink O C) Entry) (bytes : List ℕ) → Unforwarded end reason p q bytes → Begins (seen_by p) (seen_by q)
   last_grows end reasons.NotCall p q bytes same = begins_same (seen_by p) (seen_by q) (ap seen_by same)
   last_grows end reasons.Memory p q bytes out = ⊎_elim
       (λ (same : q ≡ p). begins_same (seen_by p) (seen_by q) (ap seen_by same))
@@ -115,7 +115,7 @@ module _ (s : Setup) (J : List JournalEntry) (place : ℕ) (moment : Moment) whe
       ap (λ (l : List JournalEntry). option_map (λ (a : Answer). a.reply) (plain_answer s.parameters (state_of s l) moment payload)) (sym (take_all (length (take place J)) (take place J) (le_refl _))) ∙ is
 
   -- a call of another version is answered at every place alike
-  mismatch_plain : {O : Type 0} (p q : Pass (RequesterWithSink O) Entry) (bytes reply : List ℕ) → IsMismatch p q bytes reply → plain_reply s J place moment bytes ≡ Some reply
+  mismatch_plain : {O C : Type 0} (p q : Pass (RequesterWithSink O C) Entry) (bytes reply : List ℕ) → IsMismatch p q bytes reply → plain_reply s J place moment bytes ≡ Some reply
   mismatch_plain p q bytes reply at_once =
       ap (λ (r : Result CallHead ℕ). option_map (λ (a : Answer). a.reply) (answer_by s.parameters (state_of s (take place J)) moment bytes r)) at_once.head ∙ ap Some (sym at_once.reply_is)
 
@@ -167,7 +167,7 @@ module _ (s : Setup) (J : List JournalEntry) (opened : LinkParameters) (link : �
     plain : plain_reply s J place moment bytes ≡ Some reply
     next : IsLeast seen place
 
-  module _ {O : Type 0} (p m : Pass (RequesterWithSink O) Entry) (bytes reply : List ℕ) (f : IsForwarded p m bytes reply) (is_bytes : IsBytes bytes) (more : List Entry) (history_is : history ≡ seen_by m ++ more) where
+  module _ {O C : Type 0} (p m : Pass (RequesterWithSink O C) Entry) (bytes reply : List ℕ) (f : IsForwarded p m bytes reply) (is_bytes : IsBytes bytes) (more : List Entry) (history_is : history ≡ seen_by m ++ more) where
     abbrev xid : ℕ
     xid = f.answer.xid
 
@@ -263,10 +263,10 @@ module _ (s : Setup) (J : List JournalEntry) (opened : LinkParameters) (link : �
   no_moment : Moment
   no_moment = record { seconds = 0; nanos = 0 }
 
-  all_plain : {O : Type 0} (p q : Pass (RequesterWithSink O) Entry) (xs : List Exchange) (least : ℕ) → ForwardsAll p q xs → Begins (seen_by q) history → AllByRecursion IsBytes (exchanged_calls xs)
+  all_plain : {O C : Type 0} (p q : Pass (RequesterWithSink O C) Entry) (xs : List Exchange) (least : ℕ) → ForwardsAll p q xs → Begins (seen_by q) history → AllByRecursion IsBytes (exchanged_calls xs)
       → IsLeast (seen_by p) least → ArePlain s J least xs
-  all_plain {O} p q [] least all begins bytes prior = tt
-  all_plain {O} p q (x ∷ xs) least (m, (one, later)) begins bytes prior = ⊎_elim
+  all_plain {O} {C} p q [] least all begins bytes prior = tt
+  all_plain {O} {C} p q (x ∷ xs) least (m, (one, later)) begins bytes prior = ⊎_elim
       (λ (f : IsForwarded p m x.call x.reply).
       let to_here = begins_then (seen_by m) (seen_by q) history (all_grow m q xs later) begins in
       let e = executed p m x.call x.reply f bytes.0 to_here.0 to_here.1 least prior in
@@ -279,7 +279,7 @@ module _ (s : Setup) (J : List JournalEntry) (opened : LinkParameters) (link : �
             le_refl least,
             (
               mismatch_plain s J least no_moment p m x.call x.reply at_once,
-              all_plain m q xs least later begins bytes.1 (subst (λ (t : Pass (RequesterWithSink O) Entry). IsLeast (seen_by t) least) (sym at_once.unchanged) prior),
+              all_plain m q xs least later begins bytes.1 (subst (λ (t : Pass (RequesterWithSink O C) Entry). IsLeast (seen_by t) least) (sym at_once.unchanged) prior),
             ),
           ),
         ),
@@ -290,8 +290,8 @@ all_front : {A : Type 0} (P : A → Type 0) (xs ys : List A) → AllByRecursion 
 all_front P [] ys all = tt
 all_front P (x ∷ xs) ys all = (all.0, all_front P xs ys all.1)
 
-pub gated_replies_are_plain : {O : Type 0} → GatedRepliesArePlain O
-gated_replies_are_plain {O} s J opened link both before after end g bytes r =
+pub gated_replies_are_plain : {O C : Type 0} → GatedRepliesArePlain O C
+gated_replies_are_plain {O} {C} s J opened link both before after end g bytes r =
     by_more g.more g.serves.did where
       history : List Entry
       history = seen_by after.state

@@ -43,6 +43,6 @@ ArePlain s J least [] = ⊤
 ArePlain s J least (x ∷ xs) = (place : ℕ) × ((moment : Moment) × ((least ≤ place) × ((plain_reply s J place moment x.call ≡ Some x.reply) × ArePlain s J place xs)))
 
 -- So has each record that a connection of the gateway answered.
-abbrev pub GatedRepliesArePlain : (O : Type 0) → Type 0
-GatedRepliesArePlain O = (s : Setup) (J : List JournalEntry) (opened : LinkParameters) (link : ℕ) (both : List Mark) (before after : Loop (Pass (RequesterWithSink O) Entry)) (end : GateEnd)
+abbrev pub GatedRepliesArePlain : (O C : Type 0) → Type 0
+GatedRepliesArePlain O C = (s : Setup) (J : List JournalEntry) (opened : LinkParameters) (link : ℕ) (both : List Mark) (before after : Loop (Pass (RequesterWithSink O C) Entry)) (end : GateEnd)
     (g : IsGated before after end) → AllByRecursion IsBytes g.records → IsRemoteLink s J opened link (seen_by after.state) both → ArePlain s J 0 g.exchanges

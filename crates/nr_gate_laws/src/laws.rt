@@ -21,6 +21,6 @@ pub fn forwarded_calls_are_no_longer()
 
 /// If the remote link of a gateway is matched and served, each record that a connection of the gateway answered has the reply of the plain server to
 /// the record's own call, with its own xid, at a place of the server's one journal; the places don't fall within the connection.
-pub fn gated_replies_are_plain<O>()
-    ensures { GatedRepliesArePlain O }
+pub fn gated_replies_are_plain<O, C>()
+    ensures { GatedRepliesArePlain O C }
 {}
