@@ -100,7 +100,7 @@ static SEGMENTS: [(&[u8], [u64; 8]); 16] = [
         b"\x00\x16\x41\x47\0\0\0\0\0\0\0\x02\0\0\0\x01\0\0\0\0\0\0\0\x05\0\0\0\0",
         [0, 1, 7, 0, 2, 1, 0, 4],
     ),
-    // Two segments of a Send with Invalidate (RFC 5040 section 5.1): the last one has the STag.
+    // Two segments of a Send with Invalidate (RFC 5040 section 4.7): the last one has the STag.
     (
         b"\x00\x13\x01\x44\0\0\0\0\0\0\0\0\0\0\0\x01\0\0\0\0A\0\0\0\0\0\0\0",
         [0, 0, 4, 0, 0, 1, 0, 1],

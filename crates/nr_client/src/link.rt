@@ -51,7 +51,7 @@ impl<I, O> Model for Link<I, O> {
 
 impl<I: Source, O: Sink> Link<I, O> {
     /// The client end of a new link. It wishes for this many credits, has this many units for its Sends in each direction, of 1,024 bytes
-    /// each, 1 to 16 (0 counts as 1, and more than 16 as 16), and says whether it takes Sends with Invalidate (RFC 8166 section 3.5.2). After out
+    /// each, 1 to 16 (0 counts as 1, and more than 16 as 16), and says whether it takes Sends with Invalidate (RFC 5040 section 4.7). After out
     /// of memory the source and the sink come back.
     pub fn open(
         alloc: Global,

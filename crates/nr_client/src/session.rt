@@ -309,8 +309,8 @@ impl<I: Source, O: Sink> Session<I, O> {
     }
 
     /// Writes the bytes of a file to an output: those up to the size that GETATTR reports, in order (GETATTR and READ, RFC 1813 sections 3.3.1
-    /// and 3.3.6). Several READs are outstanding: at most the grant, and at most 16. `OutputFault` if the output failed, after it took only some of the bytes
-    /// that came.
+    /// and 3.3.6). Several READs are outstanding: at most the grant, and at most 4. `OutputFault` if the output failed, after it took only some of
+    /// the bytes that came.
     pub fn read_file<K: Sink>(&mut self, file: &Handle, out: &mut K) -> Result<(), ClientEnd>
         ensures reads { ReadsFile self.old.uid self.old.gid file.now
             (link_bytes (I.left self.old.link.source) (I.given self.old.link.source) (O.taken self.old.link.sink) self.old.link.read)

@@ -1,9 +1,12 @@
 -- What the laws of nr_laws say of the memory of a link that keeps its laws.
 use Rattle.std.specs.Prelude.{ℕ, List, []}
+use Rattle.nr_link.proofs.TakenSegments.{frame_taken}
 use Rattle.nr_reduce.specs.declared.mark.Mark.{Mark}
 use Rattle.nr_reduce.specs.declared.mark.LinkParameters.{LinkParameters}
 use Rattle.nr_reduce.specs.Asked.{AskedMark, AskedSoFar, IsAll, Asked}
 use Rattle.nr_reduce.specs.Matched.{IsPrefixOf}
+use Rattle.nr_reduce.specs.EndRules.{end_state_after}
+use Rattle.nr_reduce.specs.Client.{client_rules, initial_client}
 use Rattle.nr_reduce.proofs.SoFarLaws.{AtEachMark_each, asked_mark}
 use Rattle.nr_laws.specs.Typed.{IsTyped}
 use Rattle.nr_laws.proofs.Touched.{client_touched, server_touched}
@@ -18,7 +21,9 @@ pub keeps_memory : (opened : LinkParameters) (link : ℕ) (run : List Mark) → 
 keeps_memory opened link run typed asked =
     let sofar : AskedSoFar opened link run = AtEachMark_each (AskedMark IsAll opened link) (AskedMark IsPrefixOf opened link) [] run (asked_mark opened link) asked.each in
     record {
-      client_touched = client_touched opened link run;
+      client_touched = λ earlier later f segment access is lives after reads asks.
+          client_touched opened link run earlier later f segment access is lives after
+          (frame_taken (end_state_after (client_rules opened) (initial_client opened) earlier).state.invalidates f segment reads) asks;
       server_touched = server_touched opened link run;
       server_read = server_refuses_requests opened link run;
       client_holds = client_bytes_are_allowed opened link run;

@@ -19,7 +19,7 @@ abbrev pub sender : Option ℕ → ℕ → Operation
 sender None msn = carriers.Send msn
 sender (Some stag) msn = carriers.SendInvalidate msn stag
 
--- its opcode, and the word of its last segment (RFC 5040 sections 4.6 and 5.1)
+-- its opcode, and the word of its last segment (RFC 5040 sections 4.6 and 4.7)
 abbrev pub send_opcode : Option ℕ → ℕ
 send_opcode None = OPCODE_SEND
 send_opcode (Some stag) = OPCODE_SEND_INVALIDATE

@@ -41,7 +41,7 @@ impl Endpoint {
         (self.link.agreed.up, self.link.agreed.down)
     }
 
-    /// Whether the hellos of both sides agree on Sends with Invalidate: a responder's replies are such, and an initiator takes them. Takes no memory.
+    /// Whether the hellos of both sides agree on Sends with Invalidate (RFC 5040 section 4.7). Takes no memory.
     pub fn invalidates(&self) -> bool
         ensures { result ≡ self.now.link.state.agreed.invalidates }
     {
@@ -148,7 +148,7 @@ impl Endpoint {
         self.link.send(None, message)
     }
 
-    /// Queues a Send with Invalidate (RFC 5040 section 5.1), which asks the peer to let the region under its own STag `stag` die. If the side has
+    /// Queues a Send with Invalidate (RFC 5040 section 4.7), which asks the peer to let the region under its own STag `stag` die. If the side has
     /// ended, it queues nothing. An `Err` changes nothing.
     pub fn send_invalidate(&mut self, message: &[u8], stag: u32) -> Result<(), Memory>
         requires { length message.now < 2 ^ 32 }
@@ -298,7 +298,7 @@ impl Endpoint {
         self.link.register_window(buf, start, len, right)
     }
 
-    /// Lets the region under an STag die, as a Send with Invalidate of the peer asks (RFC 5040 section 5.1): from then on no peer reaches it, and it
+    /// Lets the region under an STag die, as a Send with Invalidate of the peer asks (RFC 5040 section 4.7): from then on no peer reaches it, and it
     /// is held, with its bytes, until it is released. `NoStag` if and only if no live region has the STag; then nothing changes. Takes no memory.
     pub fn invalidate(&mut self, stag: u32) -> Result<(), Denied>
         ensures exact { result_err result ≡ invalidate_denial self.old.link.state.memory stag }

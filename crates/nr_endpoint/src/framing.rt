@@ -53,7 +53,7 @@ pub fn sender(named: Option<u32>, msn: u32) -> Operation
     }
 }
 
-/// The opcode of a Send, and the word that the header of its last segment has before the queue (RFC 5040 sections 4.6 and 5.1).
+/// The opcode of a Send, and the word that the header of its last segment has before the queue (RFC 5040 sections 4.6 and 4.7).
 fn send_opening(named: Option<u32>) -> (u8, u32)
     ensures opcode { result.0 ≡ send_opcode named }
     ensures word { result.1 ≡ send_word named }
@@ -64,7 +64,7 @@ fn send_opening(named: Option<u32>) -> (u8, u32)
     }
 }
 
-/// The word of a segment of a Send with Invalidate: the last one has the STag (RFC 5040 section 5.1).
+/// The word of a segment of a Send with Invalidate: the last one has the STag (RFC 5040 section 4.7), the others 0.
 fn last_word(last: bool, stag: u32) -> u32
     ensures { result ≡ (if last then stag else 0) }
 {

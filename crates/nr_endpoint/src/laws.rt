@@ -89,7 +89,8 @@ pub fn sides_stay_bounded()
 {}
 
 /// What a side agrees with its peer: one unit for a Send in each direction until the peer's hello was accepted, and then what its own hello and
-/// the peer's say, with which the bytes that were fed begin, from 1,024 to 16,384 bytes. The limit of a message is what is agreed for its direction, and a message
+/// the peer's say, with which the bytes that were fed begin, from 1,024 to 16,384 bytes. The limit of a message is what is agreed for its direction,
+/// and a message
 /// within it fits a receive.
 pub fn agrees_by_hellos()
     ensures { AgreesByHellos }

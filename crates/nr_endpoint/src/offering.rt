@@ -210,7 +210,7 @@ impl Endpoint {
     }
 
     /// Queues RDMA Writes into the peer's regions, in their order, and then a Send, with Invalidate of the peer's STag that
-    /// is named, if one is (RFC 5040 section 5.1): all of them or, if memory runs out, nothing. A side that has ended queues nothing.
+    /// is named, if one is (RFC 5040 section 4.7): all of them or, if memory runs out, nothing. A side that has ended queues nothing.
     pub fn answer(
         &mut self,
         writes: &[RemoteWrite<'_>],

@@ -85,7 +85,8 @@ impl LinkSide {
         self.receive_queue.post(buf);
     }
 
-    /// Queues a Send (RFC 5040 section 4), with Invalidate of the peer's STag that is named, if one is. If the side has ended, it queues nothing. An `Err` changes nothing.
+    /// Queues a Send (RFC 5040 section 4), with Invalidate of the peer's STag that is named, if one is. If the side has ended, it queues
+    /// nothing. An `Err` changes nothing.
     pub fn send(&mut self, named: Option<u32>, message: &[u8]) -> Result<(), Memory>
         requires { length message.now < 2 ^ 32 }
         ensures ok { OnOk result (self.new.state ≡ unless_ended self.old.state (record self.old.state { send_queue = with_send_by named message.now self.old.state.send_queue })) }
@@ -100,8 +101,8 @@ impl LinkSide {
         self.send_queue.send(named, message)
     }
 
-    /// Queues the Send of a message in two parts (RFC 5040 section 4), with Invalidate if an STag is named. If the side has ended, it queues nothing. An `Err` changes
-    /// nothing.
+    /// Queues the Send of a message in two parts (RFC 5040 section 4), with Invalidate if an STag is named. If the side has ended, it queues
+    /// nothing. An `Err` changes nothing.
     pub fn send_parts(
         &mut self,
         named: Option<u32>,

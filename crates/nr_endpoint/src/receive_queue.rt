@@ -35,7 +35,7 @@ pub struct ReceivedMessage {
     pub reads_done: u64,
     /// Its message sequence number, from 1 on (RFC 5041 section 5.2).
     pub number: u64,
-    /// The STag that it names, if it is a Send with Invalidate (RFC 5040 section 5.1).
+    /// The STag that it names, if it is a Send with Invalidate (RFC 5040 section 4.7).
     pub invalidated: Option<u32>,
     /// The receive buffer, whose first `len` bytes are the message.
     pub buf: Octets,
@@ -77,7 +77,7 @@ impl Model for ReceiveQueue {
     ghost invariant = { λ q. AreReceives q.receive_length q.free.items q.begun q.messages.items q.lent q.receives (vec_capacity q.free) (deque_capacity q.messages) };
 }
 
-/// What a Send names whose last segment has this opcode and this word: an STag, if it is a Send with Invalidate (RFC 5040 section 5.1).
+/// What a Send names whose last segment has this opcode and this word: an STag, if it is a Send with Invalidate (RFC 5040 section 4.7).
 pub fn named_by(opcode: u8, word: u32) -> Option<u32>
     ensures { result ≡ named_by opcode word }
 {

@@ -1,4 +1,4 @@
-//! Sends with Invalidate (RFC 5040 section 5.1): which side takes one, and which reason comes first; the STag that a message names; a region that
+//! Sends with Invalidate (RFC 5040 section 4.7): which side takes one, and which reason comes first; the STag that a message names; a region that
 //! dies; and what is written. That hellos say so is this project's own.
 
 use crate::compare::same;

@@ -27,6 +27,8 @@ mod items;
 #[cfg(test)]
 mod link;
 #[cfg(test)]
+mod plan_rows;
+#[cfg(test)]
 mod plans;
 #[cfg(test)]
 mod random;

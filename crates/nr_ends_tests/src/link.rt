@@ -117,15 +117,16 @@ impl TestLink {
         }
     }
 
-    /// Two ends with 16 credits. The client end takes, and the server end makes Sends with Invalidate, if these say so.
+    /// Two ends with 16 credits and these units. The client end takes, and the server end makes Sends with Invalidate, if these say so.
     pub fn open_invalidating(
         rt: &impl Abort,
         alloc: Global,
+        units: u8,
         invalidates: (bool, bool),
     ) -> TestLink {
         TestLink {
-            client: Requester::open_sized(alloc, 16, 1, invalidates.0).expect(rt, "memory"),
-            server: Responder::open_sized(alloc, 16, 16, 1, invalidates.1).expect(rt, "memory"),
+            client: Requester::open_sized(alloc, 16, units, invalidates.0).expect(rt, "memory"),
+            server: Responder::open_sized(alloc, 16, 16, units, invalidates.1).expect(rt, "memory"),
             fed_up: 0,
             fed_down: 0,
         }

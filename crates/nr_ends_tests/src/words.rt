@@ -55,7 +55,7 @@ pub fn put_reply(rt: &impl Abort, bytes: &mut Vec<u8>, word: u32) {
     put(rt, bytes, &REPLY_REST);
 }
 
-/// Appends the same reply as a Send with Invalidate (RFC 5040 section 5.1) that names this STag.
+/// Appends the same reply as a Send with Invalidate (RFC 5040 section 4.7) that names this STag.
 pub fn put_named_reply(rt: &impl Abort, bytes: &mut Vec<u8>, stag: u32) {
     put(rt, bytes, &[0x00464144, stag, 0, 1, 0, 1, 1, 16]);
     put(rt, bytes, &REPLY_REST);

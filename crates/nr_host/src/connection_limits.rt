@@ -10,6 +10,6 @@ pub struct ConnectionLimits {
     /// The units of 1,024 bytes that the server has for its Sends in each direction, 1 to 16 (0 counts as 1, and more
     /// than 16 as 16).
     pub units: u8,
-    /// Whether the server answers by Sends with Invalidate (RFC 8166 section 3.5.2) if the client takes them.
+    /// Whether the server answers by Sends with Invalidate (RFC 5040 section 4.7) if the client takes them.
     pub invalidates: bool,
 }

@@ -29,7 +29,7 @@ pub fn answers_convey()
 /// A message of any length goes as segments of at most 4096 bytes each (RFC 5041 section 5.2), each read as it was written. A side that has no Send
 /// begun receives from them exactly that message, complete with the last; and no segment breaks a rule of the link (RFC 5041 section 7), if the
 /// message has the next number, finds a receive and is no longer than a message may be. All of this is so of a Send with Invalidate, too, which names
-/// its STag in its last segment alone (RFC 5040 section 5.1).
+/// its STag in its last segment alone (RFC 5040 section 4.7).
 pub fn messages_in_segments()
     ensures sent { SendIsItsSegments }
     ensures read { SegmentsReadBack }

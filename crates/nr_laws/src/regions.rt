@@ -45,7 +45,7 @@ pub fn regions_handed_back()
     ensures lost { LostHandsBack }
 {}
 
-/// What a Send with Invalidate does to a client's regions, whatever the server sends (RFC 5040 section 5.1; which STag it names is own). Its message
+/// What a Send with Invalidate does to a client's regions, whatever the server sends (RFC 5040 section 4.7; which STag it names is own). Its message
 /// ends the client, and changes nothing else, or answers a call to which that STag was given: all regions under it are of that call, and are closed
 /// after it, and the regions of other calls are as they were.
 pub fn named_stags()

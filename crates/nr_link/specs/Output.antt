@@ -30,7 +30,7 @@ msn_word n = n % 2 ^ 32
 unfoldable pub send : ℕ → List ℕ → List ℕ
 send msn message = cut (λ last offset payload. Untagged last OPCODE_SEND 0 QUEUE_SEND (msn_word msn) offset payload) message
 
--- The Send with Invalidate that has this number (RFC 5040 section 5.1): its last segment has the STag in its first word.
+-- The Send with Invalidate that has this number (RFC 5040 section 4.7): its last segment has the STag in its first word, the others 0 (own).
 unfoldable pub send_invalidating : (msn stag : ℕ) → List ℕ → List ℕ
 send_invalidating msn stag message =
     cut (λ last offset payload. Untagged last OPCODE_SEND_INVALIDATE (if last then stag else 0) QUEUE_SEND (msn_word msn) offset payload) message

@@ -15,7 +15,7 @@ pub struct HeldBuffer {
     pub right: Right,
     /// The buffer and its part that is offered.
     pub window: Window,
-    /// Whether a Send with Invalidate of the peer named its STag (RFC 5040 section 5.1): then the peer reaches it no more.
+    /// Whether a Send with Invalidate of the peer named its STag (RFC 5040 section 4.7): then the peer reaches it no more.
     pub is_dead: bool,
 }
 

@@ -326,7 +326,7 @@ impl Regions {
         }
     }
 
-    /// Lets the region under an STag die, as the peer's Send with Invalidate asks (RFC 5040 section 5.1): from then on no peer reaches it,
+    /// Lets the region under an STag die, as the peer's Send with Invalidate asks (RFC 5040 section 4.7): from then on no peer reaches it,
     /// and it is held, with its bytes, until it is released. `NoStag` if and only if no live region has the STag; then nothing changes.
     /// Takes no memory.
     pub fn invalidate(&mut self, stag: u32) -> Result<(), Denied>

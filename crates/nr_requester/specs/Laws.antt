@@ -1,6 +1,6 @@
 -- A requester stands for the marks of its link: each call of its owner is one mark more.
 use Rattle.std.specs.Prelude.{true, ◌≡◌, ℕ, ◌+◌, ◌^◌, ◌<◌, ◌≤◌, ◌||◌, Bool, List, [], ◌∷◌, ◌++◌, false, length, map, take, None, Ok, ◌==◌, is_some, Some}
-use Rattle.std.specs.List.{AllByRecursion, Contains, list_any, range_with_len}
+use Rattle.std.specs.List.{AllByRecursion, Contains, list_any}
 use Rattle.nr_wire.specs.declared.hello.Side.TheVariants.{Initiator}
 use Rattle.nr_link.specs.declared.end.End.{End}
 use Rattle.nr_link.specs.declared.end.End.TheVariants as ends
@@ -26,12 +26,12 @@ use Rattle.nr_reduce.specs.Asked.{AskedSoFar, IsAll, IsAwaited, revoked_bytes}
 use Rattle.nr_reduce.specs.SubmitAnswer.{submit_answer}
 use Rattle.nr_reduce.specs.Credits.{calls_outstanding, credits_granted, KeepsGrant}
 use Rattle.nr_reduce.specs.KeptClient.{bytes_under}
-use Rattle.nr_requester.specs.RequesterState.{RequesterSide, feeding_of, stags_of, queue_of}
+use Rattle.nr_requester.specs.RequesterState.{StoredCall, RequesterSide, feeding_of, stags_of, queue_of}
 use Rattle.nr_requester.specs.Standing.{RequesterRepresents, RequesterRunsOut, StandsOn, StaysOut}
 use Rattle.nr_requester.specs.KeptAnswers.{completed_of}
-use Rattle.nr_regions.specs.RegisteredMemory.{RegisteredMemory, live_region, after_invalidate}
+use Rattle.nr_regions.specs.RegisteredMemory.{RegisteredMemory}
 use Rattle.nr_requester.specs.AfterCalls.{live_count, opened_as, after_submit, after_drain, after_revoke, after_forget}
-use Rattle.nr_requester.specs.AfterPiece.{after_piece, after_fed, RanOut}
+use Rattle.nr_requester.specs.AfterPiece.{dead_memory, after_piece, after_fed, RanOut}
 use Rattle.nr_requester.specs.CountedMarks.{has_bytes, counted_marks, marks_if}
 use Rattle.nr_requester.specs.Answers.{answer_of, plan_under}
 use Rattle.nr_requester.specs.Buffers.{bytes_of_buffers}
@@ -56,11 +56,16 @@ AgreesAsClient = (opened : LinkParameters) (link : ℕ) (h : RequesterSide) (run
     (h.state.side.agreed.up ≡ (client opened link run).state.up_max) × ((h.state.side.agreed.down ≡ (client opened link run).state.down_max)
     × (h.state.side.agreed.invalidates ≡ (client opened link run).state.invalidates))
 
--- Of a call with n regions, each of which a peer can reach until a Send with Invalidate names one, n - 1 are counted as released.
+-- Of some regions a peer can reach each; and once a Send with Invalidate has named one of them, each but that one.
+abbrev pub CountsAllButNamed : RegisteredMemory → List ℕ → Type 0
+CountsAllButNamed m stags =
+    (live_count m stags ≡ length stags) × ((stag : ℕ) → list_any (λ s. s == stag) stags ≡ true → live_count (dead_memory (Some stag) m) stags + 1 ≡ length stags)
+
+-- Until its link has ended: so all regions of an outstanding call are counted when it is revoked or answered by a plain message, and all but
+-- one when its answer names one of them.
 abbrev pub NamedRegionIsNotCounted : Type 0
-NamedRegionIsNotCounted = (m : RegisteredMemory) (first n stag : ℕ) → first ≤ stag → stag < first + n →
-    ((s : ℕ) → first ≤ s → s < first + n → is_some (live_region m s) ≡ true) →
-    live_count (after_invalidate m stag) (range_with_len first n) + 1 ≡ n
+NamedRegionIsNotCounted = (opened : LinkParameters) (link : ℕ) (h : RequesterSide) (run : List Mark) → RequesterRepresents opened link h run → h.state.side.ended ≡ None →
+    AllByRecursion (λ (c : StoredCall). CountsAllButNamed h.state.side.memory (stags_of c.claims)) h.state.outstanding
 
 -- It counts its marks.
 abbrev pub CountsMarks : Type 0

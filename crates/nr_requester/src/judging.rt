@@ -191,7 +191,7 @@ fn judged(
     }
 }
 
-/// The STag whose region dies by a message that names one, or none, if one does (RFC 5040 section 5.1); and the call that the message answers,
+/// The STag whose region dies by a message that names one, or none, if one does (RFC 5040 section 4.7); and the call that the message answers,
 /// by its place, and what it brings for it, or why it ends the link. Takes no memory.
 pub fn verdict(
     regions: &Regions,

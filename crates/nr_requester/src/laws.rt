@@ -63,7 +63,8 @@ pub fn requesters_keep_their_law()
     ensures lost { LostKeepsLaw }
 {}
 
-/// Of a call whose regions a peer reaches until a reply names one, all regions but that one are counted as released.
+/// Until its link has ended, the server reaches all regions of each outstanding call, and once a message has named one of them all but that
+/// one: so many are counted when they are released (RFC 5040 section 4.7).
 pub fn releases_are_counted()
     ensures { NamedRegionIsNotCounted }
 {}

@@ -73,7 +73,7 @@ pub struct OutstandingCall {
     pub is_forgotten: bool,
     /// The chunk lists of its message, which the reply has to repeat (RFC 8166 section 3.4.6).
     pub offered: OfferedLists,
-    /// The STags that it was given, also after its regions are released: its reply may name one of them (RFC 5040 section 5.1).
+    /// The STags that it was given, also after its regions are released: its reply may name one of them (RFC 5040 section 4.7).
     pub given: GivenStags,
     /// Its regions.
     pub claims: Claims,

@@ -106,7 +106,7 @@ impl Requester {
     }
 
     /// The same, if a Send in either direction may have this many units of 1,024 bytes: 0 counts as 1, and more than 16 as 16. If `invalidates`,
-    /// it takes Sends with Invalidate (RFC 5040 section 5.1). Its hello says both, unless it has one unit and takes none (RFC 5044 section
+    /// it takes Sends with Invalidate (RFC 5040 section 4.7). Its hello says both, unless it has one unit and takes none (RFC 5044 section
     /// 7.1, private data). What the server says in its hello decides, too: see `agreed` and `invalidates`. If it agrees, a reply may name one
     /// STag of its call: that region dies before the rest of the reply is judged, and its release isn't counted (see `local_releases`).
     pub fn open_sized(
@@ -192,7 +192,7 @@ impl Requester {
         self.endpoint.agreed()
     }
 
-    /// Whether a reply may be a Send with Invalidate (RFC 5040 section 5.1), as the hellos of both sides agree. Takes no memory.
+    /// Whether a reply may be a Send with Invalidate (RFC 5040 section 4.7), as the hellos of both sides agree. Takes no memory.
     pub fn invalidates(&self) -> bool
         ensures agreed { result ≡ self.now.state.side.agreed.invalidates }
         ensures stands { (opened : LinkParameters) (link : ℕ) (run : List Mark) → RequesterRepresents opened link self.now run → result ≡ (client opened link run).state.invalidates }
@@ -209,7 +209,7 @@ impl Requester {
     }
 
     /// How many of the regions that it released the server could still reach: those of calls that were answered, revoked, or lost. A region that
-    /// a reply named is not counted (RFC 5040 section 5.1). It stands still at 2^64 - 1. Takes no memory.
+    /// a reply named is not counted (RFC 5040 section 4.7). It stands still at 2^64 - 1. Takes no memory.
     pub fn local_releases(&self) -> u64
         ensures { result ≡ self.now.state.local_releases }
     {

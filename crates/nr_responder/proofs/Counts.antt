@@ -67,6 +67,10 @@ pub agreed_of_run : (opened : LinkParameters) (link : ℕ) (run : List Mark) (v 
     (v.link.state.agreed.up ≡ (server opened link run).state.up_max) × (v.link.state.agreed.down ≡ (server opened link run).state.down_max)
 agreed_of_run opened link run v other h = (let a = agreed_now opened link run v other h in (a.up, a.down))
 
+pub invalidates_of_run : (opened : LinkParameters) (link : ℕ) (run : List Mark) (v : ResponderSide) → end_of v ≢ Some ends.Memory → ResponderRepresents opened link run v →
+    v.link.state.agreed.invalidates ≡ (server opened link run).state.invalidates
+invalidates_of_run opened link run v other h = (agreed_now opened link run v other h).invalidates
+
 -- it is from one unit to UNITS_MAX of them
 pub agreed_limits : (v : ResponderSide) → RepresentsSome v → IsSendLimit v.link.state.agreed.up × IsSendLimit v.link.state.agreed.down
 agreed_limits v s = by s.1.1.1

@@ -162,6 +162,15 @@ impl ServerEnd {
         self.endpoint.agreed()
     }
 
+    /// Whether a reply may be a Send with Invalidate.
+    pub fn invalidates(&self) -> bool
+        ensures exact { result ≡ self.now.endpoint.link.state.agreed.invalidates }
+        ensures of_run { end_of (state_of self.now) ≢ Some ends.Memory → (opened : LinkParameters) (link : ℕ) (run : List Mark) → ResponderRepresents opened link run (state_of self.now) →
+            result ≡ (server opened link run).state.invalidates }
+    {
+        self.endpoint.invalidates()
+    }
+
     /// How many bytes the lists have.
     fn lists_len(&self) -> u128
         requires sound { ServerEndInvariant self.now }

@@ -80,14 +80,15 @@ impl Responder {
         Responder::open_sized(alloc, credits, credits, 1, false)
     }
 
-    /// The server end of a link that grants this many credits, until others are set, and at most `low` in a message that is due while more than half of its receives
+    /// The server end of a link that grants this many credits, until others are set, and at most `low` in a message that is due while more than half
+    /// of its receives
     /// are in use, as it is before the frame or the answer for which the message is due (RFC 8166 section 3.3). It writes and takes Sends of at
     /// most this many units of 1,024 bytes, from 1 to 16 (0 counts as 1, and more than 16 as 16): if the client's hello says its terms, so does
     /// its own, and the lesser of both is agreed for each direction ([`Responder::agreed`]). Takes the staging buffer, a receive of these units
     /// for each credit, and room for a call of each; not its hello, whose room is taken when the client's is accepted. `Err`: memory ran out,
     /// and nothing was made.
     ///
-    /// If `invalidates`, its hello says that it makes Sends with Invalidate (RFC 5040 section 5.1). If the client's says that it takes them,
+    /// If `invalidates`, its hello says that it makes Sends with Invalidate (RFC 5040 section 4.7). If the client's says that it takes them,
     /// each reply to a call that offers memory is one: it names the first STag of the call's read list, else of its write list, else of its
     /// reply chunk ([`Responder::invalidates`]).
     pub fn open_sized(
@@ -127,11 +128,14 @@ impl Responder {
         self.end.agreed()
     }
 
-    /// Whether a reply may be a Send with Invalidate (RFC 5040 section 5.1), as the hellos of both sides agree. Takes no memory.
+    /// Whether a reply may be a Send with Invalidate (RFC 5040 section 4.7), as the hellos of both sides agree. Takes no memory.
     pub fn invalidates(&self) -> bool
-        ensures { result ≡ self.now.side.link.state.agreed.invalidates }
+        ensures exact { result ≡ self.now.side.link.state.agreed.invalidates }
+        // Once the side has ended, it is what was agreed as it ended.
+        ensures of_run { end_of self.now.side ≢ Some ends.Memory → (opened : LinkParameters) (link : ℕ) (run : List Mark) → ResponderRepresents opened link run self.now.side →
+            result ≡ (server opened link run).state.invalidates }
     {
-        self.end.endpoint.invalidates()
+        self.end.invalidates()
     }
 
     /// Takes a piece of the client's stream. `Err` if and only if the side has ended, with why; a side that has ended takes no more.

@@ -38,17 +38,16 @@ server-hello mounted found-a attributes-grant-2 \
 0000000000002000000010000000200000000|\
 client-hello mnt lookup-a getattr-a piece-1 piece-2 piece-3 piece-4|\
 4|link closed;||aabb\n\
-# Of 17 READs 16 are sent, though the grant is 64.\n\
-get here / /a|server-hello mounted found-a attributes-17825792|client-hello mnt lookup-a getattr-a piece-1 piece-2 piece-3 \
-whole-4 piece-5 piece-6 piece-7 piece-8 piece-9 piece-10 piece-11 piece-12 piece-13 piece-14 piece-15 piece-16|4|link closed;\n\
+# Of 5 READs 4 are sent, though the grant is 64.\n\
+get here / /a|server-hello mounted found-a attributes-5242880|client-hello mnt lookup-a getattr-a piece-1 piece-2 piece-3 \
+whole-4|4|link closed;\n\
 # The last one is sent when the first was answered.\n\
 get here / /a|\
-server-hello mounted found-a attributes-17825792 \
+server-hello mounted found-a attributes-5242880 \
 0010c14000000001000000000000000061610000000000000162414300000000000000000000000400000000000000040000000100000040\
 00000000000000000000000100000010+1:2+000000000000000000000004000000010000000000000000000000000000000000000000000\
 0000000000002000000010000000200000000|\
-client-hello mnt lookup-a getattr-a piece-1 piece-2 piece-3 whole-4 piece-5 piece-6 piece-7 piece-8 piece-9 \
-piece-10 piece-11 piece-12 piece-13 piece-14 piece-15 piece-16 piece-17|\
+client-hello mnt lookup-a getattr-a piece-1 piece-2 piece-3 whole-4 piece-5|\
 4|link closed;||aa\n\
 # The replies come in another order than the READs. Each gives 2 bytes and eof.\n\
 get here / /a|\

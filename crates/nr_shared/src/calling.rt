@@ -21,7 +21,8 @@ use nr_requester::{Done, Ticket};
 use std::sync::Wait;
 
 impl<I: Source, O: Sink, C: CallRule> SharedRequester<I, O, C> {
-    /// Makes a call that the rule allows, and waits for its outcome. It is submitted once a credit is left. If there is no outcome, a call that was submitted is
+    /// Makes a call that the rule allows, and waits for its outcome. It is submitted once a credit is left. If there is no outcome, a call that was
+    /// submitted is
     /// forgotten.
     pub fn call<R: Wait>(
         &self,

@@ -23,7 +23,7 @@ use nr_xdr::word_at;
 /// A DDP segment. `last` says that it ends its message; `opcode` is the kind of message (RFC 5040 section 4). The payload of
 /// a tagged segment goes to the memory that `stag` names at the receiver, from byte `to` on. An untagged segment belongs to
 /// message `msn` of its queue, and its payload begins at byte `offset` of that message; `word` is the RsvdULP field (RFC 5041
-/// section 4.3): the STag in the last segment of a Send with Invalidate (RFC 5040 section 5.1), else ignored.
+/// section 4.3): the STag in the last segment of a Send with Invalidate (RFC 5040 section 4.7), else ignored.
 #[derive(Clone, Copy)]
 pub enum Segment<'a> {
     /// A segment of the tagged buffer model (RFC 5041 section 4.2).

@@ -51,7 +51,7 @@ pub struct Client<T> {
     /// The units of its Sends in each direction, of 1,024 bytes each: 1 to [`UNITS_MAX`](crate::UNITS_MAX), and 1 unless the
     /// line has another number.
     pub units: u8,
-    /// Whether it takes Sends with Invalidate (RFC 8166 section 3.5.2): only if the line says so.
+    /// Whether it takes Sends with Invalidate (RFC 5040 section 4.7): only if the line says so.
     pub invalidates: bool,
     /// What it does.
     pub action: Action<T>,

@@ -34,7 +34,7 @@ pub struct Settings<T> {
     /// The most credits that it grants in a message that is due while more than half of the receives of a connection are in use: 1 to
     /// `credits`.
     pub low_credits: u64,
-    /// Whether it answers by Sends with Invalidate if a client takes them (RFC 8166 section 3.5.2).
+    /// Whether it answers by Sends with Invalidate if a client takes them (RFC 5040 section 4.7).
     pub invalidates: bool,
 }
 
@@ -72,7 +72,7 @@ pub struct Config {
     /// The most credits that it grants in a message that is due while more than half of the receives of a connection are in use: 1 to
     /// `credits`.
     pub low_credits: u64,
-    /// Whether it answers by Sends with Invalidate if a client takes them (RFC 8166 section 3.5.2).
+    /// Whether it answers by Sends with Invalidate if a client takes them (RFC 5040 section 4.7).
     pub invalidates: bool,
 }
 

@@ -1,4 +1,5 @@
-use Rattle.std.proofs.Common.{◌≡◌, ℕ, List, inr, refl, sym, subst, ◌∙◌}
+use Rattle.std.proofs.Common.{◌≡◌, ◌<◌, ℕ, List, length, arith, inr, refl, sym, ap, subst, ◌∙◌}
+use Rattle.std.specs.List.{All, slice_index_or}
 use Rattle.nr_reduce.specs.declared.call.Call.{Call}
 use Rattle.nr_reduce.specs.declared.call.Form.TheVariants as forms
 use Rattle.nr_client.proofs.JobReading.{piece_at}
@@ -10,12 +11,17 @@ use Rattle.nr_client.proofs.JobCalls.{fetched_more, fetched_on, grows_as, grows_
 use Rattle.nr_client.proofs.Outcomes.{allowed_as, writable}
 use Rattle.nr_client.proofs.jobs.fetch.Goals as goal
 
+-- a piece of the job begins before the size
+below : {size n next : ℕ} {xs ys : List ℕ} → xs ≡ ys → n ≡ slice_index_or xs next n → All (λ (at : ℕ). at < size) ys → next < length xs → n < size
+below {size} {n} {next} {xs} {ys} same is all lt =
+    subst (λ (m : ℕ). m < size) (sym is) (subst (λ (l : List ℕ). All (λ (at : ℕ). at < size) l) (sym same) all next n lt)
+
 pub outcome_of-requires-clause-writable : goal.outcome_of-requires-clause-writable
 outcome_of-requires-clause-writable g c = writable c.read_call.result nfs_program nfs_version 6 c.args.uid c.args.gid _ c.read_call.ensures
 
 pub outcome_of-requires-clause-allowed : goal.outcome_of-requires-clause-allowed
 outcome_of-requires-clause-allowed g c =
-    allowed_as (λ (d : Call). g.C.CallRule.allows d forms.Auto) c.read_call.result _ c.read_call.ensures (c.requires.rule _ (inr (c.args.size, piece_at c.args.uid c.args.gid c.args.file.now c.args.size _ c.piece_left.result (c.requires.ready.1.0 c.pieces.next _ ?) c.piece_left.ensures.is)))
+    allowed_as (λ (d : Call). g.C.CallRule.allows d forms.Auto) c.read_call.result _ c.read_call.ensures (c.requires.rule _ (inr (c.args.size, piece_at c.args.uid c.args.gid c.args.file.now c.args.size c.index-at.result.now c.piece_left.result (below (ap (λ v. v.items) c.pieces.invariant.0) c.index-at.ensures c.requires.ready.1.0 (grind (arith, c.pieces-test.true, c.len.ensures))) c.piece_left.ensures.is)))
 
 pub pieces-init : goal.pieces-init
 pieces-init g c = (refl, c.requires.ready.0, refl, grows_none (IsPiece c.args.uid c.args.gid c.args.file.now c.args.size) c.args.job.now.pass.main c.args.job.now.pass.main refl refl, c.requires.ready.1.1)
@@ -24,7 +30,7 @@ pub pieces-preserved : goal.pieces-preserved
 pieces-preserved g c =
     let (offsets, rests, source, grows, got) = c.pieces.invariant in
     let p = c.pieces.job.pass.main in let q = c.outcome_of.new.pass.main in
-    let step : Grows (IsPiece c.args.uid c.args.gid c.args.file.now c.args.size) p q = grows_as (IsPiece c.args.uid c.args.gid c.args.file.now c.args.size) _ p q (piece_at c.args.uid c.args.gid c.args.file.now c.args.size _ c.piece_left.result (c.requires.ready.1.0 c.pieces.next _ ?) c.piece_left.ensures.is) (c.outcome_of.ensures.grows _ c.read_call.ensures) in
+    let step : Grows (IsPiece c.args.uid c.args.gid c.args.file.now c.args.size) p q = grows_as (IsPiece c.args.uid c.args.gid c.args.file.now c.args.size) _ p q (piece_at c.args.uid c.args.gid c.args.file.now c.args.size c.index-at.result.now c.piece_left.result (below (ap (λ v. v.items) c.pieces.invariant.0) c.index-at.ensures c.requires.ready.1.0 (grind (arith, c.pieces-test.true, c.len.ensures))) c.piece_left.ensures.is) (c.outcome_of.ensures.grows _ c.read_call.ensures) in
     let kept = fetched_on (seen_by p) (seen_by q) (mine_of p) (mine_of q) c.args.uid c.args.gid c.args.file.now c.args.size c.pieces.job.fetched.items step.seen step.mine got in
     let grown = grows_then (IsPiece c.args.uid c.args.gid c.args.file.now c.args.size) c.args.job.now.pass.main p q rests.caller.lies grows step in (
       offsets,
@@ -39,7 +45,7 @@ pub returns-in-Err : goal.returns-in-Err
 returns-in-Err g c =
     let (offsets, rests, source, grows, got) = c.pieces.invariant in
     let p = c.pieces.job.pass.main in let q = c.outcome_of.new.pass.main in
-    let step : Grows (IsPiece c.args.uid c.args.gid c.args.file.now c.args.size) p q = grows_as (IsPiece c.args.uid c.args.gid c.args.file.now c.args.size) _ p q (piece_at c.args.uid c.args.gid c.args.file.now c.args.size _ c.piece_left.result (c.requires.ready.1.0 c.pieces.next _ ?) c.piece_left.ensures.is) (c.outcome_of.ensures.grows _ c.read_call.ensures) in
+    let step : Grows (IsPiece c.args.uid c.args.gid c.args.file.now c.args.size) p q = grows_as (IsPiece c.args.uid c.args.gid c.args.file.now c.args.size) _ p q (piece_at c.args.uid c.args.gid c.args.file.now c.args.size c.index-at.result.now c.piece_left.result (below (ap (λ v. v.items) c.pieces.invariant.0) c.index-at.ensures c.requires.ready.1.0 (grind (arith, c.pieces-test.true, c.len.ensures))) c.piece_left.ensures.is) (c.outcome_of.ensures.grows _ c.read_call.ensures) in
     let kept = fetched_on (seen_by p) (seen_by q) (mine_of p) (mine_of q) c.args.uid c.args.gid c.args.file.now c.args.size c.pieces.job.fetched.items step.seen step.mine got in
     let grown = grows_then (IsPiece c.args.uid c.args.gid c.args.file.now c.args.size) c.args.job.now.pass.main p q rests.caller.lies grows step in
     (c.outcome_of.ensures.rests, (c.outcome_of.ensures.source ∙ source, (grown, kept)))
@@ -48,7 +54,7 @@ pub returns-in-Err-push : goal.returns-in-Err-push
 returns-in-Err-push g c =
     let (offsets, rests, source, grows, got) = c.pieces.invariant in
     let p = c.pieces.job.pass.main in let q = c.outcome_of.new.pass.main in
-    let step : Grows (IsPiece c.args.uid c.args.gid c.args.file.now c.args.size) p q = grows_as (IsPiece c.args.uid c.args.gid c.args.file.now c.args.size) _ p q (piece_at c.args.uid c.args.gid c.args.file.now c.args.size _ c.piece_left.result (c.requires.ready.1.0 c.pieces.next _ ?) c.piece_left.ensures.is) (c.outcome_of.ensures.grows _ c.read_call.ensures) in
+    let step : Grows (IsPiece c.args.uid c.args.gid c.args.file.now c.args.size) p q = grows_as (IsPiece c.args.uid c.args.gid c.args.file.now c.args.size) _ p q (piece_at c.args.uid c.args.gid c.args.file.now c.args.size c.index-at.result.now c.piece_left.result (below (ap (λ v. v.items) c.pieces.invariant.0) c.index-at.ensures c.requires.ready.1.0 (grind (arith, c.pieces-test.true, c.len.ensures))) c.piece_left.ensures.is) (c.outcome_of.ensures.grows _ c.read_call.ensures) in
     let kept = fetched_on (seen_by p) (seen_by q) (mine_of p) (mine_of q) c.args.uid c.args.gid c.args.file.now c.args.size c.pieces.job.fetched.items step.seen step.mine got in
     let grown = grows_then (IsPiece c.args.uid c.args.gid c.args.file.now c.args.size) c.args.job.now.pass.main p q rests.caller.lies grows step in
     (c.outcome_of.ensures.rests, (c.outcome_of.ensures.source ∙ source, (grown, subst (λ l. AreFetched c.args.uid c.args.gid c.args.file.now c.args.size (seen_by q) (mine_of q) l) (sym c.in-Err-push.ensures.items) kept)))
