@@ -24,7 +24,8 @@ pub enum ServeStop {
     Output,
 }
 
-pub(crate) fn stop_of_read(end: ReadEnd) -> ServeStop
+/// Why a configuration wasn't read.
+pub fn stop_of_read(end: ReadEnd) -> ServeStop
     ensures { result ≡ stop_of_read end }
 {
     match end {
@@ -34,7 +35,8 @@ pub(crate) fn stop_of_read(end: ReadEnd) -> ServeStop
     }
 }
 
-pub(crate) fn stop_of_config(fault: ConfigFault) -> ServeStop
+/// Why a text gave no configuration.
+pub fn stop_of_config(fault: ConfigFault) -> ServeStop
     ensures { result ≡ stop_of_config fault }
 {
     match fault {
@@ -43,7 +45,8 @@ pub(crate) fn stop_of_config(fault: ConfigFault) -> ServeStop
     }
 }
 
-pub(crate) fn stop_of_serve(fault: ServeFault) -> ServeStop
+/// Why fewer links were taken than the configuration asks for.
+pub fn stop_of_serve(fault: ServeFault) -> ServeStop
     ensures { result ≡ stop_of_serve fault }
 {
     match fault {
