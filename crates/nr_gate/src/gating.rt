@@ -11,7 +11,7 @@ ghost use Rattle.nr_gate.specs.GateLinks.{GatesLinks};
 use crate::gate_end::GateEnd;
 use crate::gated_links::GatedLinks;
 use crate::job::GateJob;
-use nr_accept::{LinkJobs, ServeFault, take_links};
+use nr_accept::{ServeFault, take_links};
 use nr_jobs::Spawner;
 use nr_links::Acceptor;
 use nr_outside::{Sink, Source};

@@ -1,20 +1,16 @@
 //! The remote link of a gateway, and the requester over it that its connections share.
 
-ghost use Rattle.std.specs.Prelude.{◌≡◌, ◌≢◌, ◌≤◌, ℕ, [], ◌∷◌, Some, IfOk, MatchResult};
+ghost use Rattle.std.specs.Prelude.{◌≡◌, ◌≢◌, ◌≤◌, [], ◌∷◌, Some, IfOk, MatchResult};
 ghost use Rattle.std.specs.Arc.{arc_value};
-ghost use Rattle.nr_link.specs.Agreement.{default_terms};
 ghost use Rattle.nr_link.specs.declared.end.End.TheVariants as ends;
 ghost use Rattle.nr_links.specs.Links.{IsNewLink};
-ghost use Rattle.nr_reduce.specs.Opening.{ClientOpened};
-ghost use Rattle.nr_reduce.specs.declared.mark.LinkParameters.{LinkParameters};
 ghost use Rattle.nr_requester.specs.Fed.{fed_bytes};
-ghost use Rattle.nr_requester.specs.Standing.{RequesterRepresents};
 ghost use Rattle.nr_turnstile.specs.Passes.{mine_of, seen_by};
 ghost use Rattle.nr_shared.specs.declared.entry.Entry.TheVariants as entries;
 ghost use Rattle.nr_shared.specs.Sharing.{SharedRests};
 ghost use Rattle.nr_shared.specs.Standing.{bytes_before};
 ghost use Rattle.nr_client.specs.Dialing.{dialer_at};
-ghost use Rattle.nr_gateway.specs.Gateways.{Dials, OpensRemote, gate_credits};
+ghost use Rattle.nr_gateway.specs.Gateways.{Dials, OpensRemote};
 ghost use Rattle.nr_gateway.specs.Stops.{NotOpened};
 
 use nr_links::{Dialer, LinkSink, LinkSource};

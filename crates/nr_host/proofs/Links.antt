@@ -1,5 +1,5 @@
 -- Links that a server takes one after another, by what makes their jobs.
-use Rattle.std.proofs.Common.{◌≡◌, ℕ, Bool, List, ◌∙◌, refl, subst}
+use Rattle.std.proofs.Common.{◌≡◌, ℕ, Bool, List, ◌∙◌, subst}
 use Rattle.nr_links.specs.Links.{EndedLink}
 use Rattle.nr_turnstile.specs.declared.plays.View.{View}
 use Rattle.nr_plain.specs.History.{PassView}

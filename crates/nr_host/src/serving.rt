@@ -11,7 +11,7 @@ use crate::connection_limits::ConnectionLimits;
 use crate::job::ServeJob;
 use crate::link_end::LinkEnd;
 use crate::served_links::ServedLinks;
-use nr_accept::{LinkJobs, ServeFault, take_links};
+use nr_accept::{ServeFault, take_links};
 use nr_jobs::Spawner;
 use nr_links::{Acceptor, Clock};
 use nr_outside::raise_trim_threshold;

@@ -1,11 +1,8 @@
-use Rattle.std.proofs.Common.{◌≡◌, ℕ, Bool, false, sym, ap, subst, ◌∙◌}
-use Rattle.std.specs.Arc.{arc_value}
-use Rattle.nr_turnstile.specs.Passes.{Rests, mine_of, seen_by, view_of}
+use Rattle.std.proofs.Common.{◌≡◌, ℕ, Bool, false, ap, subst, ◌∙◌}
+use Rattle.nr_turnstile.specs.Passes.{Rests, mine_of, seen_by}
 use Rattle.nr_turnstile.specs.Rule.{Begins, in_order, longer}
-use Rattle.nr_turnstile.specs.declared.plays.View.{View}
 use Rattle.nr_plain.specs.History.{PassView, pass_view}
 use Rattle.nr_host.specs.LinkServing.{IsLinkServed, LinkSinkCount, LinkSourceCount}
-use Rattle.nr_host.specs.Serving.{split_off}
 use Rattle.nr_host.specs.Steps.{outside, sink_state}
 use Rattle.nr_host.specs.declared.connection_limits.ConnectionLimits.{ConnectionLimits}
 use Rattle.nr_host.proofs.served_links.ServedLinksLinkJobs.run_here.Goals as goal
@@ -25,7 +22,7 @@ pub returns-clause-served : goal.returns-clause-served
 returns-clause-served g c first source sink made no_source_fault no_sink_fault =
     let left = g.I.Source.left in let given = g.I.Source.given in let taken = g.O.Sink.taken in
     let r = c.run-source.result in let job = c.args.job in
-    let view = pass_view first.pass.now in let gave = g.C.Clock.gave job.clock in
+    let gave = g.C.Clock.gave job.clock in
     let after = outside (left r.source) (given r.source) (sink_state (taken r.sink) (g.O.Sink.faults r.sink) false) (g.C.Clock.gave r.clock) (pass_view r.pass) in
     let kept = made.1.1.1.1.1.1.1.0 in let same = made.1.1.1.1.1.1.1.1 in
     let run = c.run-source.ensures.served in
