@@ -10,10 +10,11 @@ module _ {V E : Type 0} (Makes : V → V → Type 0) (Served : V → EndedLink �
   takes_more before mid after [] link none one = (after, (subst (λ (b : Between V). TakesLink Makes Served b link after) none one, refl))
   takes_more before mid after (first ∷ links) link (next, (took, rest)) one = (next, (took, takes_more next mid after links link rest one))
 
-ends_more : {E : Type 0} (links : List (Option E)) (link : Option E) → ends_of (links ++ link ∷ []) ≡ ends_of links ++ end_of_link link
-ends_more [] link = append-nil (end_of_link link)
-ends_more {E} (first ∷ links) link =
-    ap (λ (l : List E). end_of_link first ++ l) (ends_more links link) ∙ sym (append_assoc (end_of_link first) (ends_of links) (end_of_link link))
+module _ {E : Type 0} where
+  ends_more : (links : List (Option E)) (link : Option E) → ends_of (links ++ link ∷ []) ≡ ends_of links ++ end_of_link link
+  ends_more [] link = append-nil (end_of_link link)
+  ends_more (first ∷ links) link =
+      ap (λ (l : List E). end_of_link first ++ l) (ends_more links link) ∙ sym (append_assoc (end_of_link first) (ends_of links) (end_of_link link))
 
 module _ {V E : Type 0} (Makes : V → V → Type 0) (Served : V → EndedLink → EndedLink → ℕ → ℕ → E → V → Type 0) where
   -- one link more

@@ -7,7 +7,7 @@ use nr_host::ServeFault;
 use nr_outside::ReadEnd;
 use nr_words::ConfigFault;
 
-/// Why a server wasn't opened, or stopped before it had served all its connections and printed that.
+/// Why a server or a gateway wasn't opened, or stopped before it had served all its connections and printed that.
 #[derive(Clone, Copy, Debug, PartialEq, Eq)]
 pub enum ServeStop {
     /// Memory ran out.
@@ -18,7 +18,7 @@ pub enum ServeStop {
     Budget,
     /// The text is no configuration.
     Configuration,
-    /// The acceptor failed: its fault count rose.
+    /// The acceptor failed, or the dialer of a gateway: its fault count rose.
     Link,
     /// A write to the output failed.
     Output,
