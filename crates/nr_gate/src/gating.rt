@@ -69,7 +69,7 @@ where
     ensures asked { A.asked acceptor.new ≡ A.asked acceptor.old }
     ensures listens { A.listens acceptor.new ≡ A.listens acceptor.old }
 {
-    take_links::<A, GateJob<A::Source, A::Sink, J, K, R>, GatedLinks<'_, J, K, R>, P, R>(
+    take_links::<A, GateJob<A::Source, A::Sink, J, K, R>, _, P, R>(
         rt,
         alloc,
         acceptor,

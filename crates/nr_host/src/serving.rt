@@ -73,7 +73,7 @@ where
     ensures asked { A.asked acceptor.new ≡ A.asked acceptor.old }
     ensures listens { A.listens acceptor.new ≡ A.listens acceptor.old }
 {
-    take_links::<A, ServeJob<A::Source, A::Sink, C, R>, ServedLinks<'_, C, R>, P, R>(
+    take_links::<A, ServeJob<A::Source, A::Sink, C, R>, _, P, R>(
         rt,
         alloc,
         acceptor,
