@@ -18,7 +18,7 @@ use Rattle.nr_record_host.specs.Completing.{AnswersRecords, HasCallHead, IsCompl
 use Rattle.nr_record_host.specs.declared.record_end.RecordEnd.{RecordEnd}
 use Rattle.nr_record_host.specs.declared.record_end.RecordEnd.TheVariants as record_ends
 use Rattle.nr_record_host.proofs.Completing as record_completing
-use Rattle.nr_record_host.proofs.Readers.{encoding_some}
+use Rattle.nr_record_loop.proofs.Readers.{encoding_some}
 use Rattle.nr_host.specs.Connections.{Outside}
 use Rattle.nr_host.specs.Ending.{SourceCount}
 use Rattle.nr_host.specs.LinkServing.{HELLO_BYTE, IsKindFor, LinkSinkCount, LinkSourceCount, LooksAndServes, holding}
@@ -108,14 +108,14 @@ looked_completes limits before after (link_ends.Record end) source source' first
     (subst (λ (l : Option (List ℕ)). IsKindFor l (left_with s.held after.left) (link_ends.Record end)) known s.kind))
 
 pub links_complete : LinksComplete
-links_complete limits false before after (link_ends.Record end) first J stream served fine hello stands known complete = absurd served.served
+links_complete limits false before after (link_ends.Record end) first J stream served fine hello stands known complete = absurd served.served.served
 links_complete limits false before after (link_ends.Rdma end) first J stream served fine hello stands known complete =
     let none = no_fault served.source_faults served.sink_faults (not_lost served.source_faults served.sink_faults before.lost after.lost served.lost fine) in
-    completes limits (opened_outside served) (closed_outside served) end 0 served.source_faults first J stream served.served served.source_count served.sink_count
+    completes limits (opened_outside served) (closed_outside served) end 0 served.source_faults first J stream served.served.served served.served.source_count served.served.sink_count
     (no_rise served.source_faults none.0) (no_rise served.sink_faults none.1) stands known complete
 links_complete limits true before after end first J stream served fine hello stands known complete =
     let none = no_fault served.source_faults served.sink_faults (not_lost served.source_faults served.sink_faults before.lost after.lost served.lost fine) in
-    looked_completes limits (opened_outside served) (closed_outside served) end 0 served.source_faults first J stream served.served served.source_count served.sink_count
+    looked_completes limits (opened_outside served) (closed_outside served) end 0 served.source_faults first J stream served.served.served served.served.source_count served.served.sink_count
     (no_rise served.source_faults none.0) (no_rise served.sink_faults none.1) stands known complete (hello refl)
 
 -- ---- RPC over TCP with record marks
@@ -165,5 +165,5 @@ records_complete limits before after (link_ends.Rdma end) source source' cut cut
 pub record_links_complete : RecordLinksComplete
 record_links_complete limits before after end cut cuts served fine known within heads few =
     let none = no_fault served.source_faults served.sink_faults (not_lost served.source_faults served.sink_faults before.lost after.lost served.lost fine) in
-    records_complete limits (opened_outside served) (closed_outside served) end 0 served.source_faults cut cuts served.served served.source_count served.sink_count
+    records_complete limits (opened_outside served) (closed_outside served) end 0 served.source_faults cut cuts served.served.served served.served.source_count served.served.sink_count
     (no_rise served.source_faults none.0) (no_rise served.sink_faults none.1) known within heads few

@@ -26,10 +26,10 @@ use Rattle.nr_host_laws.specs.Streams.{IsCompleteStream}
 -- a link as it was accepted, and as it was hung up
 module _ {limits : ConnectionLimits} {records : Bool} {before after : Between} {end : LinkEnd} where
   abbrev pub opened_outside : ServesLink limits records before after end → Outside
-  opened_outside s = outside s.opened.left s.opened.given (sink_state s.opened.taken 0 false) s.gave (split_off before.view)
+  opened_outside s = outside s.opened.left s.opened.given (sink_state s.opened.taken 0 false) s.served.gave (split_off before.view)
 
   abbrev pub closed_outside : ServesLink limits records before after end → Outside
-  closed_outside s = outside s.closed.left s.closed.given (sink_state s.closed.taken s.sink_faults false) s.gave' s.own
+  closed_outside s = outside s.closed.left s.closed.given (sink_state s.closed.taken s.sink_faults false) s.served.gave' s.served.own
 
 -- ===== RPC over RDMA
 

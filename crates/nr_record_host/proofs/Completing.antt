@@ -14,12 +14,13 @@ use Rattle.nr_record.specs.RecordsState.{IsContentInLimit}
 use Rattle.nr_record.proofs.Above.{none_list}
 use Rattle.nr_record.proofs.Begun.{all_fit}
 use Rattle.nr_record.proofs.Unique.{begun_none, one_encoding, one_reading}
-use Rattle.nr_record_host.specs.RecordRuns.{Around, IsNoCall, IsRecordsServed, IsTooLong, Serves, SinkCount, SourceCount, calls, written}
+use Rattle.nr_record_loop.specs.Connections.{IsNoCall, IsTooLong}
+use Rattle.nr_record_host.specs.RecordRuns.{Around, IsRecordsServed, Serves, SinkCount, SourceCount, calls, written}
 use Rattle.nr_record_host.specs.Completing.{HasCallHead, IsComplete}
 use Rattle.nr_record_host.specs.declared.record_end.RecordEnd.{RecordEnd}
 use Rattle.nr_record_host.specs.declared.record_end.RecordEnd.TheVariants as ends
-use Rattle.nr_record_host.proofs.Exchanges.{all_after, contents_both}
-use Rattle.nr_record_host.proofs.Readers.{encoding_some}
+use Rattle.nr_record_loop.proofs.Exchanges.{all_after, contents_both}
+use Rattle.nr_record_loop.proofs.Readers.{encoding_some}
 
 -- what was read, and what is left: the first bytes of those that were left, and the others
 reads_of : (all bytes : List ℕ) (left : Option (List ℕ)) → Consumes (Some all) left bytes → (rest : List ℕ) × ((left ≡ Some rest) × (all ≡ bytes ++ rest))

@@ -1,6 +1,6 @@
 -- A connection over record-marked TCP (RFC 5531 section 11): the calls that were answered, and what they say of its
 -- source, its sink, its clock and its pass; and how it ends, and why.
-use Rattle.std.specs.Prelude.{◌≡◌, ⊤, ℕ, ◌<◌, ◌≤◌, ◌⊎◌, true, false, List, [], ◌∷◌, ◌++◌, length, Option, None, Some, is_ok}
+use Rattle.std.specs.Prelude.{◌≡◌, ⊤, ℕ, ◌<◌, ◌≤◌, ◌⊎◌, List, [], ◌∷◌, ◌++◌, length, Option, None, Some}
 use Rattle.std.specs.List.{AllByRecursion}
 use Rattle.std.specs.Io.KnownBytes.{Appends, IsAtEnd}
 use Rattle.nr_outside.specs.Content.{HandsOut}
@@ -8,18 +8,12 @@ use Rattle.nr_outside.specs.Faults.{Rises}
 use Rattle.nr_outside.specs.declared.moment.Moment.{Moment}
 use Rattle.nr_links.specs.Limits.{read_max}
 use Rattle.nr_record.specs.Constants.{REASON_RECORD}
-use Rattle.nr_record.specs.Records.{IsAboveAt, RecordsEncode, contents, fragment}
-use Rattle.nr_record.specs.RecordsState.{IsFaultOf, IsInLimit}
-use Rattle.nr_record.specs.declared.fault.RecordFault.TheVariants as faults
-use Rattle.nr_reduce.specs.Matched.{IsPrefixOf}
-use Rattle.nr_rpc.specs.Reading.{call_of}
+use Rattle.nr_record.specs.Records.{RecordsEncode}
+use Rattle.nr_record.specs.RecordsState.{IsInLimit}
 use Rattle.nr_plain.specs.History.{Answered, PassView, Over}
+use Rattle.nr_record_loop.specs.Connections.{AllAnswered, BreaksOffIn, Exchange, IsNoCall, IsTooLong, calls as exchanged_calls, written as exchanged_replies}
 use Rattle.nr_record_host.specs.declared.record_end.RecordEnd.{RecordEnd}
 use Rattle.nr_record_host.specs.declared.record_end.RecordEnd.TheVariants as ends
-
--- the reason for which a record without a call head ends a connection
-abbrev pub REASON_CALL : ℕ
-REASON_CALL = 27
 
 -- the number of the client at the other end, with which its entries stand in the server's history: none is told over
 -- TCP with record marks
@@ -28,10 +22,14 @@ NO_CLIENT = 0
 
 -- ===== calls that were answered, in order
 
+-- as calls and replies alone
+abbrev pub exchanges_of : List Answered → List Exchange
+exchanges_of [] = []
+exchanges_of (x ∷ xs) = record { call = x.payload; reply = x.reply } ∷ exchanges_of xs
+
 -- their records
 abbrev pub calls : List Answered → List (List ℕ)
-calls [] = []
-calls (x ∷ xs) = x.payload ∷ calls xs
+calls xs = exchanged_calls (exchanges_of xs)
 
 abbrev pub moments : List Answered → List Moment
 moments [] = []
@@ -39,8 +37,7 @@ moments (x ∷ xs) = x.moment ∷ moments xs
 
 -- their replies, each as a record of one fragment
 abbrev pub written : List Answered → List ℕ
-written [] = []
-written (x ∷ xs) = fragment true x.reply ++ written xs
+written xs = exchanged_replies (exchanges_of xs)
 
 -- ===== the connection
 
@@ -78,18 +75,9 @@ UnreadAt ends.LinkWrite unread = ⊤
 UnreadAt ends.Memory unread = ⊤
 UnreadAt end unread = unread ≡ []
 
--- the sink took all replies but the last, and a part of that, from its front
-pub record BreaksOffIn (took : List ℕ) (xs : List Answered) : Type 0 where
-  pub answered : List Answered
-  pub last : Answered
-  pub xs_are : xs ≡ answered ++ last ∷ []
-  pub part : List ℕ
-  pub is_part : IsPrefixOf part (fragment true last.reply)
-  pub took_is : took ≡ written answered ++ part
-
 -- the bytes that the sink took: all replies, or the last one broke off, if its write failed
 abbrev pub TookAt : RecordEnd → List ℕ → List Answered → Type 0
-TookAt ends.LinkWrite took xs = BreaksOffIn took xs
+TookAt ends.LinkWrite took xs = BreaksOffIn took (exchanges_of xs)
 TookAt end took xs = took ≡ written xs
 
 -- the moments that were given for no call that was executed: one at most, if a record has no call head or memory ran
@@ -98,33 +86,6 @@ abbrev pub MoreAt : RecordEnd → List Moment → Type 0
 MoreAt (ends.Bad at reason) more = (length more ≤ 1) × (reason ≡ REASON_RECORD → more ≡ [])
 MoreAt ends.Memory more = length more ≤ 1
 MoreAt end more = more ≡ []
-
--- the next record after these begins at this offset of the stream
-pub record BeginsAt (stream : List ℕ) (records : List (List ℕ)) (at : ℕ) : Type 0 where
-  pub front : List ℕ
-  pub back : List ℕ
-  pub stream_is : stream ≡ front ++ back
-  pub encode : RecordsEncode front records []
-  pub at_is : at ≡ length front
-
--- a record has no call head, and those before it were answered
-pub record IsNoCall (stream : List ℕ) (answered others : List (List ℕ)) (at reason : ℕ) : Type 0 where
-  pub call : List ℕ
-  pub more : List (List ℕ)
-  pub others_are : others ≡ call ∷ more
-  pub no_head : is_ok (call_of call) ≡ false
-  pub begins : BeginsAt stream answered at
-  pub reason_is : reason ≡ REASON_CALL
-
--- a fragment takes its record above the limit; the records that end before its header were answered, and no others
-pub record IsTooLong (stream : List ℕ) (answered others : List (List ℕ)) (at reason : ℕ) : Type 0 where
-  pub others_are : others ≡ []
-  pub fault : IsFaultOf stream (faults.Bad at reason)
-  pub before : contents fault.1.cuts ≡ answered
-
--- all records were answered, and no fragment takes one above the limit
-abbrev pub AllAnswered : List ℕ → List (List ℕ) → Type 0
-AllAnswered stream others = (others ≡ []) × ((at : ℕ) → ¬ (IsAboveAt stream at))
 
 -- Why it ended, by what the source has left, the stream that was read, what of it is no complete record, and the
 -- records that were answered and those that were not.

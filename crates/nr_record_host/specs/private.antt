@@ -1,4 +1,2 @@
 -- Definitions that only private code cites.
-pub mod Answering
 pub mod PlainCalls
-pub mod RecordSteps

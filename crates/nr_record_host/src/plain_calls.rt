@@ -5,9 +5,9 @@ ghost use Rattle.nr_turnstile.specs.Passes.{Rests};
 ghost use Rattle.nr_plain.specs.History.{pass_view};
 ghost use Rattle.nr_record_host.specs.private.PlainCalls.{PlainDid};
 
-use crate::answering::{Answers, NoReply};
 use nr_links::Clock;
 use nr_plain::{Fault, Server, execute};
+use nr_record_loop::{Answers, NoReply};
 use nr_turnstile::{Machine, Pass, Turnstile};
 use nr_xdr::Octets;
 use std::alloc::Global;

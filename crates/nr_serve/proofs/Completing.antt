@@ -15,13 +15,13 @@ use Rattle.nr_serve.specs.Stops.Stopped.{AtReading, AfterReading}
 use Rattle.nr_serve.specs.declared.stop.ServeStop.{ServeStop}
 use Rattle.nr_serve.specs.declared.stop.ServeStop.TheVariants as stops
 
-too_long : (left : Option (List ℕ)) (text : List ℕ) → left ≡ Some text → length text ≤ input_max → IfSome left (λ known. input_max < length known) → ⊥
+pub too_long : (left : Option (List ℕ)) (text : List ℕ) → left ≡ Some text → length text ≤ input_max → IfSome left (λ known. input_max < length known) → ⊥
 too_long left text is within long = above (subst (λ (l : Option (List ℕ)). IfSome l (λ known. input_max < length known)) is long)
   where
     above : input_max < length text → ⊥
     above more = omega (arith, within, more)
 
-same_text : (left : Option (List ℕ)) (text other : List ℕ) → left ≡ Some text → IfSome left (λ known. other ≡ known) → other ≡ text
+pub same_text : (left : Option (List ℕ)) (text other : List ℕ) → left ≡ Some text → IfSome left (λ known. other ≡ known) → other ≡ text
 same_text left text other is all = subst (λ (l : Option (List ℕ)). IfSome l (λ known. other ≡ known)) is all
 
 not_none : (settings : Settings Text) (text other : List ℕ) → other ≡ text → config_of text ≡ Some settings → config_of other ≡ None → ⊥
@@ -40,7 +40,7 @@ reading stops.Configuration text settings input input' is within right quiet (ot
 reading stops.Link text settings input input' is within right quiet stopped = absurd stopped
 reading stops.Output text settings input input' is within right quiet stopped = absurd stopped
 
-serving : (stop : ServeStop) (before after : ℕ) → (Rises before after → ⊥) → IsServeFault stop before after → stop ≡ stops.Memory
+pub serving : (stop : ServeStop) (before after : ℕ) → (Rises before after → ⊥) → IsServeFault stop before after → stop ≡ stops.Memory
 serving stops.Memory before after quiet fault = refl
 serving stops.Link before after quiet fault = absurd (quiet fault)
 serving stops.Input before after quiet fault = absurd fault
@@ -48,7 +48,7 @@ serving stops.Budget before after quiet fault = absurd fault
 serving stops.Configuration before after quiet fault = absurd fault
 serving stops.Output before after quiet fault = absurd fault
 
-printing : (stop : ServeStop) (out out' : SinkAt) (text : List ℕ) → (Rises out.faults out'.faults → ⊥) → StoppedPrinting stop out out' text → stop ≡ stops.Memory
+pub printing : (stop : ServeStop) (out out' : SinkAt) (text : List ℕ) → (Rises out.faults out'.faults → ⊥) → StoppedPrinting stop out out' text → stop ≡ stops.Memory
 printing stops.Memory out out' text quiet stopped = refl
 printing stops.Output out out' text quiet stopped = absurd (quiet stopped.rose)
 printing stops.Input out out' text quiet stopped = absurd stopped

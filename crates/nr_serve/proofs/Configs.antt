@@ -12,15 +12,15 @@ use Rattle.nr_words.specs.Settings.{choices_of, config_of, count, flag_at, in_ra
 use Rattle.nr_serve.specs.Stops.{InRanges}
 
 -- what a step gives came of what the step before gave
-and_then_some : {A B : Type 0} (f : A → Option B) (o : Option A) (y : B) → option_and_then f o ≡ Some y → (x : A) × ((o ≡ Some x) × (f x ≡ Some y))
+pub and_then_some : {A B : Type 0} (f : A → Option B) (o : Option A) (y : B) → option_and_then f o ≡ Some y → (x : A) × ((o ≡ Some x) × (f x ≡ Some y))
 and_then_some f None y is = absurd (none-some y is)
 and_then_some f (Some x) y is = (x, (refl, is))
 
-map_some : {A B : Type 0} (f : A → B) (o : Option A) (y : B) → option_map f o ≡ Some y → (x : A) × ((o ≡ Some x) × (f x ≡ y))
+pub map_some : {A B : Type 0} (f : A → B) (o : Option A) (y : B) → option_map f o ≡ Some y → (x : A) × ((o ≡ Some x) × (f x ≡ y))
 map_some f None y is = absurd (none-some y is)
 map_some f (Some x) y is = (x, (refl, same_Some (f x) y is))
 
-if_some : {A : Type 0} (b : Bool) (o : Option A) (y : A) → (if b then o else None) ≡ Some y → (b ≡ true) × (o ≡ Some y)
+pub if_some : {A : Type 0} (b : Bool) (o : Option A) (y : A) → (if b then o else None) ≡ Some y → (b ≡ true) × (o ≡ Some y)
 if_some true o y is = (refl, is)
 if_some false o y is = absurd (none-some y is)
 
@@ -36,7 +36,7 @@ within low high n (pos m) is =
     let most : m ≤ high = grind (arith, top) in
     subst (λ (k : ℕ). k ≤ high) (same_Some m n same) most
 
-number_within : (low high n : ℕ) (key : Text) (members : Members) → number_at low high key members ≡ Some n → n ≤ high
+pub number_within : (low high n : ℕ) (key : Text) (members : Members) → number_at low high key members ≡ Some n → n ≤ high
 number_within low high n key members is =
     let (z, (at, range)) = and_then_some (in_range low high) (integer_at key members) n is in
     within low high n z range

@@ -28,9 +28,9 @@ journal_after limits records first J before after [] none stood calls = (J, (sub
 journal_after limits records first J before after (None ∷ links) (mid, (one, rest)) stood calls =
     journal_after limits records first J mid after links rest (subst (λ (v : PassView). IsHistory first J v.seen) (sym one.view) stood) calls
 journal_after limits records first J before after (Some end ∷ links) (mid, (one, rest)) stood calls =
-    let (answers, all) = over_link limits records (outside one.opened.left one.opened.given (sink_state one.opened.taken 0 false) one.gave (split_off before.view))
-    (outside one.closed.left one.closed.given (sink_state one.closed.taken one.sink_faults false) one.gave' one.own) end one.served in
+    let (answers, all) = over_link limits records (outside one.opened.left one.opened.given (sink_state one.opened.taken 0 false) one.served.gave (split_off before.view))
+    (outside one.closed.left one.closed.given (sink_state one.closed.taken one.sink_faults false) one.served.gave' one.served.own) end one.served.served in
     let over = all first J stood in
     let more = both_of_calls (setup_in first) [] J over.more calls over.of_calls in
-    let (L, (is, of)) = longer_of (ltb (length before.view.seen) (length one.own.seen)) first J (J ++ over.more) before.view.seen one.own.seen (stood, calls) (over.seen, more) in
-    journal_after limits records first L mid after links rest (subst (λ (h : List HistoryEntry). IsHistory first L h) (sym one.joins.seen) is) of
+    let (L, (is, of)) = longer_of (ltb (length before.view.seen) (length one.served.own.seen)) first J (J ++ over.more) before.view.seen one.served.own.seen (stood, calls) (over.seen, more) in
+    journal_after limits records first L mid after links rest (subst (λ (h : List HistoryEntry). IsHistory first L h) (sym one.served.joins.seen) is) of

@@ -16,8 +16,8 @@ use Rattle.nr_words.specs.declared.settings.Settings.{Settings}
 use Rattle.nr_words.specs.Lines.{Text}
 use Rattle.nr_host.specs.declared.link_end.LinkEnd.{LinkEnd}
 use Rattle.nr_host.specs.Serving as host
-use Rattle.nr_host.specs.declared.serving.ServeFault.{ServeFault}
-use Rattle.nr_host.specs.declared.serving.ServeFault.TheVariants as faults
+use Rattle.nr_accept.specs.declared.fault.ServeFault.{ServeFault}
+use Rattle.nr_accept.specs.declared.fault.ServeFault.TheVariants as faults
 use Rattle.nr_serve.specs.Serving.{AcceptorAt, Opens, Serves, ServesConnections, SpawnerAt, limits_of, served_text, setup_of}
 use Rattle.nr_serve.specs.Stops.{IsServeFault, LinksStopped, OpensServer, OpensShared, ServesAndPrints, ServesLinks, ServesLinksOf, StoppedPrinting, StoppedServing, StopsServing, stop_of_serve}
 use Rattle.nr_serve.specs.Stops.StopsServing.{AtPrinting}

@@ -16,8 +16,8 @@ use Rattle.nr_links.specs.Moments.{Gives}
 use Rattle.nr_plain.specs.History.{IsHistory, Opening, PassView}
 use Rattle.nr_plain.specs.Stands.{PlainServerState, RepresentsJournal}
 use Rattle.nr_host.specs.Serving as host
-use Rattle.nr_host.specs.declared.serving.ServeFault.{ServeFault}
-use Rattle.nr_host.specs.declared.serving.ServeFault.TheVariants as serve_faults
+use Rattle.nr_accept.specs.declared.fault.ServeFault.{ServeFault}
+use Rattle.nr_accept.specs.declared.fault.ServeFault.TheVariants as serve_faults
 use Rattle.nr_host.specs.declared.link_end.LinkEnd.{LinkEnd}
 use Rattle.nr_outside.specs.Whole.{input_max}
 use Rattle.nr_serve.specs.Serving.{AcceptorAt, Opens, Serves, ServesConnections, SpawnerAt, limits_of, served_text, setup_of}

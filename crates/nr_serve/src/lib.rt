@@ -14,4 +14,4 @@ mod stop;
 
 pub use laws::only_memory_stops;
 pub use serving::serve_config;
-pub use stop::ServeStop;
+pub use stop::{ServeStop, stop_of_config, stop_of_read, stop_of_serve};

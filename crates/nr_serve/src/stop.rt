@@ -7,7 +7,7 @@ use nr_host::ServeFault;
 use nr_outside::ReadEnd;
 use nr_words::ConfigFault;
 
-/// Why a server wasn't opened, or stopped before it had served all its connections and printed that.
+/// Why a server or a gateway wasn't opened, or stopped before it had served all its connections and printed that.
 #[derive(Clone, Copy, Debug, PartialEq, Eq)]
 pub enum ServeStop {
     /// Memory ran out.
@@ -18,13 +18,14 @@ pub enum ServeStop {
     Budget,
     /// The text is no configuration.
     Configuration,
-    /// The acceptor failed: its fault count rose.
+    /// The acceptor failed, or the dialer of a gateway: its fault count rose.
     Link,
     /// A write to the output failed.
     Output,
 }
 
-pub(crate) fn stop_of_read(end: ReadEnd) -> ServeStop
+/// Why a configuration wasn't read.
+pub fn stop_of_read(end: ReadEnd) -> ServeStop
     ensures { result ≡ stop_of_read end }
 {
     match end {
@@ -34,7 +35,8 @@ pub(crate) fn stop_of_read(end: ReadEnd) -> ServeStop
     }
 }
 
-pub(crate) fn stop_of_config(fault: ConfigFault) -> ServeStop
+/// Why a text gave no configuration.
+pub fn stop_of_config(fault: ConfigFault) -> ServeStop
     ensures { result ≡ stop_of_config fault }
 {
     match fault {
@@ -43,7 +45,8 @@ pub(crate) fn stop_of_config(fault: ConfigFault) -> ServeStop
     }
 }
 
-pub(crate) fn stop_of_serve(fault: ServeFault) -> ServeStop
+/// Why fewer links were taken than the configuration asks for.
+pub fn stop_of_serve(fault: ServeFault) -> ServeStop
     ensures { result ≡ stop_of_serve fault }
 {
     match fault {

@@ -1,0 +1,3 @@
+-- Definitions that only private code cites.
+pub mod Answering
+pub mod Steps
