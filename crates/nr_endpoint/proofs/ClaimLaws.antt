@@ -1,21 +1,22 @@
 -- A registration lasts until its release.
-use Rattle.std.proofs.Common.{◌≢◌, ℕ, Bool, true, false, cond, List, [], ◌∷◌, ◌++◌, take, Option, Some, None, Result, Ok, Err, sym, ap, subst}
+use Rattle.std.proofs.Common.{◌≡◌, ◌≢◌, ℕ, ◌<◌, Bool, true, false, cond, List, [], ◌∷◌, ◌++◌, take, Option, Some, None, Result, Ok, Err, refl, sym, ap, subst, ◌∙◌}
 use Rattle.std.specs.Prelude.{All}
-use Rattle.std.proofs.lemmas.List.Elements.{All-head, All-tail}
+use Rattle.std.proofs.lemmas.List.Elements.{All-nil, All-cons, All-head, All-tail}
 use Rattle.nr_wire.specs.declared.stream.Awaited.{Awaited}
 use Rattle.nr_wire.specs.declared.stream.Awaited.TheVariants.{Hello as HelloFrom, Fpdu}
 use Rattle.nr_wire.specs.Segment.{Segment}
 use Rattle.nr_wire.specs.Segment.Segment.{Tagged, Untagged}
-use Rattle.nr_regions.specs.RegisteredMemory.{RegisteredMemory, Claim, IsHeld}
+use Rattle.nr_regions.specs.RegisteredMemory.{RegisteredMemory, Claim, IsHeld, live_region, held_region, after_invalidate}
 use Rattle.nr_regions.specs.Events.{MemoryEvent, after_event, after_events, IsNoReleaseOf}
-use Rattle.nr_regions.proofs.Holding.{held_after_event}
+use Rattle.nr_regions.proofs.Holding.{held_after_event, next_invalidate}
+use Rattle.nr_regions.proofs.Contents.{dead_until_released}
 use Rattle.nr_link.specs.declared.end.End.{End}
 use Rattle.nr_link.specs.Frames.{Frame}
 use Rattle.nr_endpoint.specs.LinkState.{LinkState, LinkSide, has_ended}
 use Rattle.nr_endpoint.specs.Judging.{segment_end, next_frame, with_frame, next_segment}
-use Rattle.nr_endpoint.specs.Calls.{Call, after_call}
+use Rattle.nr_endpoint.specs.Calls.{Call, after_call, after_calls}
 use Rattle.nr_endpoint.specs.Calls.Call.{Feed, FeedOne, NextEvent, Post, Stop, OutOfMemory, Send, WriteRemote, ReadRemote, Drain, Register, Release, SendInvalidate, Invalidate}
-use Rattle.nr_endpoint.specs.Laws.{segment_arrivals, fpdu_arrivals, frame_arrivals, arrivals, frames_made_whole, call_events, memory_events, ClaimsStay}
+use Rattle.nr_endpoint.specs.Laws.{segment_arrivals, fpdu_arrivals, frame_arrivals, arrivals, frames_made_whole, call_events, memory_events, ClaimsStay, InvalidatedStaysClosed}
 use Rattle.nr_endpoint.proofs.MemoryLaws.{memory_follows_events}
 
 -- none of the events releases this STag
@@ -85,3 +86,22 @@ pub claims_stay_lem : ClaimsStay
 claims_stay_lem link claim calls held others =
     subst (λ (m : RegisteredMemory). IsHeld m claim) (sym (memory_follows_events link calls))
     (held_after_events link.state.memory claim (memory_events link calls) held (calls_none claim.stag link calls others))
+
+-- ---- A region that was invalidated
+
+all_none : (stag : ℕ) (events : List MemoryEvent) → NoneReleases stag events → All (IsNoReleaseOf stag) events
+all_none stag [] none = All-nil (IsNoReleaseOf stag)
+all_none stag (event ∷ events) none = All-cons (IsNoReleaseOf stag) event events (none.0, all_none stag events none.1)
+
+invalidated_memory : (link : LinkSide) (stag : ℕ) → (after_call link (Invalidate stag)).state.memory ≡ after_invalidate link.state.memory stag
+unfolding after_call
+invalidated_memory link stag = refl
+
+pub invalidated_stays_closed : InvalidatedStaysClosed
+invalidated_stays_closed link stag calls given others =
+    let start : LinkSide = after_call link (Invalidate stag) in
+    let events : List MemoryEvent = memory_events start calls in
+    let memory : (after_calls start calls).state.memory ≡ after_events (after_invalidate link.state.memory stag) events =
+    memory_follows_events start calls ∙ ap (λ (m : RegisteredMemory). after_events m events) (invalidated_memory link stag) in
+    let stays = dead_until_released link.state.memory stag events given (all_none stag events (calls_none stag start calls others)) in
+    (ap (λ (m : RegisteredMemory). live_region m stag) memory ∙ stays.0, ap (λ (m : RegisteredMemory). held_region m stag) memory ∙ stays.1)

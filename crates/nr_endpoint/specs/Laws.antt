@@ -350,6 +350,12 @@ abbrev pub ReleasedStaysClosed : Type 0
 ReleasedStaysClosed = (link : LinkSide) (stag : ℕ) (calls : List Call) → stag < link.state.memory.next →
     live_region (after_calls (after_call link (Release stag)) calls).state.memory stag ≡ None
 
+-- Once it is invalidated the peer reaches it no more, and it is held with its bytes, until a call releases it (RFC 5040 section 4.7).
+abbrev pub InvalidatedStaysClosed : Type 0
+InvalidatedStaysClosed = (link : LinkSide) (stag : ℕ) (calls : List Call) → stag < link.state.memory.next → All (λ call. call ≢ Release stag) calls →
+    let after = (after_calls (after_call link (Invalidate stag)) calls).state.memory in
+    (live_region after stag ≡ None) × (held_region after stag ≡ held_region link.state.memory stag)
+
 -- ---- A registration, until its release
 
 -- Whatever else is called, it lasts. `release` asks it of its caller.

@@ -4,7 +4,7 @@ ghost use Rattle.nr_endpoint.specs.ReceivedLaws.{EventsOfReceivedBytes, Received
 ghost use Rattle.nr_endpoint.specs.AgreedLaws.{AgreesByHellos};
 ghost use Rattle.nr_endpoint.specs.KeptLists.{HeldRegionsAreRegistered, WaitingSendsHaveBytes};
 ghost use Rattle.nr_endpoint.specs.OutputLaws.{AllowedCallsJoin, FpdusFollowHello, OutputIsItems, SendsGoByItems, SendsWaitByItems, ResponsesGoByItems, SidesStayBounded};
-ghost use Rattle.nr_endpoint.specs.Laws.{PiecesJoin, StepsReach, StepsFeed, EndStays, KeepsLessThanFrame, EndedKeepsNothing, StreamIsKept, PlaceIsFed, MemoryFollowsEvents, PlacesAreAllowed, PlacesAreInOrder, ArrivalsRise, EventsAreDelivered, EventsAreInOrder, EventsFollowAccesses, OneFrameDeliversAtItsEnd, OneFrameDeliversOnce, ReadsAreAllowed, NothingElseIsRead, OtherFramesQueueNothing, OpenRegionHolds, ReleasedBufferHolds, ReleasedStaysClosed, ClaimsStay, NoFpduBeforeHello, FramesEndForThese, GrantsEndAlike, OffersDenyAlike, NoFrameStops, OthersComeFromStop, MemoryComesFromOutOfMemory, EndedQueuesNothing, EndIsKept, StopQueuesLast, OutOfMemoryQueuesNothing};
+ghost use Rattle.nr_endpoint.specs.Laws.{PiecesJoin, StepsReach, StepsFeed, EndStays, KeepsLessThanFrame, EndedKeepsNothing, StreamIsKept, PlaceIsFed, MemoryFollowsEvents, PlacesAreAllowed, PlacesAreInOrder, ArrivalsRise, EventsAreDelivered, EventsAreInOrder, EventsFollowAccesses, OneFrameDeliversAtItsEnd, OneFrameDeliversOnce, ReadsAreAllowed, NothingElseIsRead, OtherFramesQueueNothing, OpenRegionHolds, ReleasedBufferHolds, ReleasedStaysClosed, InvalidatedStaysClosed, ClaimsStay, NoFpduBeforeHello, FramesEndForThese, GrantsEndAlike, OffersDenyAlike, NoFrameStops, OthersComeFromStop, MemoryComesFromOutOfMemory, EndedQueuesNothing, EndIsKept, StopQueuesLast, OutOfMemoryQueuesNothing};
 
 /// The state of a side after some bytes does not depend on how they were split: to feed two pieces is to feed both joined, and one step on a
 /// piece and then the rest of it equals a feed of the complete piece. A side that has ended doesn't change.
@@ -40,6 +40,7 @@ pub fn memory_follows_accesses()
     ensures while_open { OpenRegionHolds }
     ensures released { ReleasedBufferHolds }
     ensures dead { ReleasedStaysClosed }
+    ensures invalidated { InvalidatedStaysClosed }
 {}
 
 /// The bytes that came, those of an incomplete frame among them, divide the tagged segments and the events: those so far end within these

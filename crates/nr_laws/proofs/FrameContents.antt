@@ -107,7 +107,7 @@ numbered_segment n r (RequestFrame sink at size stag to) =
     (word sink ++ (hyper at ++ (word size ++ (word stag ++ hyper to)))))
 numbered_segment n r (TaggedFrame last opcode stag to payload) = Some (Tagged last opcode stag to payload)
 
--- as they are written: those of a Send with Invalidate have its opcode, and the last one has the STag (RFC 5040 section 5.1)
+-- as they are written: those of a Send with Invalidate have its opcode, and the last one has the STag (RFC 5040 section 4.7)
 abbrev pub part_opcode : (named : Bool) → ℕ
 part_opcode true = OPCODE_SEND_INVALIDATE
 part_opcode false = OPCODE_SEND

@@ -3,7 +3,7 @@
 ghost use Rattle.std.specs.Prelude.{◌≡◌, ◌≤◌, [], length};
 ghost use Rattle.arrayvec.specs.ArrayVec.{array_vec_len};
 ghost use Rattle.nr_wire.specs.Constants.{NUMBERED_TERMS_LEN};
-ghost use Rattle.nr_link.specs.Agreement.{agreement, default_agreement, default_terms, initiator_private, responder_private, sized_terms};
+ghost use Rattle.nr_link.specs.Agreement.{agreement, default_agreement, default_terms, initiator_private, responder_private, sized_terms, terms_with};
 
 use crate::constants::SEND_UNIT;
 use arrayvec::ArrayVec;
@@ -33,15 +33,22 @@ pub struct Agreement {
 }
 
 impl SideTerms {
-    /// These units, no number of a client, and no Sends with Invalidate.
-    pub fn sized(units: u8) -> SideTerms
-        ensures { result ≡ sized_terms units }
+    /// These units, no number of a client, and Sends with Invalidate or none.
+    pub fn unnumbered(units: u8, invalidates: bool) -> SideTerms
+        ensures { result ≡ terms_with units invalidates }
     {
         SideTerms {
             units,
             number: 0,
-            invalidates: false,
+            invalidates,
         }
+    }
+
+    /// These units, no number of a client, and no Sends with Invalidate.
+    pub fn sized(units: u8) -> SideTerms
+        ensures { result ≡ sized_terms units }
+    {
+        SideTerms::unnumbered(units, false)
     }
 
     /// What a side is opened with unless it is told otherwise: one unit, no number of a client, no Sends with Invalidate.

@@ -144,7 +144,7 @@ fn complete(
 }
 
 /// The region under an STag dies, if there is one: the peer reaches it no more, and it is held with its bytes until it is released.
-fn die(endpoint: &mut Endpoint, own: Option<u32>)
+fn invalidate_named(endpoint: &mut Endpoint, own: Option<u32>)
     ensures link { endpoint.new.link ≡ with_memory (dead_memory own endpoint.old.link.state.memory) endpoint.old.link }
     ensures staging { endpoint.new.staging ≡ endpoint.old.staging }
     ensures outside { endpoint.new.outside ≡ endpoint.old.outside }
@@ -170,7 +170,7 @@ fn stop(endpoint: &mut Endpoint, own: Option<u32>, reason: u32)
 {
     match endpoint.stop(reason) {
         End::Memory => (),
-        _ => die(endpoint, own),
+        _ => invalidate_named(endpoint, own),
     }
 }
 
@@ -209,7 +209,7 @@ fn take_message(
     match found {
         Ok((at, found)) => {
             *grant = credits;
-            die(endpoint, own);
+            invalidate_named(endpoint, own);
             complete(endpoint, outstanding, answered, releases, at, found);
         }
         Err(reason) => stop(endpoint, own, reason),

@@ -80,13 +80,12 @@ impl Responder {
         Responder::open_sized(alloc, credits, credits, 1, false)
     }
 
-    /// The server end of a link that grants this many credits, until others are set, and at most `low` in a message that is due while more than half
-    /// of its receives
-    /// are in use, as it is before the frame or the answer for which the message is due (RFC 8166 section 3.3). It writes and takes Sends of at
-    /// most this many units of 1,024 bytes, from 1 to 16 (0 counts as 1, and more than 16 as 16): if the client's hello says its terms, so does
-    /// its own, and the lesser of both is agreed for each direction ([`Responder::agreed`]). Takes the staging buffer, a receive of these units
-    /// for each credit, and room for a call of each; not its hello, whose room is taken when the client's is accepted. `Err`: memory ran out,
-    /// and nothing was made.
+    /// The server end of a link that grants this many credits, until others are set, and at most `low` in a message that is due
+    /// while more than half of its receives are in use, as it is before the frame or the answer for which the message is due
+    /// (RFC 8166 section 3.3). It writes and takes Sends of at most this many units of 1,024 bytes, from 1 to 16 (0 counts as 1,
+    /// and more than 16 as 16): if the client's hello says its terms, so does its own, and the lesser of both is agreed for each
+    /// direction ([`Responder::agreed`]). Takes the staging buffer, a receive of these units for each credit, and room for a call
+    /// of each; not its hello, whose room is taken when the client's is accepted. `Err`: memory ran out, and nothing was made.
     ///
     /// If `invalidates`, its hello says that it makes Sends with Invalidate (RFC 5040 section 4.7). If the client's says that it takes them,
     /// each reply to a call that offers memory is one: it names the first STag of the call's read list, else of its write list, else of its
@@ -104,11 +103,7 @@ impl Responder {
         ensures staging { IfOk result (λ r. length r.staging ≡ FPDU_MAX) }
         ensures stands { IfOk result (λ r. (opened : LinkParameters) (link : ℕ) → ServerOpened opened credits low (terms_with units invalidates) → ResponderRepresents opened link [] r.side) }
     {
-        let terms = SideTerms {
-            units,
-            number: 0,
-            invalidates,
-        };
+        let terms = SideTerms::unnumbered(units, invalidates);
         Ok(Responder {
             end: ServerEnd::open(alloc, credits, low, terms)?,
         })

@@ -55,9 +55,8 @@ impl Room {
     }
 }
 
-/// A payload that was put together, or completed in the buffer of its sink. It keeps all of the room that was taken for it, and what its head asks
-/// for. Contracts see its bytes, of
-/// which there are at most `payload_room`.
+/// A payload that was put together, or completed in the buffer of its sink. It keeps all of the room that was taken for it,
+/// and what its head asks for. Contracts see its bytes, of which there are at most `payload_room`.
 #[derive(Drop)]
 pub struct Payload {
     bytes: Octets,

@@ -1,4 +1,5 @@
 use Rattle.nr_endpoint.proofs.MemoryLaws.{memory_follows_events, places_are_allowed, open_region_holds, released_buffer_holds, released_stays_dead}
+use Rattle.nr_endpoint.proofs.ClaimLaws.{invalidated_stays_closed}
 use Rattle.nr_endpoint.proofs.ReadLaws.{reads_are_allowed_lem, nothing_else_is_read, other_frames_queue_nothing}
 use Rattle.nr_endpoint.proofs.PlaceOrder.{places_are_in_order, arrivals_rise}
 use Rattle.nr_endpoint.proofs.laws.memory_follows_accesses.Goals as goal
@@ -26,6 +27,9 @@ returns-clause-released c = released_buffer_holds
 
 pub returns-clause-dead : goal.returns-clause-dead
 returns-clause-dead c = released_stays_dead
+
+pub returns-clause-invalidated : goal.returns-clause-invalidated
+returns-clause-invalidated c = invalidated_stays_closed
 
 pub returns-clause-order : goal.returns-clause-order
 returns-clause-order c = places_are_in_order

@@ -8,4 +8,4 @@ pub returns-in_default-clause-link : goal.returns-in_default-clause-link
 returns-in_default-clause-link c =
     let stopped = c.stop.ensures.state c.in_default.not-Memory in
     let memory = stop_memory c.args.endpoint.now.link c.stop.new.self.link c.args.reason c.requires.live (inl stopped) in
-    inl (c.die.ensures.link ∙ (λ i. with_memory (dead_memory c.args.own (memory i)) (stopped i)))
+    inl (c.invalidate_named.ensures.link ∙ (λ i. with_memory (dead_memory c.args.own (memory i)) (stopped i)))

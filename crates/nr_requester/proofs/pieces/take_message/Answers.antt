@@ -43,7 +43,7 @@ complete-requires-clause-held c = λ d.
     let own = c.verdict-own.result.0 in
     let s = same_sound l.state.receive_queue.receive_length l.state.memory c.requires.calls.0 (vec_capacity c.args.answered.now) c.args.outstanding.now.items c.verdict-own.new.calls.items c.args.answered.now.items c.verdict-own.ensures.same c.requires.calls.1 in
     let posted : c.post.new.self.link.state.memory ≡ l.state.memory = ap (λ (x : LinkSide). x.state.memory) c.post.ensures.state ∙ post_memory l in
-    let memory : c.die.new.endpoint.link.state.memory ≡ dead_memory own l.state.memory = ap (λ (x : LinkSide). x.state.memory) c.die.ensures.link ∙ ap (λ (m : RegisteredMemory). dead_memory own m) posted in
+    let memory : c.invalidate_named.new.endpoint.link.state.memory ≡ dead_memory own l.state.memory = ap (λ (x : LinkSide). x.state.memory) c.invalidate_named.ensures.link ∙ ap (λ (m : RegisteredMemory). dead_memory own m) posted in
     subst (λ (m : RegisteredMemory). AreHeldFrom m 0 (call_claims (get_or c.verdict-own.new.calls.items c.in-Ok.at d).claims)) (sym memory)
     (one_held (dead_memory own l.state.memory) c.verdict-own.new.calls.items c.in-Ok.at d b.within (dead_held own l.state.memory 0 _ s.held))
 
@@ -64,9 +64,9 @@ returns-in-Ok-clause-judged c =
     let front : c.split_at.result.0.now ≡ take c.args.len c.args.buf = c.split_at.ensures.front ∙ ap (λ (xs : List ℕ). take c.args.len xs) c.as_slice.ensures in
     let own_is : own ≡ kept_named views c.args.named (take c.args.len c.args.buf) = c.verdict-own.ensures.own ∙ ap (λ (xs : List ℕ). kept_named views c.args.named xs) front in
     let posted : c.post.new.self.link.state.memory ≡ l.state.memory = ap (λ (x : LinkSide). x.state.memory) c.post.ensures.state ∙ post_memory l in
-    let died : c.die.new.endpoint.link ≡ with_memory (dead_memory own l.state.memory) (after_call l Post) =
-    c.die.ensures.link ∙ (λ i. with_memory (dead_memory own (posted i)) (c.post.ensures.state i)) in
-    let memory : c.die.new.endpoint.link.state.memory ≡ dead_memory own l.state.memory = ap (λ (x : LinkSide). x.state.memory) died in
+    let died : c.invalidate_named.new.endpoint.link ≡ with_memory (dead_memory own l.state.memory) (after_call l Post) =
+    c.invalidate_named.ensures.link ∙ (λ i. with_memory (dead_memory own (posted i)) (c.post.ensures.state i)) in
+    let memory : c.invalidate_named.new.endpoint.link.state.memory ≡ dead_memory own l.state.memory = ap (λ (x : LinkSide). x.state.memory) died in
     let call : OutstandingCall = get_or c.verdict-own.new.calls.items c.in-Ok.at d in
     subst (λ (o : Option ℕ). JudgesTo (kept_message_verdict views (bytes_under l.state.memory) c.args.named (take c.args.len c.args.buf)) o (take c.args.len c.args.buf) l c.complete.new.endpoint.link c.args.outstanding.now.items c.complete.new.outstanding.items c.args.answered.now.items c.complete.new.answered.items c.args.grant.now c.credits_of-credits.result c.args.releases.now c.complete.new.releases) own_is
     (subst (λ (cs : List OutstandingCall). JudgesTo (kept_message_verdict views (bytes_under l.state.memory) c.args.named (take c.args.len c.args.buf)) own (take c.args.len c.args.buf) l c.complete.new.endpoint.link c.args.outstanding.now.items cs c.args.answered.now.items c.complete.new.answered.items c.args.grant.now c.credits_of-credits.result c.args.releases.now c.complete.new.releases) (sym c.complete.ensures.outstanding)
@@ -86,7 +86,7 @@ returns-in-Ok-clause-sound c = λ most next s.
     let own = c.verdict-own.result.0 in
     let d : OutstandingCall = first_of c.verdict-own.new.calls.items c.in-Ok.at b.within in
     let posted : c.post.new.self.link.state.memory ≡ l.state.memory = ap (λ (x : LinkSide). x.state.memory) c.post.ensures.state ∙ post_memory l in
-    let memory : c.die.new.endpoint.link.state.memory ≡ dead_memory own l.state.memory = ap (λ (x : LinkSide). x.state.memory) c.die.ensures.link ∙ ap (λ (m : RegisteredMemory). dead_memory own m) posted in
+    let memory : c.invalidate_named.new.endpoint.link.state.memory ≡ dead_memory own l.state.memory = ap (λ (x : LinkSide). x.state.memory) c.invalidate_named.ensures.link ∙ ap (λ (m : RegisteredMemory). dead_memory own m) posted in
     let call : OutstandingCall = get_or c.verdict-own.new.calls.items c.in-Ok.at d in
     let t = same_sound most l.state.memory next (vec_capacity c.args.answered.now) c.args.outstanding.now.items c.verdict-own.new.calls.items c.args.answered.now.items c.verdict-own.ensures.same s in
     sound_as most _ c.complete.new.endpoint.link.state.memory next (vec_capacity c.args.answered.now) (vec_capacity c.complete.new.answered) (remove c.verdict-own.new.calls.items c.in-Ok.at) c.complete.new.outstanding.items _ c.complete.new.answered.items
@@ -135,16 +135,16 @@ returns-in-Ok-clause-bounded c = λ most sends next bounded.
     let same = c.verdict-own.ensures.same in
     let d : OutstandingCall = first_of c.verdict-own.new.calls.items c.in-Ok.at b.within in
     let was : c.post.new.self.link.state.memory ≡ l.state.memory = ap (λ (x : LinkSide). x.state.memory) c.post.ensures.state ∙ post_memory l in
-    let memory : c.die.new.endpoint.link.state.memory ≡ dead_memory own l.state.memory = ap (λ (x : LinkSide). x.state.memory) c.die.ensures.link ∙ ap (λ (m : RegisteredMemory). dead_memory own m) was in
+    let memory : c.invalidate_named.new.endpoint.link.state.memory ≡ dead_memory own l.state.memory = ap (λ (x : LinkSide). x.state.memory) c.invalidate_named.ensures.link ∙ ap (λ (m : RegisteredMemory). dead_memory own m) was in
     let sound = subst (λ (m : RegisteredMemory). CallsSound l.state.receive_queue.receive_length m c.requires.calls.0 c.verdict-own.new.calls.items c.args.answered.now.items (vec_capacity c.args.answered.now)) (sym memory)
     (dead_sound own l.state.receive_queue.receive_length l.state.memory c.requires.calls.0 (vec_capacity c.args.answered.now) c.verdict-own.new.calls.items c.args.answered.now.items
     (same_sound l.state.receive_queue.receive_length l.state.memory c.requires.calls.0 (vec_capacity c.args.answered.now) c.args.outstanding.now.items c.verdict-own.new.calls.items c.args.answered.now.items same c.requires.calls.1)) in
     let posted = post_bounded most c.args.sent sends next c.args.outstanding.now.items c.args.answered.now.items c.args.endpoint.now c.post.new.self (ap (λ (xs : List ℕ). length xs) c.post.ensures.staging) c.post.ensures.outside bounded c.post.ensures.state in
-    let died = dead_bounded most c.args.sent sends next c.args.outstanding.now.items c.args.answered.now.items c.post.new.self c.die.new.endpoint (ap (λ (xs : List ℕ). length xs) c.die.ensures.staging) c.die.ensures.outside posted own c.die.ensures.link in
+    let died = dead_bounded most c.args.sent sends next c.args.outstanding.now.items c.args.answered.now.items c.post.new.self c.invalidate_named.new.endpoint (ap (λ (xs : List ℕ). length xs) c.invalidate_named.ensures.staging) c.invalidate_named.ensures.outside posted own c.invalidate_named.ensures.link in
     let gone = subst (λ (n : ℕ). n < c.args.sent) (same_send c.args.outstanding.now.items c.verdict-own.new.calls.items c.in-Ok.at d same) (b.sent d) in
-    completed_bounded most c.args.sent sends next c.in-Ok.at (vec_capacity c.args.answered.now) l.state.receive_queue.receive_length c.requires.calls.0 c.die.new.endpoint c.complete.new.endpoint c.verdict-own.new.calls.items c.complete.new.outstanding.items c.args.answered.now.items c.complete.new.answered.items d c.in-Ok.found
+    completed_bounded most c.args.sent sends next c.in-Ok.at (vec_capacity c.args.answered.now) l.state.receive_queue.receive_length c.requires.calls.0 c.invalidate_named.new.endpoint c.complete.new.endpoint c.verdict-own.new.calls.items c.complete.new.outstanding.items c.args.answered.now.items c.complete.new.answered.items d c.in-Ok.found
     b.within gone sound c.complete.ensures.staging c.complete.ensures.outside (c.complete.ensures.link d) c.complete.ensures.outstanding (c.complete.ensures.answered d)
-    (rooms_bounded most c.args.sent sends next c.die.new.endpoint c.args.outstanding.now.items c.verdict-own.new.calls.items c.args.answered.now.items same died)
+    (rooms_bounded most c.args.sent sends next c.invalidate_named.new.endpoint c.args.outstanding.now.items c.verdict-own.new.calls.items c.args.answered.now.items same died)
 
 pub returns-in-Err-clause-bounded : goal.returns-in-Err-clause-bounded
 returns-in-Err-clause-bounded c = λ most sends next bounded.

@@ -3,7 +3,7 @@ use Rattle.nr_regions.specs.RegisteredMemory.{RegisteredMemory}
 use Rattle.nr_requester.specs.AfterPiece.{dead_memory}
 use Rattle.nr_requester.specs.Buffers.{with_memory}
 use Rattle.nr_requester.proofs.DeadRegions.{none_dies, died_link}
-use Rattle.nr_requester.proofs.pieces.die.Goals as goal
+use Rattle.nr_requester.proofs.pieces.invalidate_named.Goals as goal
 
 pub returns-in-Ok-clause-link : goal.returns-in-Ok-clause-link
 returns-in-Ok-clause-link c =
