@@ -1,14 +1,19 @@
-/* What bench/links.sh compares with: round trips and bytes one way over a TCP connection, without any protocol.
+/* What the benches compare with: round trips, bytes one way and the passes of calls over a TCP connection, without any protocol.
  *
- *     echo serve PORT REQUEST REPLY        takes one connection, and answers each REQUEST bytes by REPLY bytes; it only reads if REPLY is 0
- *     echo save PORT                       takes one connection, and writes what it reads to its output
- *     echo store PORT PIECE                takes one connection with the passes of WRITEs of PIECE bytes, and keeps their data
- *     echo turns PORT REQUEST REPLY COUNT  makes COUNT round trips, one after another
- *     echo send PORT BYTES PIECE           sends BYTES in pieces, and waits until the server has read them
- *     echo put PORT PIECE                  reads its input piece by piece, and sends each in the passes of a WRITE to `store`
+ *     echo serve PORT REQUEST REPLY [COPIES]        takes one connection, and answers each REQUEST bytes by REPLY bytes, which it copied
+ *                                                   COPIES times before; it only reads if REPLY is 0
+ *     echo save PORT                                takes one connection, and writes what it reads to its output
+ *     echo store PORT PIECE [COPIES]                takes one connection with the passes of WRITEs of PIECE bytes, copies their data COPIES
+ *                                                   times, and keeps them, each in new memory
+ *     echo over PORT PIECE COPIES                   the same, each in the memory of the one before
+ *     echo turns PORT REQUEST REPLY COUNT [COPIES]  makes COUNT round trips, one after another, and copies each reply COPIES times
+ *     echo send PORT BYTES PIECE                    sends BYTES in pieces, and waits until the server has read them
+ *     echo put PORT PIECE [COPIES]                  reads its input piece by piece, copies each COPIES times, and sends it in the passes of a
+ *                                                   WRITE to `store`
+ *     echo write PORT PIECE COUNT COPIES            the same of COUNT pieces, without an input
  *
- * A WRITE has four passes: a Send of CALL bytes, a Read Request of REQUEST bytes back, the data, and a reply of ANSWER bytes back. The clients
- * print the microseconds that it took. */
+ * A WRITE has four passes: a Send of CALL bytes, a Read Request of REQUEST bytes back, the data, and a reply of ANSWER bytes back. With copies
+ * each end reads through ROOM bytes, and the first copy of what it reads is out of those. The clients print the microseconds that it took. */
 #include <arpa/inet.h>
 #include <netinet/in.h>
 #include <netinet/tcp.h>
@@ -19,8 +24,9 @@
 #include <time.h>
 #include <unistd.h>
 
-enum { ROOM = 65536, CALL = 172, REQUEST = 52, ANSWER = 232 };
+enum { ROOM = 65536, CALL = 172, REQUEST = 52, ANSWER = 232, BUFFERS = 8 };
 static unsigned char room[ROOM];
+static unsigned char *buffer[BUFFERS + 1];
 
 static void fail(const char *what)
 {
@@ -28,28 +34,78 @@ static void fail(const char *what)
     exit(1);
 }
 
-static void write_all(int to, long bytes)
+static unsigned char *new_memory(long bytes)
 {
-    while (bytes > 0) {
-        ssize_t n = write(to, room, bytes < ROOM ? (size_t)bytes : ROOM);
-        if (n <= 0)
-            fail("write");
-        bytes -= n;
+    unsigned char *it = malloc(bytes);
+    if (!it)
+        fail("malloc");
+    return it;
+}
+
+/* The buffers of a piece, and of its copies: none of their pages is new later. */
+static void make_buffers(long piece, int copies)
+{
+    if (copies > BUFFERS)
+        fail("copies");
+    for (int i = 0; i <= copies; i++)
+        memset(buffer[i] = new_memory(piece), 1, piece);
+}
+
+/* Copies the piece of buffer `from` on, from one buffer to the next, up to buffer `to`. */
+static void copy_on(long piece, int from, int to)
+{
+    for (int i = from; i < to; i++) {
+        memcpy(buffer[i + 1], buffer[i], piece);
+        __asm__ volatile("" ::"r"(buffer[i + 1]) : "memory");
     }
 }
 
-/* Reads exactly these bytes: 1, or 0 at the end of the stream. */
-static int read_all(int from, long bytes)
+static void write_all(int to, const unsigned char *bytes, long count)
 {
-    while (bytes > 0) {
-        ssize_t n = read(from, room, bytes < ROOM ? (size_t)bytes : ROOM);
+    while (count > 0) {
+        ssize_t n = write(to, bytes, count);
+        if (n <= 0)
+            fail("write");
+        bytes += n;
+        count -= n;
+    }
+}
+
+/* Writes bytes that nobody looks at. */
+static void write_any(int to, long count)
+{
+    for (long part; count > 0; count -= part)
+        write_all(to, room, part = count < ROOM ? count : ROOM);
+}
+
+/* Reads exactly these bytes: 1, or 0 at the end of the stream. Copies them to `to`, if there is one. */
+static int read_all(int from, long count, unsigned char *to)
+{
+    while (count > 0) {
+        ssize_t n = read(from, room, count < ROOM ? (size_t)count : ROOM);
         if (n < 0)
             fail("read");
         if (n == 0)
             return 0;
-        bytes -= n;
+        if (to) {
+            memcpy(to, room, n);
+            to += n;
+        }
+        count -= n;
     }
     return 1;
+}
+
+/* Reads exactly these bytes into memory, without a copy. */
+static void read_into(int from, long count, unsigned char *to)
+{
+    while (count > 0) {
+        ssize_t n = read(from, to, count);
+        if (n <= 0)
+            fail("read");
+        to += n;
+        count -= n;
+    }
 }
 
 static struct sockaddr_in address(int port)
@@ -82,15 +138,18 @@ static int take(int port)
     return link;
 }
 
-static void serve(int port, long request, long reply)
+static void serve(int port, long request, long reply, int copies)
 {
+    make_buffers(reply, copies);
     int link = take(port);
     if (reply == 0) {
         while (read(link, room, ROOM) > 0) {
         }
     } else {
-        while (read_all(link, request))
-            write_all(link, reply);
+        while (read_all(link, request, NULL)) {
+            copy_on(reply, 0, copies);
+            write_all(link, buffer[copies], reply);
+        }
     }
     close(link);
 }
@@ -100,25 +159,23 @@ static void save(int port)
     int link = take(port);
     ssize_t n;
     while ((n = read(link, room, ROOM)) > 0)
-        for (ssize_t at = 0, put; at < n; at += put)
-            if ((put = write(1, room + at, n - at)) <= 0)
-                fail("output");
+        write_all(1, room, n);
     close(link);
 }
 
-static void store(int port, long piece)
+static void store(int port, long piece, int copies, int keeps)
 {
+    make_buffers(piece, copies);
     int link = take(port);
-    while (read_all(link, CALL)) {
-        unsigned char *kept = malloc(piece);
-        write_all(link, REQUEST);
-        for (long at = 0; at < piece;) {
-            ssize_t n = read(link, kept + at, piece - at);
-            if (n <= 0)
-                fail("read");
-            at += n;
-        }
-        write_all(link, ANSWER);
+    while (read_all(link, CALL, NULL)) {
+        if (keeps)
+            buffer[copies] = new_memory(piece);
+        write_any(link, REQUEST);
+        if (copies == 0)
+            read_into(link, piece, buffer[0]);
+        else if (read_all(link, piece, buffer[1]))
+            copy_on(piece, 1, copies);
+        write_any(link, ANSWER);
     }
     close(link);
 }
@@ -139,6 +196,37 @@ static int dial(int port)
     return -1;
 }
 
+static void turns(int link, long request, long reply, long count, int copies)
+{
+    while (count-- > 0) {
+        write_any(link, request);
+        if (!read_all(link, reply, copies ? buffer[1] : NULL))
+            fail("end");
+        copy_on(reply, 1, copies);
+    }
+}
+
+static void send_pieces(int link, long bytes, long piece)
+{
+    for (; bytes > 0; bytes -= piece)
+        write_any(link, bytes < piece ? bytes : piece);
+    shutdown(link, SHUT_WR);
+    while (read(link, room, ROOM) > 0) {
+    }
+}
+
+/* The passes of a WRITE, of the piece of buffer 0. */
+static void write_piece(int link, long piece, int copies)
+{
+    copy_on(piece, 0, copies);
+    write_any(link, CALL);
+    if (!read_all(link, REQUEST, NULL))
+        fail("end");
+    write_all(link, buffer[copies], piece);
+    if (!read_all(link, ANSWER, NULL))
+        fail("end");
+}
+
 static double now(void)
 {
     struct timespec t;
@@ -146,60 +234,50 @@ static double now(void)
     return t.tv_sec * 1e6 + t.tv_nsec / 1e3;
 }
 
+static int client(int count, char **words)
+{
+    const char *what = words[1];
+    long numbers[4] = {0};
+    for (int i = 3; i < count && i < 7; i++)
+        numbers[i - 3] = atol(words[i]);
+    long size = !strcmp(what, "turns") ? numbers[1] : numbers[0];
+    int copies = !strcmp(what, "turns") ? numbers[3] : !strcmp(what, "put") ? numbers[1] : numbers[2];
+    int link = dial(atoi(words[2]));
+    if (strcmp(what, "send"))
+        make_buffers(size, copies);
+    double begun = now();
+    if (!strcmp(what, "turns") && count >= 6)
+        turns(link, numbers[0], size, numbers[2], copies);
+    else if (!strcmp(what, "send") && count == 5)
+        send_pieces(link, numbers[0], numbers[1]);
+    else if (!strcmp(what, "put") && count >= 4)
+        while (read(0, buffer[0], size) == size)
+            write_piece(link, size, copies);
+    else if (!strcmp(what, "write") && count == 6)
+        for (long left = numbers[1]; left > 0; left--)
+            write_piece(link, size, copies);
+    else
+        return 2;
+    printf("%.0f\n", now() - begun);
+    return 0;
+}
+
 int main(int count, char **words)
 {
-    if (count == 5 && !strcmp(words[1], "serve")) {
-        serve(atoi(words[2]), atol(words[3]), atol(words[4]));
-        return 0;
-    }
-    if (count == 3 && !strcmp(words[1], "save")) {
+    const char *what = count >= 3 ? words[1] : "";
+    if (!strcmp(what, "serve") && count >= 5)
+        serve(atoi(words[2]), atol(words[3]), atol(words[4]), count > 5 ? atoi(words[5]) : 0);
+    else if (!strcmp(what, "save") && count == 3)
         save(atoi(words[2]));
+    else if (!strcmp(what, "store") && count >= 4)
+        store(atoi(words[2]), atol(words[3]), count > 4 ? atoi(words[4]) : 0, 1);
+    else if (!strcmp(what, "over") && count == 5)
+        store(atoi(words[2]), atol(words[3]), atoi(words[4]), 0);
+    else if (count >= 4 && client(count, words) == 0)
         return 0;
+    else {
+        fprintf(stderr, "usage: see the head of bench/echo.c\n");
+        return 2;
     }
-    if (count == 4 && !strcmp(words[1], "store")) {
-        store(atoi(words[2]), atol(words[3]));
-        return 0;
-    }
-    if (count == 4 && !strcmp(words[1], "put")) {
-        int link = dial(atoi(words[2]));
-        long piece = atol(words[3]);
-        unsigned char *bytes = malloc(piece);
-        double begun = now();
-        while (read(0, bytes, piece) == piece) {
-            write_all(link, CALL);
-            if (!read_all(link, REQUEST))
-                fail("end");
-            if (write(link, bytes, piece) != piece)
-                fail("write");
-            if (!read_all(link, ANSWER))
-                fail("end");
-        }
-        printf("%.0f\n", now() - begun);
-        return 0;
-    }
-    if (count == 6 && !strcmp(words[1], "turns")) {
-        int link = dial(atoi(words[2]));
-        double begun = now();
-        for (long left = atol(words[5]); left > 0; left--) {
-            write_all(link, atol(words[3]));
-            if (!read_all(link, atol(words[4])))
-                fail("end");
-        }
-        printf("%.0f\n", now() - begun);
-        return 0;
-    }
-    if (count == 5 && !strcmp(words[1], "send")) {
-        int link = dial(atoi(words[2]));
-        long piece = atol(words[4]);
-        double begun = now();
-        for (long left = atol(words[3]); left > 0; left -= piece)
-            write_all(link, left < piece ? left : piece);
-        shutdown(link, SHUT_WR);
-        while (read(link, room, ROOM) > 0) {
-        }
-        printf("%.0f\n", now() - begun);
-        return 0;
-    }
-    fprintf(stderr, "usage: see the head of bench/echo.c\n");
-    return 2;
+    return 0;
 }
