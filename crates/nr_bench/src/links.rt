@@ -9,7 +9,7 @@ use crate::links_client::Client;
 use crate::links_work::Work;
 use crate::words::number;
 use nr_links::{Dialer, LinkNumber, NumberedSink, NumberedSource, PIECE_MAX, TcpDialer};
-use nr_outside::{Sink, Source, raise_trim_threshold};
+use nr_outside::{Sink, Source};
 use nr_reduce::Outcome;
 use nr_xdr::Octets;
 use std::alloc::Global;
@@ -20,9 +20,6 @@ use std::time::Instant;
 
 /// How many credits the client wishes for.
 const CREDITS: u32 = 64;
-
-/// The size of the block by which the allocator is made to keep the memory of a call for the next one, in bytes.
-const TRIM_BLOCK_LEN: usize = 1 << 24;
 
 /// What is done: calls of a kind, their number, how many may be outstanding, and the units of the client.
 #[derive(Clone, Copy)]
@@ -139,7 +136,6 @@ fn plan_of(words: &mut Args) -> Option<Plan> {
 
 /// Runs the plan, and gives what is confirmed and the microseconds.
 fn measured(rt: HostRuntime, addr: &str, plan: Plan) -> io::Result<Option<(u64, u128)>> {
-    raise_trim_threshold(rt.alloc(), TRIM_BLOCK_LEN);
     let mut dialer = TcpDialer::new(rt);
     let start = Instant::now(&rt)?;
     let total = linked::<Brand, TcpDialer<HostRuntime>>(rt.alloc(), &mut dialer, addr, plan);

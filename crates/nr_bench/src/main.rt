@@ -14,10 +14,15 @@ mod sends;
 mod tree;
 mod words;
 
+use nr_outside::raise_trim_threshold;
 use std::alloc::Global;
 use std::env;
 use std::env::Args;
 use std::process::ExitCode;
+
+/// The size of the block by which the allocator is made to keep the memory of a call for the next one, in bytes, as `get`
+/// and `put` have it.
+const TRIM_BLOCK_LEN: usize = 1 << 24;
 
 /// What a benchmark counts.
 fn measured(alloc: Global, name: &str, words: &mut Args) -> Option<u64> {
@@ -43,6 +48,7 @@ fn main(rt: HostRuntime) -> ExitCode {
         return ExitCode::FAILURE;
     };
     let _ = words.next();
+    raise_trim_threshold(rt.alloc(), TRIM_BLOCK_LEN);
     for _ in 0..usize::MAX {
         let Some(name) = words.next() else {
             return ExitCode::SUCCESS;
