@@ -3,9 +3,9 @@
     python3 conformance/check_gate.py [--program PROGRAM] [--seconds N] [--clients N]
 
 The rows of check_records.py have to come back through the gateway as from the server itself, but for a hello of RPC over RDMA, which is a
-record above the limit there. A relay between both counts what the remote link carries. Then clients at work side by side, one that is killed
-within a record, a silent one, a remote server that is killed, and the statuses. Exit status: 0 all as expected, 1 something differs, 2 no
-program."""
+record above the limit there. A relay between both counts what the remote link carries. Then clients at work side by side, each change of which
+has to be in the journal once, one that is killed within a record, a silent one, a remote server that is killed, and the statuses. Exit status:
+0 all as expected, 1 something differs, 2 no program."""
 import argparse
 import os
 import random
@@ -65,7 +65,7 @@ class Pair:
         behind, self.port = free_port(), free_port()
         with open(self.files[0], 'w', encoding='utf-8') as f:
             f.write((CONFIG % (behind, 2)).replace('record = true\n', '').replace('capacity = 1000000000\n', CAPACITY))
-        self.server = subprocess.Popen([program, 'serve', self.files[0]], stdout=subprocess.DEVNULL, stderr=subprocess.DEVNULL)
+        self.server = subprocess.Popen([program, 'serve', self.files[0]], stdout=subprocess.PIPE, stderr=subprocess.DEVNULL, text=True)
         # the first of its two connections sees that it listens
         connect(behind).close()
         self.relay = Relay(behind)
@@ -76,6 +76,10 @@ class Pair:
     def end(self) -> tuple[str, str, int]:
         out, err = self.gate.communicate(timeout=60)
         return out, err, self.gate.returncode
+
+    def served(self) -> str:
+        """What the server prints, once the gateway has ended."""
+        return str(self.server.communicate(timeout=60)[0])
 
     def kill(self) -> None:
         for child in (self.gate, self.server):
@@ -124,7 +128,8 @@ def rows(program: str, folder: str) -> bool:
             one.sendall(both[0])
             two.sendall(both[1])
             replies = [reply(one), reply(two)]
-            good = check('GETATTR with one xid by two clients', replies[0] == replies[1] and len(replies[0]) == 112 and replies[0][:4] == words(9), replies) and good
+            alike = replies[0] == replies[1] and len(replies[0]) == 112 and replies[0][:4] == words(9)
+            good = check('GETATTR with one xid by two clients', alike, replies) and good
         end = pair.end()
         good = check('gated', end == ('gated %d\n' % (len(ROWS) + 3), '', 0), end) and good
     finally:
@@ -180,7 +185,9 @@ def side_by_side(program: str, folder: str, clients: int, seconds: int) -> bool:
         good = check('%d clients for %d seconds, %d WRITEs and READs' % (clients, seconds, sum(counts)), min(counts) > 0, counts)
         silent.close()
         end = pair.end()
-        return check('gated', end == ('gated %d\n' % (clients + 3), '', 0), end) and good
+        good = check('gated', end == ('gated %d\n' % (clients + 3), '', 0), end) and good
+        served = pair.served()
+        return check('each CREATE and WRITE once in the journal', served == 'served 2 journal %d\n' % (clients + sum(counts)), served) and good
     finally:
         pair.kill()
 
