@@ -51,7 +51,10 @@ pub record IsCaller {O C : Type 0} (p : Pass (RequesterWithSink O C) Entry) : Ty
 
 -- The marks of the history keep the law of the client's side, and the last grant; `n` is how many bytes were fed of the piece at which memory ran out.
 -- Output is written before more is fed. Each entry that feeds closes the one before it: so they are all of the one pass that feeds.
+-- The history begins with the initial state.
 pub record KeepsLaw (history : List Entry) : Type 0 where
+  pub initial : InitialState
+  pub is_initial : initial_of history ≡ Some initial
   pub n : ℕ
   pub law : (opened : LinkParameters) (link : ℕ) (before : List Mark) → FitsHistory history opened link before → AskedSoFar opened link (run_of before n link history) × KeepsGrant opened link (run_of before n link history)
   pub output : OutputBeforeInput history
