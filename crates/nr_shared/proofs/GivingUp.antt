@@ -54,7 +54,7 @@ after_wrote opened link run bytes = let r = client opened link run in
 -- ---- A history with bytes that are written
 
 module _ (opened : LinkParameters) (link : ℕ) (before : List Mark) (n : ℕ) where
-  at_history : List Entry → EndState ClientState
+  abbrev at_history : List Entry → EndState ClientState
   at_history h = client opened link (run_of before n link h)
 
   one_more : (h es : List Entry) (e : Entry) → KeepsEnd (at_history h) (at_history (h ++ e ∷ [])) → KeepsEnd (at_history (h ++ e ∷ [])) (at_history ((h ++ e ∷ []) ++ es)) → KeepsEnd (at_history h) (at_history (h ++ e ∷ es))
