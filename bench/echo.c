@@ -45,8 +45,10 @@ static unsigned char *new_memory(long bytes)
 /* The buffers of a piece, and of its copies: none of their pages is new later. */
 static void make_buffers(long piece, int copies)
 {
-    if (copies > BUFFERS)
-        fail("copies");
+    if (copies > BUFFERS) {
+        fprintf(stderr, "at most %d copies\n", BUFFERS);
+        exit(2);
+    }
     for (int i = 0; i <= copies; i++)
         memset(buffer[i] = new_memory(piece), 1, piece);
 }
@@ -234,50 +236,63 @@ static double now(void)
     return t.tv_sec * 1e6 + t.tv_nsec / 1e3;
 }
 
-static int client(int count, char **words)
+/* The number of an argument, or this one if there is none. */
+static long number(int count, char **words, int at, long otherwise)
 {
-    const char *what = words[1];
-    long numbers[4] = {0};
-    for (int i = 3; i < count && i < 7; i++)
-        numbers[i - 3] = atol(words[i]);
-    long size = !strcmp(what, "turns") ? numbers[1] : numbers[0];
-    int copies = !strcmp(what, "turns") ? numbers[3] : !strcmp(what, "put") ? numbers[1] : numbers[2];
+    return at < count ? atol(words[at]) : otherwise;
+}
+
+static void client(const char *what, int count, char **words)
+{
     int link = dial(atoi(words[2]));
+    int is_turns = !strcmp(what, "turns");
+    long size = number(count, words, is_turns ? 4 : 3, 0);
+    int copies = number(count, words, is_turns ? 6 : strcmp(what, "put") ? 5 : 4, 0);
     if (strcmp(what, "send"))
         make_buffers(size, copies);
     double begun = now();
-    if (!strcmp(what, "turns") && count >= 6)
-        turns(link, numbers[0], size, numbers[2], copies);
-    else if (!strcmp(what, "send") && count == 5)
-        send_pieces(link, numbers[0], numbers[1]);
-    else if (!strcmp(what, "put") && count >= 4)
+    if (is_turns)
+        turns(link, number(count, words, 3, 0), size, number(count, words, 5, 0), copies);
+    else if (!strcmp(what, "send"))
+        send_pieces(link, size, number(count, words, 4, 1));
+    else if (!strcmp(what, "put"))
         while (read(0, buffer[0], size) == size)
             write_piece(link, size, copies);
-    else if (!strcmp(what, "write") && count == 6)
-        for (long left = numbers[1]; left > 0; left--)
-            write_piece(link, size, copies);
     else
-        return 2;
+        for (long left = number(count, words, 4, 0); left > 0; left--)
+            write_piece(link, size, copies);
     printf("%.0f\n", now() - begun);
-    return 0;
 }
+
+static void server(const char *what, int count, char **words)
+{
+    int port = atoi(words[2]);
+    long size = number(count, words, 3, 0);
+    if (!strcmp(what, "serve"))
+        serve(port, size, number(count, words, 4, 0), number(count, words, 5, 0));
+    else if (!strcmp(what, "save"))
+        save(port);
+    else
+        store(port, size, number(count, words, 4, 0), !strcmp(what, "store"));
+}
+
+/* The commands, with how many words each has at least and at most, its own name and the program's among them. */
+static const struct {
+    const char *name;
+    int least, most;
+    void (*run)(const char *, int, char **);
+} commands[] = {
+    {"serve", 5, 6, server}, {"save", 3, 3, server}, {"store", 4, 5, server}, {"over", 5, 5, server},
+    {"turns", 6, 7, client}, {"send", 5, 5, client}, {"put", 4, 5, client},   {"write", 6, 6, client},
+};
 
 int main(int count, char **words)
 {
-    const char *what = count >= 3 ? words[1] : "";
-    if (!strcmp(what, "serve") && count >= 5)
-        serve(atoi(words[2]), atol(words[3]), atol(words[4]), count > 5 ? atoi(words[5]) : 0);
-    else if (!strcmp(what, "save") && count == 3)
-        save(atoi(words[2]));
-    else if (!strcmp(what, "store") && count >= 4)
-        store(atoi(words[2]), atol(words[3]), count > 4 ? atoi(words[4]) : 0, 1);
-    else if (!strcmp(what, "over") && count == 5)
-        store(atoi(words[2]), atol(words[3]), atoi(words[4]), 0);
-    else if (count >= 4 && client(count, words) == 0)
-        return 0;
-    else {
-        fprintf(stderr, "usage: see the head of bench/echo.c\n");
-        return 2;
-    }
-    return 0;
+    for (size_t i = 0; i < sizeof commands / sizeof *commands; i++)
+        if (count >= commands[i].least && count <= commands[i].most && !strcmp(words[1], commands[i].name)) {
+            commands[i].run(words[1], count, words);
+            return 0;
+        }
+    fprintf(stderr, "usage: see the head of bench/echo.c\n");
+    return 2;
 }
