@@ -11,6 +11,9 @@ use std::alloc::Global;
 /// The most bytes that an end is fed.
 const FED_MAX: u64 = 1 << 62;
 
+/// How often a server fetches segments of a read chunk at most: it asks for 8 at a time, and a chunk of 1 MiB has 16.
+const FETCHES_MAX: u32 = 2;
+
 /// How many bytes an end was fed after a piece of this length, if it may be.
 pub fn fed_after(fed: Option<u64>, len: u64) -> Option<u64>
     ensures { IfSome result (λ n. (fed ≡ Some (n - len)) × ((len ≤ n) × (n ≤ 2 ^ 62))) }
@@ -53,6 +56,17 @@ impl Link {
         self.server.drain(&mut self.client);
     }
 
+    /// Lets the server fetch the read chunk of a call, if it has one.
+    fn fetch(&mut self) {
+        for _ in 0..FETCHES_MAX {
+            if self.server.is_ready() {
+                return;
+            }
+            self.down();
+            self.up();
+        }
+    }
+
     /// Submits a call, lets the server fetch its read chunk if it has one, and execute and answer it, and takes the answer: the call comes
     /// back with its outcome.
     pub fn call(
@@ -65,10 +79,7 @@ impl Link {
     {
         self.client.submit(call)?;
         self.up();
-        if !self.server.is_ready() {
-            self.down();
-            self.up();
-        }
+        self.fetch();
         self.server.work(alloc, plain)?;
         self.down();
         self.client.take()
