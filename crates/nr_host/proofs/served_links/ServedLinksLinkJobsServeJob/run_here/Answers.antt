@@ -5,7 +5,7 @@ use Rattle.nr_plain.specs.History.{PassView, pass_view}
 use Rattle.nr_host.specs.LinkServing.{IsLinkServed, LinkSinkCount, LinkSourceCount}
 use Rattle.nr_host.specs.Steps.{outside, sink_state}
 use Rattle.nr_host.specs.declared.connection_limits.ConnectionLimits.{ConnectionLimits}
-use Rattle.nr_host.proofs.served_links.ServedLinksLinkJobs.run_here.Goals as goal
+use Rattle.nr_host.proofs.served_links.ServedLinksLinkJobsServeJob.run_here.Goals as goal
 
 pub join-requires : goal.join-requires
 join-requires g c =
