@@ -1,4 +1,4 @@
-use Rattle.std.proofs.Common.{◌≡◌, ℕ, Bool, false, ap, subst, ◌∙◌}
+use Rattle.std.proofs.Common.{ℕ, Bool, false, ap, subst, sym, ◌∙◌}
 use Rattle.nr_turnstile.specs.Passes.{Rests, mine_of, seen_by}
 use Rattle.nr_turnstile.specs.Rule.{Begins, in_order, longer}
 use Rattle.nr_plain.specs.History.{PassView, pass_view}
@@ -10,7 +10,8 @@ use Rattle.nr_host.proofs.served_links.ServedLinksLinkJobsServeJob.run_here.Goal
 pub join-requires : goal.join-requires
 join-requires g c =
     let (first, (source, (sink, made))) = c.requires.made in
-    (c.requires.rests, subst (λ t. Rests t c.run-source.result.pass) made.1.1.0 c.run-source.ensures.rests)
+    (subst (λ t. Rests t c.args.self.now.pass.now) (sym c.deref.ensures) c.requires.rests,
+    subst (λ t. Rests t c.run-source.result.pass) (made.1.1.0 ∙ sym c.deref.ensures) c.run-source.ensures.rests)
 
 pub returns-clause-links : goal.returns-clause-links
 returns-clause-links g c first source sink made = (
