@@ -60,7 +60,7 @@ pub(crate) fn outcome_of<R: Wait, I: Source, O: Sink, C: CallRule>(
     requires rests { SharedRests shared.now pass.old }
     ensures rests { SharedRests shared.now pass.new }
     ensures source { seen_by pass.new.source ≡ seen_by pass.old.source }
-    ensures grows { (asked : Call) → IfOk call (λ c. c ≡ asked) → Grows (λ c. c ≡ asked) pass.old.main pass.new.main }
+    ensures grows { Grows pass.old.main pass.new.main }
     ensures ok { IfOk result (λ outcome. (asked : Call) → IfOk call (λ c. c ≡ asked) → IsExchange (seen_by pass.new.main) (mine_of pass.new.main) asked outcome) }
     ensures err { IfErr result (λ end. (asked : Call) → IfOk call (λ c. c ≡ asked) → HasNone asked end pass.new.main) }
     ensures of_call { IfErr result IsOfCall }
