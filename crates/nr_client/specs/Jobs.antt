@@ -88,7 +88,7 @@ pub record ReadsByJobs (uid gid : ℕ) (file : List ℕ) (first : Outcome) (seen
 -- ---- A session's link, whose requester callers share
 
 -- a link at a moment: its requester, what is known of its source and its sink, and how many bytes were read of it
-abbrev pub LinkAt : Type 1
+abbrev pub LinkAt : Type 0
 LinkAt = LinkParts SourceAt SinkAt
 
 abbrev pub link_at : RequesterSide → SourceAt → SinkAt → ℕ → LinkAt
