@@ -177,11 +177,11 @@ none_read uid gid file first size seen taken told = record {
 }
 
 -- what was given back, by what is known of its source and its sink
-pub back_known : {I O : Type 0} (left given : I → Option (List ℕ)) (source_faults : I → ℕ) (taken : O → Option (List ℕ)) (sink_faults : O → ℕ) (allows : Call → Form → Type 0) (seen : List Entry) (mine : List ℕ) (first : I) (r : RequesterSide) (source : I) (sink : O)
-    → GivesBack left given source_faults taken sink_faults allows seen mine first r source sink
-    → GivesBack {I = SourceAt} {O = SinkAt} (λ x. x.left) (λ x. x.given) (λ x. x.faults) (λ x. x.taken) (λ x. x.faults) allows seen mine (source_at (left first) (given first) (source_faults first)) r
+pub back_known : {I O : Type 0} (left given : I → Option (List ℕ)) (source_faults : I → ℕ) (taken : O → Option (List ℕ)) (sink_faults : O → ℕ) (allows : Call → Form → Type 0) (seen : List Entry) (mine : List ℕ) (first : I) (read : ℕ) (r : RequesterSide) (source : I) (sink : O)
+    → GivesBack left given source_faults taken sink_faults allows seen mine first read r source sink
+    → GivesBack {I = SourceAt} {O = SinkAt} (λ x. x.left) (λ x. x.given) (λ x. x.faults) (λ x. x.taken) (λ x. x.faults) allows seen mine (source_at (left first) (given first) (source_faults first)) read r
     (source_at (left source) (given source) (source_faults source)) (sink_at (taken sink) (sink_faults sink))
-back_known left given source_faults taken sink_faults allows seen mine first r source sink b = record {
+back_known left given source_faults taken sink_faults allows seen mine first read r source sink b = record {
   history = b.history;
   begins = b.begins;
   lies = b.lies;
@@ -196,8 +196,11 @@ back_known left given source_faults taken sink_faults allows seen mine first r s
   sink_failed = b.sink_failed;
   in_order = b.in_order;
   allowed = b.allowed;
+  closes_calls = b.closes_calls;
   output = b.output;
+  fed = b.fed;
   gave = b.gave;
+  read = b.read;
   source_count = b.source_count;
   stop = b.stop;
 }

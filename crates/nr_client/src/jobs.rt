@@ -3,6 +3,7 @@
 ghost use Rattle.std.specs.Prelude.{◌≡◌, ◌≢◌, ◌<◌, ◌≤◌, ℕ, [], ◌∷◌, Some, None, Err, List, length, All, slice_index_or, IfOk, IfErr, OnOk};
 ghost use Rattle.nr_outside.specs.Streams.{sink_at, source_at};
 ghost use Rattle.nr_link.specs.declared.end.End.TheVariants as ends;
+ghost use Rattle.nr_links.specs.Limits.{read_max};
 ghost use Rattle.nr_reduce.specs.declared.call.Call.{Call};
 ghost use Rattle.nr_reduce.specs.declared.call.Form.{Form};
 ghost use Rattle.nr_reduce.specs.declared.call.Outcome.{Outcome};
@@ -20,13 +21,13 @@ ghost use Rattle.nr_client.specs.private.JobReads.{AreFetched, EndsMore, Grows, 
 
 use crate::client_end::ClientEnd;
 use crate::file_calls::read_call;
+use crate::link::LinkEnds;
 use crate::read_data::piece_left;
 use crate::shared_calls::{outcome_of, share};
 use crate::written_pieces::write_piece;
 use nr_nfs_base::{Handle, TRANSFER_MAX};
 use nr_outside::{Sink, Source};
 use nr_reduce::Outcome;
-use nr_requester::Requester;
 use nr_shared::{Appended, CallRule, Pass, SharedRequester};
 use std::alloc::{AllocError, Global};
 use std::sync::Wait;
@@ -335,7 +336,7 @@ fn read_rounds<
     Ok(())
 }
 
-/// Shares a requester with its source and its sink, reads a file into an output by jobs, and gives the source and the sink back.
+/// Shares the requester of a link with its source and its sink, reads a file into an output by jobs, and gives the source and the sink back.
 pub(crate) fn read_shared<
     N: Appended,
     C: CallRule + Send,
@@ -345,27 +346,34 @@ pub(crate) fn read_shared<
     K: Sink,
 >(
     rt: &R,
-    requester: Requester,
-    source: I,
-    sink: O,
+    link: LinkEnds<I, O>,
     file: &FileToRead<'_>,
     out: &mut K,
 ) -> (Result<(), ClientEnd>, I, O)
 where
     I: Drop + Send,
     O: Drop + Send,
-    requires entry { entries.Initial (record { requester = requester; faults = O.faults sink; taken = O.taken sink }) ≡ N.entry }
-    requires has_memory { requester.state.side.ended ≢ Some ends.Memory }
-    requires fed { fed_bytes requester ≤ bytes_before }
+    requires entry { entries.Initial (record { requester = link.requester; faults = O.faults link.sink; taken = O.taken link.sink }) ≡ N.entry }
+    requires has_memory { link.requester.state.side.ended ≢ Some ends.Memory }
+    requires fed { fed_bytes link.requester ≤ bytes_before }
+    requires within { link.read ≤ read_max }
     requires rule { IsRuleOf C.allows file.now.uid file.now.gid file.now.handle.now file.now.size }
     requires only { (call : Call) (form : Form) → C.allows call form → FileReads file.now.uid file.now.gid file.now.handle.now file.now.size call form }
     requires jobs { (0 < file.now.jobs) × (file.now.jobs ≤ jobs_max) }
-    ensures reads { (first : Outcome) (read : ℕ) → file_read (first ∷ []) ≡ SizeKnown file.now.size 0 [] → ReadsShared file.now.uid file.now.gid file.now.handle.now first file.now.size
-        (link_at requester (source_at (I.left source) (I.given source) (I.faults source)) (sink_at (O.taken sink) (O.faults sink)) read)
+    ensures reads { (first : Outcome) → file_read (first ∷ []) ≡ SizeKnown file.now.size 0 [] → ReadsShared file.now.uid file.now.gid file.now.handle.now first file.now.size
+        (link_at link.requester (source_at (I.left link.source) (I.given link.source) (I.faults link.source)) (sink_at (O.taken link.sink) (O.faults link.sink)) link.read)
         (source_at (I.left result.1) (I.given result.1) (I.faults result.1)) (sink_at (O.taken result.2) (O.faults result.2)) (K.taken out.old) (K.taken out.new) result.0 }
     ensures out_faults { OutputFaults result.0 (K.faults out.old) (K.faults out.new) }
 {
-    let (shared, mut pass) = match share::<N, R, I, O, C>(rt, file.alloc, requester, source, sink) {
+    let LinkEnds {
+        requester,
+        source,
+        sink,
+        read,
+    } = link;
+    let alloc = file.alloc;
+    let (shared, mut pass) = match share::<N, R, I, O, C>(rt, alloc, requester, source, sink, read)
+    {
         Ok(opened) => opened,
         Err((requester, source, sink)) => {
             drop(requester);

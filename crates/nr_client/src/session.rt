@@ -26,7 +26,7 @@ use crate::call_end::CallEnd;
 use crate::client_end::ClientEnd;
 use crate::jobs::{FileToRead, read_shared};
 use crate::limits::CREDITS;
-use crate::link::Link;
+use crate::link::{Link, LinkEnds};
 use crate::listing::list_over;
 use crate::names::Names;
 use crate::read_file::read_file_over;
@@ -389,8 +389,14 @@ impl<I: Source, O: Sink> Session<I, O> {
                 return (Err(end), source, sink);
             }
         };
-        let (requester, source, sink) = link.into_parts();
-        if !has_memory(&requester) {
+        let link = link.into_ends();
+        if !has_memory(&link.requester) {
+            let LinkEnds {
+                requester,
+                source,
+                sink,
+                read: _read,
+            } = link;
             drop(requester);
             let end = CallEnd::Ended(End::Memory);
             return (Err(ClientEnd::Link(end)), source, sink);
@@ -403,6 +409,6 @@ impl<I: Source, O: Sink> Session<I, O> {
             size,
             jobs,
         };
-        read_shared::<Brand, Brand, R, I, O, K>(rt, requester, source, sink, &file, out)
+        read_shared::<Brand, Brand, R, I, O, K>(rt, link, &file, out)
     }
 }
