@@ -18,7 +18,7 @@ from typing import Any
 from antt import ROOT
 from check_definitions import NAMES, RUNS, Names, Recorded, bytes_of, recorded, weight
 from ends import Ends
-from values import CannotEvaluate, Value, call, deeply
+from values import NONE, CannotEvaluate, Value, call, deeply
 
 HERE = os.path.dirname(os.path.abspath(__file__))
 PLAIN = os.path.join(HERE, 'plain.json.gz')
@@ -41,13 +41,16 @@ USES = [
     'use Rattle.nr_reduce.specs.Server.{answer_of_target, offer_of}',
     'use Rattle.nr_rpc.specs.Reading.{call_of, target_of}',
     'use Rattle.nr_link.specs.Frames.{is_hello}',
-    'use Rattle.nr_link.specs.Ending.{frame_segment, access_of}',
+    'use Rattle.nr_link.specs.Ending.{frame_segment, access_of, frame_end_by}',
     'use Rattle.nr_regions.specs.Access.{grant_denial}',
     'use Rattle.nr_reduce.specs.OfferedRegions.{region_grants}',
     'use Rattle.nr_reduce.specs.Events.{events_at}',
     'use Rattle.nr_reduce.specs.EndRules.{next_end_state, output_for}',
     'use Rattle.nr_link.specs.ReceiveState.{read_request_of, message_completed, stag_invalidated}',
-    'use Rattle.nr_reduce.specs.Client.{client_segment}',
+    'use Rattle.nr_reduce.specs.Client.{client_segment, client_readiness, client_message_end}',
+    'use Rattle.nr_reduce.specs.ClientMessages.{answered_call, is_given}',
+    'use Rattle.nr_link.specs.declared.end.End.TheVariants as ends',
+    'use Rattle.nr_link.specs.Reasons.{REASON_INVALIDATED}',
     'use Rattle.nr_xdr.specs.Fields.{word_at}',
     'use Rattle.nr_link.specs.Output.{read_response}',
     'use Rattle.nr_link.specs.Ending.{tagged_access}',
@@ -95,6 +98,11 @@ ROLES: dict[str, str] = {
     'completed': 'λ state segment. message_completed state.received segment',
     'named': 'λ segment. stag_invalidated segment',
     'xid': 'λ message. word_at 0 message',
+    'answered': 'λ state header. answered_call state header.xid',
+    'given': 'λ call stag. is_given call stag',
+    'link_end': 'λ state f read. frame_end_by (client_readiness state) (region_grants f.end state.regions) f read',
+    'plain_end': 'λ state f message. client_message_end state f None (Some message)',
+    'stag_end': 'λ f. Some (ends.Bad f.at REASON_INVALIDATED)',
     'denial': 'λ frame regions access. grant_denial (region_grants frame.end regions) access frame.end',
     'placed': 'λ opened link side run stag. placed_bytes opened link side run stag',
     'output': 'λ opened state event. output_for (client_rules opened) state event',
@@ -148,6 +156,7 @@ LAWS = (
     'touches: requests',
     'touches: revoked',
     'invalidated',
+    'judged',
     'offered_regions: client adds',
     'offered_regions: client live',
     'offered_regions: client closed',
@@ -273,7 +282,9 @@ class Link:
         if ask('hello', f) or segment.n != 'Ok' or ask('named', segment.a[0]).n != 'Some':
             return
         stag = ask('named', segment.a[0]).a[0]
-        xid = ask('xid', ask('completed', before['state'], segment.a[0]).a[0])
+        message = ask('completed', before['state'], segment.a[0]).a[0]
+        xid = ask('xid', message)
+        self.judged(before['state'], f, segment, message, stag)
         if self.ends['client']['ended'].n == 'Some':
             self.note('invalidated', self.ends['client']['state'] == before['state'], ('ends',))
             return
@@ -283,6 +294,18 @@ class Link:
         others = all(r in new for r in old if r['call'] != xid)
         revoked = own and own[0]['until'].n == 'Some'
         self.note('invalidated', len(own) == 1 and own[0]['call'] == xid and dead and others, ('revoked',) if revoked else ())
+
+    def judged(self, state: Value, f: Value, read: Value, message: Value, stag: int) -> None:
+        """It ends the client with reason 29 for an STag that its call wasn't given alone, and else as a message does that names none."""
+        ask, ended = self.names.ask, self.ends['client']['ended']
+        header = ask('header', message)
+        call = ask('answered', state, header.a[0]) if header.n == 'Ok' else NONE
+        another = call.n == 'Some' and not ask('given', call.a[0], stag)
+        let_through = ask('link_end', state, f, read).n == 'None'
+        for_stag = ask('stag_end', f)
+        same = ended == for_stag if another else ended == ask('plain_end', state, f, message)
+        kinds = ('another',) if another else ()
+        self.note('judged', (ended != for_stag or another) and (same or not let_through), kinds if let_through else ('not let through',))
 
     def memory(self, side: str, before: Value, event: Value) -> None:
         ask, f = self.names.ask, event.a[0]

@@ -30,6 +30,11 @@ module _ {V E : Type 0} (Makes : V → V → Type 0) (Served : V → EndedLink �
   pub serves_none : (before : Between V) (ends : List E) → ends ≡ [] → Serves Makes Served before ends before
   serves_none before ends none = record { links = []; ends_are = sym none; all = refl }
 
+  -- what was not taken changes nothing
+  pub serves_kept : (before mid after : Between V) (ends ends' : List E) → ends' ≡ ends → after ≡ mid → Serves Makes Served before ends mid → Serves Makes Served before ends' after
+  serves_kept before mid after ends ends' kept same s =
+      subst (λ (l : List E). Serves Makes Served before l after) (sym kept) (subst (λ (b : Between V). Serves Makes Served before ends b) (sym same) s)
+
   -- ===== one link
 
   pub started_by : (before after : Between V) (link : Option E) → link ≡ None → TakesLink Makes Served before link after → StartsLink Makes before after

@@ -91,7 +91,7 @@ claims_stay_lem link claim calls held others =
 
 all_none : (stag : ℕ) (events : List MemoryEvent) → NoneReleases stag events → All (IsNoReleaseOf stag) events
 all_none stag [] none = All-nil (IsNoReleaseOf stag)
-all_none stag (event ∷ events) none = All-cons (IsNoReleaseOf stag) event events (none.0, all_none stag events none.1)
+all_none stag (event ∷ events) none = All-cons (IsNoReleaseOf stag) event events none.0 (all_none stag events none.1)
 
 invalidated_memory : (link : LinkSide) (stag : ℕ) → (after_call link (Invalidate stag)).state.memory ≡ after_invalidate link.state.memory stag
 unfolding after_call

@@ -65,7 +65,7 @@ by_fault_lem f s (Some (AccessDenied why)) h at reason is e = by (access_of s) e
     by (Some access) e = cc
 by_fault_lem f s (Some (PeerTerminated word)) h at reason is e = cc
 
-by_verdict_lem : (f : Frame) (v : ReplyVerdict) (at reason : ℕ) → end_of_verdict f v ≡ Some (ends.Bad at reason) → v ≡ EndsLink reason
+pub by_verdict_lem : (f : Frame) (v : ReplyVerdict) (at reason : ℕ) → end_of_verdict f v ≡ Some (ends.Bad at reason) → v ≡ EndsLink reason
 by_verdict_lem f (EndsLink x) at reason e = ap EndsLink (bad_reason f.at at x reason e)
 by_verdict_lem f (GivesOutcome xid outcome) at reason e = absurd cc
 

@@ -212,5 +212,6 @@ pub mod PlainSegments
 pub mod NamedStags
 pub mod GivenStags
 pub mod NamedStagsDead
+pub mod NamedStagsJudged
 pub mod ReadContents
 pub mod NamedFrames

@@ -3,7 +3,7 @@
 ghost use Rattle.nr_laws.specs.PlacedBytes.{ClientBytesAreAllowed, ServerBytesAreAllowed, ReadsAreAllowed, NothingElseIsDisclosed};
 ghost use Rattle.nr_laws.specs.ClientRegions.{CallsAddChunks, ClientRegionsAreChunks, ClientRegionsCloseWithCalls, LiveClientRegionsAreOutstanding};
 ghost use Rattle.nr_laws.specs.HandedBack.{ClosedRegionsStand, EndedRegionsStand, ClosedRegionsHoldWhatStood, DoneHandsBack, LostHandsBack};
-ghost use Rattle.nr_laws.specs.Invalidated.{NamedStagsAreDead};
+ghost use Rattle.nr_laws.specs.Invalidated.{NamedStagsAreDead, NamedStagsAreJudged};
 ghost use Rattle.nr_laws.specs.Sent.{ClientSendsWhatIsDue, ServerSendsWhatIsDue, SentBytesAreAllowed};
 ghost use Rattle.nr_laws.specs.ServerRegions.{ServerRegionsAreChunks, SendsAddChunks, NothingElseAddsRegions, ClosedRegionsStay, LiveServerRegionsAreRead, ServerRegionsCloseWhenRead};
 
@@ -47,9 +47,11 @@ pub fn regions_handed_back()
 
 /// What a Send with Invalidate does to a client's regions, whatever the server sends (RFC 5040 section 4.7; which STag it names is own). Its message
 /// ends the client, and changes nothing else, or answers a call to which that STag was given: all regions under it are of that call, and are closed
-/// after it, and the regions of other calls are as they were.
+/// after it, and the regions of other calls are as they were. Where no rule of the link ends the client first, it ends with reason 29 exactly if the
+/// message answers a call that wasn't given the STag, and else as a message does that names none.
 pub fn named_stags()
-    ensures { NamedStagsAreDead }
+    ensures dead { NamedStagsAreDead }
+    ensures judged { NamedStagsAreJudged }
 {}
 
 /// What has been sent, whatever the peer sends: the first of the output that is due, in order. Each byte that a client has sent is of its hello, of

@@ -71,4 +71,4 @@ pub closes_end : (h : List Entry) (e : Entry) → ClosesCall h e → ClosesCalls
 closes_end h e own all before later f is = ⊎_elim
     (λ (last : (h ≡ before) × (e ≡ f)). subst (λ (l : List Entry). ClosesCall l f) last.0 (subst (ClosesCall h) last.1 own))
     (λ (more : (rest : List Entry) × (h ≡ before ++ f ∷ rest)). all before more.0 f more.1)
-    (split_end h before later e f is)
+    (split_end h before later f e is)

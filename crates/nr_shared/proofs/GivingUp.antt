@@ -7,7 +7,7 @@ use Rattle.nr_wire.specs.declared.hello.Side.TheVariants.{Initiator}
 use Rattle.nr_reduce.specs.declared.mark.LinkParameters.{LinkParameters}
 use Rattle.nr_reduce.specs.declared.mark.Mark.{Mark}
 use Rattle.nr_reduce.specs.declared.mark.Mark.TheVariants as marks
-use Rattle.nr_reduce.specs.Client.{client_rules}
+use Rattle.nr_reduce.specs.Client.{client_end, client_rules, client_state_after}
 use Rattle.nr_reduce.specs.ClientState.{ClientState}
 use Rattle.nr_reduce.specs.EndRules.{EndState, end_state_after, next_end_state_in}
 use Rattle.nr_reduce.specs.Events.{if_own}
@@ -54,7 +54,7 @@ after_wrote opened link run bytes = let r = client opened link run in
 -- ---- A history with bytes that are written
 
 module _ (opened : LinkParameters) (link : ℕ) (before : List Mark) (n : ℕ) where
-  at_history : List Entry → EndState ClientState
+  abbrev at_history : List Entry → EndState ClientState
   at_history h = client opened link (run_of before n link h)
 
   one_more : (h es : List Entry) (e : Entry) → KeepsEnd (at_history h) (at_history (h ++ e ∷ [])) → KeepsEnd (at_history (h ++ e ∷ [])) (at_history ((h ++ e ∷ []) ++ es)) → KeepsEnd (at_history h) (at_history (h ++ e ∷ es))
@@ -77,7 +77,7 @@ module _ (opened : LinkParameters) (link : ℕ) (before : List Mark) (n : ℕ) w
   run_keeps h (entries.OutOfMemory piece previous ∷ es) are = absurd are
 
 fits_before : (h es : List Entry) (c : InitialState) (opened : LinkParameters) (link : ℕ) (before : List Mark) → initial_of h ≡ Some c → FitsHistory (h ++ es) opened link before → FitsHistory h opened link before
-fits_before h es c opened link before is fits = (c, (is, fits_initial (h ++ es) c opened link before (initial_more h es c is) fits))
+fits_before h es c opened link before is fits = (c, is, fits_initial (h ++ es) c opened link before (initial_more h es c is) fits)
 
 -- ---- Why the link has ended
 

@@ -1,6 +1,6 @@
-use Rattle.std.proofs.Common.{◌≡◌, ◌∙◌, length, arith, ap, inl, refl, sym, subst}
-use Rattle.nr_accept.specs.Accepting.{Between, Serves, between}
-use Rattle.nr_accept.proofs.Links.{serves_more, serves_none}
+use Rattle.std.proofs.Common.{◌≡◌, ◌∙◌, length, arith, ap, inl, refl}
+use Rattle.nr_accept.specs.Accepting.{Between, between}
+use Rattle.nr_accept.proofs.Links.{serves_kept, serves_more, serves_none}
 use Rattle.nr_accept.proofs.taking.take_links.Goals as goal
 
 pub links-init : goal.links-init
@@ -46,11 +46,11 @@ links-preserved g c =
 pub returns-in-Err-clause-served : goal.returns-in-Err-clause-served
 returns-in-Err-clause-served g c =
     let (rests, same, most, started, rises, back, faults, asked, listens, all) = c.links.invariant in
-    let first = between (g.A.Acceptor.ended c.args.acceptor.now) (g.A.Acceptor.lost c.args.acceptor.now) (g.P.Spawner.started c.args.spawner.now) c.args.jobs.now in
-    subst (λ ends. Serves g.L.LinkJobs.makes g.L.LinkJobs.serves first ends
-    (between (g.A.Acceptor.ended c.take_one.new.acceptor) (g.A.Acceptor.lost c.take_one.new.acceptor) (g.P.Spawner.started c.take_one.new.spawner) c.take_one.new.jobs))
-    (sym c.in-Err.ensures.kept)
-    (subst (λ (b : Between g.row.L.Denot). Serves g.L.LinkJobs.makes g.L.LinkJobs.serves first c.links.ends.items b) (sym c.in-Err.ensures.err) all)
+    serves_kept g.L.LinkJobs.makes g.L.LinkJobs.serves
+    (between (g.A.Acceptor.ended c.args.acceptor.now) (g.A.Acceptor.lost c.args.acceptor.now) (g.P.Spawner.started c.args.spawner.now) c.args.jobs.now)
+    (between (g.A.Acceptor.ended c.links.acceptor) (g.A.Acceptor.lost c.links.acceptor) (g.P.Spawner.started c.links.spawner) c.links.jobs)
+    (between (g.A.Acceptor.ended c.take_one.new.acceptor) (g.A.Acceptor.lost c.take_one.new.acceptor) (g.P.Spawner.started c.take_one.new.spawner) c.take_one.new.jobs)
+    c.links.ends.items c.take_one.new.ends.items c.in-Err.ensures.kept c.in-Err.ensures.err all
 
 pub returns-in-Err-clause-same : goal.returns-in-Err-clause-same
 returns-in-Err-clause-same g c first is =

@@ -1,14 +1,14 @@
-use Rattle.std.proofs.Common.{◌≡◌, ℕ, sym, subst, refl, ◌∙◌}
+use Rattle.std.proofs.Common.{ℕ, sym, subst, refl, ◌∙◌}
 use Rattle.std.proofs.lemmas.Option.{IfSome_then}
 use Rattle.nr_links.specs.Links.{CountsLost, ended_link}
 use Rattle.nr_accept.proofs.taking.take_next.Goals as goal
 
 pub run_here-source-requires-clause-made : goal.run_here-source-requires-clause-made
-run_here-source-requires-clause-made g c =
+run_here-source-requires-clause-made g c κs bounds =
     (c.args.jobs.now, (c.in-Ok-accept.source, (c.in-Ok-accept.sink, subst (λ j. g.L.LinkJobs.made c.args.jobs.now c.make-job.new.self c.in-Ok-accept.source c.in-Ok-accept.sink j) (sym c.in-Err.ensures.back) c.make-job.ensures.made)))
 
 pub make-job-requires-clause-link : goal.make-job-requires-clause-link
-make-job-requires-clause-link g c = c.in-Ok-accept.ensures.numbered.source ∙ sym c.in-Ok-accept.ensures.numbered.sink
+make-job-requires-clause-link g c κs bounds = c.in-Ok-accept.ensures.numbered.source ∙ sym c.in-Ok-accept.ensures.numbered.sink
 
 pub hang_up-requires-clause-same : goal.hang_up-requires-clause-same
 hang_up-requires-clause-same g c =
