@@ -6,7 +6,7 @@ use Rattle.nr_client.proofs.JobCalls.{all_one}
 use Rattle.nr_client.proofs.jobs.make_jobs.Goals as goal
 
 pub jobs-init : goal.jobs-init
-jobs-init g c = (c.requires, refl, refl, refl, λ k d lt. absurd (grind (arith, c.in_ok-made.ensures.items, lt)))
+jobs-init g c = (c.requires.rests, refl, refl, refl, λ k d lt. absurd (grind (arith, c.in_ok-made.ensures.items, lt)))
 
 pub jobs-preserved : goal.jobs-preserved
 jobs-preserved g c =
