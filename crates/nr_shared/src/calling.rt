@@ -22,7 +22,8 @@ use std::sync::Wait;
 
 impl<I: Source, O: Sink, C: CallRule> SharedRequester<I, O, C> {
     /// Makes a call that the rule allows, and waits for its outcome. It is submitted once a credit is left. If there is no outcome, a call that was
-    /// submitted is forgotten. At an end all output that was due by then is written, unless a write failed or memory ran out for a frame.
+    /// submitted is
+    /// forgotten.
     pub fn call<R: Wait>(
         &self,
         rt: &R,
@@ -78,7 +79,7 @@ impl<I: Source, O: Sink, C: CallRule> SharedRequester<I, O, C> {
         unreachable!()
     }
 
-    /// Waits for the outcome of a call of the pass's own. If there is none, the output that is due is written, and the call is forgotten.
+    /// Waits for the outcome of a call of the pass's own. If there is none, the call is forgotten.
     pub fn wait<R: Wait>(
         &self,
         rt: &R,
