@@ -34,6 +34,7 @@ module _ {O C : Type 0} (settings : GateSettings Text) (before : Around) (mid ac
     opens = opens;
     gates = subst (λ (n : ℕ). GatesLinks (accept.between before.acceptor.ended n before.spawner.started first) ends (accept.between acceptor'.ended acceptor'.lost spawner'.started t.last)) listens.lost
         (subst (λ (log : Option LinkLog). GatesLinks (accept.between log mid.lost before.spawner.started first) ends (accept.between acceptor'.ended acceptor'.lost spawner'.started t.last)) listens.ended t.gates);
+    law = t.law;
     waited = t.waited;
   }
 

@@ -8,7 +8,9 @@ use Rattle.nr_words.specs.declared.gate_settings.GateSettings.{GateSettings}
 use Rattle.nr_words.specs.GateSettings.{gate_config_of}
 use Rattle.nr_words.specs.Limits.{connections_max}
 use Rattle.nr_words.specs.Lines.{Text}
+use Rattle.nr_turnstile.specs.Passes.{seen_by}
 use Rattle.nr_turnstile.specs.declared.turnstile.Pass.{Pass}
+use Rattle.nr_shared.specs.Callers.{KeepsLaw}
 use Rattle.nr_shared.specs.declared.entry.Entry.{Entry}
 use Rattle.nr_shared.specs.declared.requester_with_sink.RequesterWithSink.{RequesterWithSink}
 use Rattle.nr_accept.specs.Accepting as accept
@@ -94,6 +96,7 @@ pub record TakesLinks {O C : Type 0} (acceptor acceptor' : AcceptorAt) (spawner 
   pub last : Pass (RequesterWithSink O C) Entry
   pub asked : acceptor'.asked ≡ acceptor.asked
   pub gates : GatesLinks (accept.between acceptor.ended acceptor.lost spawner.started first) ends (accept.between acceptor'.ended acceptor'.lost spawner'.started last)
+  pub law : KeepsLaw (seen_by last)
   pub waited : spawner'.ended ≡ spawner'.started
 
 -- all that the configuration asks for

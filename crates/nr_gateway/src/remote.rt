@@ -47,7 +47,7 @@ fn share_remote<N: Appended, R: Wait, J: Source + Drop, K: Sink + Drop>(
     ensures seen { IfOk result (λ t. (seen_by t.1.main ≡ N.entry ∷ []) × (mine_of t.1.main ≡ [])) }
 {
     let Ok((shared, pass)) = SharedRequester::new::<InitialHistory<N>, R>(
-        rt, alloc, requester, source, sink,
+        rt, alloc, requester, source, sink, 0,
     ) else {
         return Err(Memory);
     };
