@@ -8,6 +8,7 @@ ghost use Rattle.nr_gate.specs.GateLinks.{GatesByPass, KeepsKnown, SplitsOff};
 
 use crate::gate_end::GateEnd;
 use crate::job::{GateCarried, GateJob};
+use crate::remote_caller::RemoteCaller;
 use nr_accept::LinkJobs;
 use nr_jobs::Job;
 use nr_links::{LinkSink, LinkSource};
@@ -45,8 +46,8 @@ impl<
 
     ghost makes = { λ p q. KeepsKnown p.pass.now.main q.pass.now.main };
 
-    ghost made = { λ p q source sink job. (job.source ≡ source) × ((job.sink ≡ sink) × ((arc_value job.remote ≡ arc_value q.remote.now)
-        × (SplitsOff p.pass.now.main job.pass.main × KeepsKnown p.pass.now.main q.pass.now.main))) };
+    ghost made = { λ p q source sink job. (job.source ≡ source) × ((job.sink ≡ sink) × ((job.caller.remote ≡ arc_value q.remote.now)
+        × (SplitsOff p.pass.now.main job.caller.pass.main × KeepsKnown p.pass.now.main q.pass.now.main))) };
 
     ghost serves = { λ p opened closed source_faults sink_faults end q. GatesByPass p.pass.now.main opened closed source_faults sink_faults end q.pass.now.main };
 
@@ -61,13 +62,14 @@ impl<
         source: I,
         sink: O,
     ) -> GateJob<I, O, J, K, R> {
+        let pass = self.remote.split(self.pass);
+        let caller = RemoteCaller::new(part, pass);
         GateJob {
             rt: self.rt,
             alloc: self.alloc,
             source,
             sink,
-            remote: part,
-            pass: self.remote.split(self.pass),
+            caller,
         }
     }
 
