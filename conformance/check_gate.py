@@ -3,13 +3,14 @@
     python3 conformance/check_gate.py [--program PROGRAM] [--seconds N] [--clients N]
 
 The rows of check_records.py have to come back through the gateway as from the server itself, but for a hello of RPC over RDMA, which is a
-record above the limit there. A relay between both counts what the remote link carries. Then clients at work side by side, one that is killed
-within a record, a silent one, a remote server that is killed, and the statuses. Exit status: 0 all as expected, 1 something differs, 2 no
-program."""
+record above the limit there. A relay between both counts what the remote link carries. Then clients at work side by side, each change of which
+has to be in the journal once, one that is killed within a record, a silent one, a remote server that is killed, and the statuses. Exit status:
+0 all as expected, 1 something differs, 2 no program."""
 import argparse
 import os
 import random
 import socket
+import struct
 import subprocess
 import sys
 import tempfile
@@ -22,6 +23,8 @@ GATE = '''listen = "127.0.0.1:%d"
 remote = "127.0.0.1:%d"
 connections = %d
 '''
+# of the server behind the gateway: a WRITE of a block costs 32,864, and the clients make tens of thousands
+CAPACITY = 'capacity = 1000000000000\n'
 ROOT_HANDLE = words(8, 0, 1)
 BLOCK = 32768
 
@@ -61,8 +64,8 @@ class Pair:
         self.files = [os.path.join(folder, name) for name in ('serve.toml', 'gate.toml')]
         behind, self.port = free_port(), free_port()
         with open(self.files[0], 'w', encoding='utf-8') as f:
-            f.write((CONFIG % (behind, 2)).replace('record = true\n', ''))
-        self.server = subprocess.Popen([program, 'serve', self.files[0]], stdout=subprocess.DEVNULL, stderr=subprocess.DEVNULL)
+            f.write((CONFIG % (behind, 2)).replace('record = true\n', '').replace('capacity = 1000000000\n', CAPACITY))
+        self.server = subprocess.Popen([program, 'serve', self.files[0]], stdout=subprocess.PIPE, stderr=subprocess.DEVNULL, text=True)
         # the first of its two connections sees that it listens
         connect(behind).close()
         self.relay = Relay(behind)
@@ -73,6 +76,10 @@ class Pair:
     def end(self) -> tuple[str, str, int]:
         out, err = self.gate.communicate(timeout=60)
         return out, err, self.gate.returncode
+
+    def served(self) -> str:
+        """What the server prints, once the gateway has ended."""
+        return str(self.server.communicate(timeout=60)[0])
 
     def kill(self) -> None:
         for child in (self.gate, self.server):
@@ -121,7 +128,8 @@ def rows(program: str, folder: str) -> bool:
             one.sendall(both[0])
             two.sendall(both[1])
             replies = [reply(one), reply(two)]
-            good = check('GETATTR with one xid by two clients', replies[0] == replies[1] and len(replies[0]) == 112 and replies[0][:4] == words(9), replies) and good
+            alike = replies[0] == replies[1] and len(replies[0]) == 112 and replies[0][:4] == words(9)
+            good = check('GETATTR with one xid by two clients', alike, replies) and good
         end = pair.end()
         good = check('gated', end == ('gated %d\n' % (len(ROWS) + 3), '', 0), end) and good
     finally:
@@ -137,28 +145,36 @@ def create(s: socket.socket, xid: int, name: bytes) -> bytes:
 
 
 def at_work(port: int, number: int, until: float, counts: list[int]) -> None:
-    """Writes and reads blocks of a file of its own, and compares every byte. The xids are those of all other clients."""
+    """Writes blocks of a file of its own, and reads any that it wrote, and compares every byte. The xids are those of all other clients."""
     rng = random.Random(number)
+    held: dict[int, bytes] = {}
+    done = 0
     with connect(port) as s:
         handle, xid = create(s, 1, b'f%d' % number), 1
-        held = bytearray(16 * BLOCK)
         while time.monotonic() < until:
             at, data = rng.randrange(16) * BLOCK, rng.randbytes(BLOCK)
             xid += 2
             wrote = asked(s, call(xid, 7, handle + words(0, at, BLOCK, 2, BLOCK) + data))
-            held[at:at + BLOCK] = data
-            got = asked(s, call(xid + 1, 6, handle + words(0, at, BLOCK)))
-            good = wrote[:4] == words(xid) and wrote[24:28] == words(0) and got[-BLOCK:] == held[at:at + BLOCK] and got[:4] == words(xid + 1)
-            counts[number] += 1 if good else -1_000_000
+            held[at] = data
+            back = rng.choice(list(held))
+            got = asked(s, call(xid + 1, 6, handle + words(0, back, BLOCK)))
+            if (wrote[:4], wrote[24:28], got[:4], got[24:28], got[-BLOCK:]) != (words(xid), words(0), words(xid + 1), words(0), held[back]):
+                return
+            done += 1
+    counts[number] = done
 
 
 def side_by_side(program: str, folder: str, clients: int, seconds: int) -> bool:
-    """Clients at work beside a silent one and one that is killed within a record."""
-    pair = Pair(program, folder, clients + 2)
+    """Clients at work beside a silent one, one that is killed within a record, and one that is killed before its replies come. The count of a
+    client is 0 if anything of it differs."""
+    pair = Pair(program, folder, clients + 3)
     try:
         silent = connect(pair.port)
         with connect(pair.port) as broken:
             broken.sendall(words(0x80000028) + bytes(10))
+        with connect(pair.port) as gone:
+            gone.setsockopt(socket.SOL_SOCKET, socket.SO_LINGER, struct.pack('ii', 1, 0))
+            gone.sendall(record(call(1)) * 100)
         counts = [0] * clients
         until = time.monotonic() + seconds
         threads = [threading.Thread(target=at_work, args=(pair.port, i, until, counts)) for i in range(clients)]
@@ -169,7 +185,9 @@ def side_by_side(program: str, folder: str, clients: int, seconds: int) -> bool:
         good = check('%d clients for %d seconds, %d WRITEs and READs' % (clients, seconds, sum(counts)), min(counts) > 0, counts)
         silent.close()
         end = pair.end()
-        return check('gated', end == ('gated %d\n' % (clients + 2), '', 0), end) and good
+        good = check('gated', end == ('gated %d\n' % (clients + 3), '', 0), end) and good
+        served = pair.served()
+        return check('each CREATE and WRITE once in the journal', served == 'served 2 journal %d\n' % (clients + sum(counts)), served) and good
     finally:
         pair.kill()
 

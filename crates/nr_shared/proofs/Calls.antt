@@ -8,9 +8,10 @@ use Rattle.nr_reduce.specs.declared.call.Call.{Call}
 use Rattle.nr_requester.specs.RequesterState.{RequesterState}
 use Rattle.nr_requester.specs.OpenCalls.{open_call, KeepsTickets, OpensTicket, ClosesTicket}
 use Rattle.nr_shared.specs.declared.entry.Entry.{Entry}
-use Rattle.nr_shared.specs.Histories.{closes_of, IsUnclosed, submitted_call, submits_call, IsCallAt, place_of}
+use Rattle.nr_shared.specs.Histories.{closes_of, ClosesCall, ClosesCalls, IsUnclosed, submitted_call, submits_call, IsCallAt, place_of}
 use Rattle.nr_shared.specs.Standing.{KeepsCalls}
 use Rattle.nr_shared.proofs.Histories.{asked_end, asked_old, place_same, place_new}
+use Rattle.nr_shared.proofs.Lists.{none_left, split_end}
 
 -- what is unclosed with one entry more was so before
 pub unclosed_old : (h : List Entry) (e : Entry) (k : ℕ) → IsUnclosed (h ++ e ∷ []) k → IsUnclosed h k
@@ -60,3 +61,14 @@ calls_fewer r s h e xid k0 call none closes own before shuts has x k c asked aft
     let apart : k ≢ k0 = λ same. after (length h) e (at_last h e (length h) refl) (closes ∙ ap (λ n. Some n) (sym same)) in
     let other : x ≢ xid = λ same. apart (ap (λ (o : Option ℕ). unwrap_or o 0) (sym was.0 ∙ (ap (λ z. place_of z h) same ∙ first.0))) in
     (place_same x h e (ap is_some (none x)) ∙ was.0, shuts.others x other ∙ was.1)
+
+-- ---- The entries that close them
+
+pub none_closes : ClosesCalls []
+none_closes before later e is = absurd (none_left before later e is)
+
+pub closes_end : (h : List Entry) (e : Entry) → ClosesCall h e → ClosesCalls h → ClosesCalls (h ++ e ∷ [])
+closes_end h e own all before later f is = ⊎_elim
+    (λ (last : (h ≡ before) × (e ≡ f)). subst (λ (l : List Entry). ClosesCall l f) last.0 (subst (ClosesCall h) last.1 own))
+    (λ (more : (rest : List Entry) × (h ≡ before ++ f ∷ rest)). all before more.0 f more.1)
+    (split_end h before later f e is)

@@ -6,6 +6,7 @@ use lib.ListN.{get_elem?}
 use Rattle.atomic_table.proofs.Lists.{at_longer}
 use Rattle.nr_outside.proofs.Moves.{HandsOut_nil}
 use Rattle.nr_outside.specs.Content.{HandsOut}
+use Rattle.nr_links.specs.Limits.{read_max}
 use Rattle.nr_turnstile.specs.declared.turnstile.Pass.{Pass as TurnPass}
 use Rattle.nr_turnstile.specs.Rule.{Begins, Earlier, IsIn, Lies, Owns, Rising, in_order}
 use Rattle.nr_turnstile.specs.Passes.{Joins, mine_of, seen_by}
@@ -63,14 +64,14 @@ same_initial_source b c p q one two begins = some-injective c b (ap (λ l. get_e
 module _ {I O C : Type 0} (left given : I → Option (List ℕ)) (source_faults : I → ℕ) (taken : O → Option (List ℕ)) (sink_faults : O → ℕ) (allows : Call → Form → Type 0) where
   pub gives_back : (p j : TurnPass (RequesterWithSink O C) Entry) (s : SourceReader I O C) (m : RequesterWithSink O C) (b : InitialSource I O C) (h : List Entry) → IsCaller p → FeedsFor left given source_faults b s
       → Joins closes_of p s.pass j → Stands taken sink_faults allows m h → Begins (seen_by j) h → ((n : ℕ) → IsIn n (mine_of j) → n < length h) → Owns closes_of h (mine_of j) → Earlier closes_of h
-      → GivesBack left given source_faults taken sink_faults allows (seen_by p) (mine_of p) b.source.value m.requester s.source m.sink
+      → GivesBack left given source_faults taken sink_faults allows (seen_by p) (mine_of p) b.source.value b.read m.requester s.source m.sink
   gives_back p j s m b h c f (longer_is, first, second, mine, rising, own, lies_j, missed) st whole inside owns earlier =
       let begins : Begins (seen_by p) h = begins_then (seen_by p) (seen_by j) h first whole in
       let fed : Begins (seen_by s.pass) h = begins_then (seen_by s.pass) (seen_by j) h second whole in
       let quiet = after_feeding p s.pass j h fed c f.feeding f.lies st.in_order first mine whole owns in
       let bytes : bytes_fed h ≡ bytes_fed (seen_by s.pass) = ap (λ (l : List Entry). bytes_fed l) fed.1 ∙ bytes_quiet (seen_by s.pass) fed.0 quiet in
       let stop : stop_of h ≡ stop_of (seen_by s.pass) = ap (λ (l : List Entry). stop_of l) fed.1 ∙ stop_quiet (seen_by s.pass) fed.0 quiet in
-      let read : s.read ≡ length (bytes_fed h) = f.read ∙ ap length (sym bytes) in
+      let read : s.read ≡ b.read + length (bytes_fed h) = f.read ∙ ap (λ (l : List ℕ). b.read + length l) (sym bytes) in
       record {
         history = h;
         begins = begins;
@@ -90,17 +91,20 @@ module _ {I O C : Type 0} (left given : I → Option (List ℕ)) (source_faults 
         sink_failed = λ is. st.sink_failed (st.write_failed ∙ is);
         in_order = st.in_order;
         allowed = st.allowed;
+        closes_calls = st.closes_calls;
         output = st.output;
+        fed = st.within.fed;
         gave = subst (λ (l : List ℕ). HandsOut (left b.source.value) (given b.source.value) (left s.source) (given s.source) l) (sym bytes) f.gave;
+        read = (let w = f.within in omega (arith, w, read));
         source_count = f.never_falls;
         stop = subst (λ (n : ℕ). StopHolds (stop_of h) (source_faults b.source.value) (source_faults s.source) (left s.source) n) read
             (subst (λ (o : Option Stop). StopHolds o (source_faults b.source.value) (source_faults s.source) (left s.source) s.read) (sym stop) f.stop);
       }
 
   -- what wasn't shared
-  pub unshared : (m : RequesterWithSink O C) (h : List Entry) (source : I) → Stands taken sink_faults allows m h → Earlier closes_of h → bytes_fed h ≡ [] → stop_of h ≡ None
-      → GivesBack left given source_faults taken sink_faults allows h [] source m.requester source m.sink
-  unshared m h source st earlier none going = record {
+  pub unshared : (m : RequesterWithSink O C) (h : List Entry) (source : I) (read_before : ℕ) → read_before ≤ read_max → Stands taken sink_faults allows m h → Earlier closes_of h → bytes_fed h ≡ [] → stop_of h ≡ None
+      → GivesBack left given source_faults taken sink_faults allows h [] source read_before m.requester source m.sink
+  unshared m h source read_before within st earlier none going = record {
     history = h;
     begins = ([], sym (append-nil h));
     lies = λ k i. absurd (some-ne-none k (sym i.1));
@@ -115,16 +119,20 @@ module _ {I O C : Type 0} (left given : I → Option (List ℕ)) (source_faults 
     sink_failed = λ is. st.sink_failed (st.write_failed ∙ is);
     in_order = st.in_order;
     allowed = st.allowed;
+    closes_calls = st.closes_calls;
     output = st.output;
+    fed = st.within.fed;
     gave = subst (λ (l : List ℕ). HandsOut (left source) (given source) (left source) (given source) l) (sym none) (HandsOut_nil (left source) (given source));
+    read = (let len : length (bytes_fed h) ≡ 0 = ap length none in omega (arith, within, len));
     source_count = omega arith;
-    stop = subst (λ (o : Option Stop). StopHolds o (source_faults source) (source_faults source) (left source) (length (bytes_fed h))) (sym going) tt;
+    stop = subst (λ (o : Option Stop). StopHolds o (source_faults source) (source_faults source) (left source) (read_before + length (bytes_fed h))) (sym going) tt;
   }
 
 -- by another rule, which allows what this one does
 pub back_by : {I O : Type 0} (left given : I → Option (List ℕ)) (source_faults : I → ℕ) (taken : O → Option (List ℕ)) (sink_faults : O → ℕ) (allows allows' : Call → Form → Type 0) → ((call : Call) (form : Form) → allows call form → allows' call form)
-    → (seen : List Entry) (mine : List ℕ) (first : I) (r : RequesterSide) (source : I) (sink : O) → GivesBack left given source_faults taken sink_faults allows seen mine first r source sink → GivesBack left given source_faults taken sink_faults allows' seen mine first r source sink
-back_by left given source_faults taken sink_faults allows allows' more seen mine first r source sink b = record {
+    → (seen : List Entry) (mine : List ℕ) (first : I) (read_before : ℕ) (r : RequesterSide) (source : I) (sink : O) → GivesBack left given source_faults taken sink_faults allows seen mine first read_before r source sink
+    → GivesBack left given source_faults taken sink_faults allows' seen mine first read_before r source sink
+back_by left given source_faults taken sink_faults allows allows' more seen mine first read_before r source sink b = record {
   history = b.history;
   begins = b.begins;
   lies = b.lies;
@@ -139,8 +147,11 @@ back_by left given source_faults taken sink_faults allows allows' more seen mine
   sink_failed = b.sink_failed;
   in_order = b.in_order;
   allowed = allowed_by allows allows' b.history more b.allowed;
+  closes_calls = b.closes_calls;
   output = b.output;
+  fed = b.fed;
   gave = b.gave;
+  read = b.read;
   source_count = b.source_count;
   stop = b.stop;
 }

@@ -233,8 +233,8 @@ module _ {O C : Type 0} (taken : O → Option (List ℕ)) (faults : O → ℕ) (
   pub law_of : (m : RequesterWithSink O C) (h : List Entry) → Stands taken faults allows m h → KeepsLaw h
   law_of m h st = by_out (is_out_of_memory m.stopped) st.represents where
     by_out : (b : Bool) → RepresentsHistoryIf b st.initial m.requester h → KeepsLaw h
-    by_out false f = record { n = 0; law = λ opened link before fits. (let l = f.1 opened link before (fits_initial h st.initial opened link before st.is_initial fits) in (l.asked, l.granted)); output = st.output; in_order = st.in_order }
-    by_out true f = record { n = f.1.0; law = λ opened link before fits. (let l = f.1.1 opened link before (fits_initial h st.initial opened link before st.is_initial fits) in (l.asked, l.granted)); output = st.output; in_order = st.in_order }
+    by_out false f = record { initial = st.initial; is_initial = st.is_initial; n = 0; law = λ opened link before fits. (let l = f.1 opened link before (fits_initial h st.initial opened link before st.is_initial fits) in (l.asked, l.granted)); output = st.output; in_order = st.in_order; closes_calls = st.closes_calls }
+    by_out true f = record { initial = st.initial; is_initial = st.is_initial; n = f.1.0; law = λ opened link before fits. (let l = f.1.1 opened link before (fits_initial h st.initial opened link before st.is_initial fits) in (l.asked, l.granted)); output = st.output; in_order = st.in_order; closes_calls = st.closes_calls }
 
   -- told of the pass after its turn
   pub law_put_back : (t : Turn (RequesterWithSink O C) Entry) (s : Pass (RequesterWithSink O C) Entry) → IsReady taken faults allows t → seen_by s ≡ seen_by (pass_of t) → KeepsLaw (seen_by s)

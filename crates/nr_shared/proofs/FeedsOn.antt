@@ -49,7 +49,7 @@ module _ {I O C : Type 0} (left given : I → Option (List ℕ)) (faults : I →
     feeding = feeding;
     gave = subst (λ (l : List ℕ). HandsOut (left b.source.value) (given b.source.value) (left t.source) (given t.source) l) (sym bytes)
         (subst (λ i. HandsOut (left b.source.value) (given b.source.value) (left i) (given i) (bytes_fed (seen_by s.pass))) (sym source) f.gave);
-    read = read ∙ (f.read ∙ ap length (sym bytes));
+    read = read ∙ (f.read ∙ ap (λ (l : List ℕ). b.read + length l) (sym bytes));
     within = (let w = f.within in omega (arith, w, read));
     never_falls = (let k = f.never_falls in let same : faults t.source ≡ faults s.source = ap faults source in omega (arith, k, same));
     stop = subst (λ (o : Option Stop). StopHolds o (faults b.source.value) (faults t.source) (left t.source) t.read) (sym stop)
@@ -90,7 +90,7 @@ module _ {I O C : Type 0} (left given : I → Option (List ℕ)) (faults : I →
     feeding = feeding;
     gave = subst (λ (l : List ℕ). HandsOut (left b.source.value) (given b.source.value) (left t.source) (given t.source) l) (append-nil (bytes_fed (seen_by s.pass)) ∙ sym bytes)
         (HandsOut_append (left b.source.value) (given b.source.value) (left s.source) (given s.source) (left t.source) (given t.source) (bytes_fed (seen_by s.pass)) [] f.gave gave);
-    read = read ∙ (f.read ∙ ap length (sym bytes));
+    read = read ∙ (f.read ∙ ap (λ (l : List ℕ). b.read + length l) (sym bytes));
     within = (let w = f.within in omega (arith, w, read));
     never_falls = (let k = f.never_falls in omega (arith, k, rises));
     stop = subst (λ (o : Option Stop). StopHolds o (faults b.source.value) (faults t.source) (left t.source) t.read) (sym stop)

@@ -16,6 +16,7 @@ pub mod Givings
 pub mod Taking
 pub mod Alone
 pub mod Submitting
+pub mod GivingUp
 pub mod Opened
 pub mod Closed
 pub mod FeedsOn

@@ -143,3 +143,31 @@ in_places (suc n) k z (suc j, at) = let l = in_places n (suc k) z (j, at) in ome
 pub places_len : (n k : ℕ) → length (places_from k n) ≡ n
 places_len zero k = refl
 places_len (suc n) k = ap suc (places_len n (suc k))
+
+-- ---- One element more
+
+abbrev after_first : {A : Type 0} → List A → List A
+after_first [] = []
+after_first (x ∷ xs) = xs
+
+first_same : {A : Type 0} (x y : A) (xs ys : List A) → x ∷ xs ≡ y ∷ ys → x ≡ y
+first_same x y xs ys is = some-injective x y (ap (λ l. get_elem? l 0) is)
+
+rest_same : {A : Type 0} (x y : A) (xs ys : List A) → x ∷ xs ≡ y ∷ ys → xs ≡ ys
+rest_same x y xs ys is = ap after_first is
+
+pub none_left : {A : Type 0} (bs later : List A) (e : A) → [] ≡ bs ++ e ∷ later → ⊥
+none_left [] later e is = absurd cc
+none_left (b ∷ bs) later e is = absurd cc
+
+-- an element of a list with one more is that one, or it is among those before
+pub split_end : {A : Type 0} (h before later : List A) (e f : A) → h ++ f ∷ [] ≡ before ++ e ∷ later → ((h ≡ before) × (f ≡ e)) ⊎ ((rest : List A) × (h ≡ before ++ e ∷ rest))
+split_end [] [] later e f is = inl (refl, first_same f e [] later is)
+split_end [] (b ∷ bs) later e f is = absurd (none_left bs later e (rest_same f b [] (bs ++ e ∷ later) is))
+split_end {A} (x ∷ xs) [] later e f is = inr (xs, ap (λ (y : A). y ∷ xs) (first_same x e (xs ++ f ∷ []) later is))
+split_end {A} (x ∷ xs) (b ∷ bs) later e f is =
+    let head : x ≡ b = first_same x b (xs ++ f ∷ []) (bs ++ e ∷ later) is in
+    ⊎_elim
+    (λ (last : (xs ≡ bs) × (f ≡ e)). inl ((λ i. head i ∷ last.0 i), last.1))
+    (λ (more : (rest : List A) × (xs ≡ bs ++ e ∷ rest)). inr (more.0, λ i. head i ∷ more.1 i))
+    (split_end xs bs later e f (rest_same x b (xs ++ f ∷ []) (bs ++ e ∷ later) is))

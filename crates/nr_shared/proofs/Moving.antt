@@ -24,7 +24,7 @@ use Rattle.nr_shared.specs.Draining.{taken_between}
 use Rattle.nr_shared.specs.Standing.{is_out_of_memory, RepresentsHistory, RepresentsHistoryIf, one_if, IsWithin, Stands, Becomes}
 use Rattle.nr_shared.proofs.Chains.{chained_end}
 use Rattle.nr_shared.proofs.Histories.{run_same, initial_end, allowed_end, written_end, written_same, fed_same, write_failed_end, write_failed_same, stop_same}
-use Rattle.nr_shared.proofs.Calls.{calls_kept}
+use Rattle.nr_shared.proofs.Calls.{calls_kept, closes_end}
 use Rattle.nr_shared.specs.declared.entry.InitialState.{InitialState}
 use Rattle.nr_shared.specs.Marks.{IsLive, IsOut}
 use Rattle.nr_reduce.specs.declared.mark.Mark.{Mark}
@@ -58,9 +58,9 @@ took_them r s n is length_bound =
     ap (λ (k : ℕ). take k (queue_of r.state)) same
 
 -- what a write leaves of the numbers
-within_moved : (r s : RequesterSide) (pending pending' sink_failed sink_failed' : Bool) (stopped : Option Stop) (h h' : List Entry) (n : ℕ) → bytes_fed h' ≡ bytes_fed h → length h' ≡ length h + n
+within_moved : {fed_before : ℕ} (r s : RequesterSide) (pending pending' sink_failed sink_failed' : Bool) (stopped : Option Stop) (h h' : List Entry) (n : ℕ) → bytes_fed h' ≡ bytes_fed h → length h' ≡ length h + n
     → n + one_if pending' + 2 * one_if sink_failed ≤ one_if pending + 2 * one_if sink_failed'
-    → KeepsTickets r.state s.state → s.state.next_xid ≡ r.state.next_xid → fed_bytes s ≡ fed_bytes r → IsWithin r pending sink_failed stopped h → IsWithin s pending' sink_failed' stopped h'
+    → KeepsTickets r.state s.state → s.state.next_xid ≡ r.state.next_xid → fed_bytes s ≡ fed_bytes r → IsWithin fed_before r pending sink_failed stopped h → IsWithin fed_before s pending' sink_failed' stopped h'
 within_moved r s pending pending' sink_failed sink_failed' stopped h h' n same len pays keeps next fed w =
     let bytes : length (bytes_fed h') ≡ length (bytes_fed h) = ap length same in
     let length_bound = w.length_bound in
@@ -70,6 +70,7 @@ within_moved r s pending pending' sink_failed sink_failed' stopped h h' n same l
       length_bound = omega (arith, len, bytes, pays, length_bound, next);
       xids = (let k = w.xids in omega (arith, k, next));
       bytes = (let b = w.bytes in omega (arith, b, bytes));
+      before = w.before;
       fed = (let f = w.fed in omega (arith, f, fed, bytes));
     }
 
@@ -141,13 +142,14 @@ module _ {O C : Type 0} (taken : O → Option (List ℕ)) (faults : O → ℕ) (
         stopped = d.stopped ∙ (st.stopped ∙ sym (stop_same h e refl));
         in_order = chained_end closes_of is_feeding 0 None h e st.in_order (λ is. absurd (false_true is));
         allowed = allowed_end allows h e st.allowed tt;
+        closes_calls = closes_end h e tt st.closes_calls;
         output = output_same h e refl st.output;
         pending = λ is. drained_all m.requester m'.requester n d.after all;
-        within = subst (λ b. IsWithin m'.requester m'.pending b m'.stopped (h ++ e ∷ [])) (sym sink_failed)
-            (subst (λ b. IsWithin m'.requester b false m'.stopped (h ++ e ∷ [])) (sym pending)
-            (subst (λ o. IsWithin m'.requester false false o (h ++ e ∷ [])) (sym d.stopped)
+        within = subst (λ b. IsWithin (fed_bytes c.requester) m'.requester m'.pending b m'.stopped (h ++ e ∷ [])) (sym sink_failed)
+            (subst (λ b. IsWithin (fed_bytes c.requester) m'.requester b false m'.stopped (h ++ e ∷ [])) (sym pending)
+            (subst (λ o. IsWithin (fed_bytes c.requester) m'.requester false false o (h ++ e ∷ [])) (sym d.stopped)
             (within_moved m.requester m'.requester true false false false m.stopped h (h ++ e ∷ []) 1 (fed_same h e refl) len (omega arith) d.keeps (drained_next m.requester m'.requester n d.after) d.fed
-            (subst (λ b. IsWithin m.requester b false m.stopped h) was (subst (λ b. IsWithin m.requester m.pending b m.stopped h) whole st.within)))));
+            (subst (λ b. IsWithin (fed_bytes c.requester) m.requester b false m.stopped h) was (subst (λ b. IsWithin (fed_bytes c.requester) m.requester m.pending b m.stopped h) whole st.within)))));
       }
 
   -- the sink took the first bytes, and a write failed
@@ -175,13 +177,14 @@ module _ {O C : Type 0} (taken : O → Option (List ℕ)) (faults : O → ℕ) (
         stopped = d.stopped ∙ (st.stopped ∙ (sym (stop_same h e refl) ∙ sym (stop_same l f refl)));
         in_order = chained_end closes_of is_feeding 0 None l f (chained_end closes_of is_feeding 0 None h e st.in_order (λ is. absurd (false_true is))) (λ is. absurd (false_true is));
         allowed = allowed_end allows l f (allowed_end allows h e st.allowed tt) tt;
+        closes_calls = closes_end l f tt (closes_end h e tt st.closes_calls);
         output = output_same l f refl (output_same h e refl st.output);
         pending = λ is. absurd (false_true (sym is ∙ pending));
-        within = subst (λ b. IsWithin m'.requester m'.pending b m'.stopped (l ++ f ∷ [])) (sym sink_failed)
-            (subst (λ b. IsWithin m'.requester b true m'.stopped (l ++ f ∷ [])) (sym pending)
-            (subst (λ o. IsWithin m'.requester true true o (l ++ f ∷ [])) (sym d.stopped)
+        within = subst (λ b. IsWithin (fed_bytes c.requester) m'.requester m'.pending b m'.stopped (l ++ f ∷ [])) (sym sink_failed)
+            (subst (λ b. IsWithin (fed_bytes c.requester) m'.requester b true m'.stopped (l ++ f ∷ [])) (sym pending)
+            (subst (λ o. IsWithin (fed_bytes c.requester) m'.requester true true o (l ++ f ∷ [])) (sym d.stopped)
             (within_moved m.requester m'.requester true true false true m.stopped h (l ++ f ∷ []) 2 (fed_same l f refl ∙ fed_same h e refl) (omega (arith, len, len2)) (omega arith) d.keeps (drained_next m.requester m'.requester n d.after) d.fed
-            (subst (λ b. IsWithin m.requester b false m.stopped h) was (subst (λ b. IsWithin m.requester m.pending b m.stopped h) whole st.within)))));
+            (subst (λ b. IsWithin (fed_bytes c.requester) m.requester b false m.stopped h) was (subst (λ b. IsWithin (fed_bytes c.requester) m.requester m.pending b m.stopped h) whole st.within)))));
       }
 
   pub drains_all : (m m' : RequesterWithSink O C) (n : ℕ) → m.pending ≡ true → m.write_failed ≡ false → Drains m m' n → n ≡ length (queue_of m.requester.state) → m'.entries ≡ m.entries + 1 → m'.pending ≡ false → m'.write_failed ≡ false

@@ -12,6 +12,7 @@ use Rattle.nr_reduce.specs.declared.call.Call.{Call}
 use Rattle.nr_reduce.specs.declared.mark.LinkParameters.{LinkParameters}
 use Rattle.nr_reduce.specs.declared.mark.Mark.{Mark}
 use Rattle.nr_requester.specs.RequesterState.{RequesterSide, RequesterState}
+use Rattle.nr_requester.specs.Fed.{fed_bytes}
 use Rattle.nr_requester.specs.OpenCalls.{IsFresh, call_with, found_answer, found_call, open_call}
 use Rattle.nr_requester.specs.declared.answer.AnsweredCall.{AnsweredCall}
 use Rattle.nr_requester.specs.RequesterState.{StoredCall}
@@ -32,7 +33,7 @@ use Rattle.nr_shared.specs.Opening.{IsInitialHistory}
 use Rattle.nr_shared.specs.Marks.{IsLive}
 use Rattle.nr_shared.specs.Standing.{RepresentsHistory, Stands, one_if}
 use Rattle.nr_shared.proofs.Asking.{none_closed}
-use Rattle.nr_shared.proofs.Calls.{none_some}
+use Rattle.nr_shared.proofs.Calls.{closes_end, none_closes, none_some}
 use Rattle.nr_shared.proofs.Histories.{allowed_end}
 use Rattle.nr_shared.proofs.Lists.{at_below, at_end, in_places, place_in, places_len}
 use Rattle.nr_shared.proofs.Output.{output_none}
@@ -81,6 +82,7 @@ module _ {O C : Type 0} (taken : O → Option (List ℕ)) (faults : O → ℕ) (
       let n : length (places m.requester.state.next_xid) ≡ m.requester.state.next_xid = places_len m.requester.state.next_xid 0 in
       let is_due : one_if m.pending ≡ 1 = ap one_if pending in
       let fed = o.fed in
+      let same : fed_bytes c.requester ≡ fed_bytes m.requester = ap fed_bytes o.requester_is in
       subst (Stands taken faults allows m) (sym o.history_is) (record {
         initial = c;
         is_initial = refl;
@@ -94,6 +96,7 @@ module _ {O C : Type 0} (taken : O → Option (List ℕ)) (faults : O → ℕ) (
         stopped = going;
         in_order = ((λ is. refl), tt);
         allowed = initial_allowed allows c;
+        closes_calls = closes_end [] e tt none_closes;
         output = output_none (e ∷ []) (refl, tt);
         pending = λ is. absurd (false_true (sym is ∙ pending));
         within = (let none : length (bytes_fed (e ∷ [])) ≡ 0 = refl in record {
@@ -102,7 +105,8 @@ module _ {O C : Type 0} (taken : O → Option (List ℕ)) (faults : O → ℕ) (
           length_bound = omega (arith, n, is_due, none);
           xids = small;
           bytes = omega (arith, none);
-          fed = omega (arith, fed, none);
+          before = omega (arith, fed, same);
+          fed = omega (arith, same, none);
         });
       })
 
@@ -152,16 +156,16 @@ module _ {O C : Type 0} (taken : O → Option (List ℕ)) (faults : O → ℕ) w
 
 -- its source
 pub first_reader : {I O C : Type 0} (left given : I → Option (List ℕ)) (faults : I → ℕ) (b : InitialSource I O C) (s : SourceReader I O C) → home_of s.pass ≡ home_of b.pass.value → IsOutside s.pass → Lies (seen_by s.pass) (mine_of s.pass) → IsFeeding s.pass
-    → s.source ≡ b.source.value → bytes_fed (seen_by s.pass) ≡ [] → stop_of (seen_by s.pass) ≡ None → s.read ≡ 0 → length s.buf.items ≡ piece_max → FeedsFor left given faults b s
-first_reader left given faults b s home outside lies feeding source none going read room = record {
+    → s.source ≡ b.source.value → bytes_fed (seen_by s.pass) ≡ [] → stop_of (seen_by s.pass) ≡ None → s.read ≡ b.read → b.read ≤ read_max → length s.buf.items ≡ piece_max → FeedsFor left given faults b s
+first_reader left given faults b s home outside lies feeding source none going read small room = record {
   home = home;
   outside = outside;
   lies = lies;
   feeding = feeding;
   gave = subst (λ (l : List ℕ). HandsOut (left b.source.value) (given b.source.value) (left s.source) (given s.source) l) (sym none)
       (subst (λ i. HandsOut (left b.source.value) (given b.source.value) (left i) (given i) []) (sym source) (HandsOut_nil (left b.source.value) (given b.source.value)));
-  read = read ∙ sym (ap length none);
-  within = omega (arith, read);
+  read = (let len : length (bytes_fed (seen_by s.pass)) ≡ 0 = ap length none in omega (arith, read, len));
+  within = omega (arith, read, small);
   never_falls = (let same : faults s.source ≡ faults b.source.value = ap faults source in omega (arith, same));
   stop = subst (λ (o : Option Stop). StopHolds o (faults b.source.value) (faults s.source) (left s.source) s.read) (sym going) tt;
   room = room;

@@ -1,8 +1,6 @@
 -- Output that is due is written before more is fed, and the buffers of an answer have what its regions hold.
-use Rattle.std.proofs.Common.{◌≡◌, ◌≢◌, ◌⊎◌, ℕ, Bool, true, false, List, [], ◌∷◌, ◌++◌, length, map, Option, Some, None, inl, inr, refl, sym, ap, subst, ◌∙◌, ⊎_elim, append-nil}
+use Rattle.std.proofs.Common.{◌≡◌, ◌≢◌, ℕ, Bool, true, false, List, [], ◌∷◌, ◌++◌, length, map, Option, Some, None, inl, inr, refl, sym, ap, subst, ◌∙◌, ⊎_elim, append-nil}
 use Rattle.std.specs.List.{AllByRecursion}
-use mathlib.Core.Option.{some-injective}
-use lib.ListN.{get_elem?}
 use Rattle.nr_link.specs.declared.end.End.TheVariants as ends
 use Rattle.nr_wire.specs.declared.hello.Side.TheVariants.{Initiator}
 use Rattle.nr_reduce.specs.declared.mark.LinkParameters.{LinkParameters}
@@ -36,6 +34,7 @@ use Rattle.nr_shared.specs.Output.{HasWrittenOutput, OutputBeforeInput, is_piece
 use Rattle.nr_shared.specs.private.Flushed.{HasFlushed, IsFlushed}
 use Rattle.nr_shared.specs.Standing.{RepresentsHistoryIf, Stands, is_out_of_memory}
 use Rattle.nr_shared.proofs.Ends.{fits_initial, out_is}
+use Rattle.nr_shared.proofs.Lists.{split_end}
 use Rattle.nr_reduce.specs.declared.call.Call.{Call}
 use Rattle.nr_reduce.specs.declared.call.Form.{Form}
 
@@ -43,32 +42,6 @@ true_false : true ≡ false → ⊥
 true_false e = absurd cc
 
 -- ---- One entry more
-
-abbrev after_first : {A : Type 0} → List A → List A
-after_first [] = []
-after_first (x ∷ xs) = xs
-
-first_same : {A : Type 0} (x y : A) (xs ys : List A) → x ∷ xs ≡ y ∷ ys → x ≡ y
-first_same x y xs ys is = some-injective x y (ap (λ l. get_elem? l 0) is)
-
-rest_same : {A : Type 0} (x y : A) (xs ys : List A) → x ∷ xs ≡ y ∷ ys → xs ≡ ys
-rest_same x y xs ys is = ap after_first is
-
-none_left : {A : Type 0} (bs later : List A) (e : A) → [] ≡ bs ++ e ∷ later → ⊥
-none_left [] later e is = absurd cc
-none_left (b ∷ bs) later e is = absurd cc
-
--- an element of a list with one more is that one, or it is among those before
-split_end : {A : Type 0} (h before later : List A) (e f : A) → h ++ f ∷ [] ≡ before ++ e ∷ later → ((h ≡ before) × (f ≡ e)) ⊎ ((rest : List A) × (h ≡ before ++ e ∷ rest))
-split_end [] [] later e f is = inl (refl, first_same f e [] later is)
-split_end [] (b ∷ bs) later e f is = absurd (none_left bs later e (rest_same f b [] (bs ++ e ∷ later) is))
-split_end {A} (x ∷ xs) [] later e f is = inr (xs, ap (λ (y : A). y ∷ xs) (first_same x e (xs ++ f ∷ []) later is))
-split_end {A} (x ∷ xs) (b ∷ bs) later e f is =
-    let head : x ≡ b = first_same x b (xs ++ f ∷ []) (bs ++ e ∷ later) is in
-    ⊎_elim
-    (λ (last : (xs ≡ bs) × (f ≡ e)). inl ((λ i. head i ∷ last.0 i), last.1))
-    (λ (more : (rest : List A) × (xs ≡ bs ++ e ∷ rest)). inr (more.0, λ i. head i ∷ more.1 i))
-    (split_end xs bs later e f (rest_same x b (xs ++ f ∷ []) (bs ++ e ∷ later) is))
 
 pub output_end : (h : List Entry) (e : Entry) → (is_piece e ≡ true → HasWrittenOutput h) → OutputBeforeInput h → OutputBeforeInput (h ++ e ∷ [])
 output_end h e own all before later f is piece = ⊎_elim

@@ -20,7 +20,7 @@ use Rattle.nr_shared.specs.HandedBack.{IsAwaitedStill, lost_entry}
 use Rattle.nr_shared.specs.Waiting.{ForgetsAt, ForgetsCall, GivesUp, GivesUpAt, IsPollTurn, LosesAt, TakesAnswer, TakesAt, IsTakeTurn}
 use Rattle.nr_shared.proofs.Adding.{adds_both, adds_same}
 use Rattle.nr_shared.proofs.Asking.{asked_on, closes_own}
-use Rattle.nr_shared.proofs.Resting.{caller_on}
+use Rattle.nr_shared.proofs.Resting.{caller_on, of_both, of_writes}
 use Rattle.nr_shared.proofs.Taking.{lost_closes, lost_quiet}
 
 module _ {O C : Type 0} where
@@ -57,12 +57,15 @@ module _ {O C : Type 0} where
   gives_after p q r s xid end a keeps b seen mine k call asked o =
       let t = b k call (asked_on (seen_by p) (seen_by q) xid k call a.seen asked) (keeps k o) in
       record {
-        adds = adds_same p r s (entries.Forget xid k ∷ []) (adds_both p q r [] (entries.Forget xid k ∷ []) a t.adds) seen mine;
+        writes = t.writes;
+        are_writes = t.are_writes;
+        adds = adds_same p r s (t.writes ++ entries.Forget xid k ∷ []) (adds_both p q r [] (t.writes ++ entries.Forget xid k ∷ []) a t.adds) seen mine;
         keeps = others_after p q r s k keeps t.keeps seen mine;
         before = t.before;
         seen = seen ∙ t.seen;
         ended = t.ended;
         unanswered = t.unanswered;
+        written = t.written;
       }
 
   pub tries_after : (p q r s : Pass (RequesterWithSink O C) Entry) (xid : ℕ) (take : Take) → Adds p q [] → KeepsOpen p q → IsTakeTurn q r xid take → seen_by s ≡ seen_by r → mine_of s ≡ mine_of r → IsTakeTurn p s xid take
@@ -92,7 +95,9 @@ module _ {O C : Type 0} where
   caller_takes p q xid done c a t = caller_on p q (entries.Done xid done.outcome a.at ∷ []) c (t a.at a.call a.is_call a.stays).adds ((refl, λ k is. closes_own (mine_of p) a.at a.stays.0 k is), tt)
 
   pub caller_gives : (p q : Pass (RequesterWithSink O C) Entry) (xid : ℕ) (end : CallEnd) → IsCaller p → HasOpenCall p xid → GivesUp p q xid end → IsCaller q
-  caller_gives p q xid end c a t = caller_on p q (entries.Forget xid a.at ∷ []) c (t a.at a.call a.is_call a.stays).adds ((refl, λ k is. closes_own (mine_of p) a.at a.stays.0 k is), tt)
+  caller_gives p q xid end c a t = let g = t a.at a.call a.is_call a.stays in
+      caller_on p q (g.writes ++ entries.Forget xid a.at ∷ []) c g.adds
+      (of_both p g.writes (entries.Forget xid a.at ∷ []) (of_writes p g.writes g.are_writes) ((refl, λ k is. closes_own (mine_of p) a.at a.stays.0 k is), tt))
 
   pub caller_forgets : (p q : Pass (RequesterWithSink O C) Entry) (xid : ℕ) → IsCaller p → HasOpenCall p xid → ForgetsCall p q xid → IsCaller q
   caller_forgets p q xid c a t = caller_on p q (entries.Forget xid a.at ∷ []) c (t a.at a.call a.is_call a.stays).adds ((refl, λ k is. closes_own (mine_of p) a.at a.stays.0 k is), tt)

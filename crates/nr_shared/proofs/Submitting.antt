@@ -132,22 +132,23 @@ module _ {O C : Type 0} where
   }
 
   none_from : (p q r : Pass (RequesterWithSink O C) Entry) (call : Call) (form : Form) (end : CallEnd) (es : List Entry) → AreWrites es → Adds p q es → KeepsOpen p q → SendsNone q r call form end → SendsNone p r call form end
-  none_from p q r call form end es are a keeps s = record { writes_before = es ++ s.writes_before; are_writes_before = both_write es s.writes_before are s.are_writes_before; adds = adds_both p q r es s.writes_before a s.adds; keeps = λ k o. s.keeps k (keeps k o); cause = s.cause }
+  none_from p q r call form end es are a keeps s = record { writes_before = es ++ s.writes_before; are_writes_before = both_write es s.writes_before are s.are_writes_before; adds = adds_both p q r es s.writes_before a s.adds; keeps = λ k o. s.keeps k (keeps k o); cause = s.cause; written = s.written }
 
   none_to : (p r s : Pass (RequesterWithSink O C) Entry) (call : Call) (form : Form) (end : CallEnd) → SendsNone p r call form end → seen_by s ≡ seen_by r → mine_of s ≡ mine_of r → SendsNone p s call form end
-  none_to p r s call form end t seen mine = record { writes_before = t.writes_before; are_writes_before = t.are_writes_before; adds = adds_same p r s t.writes_before t.adds seen mine; keeps = λ k o. keeps_same r s seen mine k (t.keeps k o); cause = subst (λ (l : List Entry). IsCause end call form l) (sym seen) t.cause }
+  none_to p r s call form end t seen mine = record { writes_before = t.writes_before; are_writes_before = t.are_writes_before; adds = adds_same p r s t.writes_before t.adds seen mine; keeps = λ k o. keeps_same r s seen mine k (t.keeps k o); cause = subst (λ (l : List Entry). IsCause end call form l) (sym seen) t.cause; written = subst HasWrittenOutput (sym seen) t.written }
 
   -- a call that isn't submitted in a turn
-  pub sends_none : (p q r : Pass (RequesterWithSink O C) Entry) (call : Call) (form : Form) (end : CallEnd) → Writes p q → seen_by r ≡ seen_by q → mine_of r ≡ mine_of q → IsCause end call form (seen_by q) → SendsNone p r call form end
-  sends_none p q r call form end w seen mine cause = none_to p q r call form end (record { writes_before = w.es; are_writes_before = w.are; adds = w.adds; keeps = λ k o. open_writes p q k w o; cause = cause }) seen mine
+  pub sends_none : (p q r : Pass (RequesterWithSink O C) Entry) (call : Call) (form : Form) (end : CallEnd) → Writes p q → seen_by r ≡ seen_by q → mine_of r ≡ mine_of q → IsCause end call form (seen_by q) → HasWrittenOutput (seen_by q) → SendsNone p r call form end
+  sends_none p q r call form end w seen mine cause all_written = none_to p q r call form end (record { writes_before = w.es; are_writes_before = w.are; adds = w.adds; keeps = λ k o. open_writes p q k w o; cause = cause; written = all_written }) seen mine
 
-  pub refused_none : (p q r u : Pass (RequesterWithSink O C) Entry) (call : Call) (form : Form) (end : CallEnd) → Writes p q → seen_by r ≡ seen_by q → mine_of r ≡ mine_of q → Adds r u [] → KeepsOpen r u → seen_by u ≡ seen_by r → IsCause end call form (seen_by r) → SendsNone p u call form end
-  refused_none p q r u call form end w seen mine adds keeps kept cause = record {
+  pub refused_none : (p q r u : Pass (RequesterWithSink O C) Entry) (call : Call) (form : Form) (end : CallEnd) → Writes p q → seen_by r ≡ seen_by q → mine_of r ≡ mine_of q → Adds r u [] → KeepsOpen r u → seen_by u ≡ seen_by r → IsCause end call form (seen_by r) → HasWrittenOutput (seen_by q) → SendsNone p u call form end
+  refused_none p q r u call form end w seen mine adds keeps kept cause all_written = record {
     writes_before = w.es;
     are_writes_before = w.are;
     adds = subst (λ (l : List Entry). Adds p u l) (append-nil w.es) (adds_both p r u w.es [] (adds_same p q r w.es w.adds seen mine) adds);
     keeps = λ k o. keeps k (keeps_same q r seen mine k (open_writes p q k w o));
     cause = subst (λ (l : List Entry). IsCause end call form l) (sym kept) cause;
+    written = subst HasWrittenOutput (sym (kept ∙ seen)) all_written;
   }
 
   pub lacks : (p q r : Pass (RequesterWithSink O C) Entry) (call : Call) (form : Form) → Writes p q → seen_by r ≡ seen_by q → mine_of r ≡ mine_of q → LacksCredit p r call call form form
@@ -230,20 +231,24 @@ module _ {O C : Type 0} where
   no_answer p q r call form xid end lies s gives =
       let e0 : Entry = entries.Submit call form xid in
       let g = gives s.at call (e0, s.stands, asked_just xid call form) s.opened in
+      let f : Entry = entries.Forget xid s.at in
+      let one : (s.writes_before ++ e0 ∷ s.writes_after) ++ (g.writes ++ f ∷ []) ≡ (s.writes_before ++ e0 ∷ (s.writes_after ++ g.writes)) ++ f ∷ [] =
+      sym (append_assoc (s.writes_before ++ e0 ∷ s.writes_after) g.writes (f ∷ [])) ∙ ap (λ (l : List Entry). l ++ f ∷ []) (append_assoc s.writes_before (e0 ∷ s.writes_after) g.writes) in
       record {
         writes_before = s.writes_before;
         are_writes_before = s.are_writes_before;
-        writes_after = s.writes_after;
-        are_writes_after = s.are_writes_after;
+        writes_after = s.writes_after ++ g.writes;
+        are_writes_after = both_write s.writes_after g.writes s.are_writes_after g.are_writes;
         xid = xid;
         at = s.at;
         stands = stands_on q r e0 s.at g.adds.seen s.stands;
-        adds = adds_both p q r (s.writes_before ++ e0 ∷ s.writes_after) (entries.Forget xid s.at ∷ []) s.adds g.adds;
+        adds = subst (λ (l : List Entry). Adds p r l) one (adds_both p q r (s.writes_before ++ e0 ∷ s.writes_after) (g.writes ++ f ∷ []) s.adds g.adds);
         new = s.new;
-        own = own_on q r s.at (entries.Forget xid s.at ∷ []) g.adds s.opened.0;
+        own = own_on q r s.at (g.writes ++ f ∷ []) g.adds s.opened.0;
         keeps = λ k o. g.keeps k (not_new p s.at k lies s.new o.0) (s.keeps k o);
         before = g.before;
         seen = g.seen;
         ended = g.ended;
         unanswered = g.unanswered;
+        written = g.written;
       }

@@ -31,7 +31,7 @@ use Rattle.nr_shared.specs.declared.entry.InitialState.{InitialState}
 use Rattle.nr_shared.specs.declared.entry.Stop.{Stop}
 use Rattle.nr_shared.specs.declared.requester_with_sink.RequesterWithSink.{RequesterWithSink}
 use Rattle.nr_shared.specs.HandedBack.{IsAwaitedStill, IsLostWith, IsUnanswered, lost_entry}
-use Rattle.nr_shared.specs.Histories.{Allows, IsCallAt, IsUnclosed, submitted_call, closes_of, is_feeding, run_of}
+use Rattle.nr_shared.specs.Histories.{Allows, ClosesCall, IsCallAt, IsUnclosed, submitted_call, closes_of, is_feeding, run_of}
 use Rattle.nr_shared.specs.Marks.{IsLive, IsOut}
 use Rattle.nr_shared.specs.Standing.{RepresentsHistory, RepresentsHistoryIf, IsWithin, Stands, is_out_of_memory}
 use Rattle.nr_shared.proofs.Calls.{calls_fewer}
@@ -171,17 +171,17 @@ module _ {O C : Type 0} (taken : O → Option (List ℕ)) (faults : O → ℕ) (
     }
 
   -- one entry that closes the place of a call that comes back
-  lost_any : (m m' : RequesterWithSink O C) (xid k : ℕ) (call : Call) (e : Entry) (h : List Entry) → IsOfCall e → Allows allows e → closes_of e ≡ Some k → ((x : ℕ) → submitted_call x e ≡ None) → m'.sink ≡ m.sink → m'.entries ≡ m.entries + 1 → m'.pending ≡ m.pending → m'.write_failed ≡ m.write_failed → m'.stopped ≡ m.stopped
+  lost_any : (m m' : RequesterWithSink O C) (xid k : ℕ) (call : Call) (e : Entry) (h : List Entry) → IsOfCall e → Allows allows e → ClosesCall h e → closes_of e ≡ Some k → ((x : ℕ) → submitted_call x e ≡ None) → m'.sink ≡ m.sink → m'.entries ≡ m.entries + 1 → m'.pending ≡ m.pending → m'.write_failed ≡ m.write_failed → m'.stopped ≡ m.stopped
       → m'.requester ≡ after_revoke m.requester xid → ClosesTicket xid m.requester.state m'.requester.state → fed_bytes m'.requester ≡ fed_bytes m.requester → IsCallAt h xid k call → IsUnclosed h k → (st : Stands taken faults allows m h)
       → RepresentsHistory st.initial m'.requester m.stopped (h ++ e ∷ []) → Stands taken faults allows m' (h ++ e ∷ [])
-  lost_any m m' xid k call e h quiet own closes no_call sink count pending sink_failed stopped after shuts fed asked unclosed st represents =
+  lost_any m m' xid k call e h quiet own ends_call closes no_call sink count pending sink_failed stopped after shuts fed asked unclosed st represents =
       let c = st.initial in
       let there : is_some (open_call xid m.requester.state) ≡ true = ap is_some (st.calls xid k call asked unclosed).1 in
       let kept = revoked_kept m.requester m'.requester xid after fed in
-      call_entry taken faults allows m m' h e quiet own st sink count sink_failed stopped represents
+      call_entry taken faults allows m m' h e quiet own ends_call st sink count sink_failed stopped represents
       (calls_fewer m.requester.state m'.requester.state h e xid k call no_call closes asked unclosed shuts st.calls)
       (λ is. kept.queue ∙ st.pending (sym pending ∙ is))
-      (subst (λ b. IsWithin m'.requester b m.write_failed m.stopped (h ++ e ∷ [])) (sym pending)
+      (subst (λ b. IsWithin (fed_bytes c.requester) m'.requester b m.write_failed m.stopped (h ++ e ∷ [])) (sym pending)
       (within_close m.requester m'.requester m.pending m.write_failed m.stopped h e xid (fed_same h e quiet.fed) there shuts kept st.within))
 
   -- nothing changed
@@ -207,13 +207,13 @@ module _ {O C : Type 0} (taken : O → Option (List ℕ)) (faults : O → ℕ) (
   lost_live : (m m' : RequesterWithSink O C) (xid k : ℕ) (call : Call) (buffers : Buffers) (end : End) (h : List Entry) → Loses m m' xid buffers → (m.requester.state.side.ended ≡ Some ends.Memory → ⊥) → m.requester.state.side.ended ≡ Some end → IsCallAt h xid k call → IsUnclosed h k
       → Stands taken faults allows m h → Stands taken faults allows m' (h ++ entries.Lost xid k ∷ [])
   lost_live m m' xid k call buffers end h l other ended asked unclosed st =
-      lost_any m m' xid k call (entries.Lost xid k) h (record { written = refl; fed = refl; sink_failed = refl; stop = refl; feeding = refl }) tt refl (λ x. refl) l.sink l.count l.pending l.sink_failed l.stopped l.after l.shuts l.fed asked unclosed st
+      lost_any m m' xid k call (entries.Lost xid k) h (record { written = refl; fed = refl; sink_failed = refl; stop = refl; feeding = refl }) tt (call, asked, unclosed) refl (λ x. refl) l.sink l.count l.pending l.sink_failed l.stopped l.after l.shuts l.fed asked unclosed st
       (follows_lost st.initial m.requester m'.requester m.stopped h xid k end other ended (ap is_some (st.calls xid k call asked unclosed).1) l.none l.after l.on st.represents)
 
   lost_out : (m m' : RequesterWithSink O C) (xid k : ℕ) (call : Call) (buffers : Buffers) (h : List Entry) → Loses m m' xid buffers → m.requester.state.side.ended ≡ Some ends.Memory → IsCallAt h xid k call → IsUnclosed h k
       → Stands taken faults allows m h → Stands taken faults allows m' (h ++ entries.Revoke xid (bytes_of_buffers buffers) k ∷ [])
   lost_out m m' xid k call buffers h l memory asked unclosed st =
-      lost_any m m' xid k call (entries.Revoke xid (bytes_of_buffers buffers) k) h (record { written = refl; fed = refl; sink_failed = refl; stop = refl; feeding = refl }) tt refl (λ x. refl) l.sink l.count l.pending l.sink_failed l.stopped l.after l.shuts l.fed asked unclosed st
+      lost_any m m' xid k call (entries.Revoke xid (bytes_of_buffers buffers) k) h (record { written = refl; fed = refl; sink_failed = refl; stop = refl; feeding = refl }) tt (call, asked, unclosed) refl (λ x. refl) l.sink l.count l.pending l.sink_failed l.stopped l.after l.shuts l.fed asked unclosed st
       (follows_out st.initial m.requester m'.requester m.stopped h xid k (bytes_of_buffers buffers) memory (ap bytes_of_buffers l.are) (ap is_some (st.calls xid k call asked unclosed).1) l.after l.stops st.represents)
 
   -- a call is lost

@@ -15,7 +15,7 @@ use Rattle.nr_turnstile.specs.Turns.{Has, pass_of}
 use Rattle.nr_shared.specs.declared.entry.Entry.{Entry}
 use Rattle.nr_shared.specs.declared.entry.InitialState.{InitialState}
 use Rattle.nr_shared.specs.declared.requester_with_sink.RequesterWithSink.{RequesterWithSink}
-use Rattle.nr_shared.specs.Histories.{FeedsInOrder, FitsHistory, IsCallAt, closes_of, initial_of, is_feeding, last_feeding, run_of}
+use Rattle.nr_shared.specs.Histories.{ClosesCalls, FeedsInOrder, FitsHistory, IsCallAt, closes_of, initial_of, is_feeding, last_feeding, run_of}
 use Rattle.nr_shared.specs.Adding.{Adds}
 use Rattle.nr_shared.specs.Draining.{AreWrites}
 use Rattle.nr_shared.specs.Output.{OutputBeforeInput}
@@ -51,11 +51,15 @@ pub record IsCaller {O C : Type 0} (p : Pass (RequesterWithSink O C) Entry) : Ty
 
 -- The marks of the history keep the law of the client's side, and the last grant; `n` is how many bytes were fed of the piece at which memory ran out.
 -- Output is written before more is fed. Each entry that feeds closes the one before it: so they are all of the one pass that feeds.
+-- The history begins with the initial state. An entry by which a call ends closes the place of a call of that xid.
 pub record KeepsLaw (history : List Entry) : Type 0 where
+  pub initial : InitialState
+  pub is_initial : initial_of history ≡ Some initial
   pub n : ℕ
   pub law : (opened : LinkParameters) (link : ℕ) (before : List Mark) → FitsHistory history opened link before → AskedSoFar opened link (run_of before n link history) × KeepsGrant opened link (run_of before n link history)
   pub output : OutputBeforeInput history
   pub in_order : FeedsInOrder history
+  pub closes_calls : ClosesCalls history
 
 -- A call of this xid stands at a place of the pass's own, which is open. All places of the pass lie in what it has seen.
 pub record HasOpenCall {O C : Type 0} (p : Pass (RequesterWithSink O C) Entry) (xid : ℕ) : Type 0 where

@@ -1,5 +1,5 @@
 -- The source of a link, and the pass that feeds what it gives.
-use Rattle.std.specs.Prelude.{◌≡◌, ◌≢◌, ⊤, ℕ, ◌≤◌, List, [], ◌∷◌, ◌++◌, length, Option, None, Some}
+use Rattle.std.specs.Prelude.{◌≡◌, ◌≢◌, ⊤, ℕ, ◌+◌, ◌≤◌, List, [], ◌∷◌, ◌++◌, length, Option, None, Some}
 use Rattle.std.specs.Io.KnownBytes.{IsAtEnd}
 use Rattle.nr_outside.specs.Content.{HandsOut}
 use Rattle.nr_outside.specs.Faults.{Rises}
@@ -16,21 +16,21 @@ use Rattle.nr_shared.specs.Histories.{bytes_fed, stop_of}
 abbrev pub closes_none : {I O C : Type 0} → InitialSource I O C → Option ℕ
 closes_none b = None
 
--- Why the history says that no more is fed, by the source: a read failed since it was shared; it is at its end; the maximum was read.
+-- Why the history says that no more is fed, by the source: a read failed since it was shared; it is at its end; the maximum was read of it.
 abbrev pub StopHolds : Option Stop → (faults faults' : ℕ) → Option (List ℕ) → (read : ℕ) → Type 0
 StopHolds (Some causes.LinkRead) faults faults' left read = Rises faults faults'
 StopHolds (Some causes.Closed) faults faults' left read = IsAtEnd left
 StopHolds (Some causes.Budget) faults faults' left read = read ≡ read_max
 StopHolds stopped faults faults' left read = ⊤
 
--- What was fed is what the source gave since it was shared. The last entry that feeds is the pass's own and open: so no other pass can feed.
+-- What was fed is what the source gave since it was shared; what was read before counts for the maximum too. The last entry that feeds is the pass's own and open: so no other pass can feed.
 pub record FeedsFor {I O C : Type 0} (left given : I → Option (List ℕ)) (faults : I → ℕ) (b : InitialSource I O C) (s : SourceReader I O C) : Type 0 where
   pub home : home_of s.pass ≡ home_of b.pass.value
   pub outside : IsOutside s.pass
   pub lies : Lies (seen_by s.pass) (mine_of s.pass)
   pub feeding : IsFeeding s.pass
   pub gave : HandsOut (left b.source.value) (given b.source.value) (left s.source) (given s.source) (bytes_fed (seen_by s.pass))
-  pub read : s.read ≡ length (bytes_fed (seen_by s.pass))
+  pub read : s.read ≡ b.read + length (bytes_fed (seen_by s.pass))
   pub within : s.read ≤ read_max
   pub never_falls : faults b.source.value ≤ faults s.source
   pub stop : StopHolds (stop_of (seen_by s.pass)) (faults b.source.value) (faults s.source) (left s.source) s.read

@@ -142,6 +142,22 @@ submits_call xid entry = is_some (submitted_call xid entry)
 abbrev pub IsCallAt : List Entry → (xid k : ℕ) → Call → Type 0
 IsCallAt history xid k call = (e : Entry) × (get_elem? history k ≡ some e) × (submitted_call xid e ≡ Some call)
 
+-- a call of this xid stands at this place, and nothing closes it
+abbrev pub HasUnclosedCall : List Entry → (xid k : ℕ) → Type 0
+HasUnclosedCall history xid k = (call : Call) × IsCallAt history xid k call × IsUnclosed history k
+
+-- An entry by which a call ends closes the place of a call of that xid, which nothing closed before.
+abbrev pub ClosesCall : (before : List Entry) → Entry → Type 0
+ClosesCall before (entries.Done xid outcome submit) = HasUnclosedCall before xid submit
+ClosesCall before (entries.Lost xid submit) = HasUnclosedCall before xid submit
+ClosesCall before (entries.Forget xid submit) = HasUnclosedCall before xid submit
+ClosesCall before (entries.Revoke xid bytes submit) = HasUnclosedCall before xid submit
+ClosesCall before entry = ⊤
+
+-- so does each of the history
+abbrev pub ClosesCalls : List Entry → Type 0
+ClosesCalls history = (before later : List Entry) (e : Entry) → history ≡ before ++ e ∷ later → ClosesCall before e
+
 -- the place of the last call of an xid
 abbrev pub place_of : ℕ → List Entry → Option ℕ
 place_of xid history = last_place (submits_call xid) history

@@ -43,14 +43,17 @@ module _ {O C : Type 0} where
     pub adds : Adds p q (entries.Forget xid k ∷ [])
     pub keeps : KeepsOthers k p q
 
-  -- the same, since the link had ended so by the history before, and no answer had come
+  -- The same, since the link had ended so by the history before, and no answer had come. Bytes are written first: all that is due.
   pub record GivesUpAt (p q : Pass (RequesterWithSink O C) Entry) (xid k : ℕ) (end : CallEnd) : Type 0 where
-    pub adds : Adds p q (entries.Forget xid k ∷ [])
+    pub writes : List Entry
+    pub are_writes : AreWrites writes
+    pub adds : Adds p q (writes ++ entries.Forget xid k ∷ [])
     pub keeps : KeepsOthers k p q
     pub before : List Entry
     pub seen : seen_by q ≡ before ++ entries.Forget xid k ∷ []
     pub ended : LinkEnded end before
     pub unanswered : IsUnanswered xid before
+    pub written : HasWrittenOutput before
 
   -- such is so of the place at which a call of this xid stands, open and the pass's own
   abbrev pub AtCall : Pass (RequesterWithSink O C) Entry → ℕ → (ℕ → Call → Type 0) → Type 0
@@ -115,13 +118,14 @@ module _ {O C : Type 0} where
     pub opened : IsOpen closes_of (seen_by q) (mine_of q) at
     pub written : HasWrittenOutput (seen_by q)
 
-  -- the call is not submitted, since the history says so; bytes are written
+  -- The call is not submitted, since the history says so. Bytes are written: all that is due.
   pub record SendsNone (p q : Pass (RequesterWithSink O C) Entry) (call : Call) (form : Form) (end : CallEnd) : Type 0 where
     pub writes_before : List Entry
     pub are_writes_before : AreWrites writes_before
     pub adds : Adds p q writes_before
     pub keeps : KeepsOpen p q
     pub cause : IsCause end call form (seen_by q)
+    pub written : HasWrittenOutput (seen_by q)
 
   -- no credit is left, and the call comes back; bytes are written
   pub record LacksCredit (p q : Pass (RequesterWithSink O C) Entry) (call c : Call) (form f : Form) : Type 0 where
@@ -160,7 +164,8 @@ module _ {O C : Type 0} where
     pub seen : seen_by q ≡ before ++ entries.Done xid done.outcome at ∷ []
     pub buffers : HavePlaced xid done.buffers before
 
-  -- The call was submitted and forgotten, since the link had ended so by the history before, and no answer had come.
+  -- The call was submitted and forgotten, since the link had ended so by the history before, and no answer had come. All output that was due
+  -- by then is written.
   pub record NoAnswer (p q : Pass (RequesterWithSink O C) Entry) (call : Call) (form : Form) (end : CallEnd) : Type 0 where
     pub writes_before : List Entry
     pub are_writes_before : AreWrites writes_before
@@ -177,6 +182,7 @@ module _ {O C : Type 0} where
     pub seen : seen_by q ≡ before ++ entries.Forget xid at ∷ []
     pub ended : LinkEnded end before
     pub unanswered : IsUnanswered xid before
+    pub written : HasWrittenOutput before
 
   abbrev pub Calls : Pass (RequesterWithSink O C) Entry → Pass (RequesterWithSink O C) Entry → Call → Form → Result Done CallEnd → Type 0
   Calls p q call form (Ok done) = OwnAnswer p q call form done

@@ -53,7 +53,7 @@ pub enum CreditState {
     Ended(CallEnd),
 }
 
-/// Takes the answer of a call of the pass's own, if it is there; or forgets the call, if none comes any more.
+/// Takes the answer of a call of the pass's own, if it is there. If none comes any more, writes the output that is due, and forgets the call.
 pub(crate) fn poll_under<O: Sink, C: CallRule>(
     turn: &mut MainTurn<'_, O, C>,
     ticket: Ticket,
@@ -77,6 +77,7 @@ pub(crate) fn poll_under<O: Sink, C: CallRule>(
     match end {
         None => PollTurn::NotYet(ticket),
         Some(end) => {
+            drain_under(turn);
             forget_under(turn, ticket);
             PollTurn::Ended(end)
         }

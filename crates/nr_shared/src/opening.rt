@@ -1,6 +1,7 @@
 //! A requester is shared, and given back.
 
-ghost use Rattle.std.specs.Prelude.{◌≡◌, [], ◌∷◌, List, IfOk, IfErr};
+ghost use Rattle.std.specs.Prelude.{◌≡◌, ◌≤◌, [], ◌∷◌, List, IfOk, IfErr};
+ghost use Rattle.nr_links.specs.Limits.{read_max};
 ghost use Rattle.nr_turnstile.specs.Passes.{Rests, home_of, id_of, seen_by, mine_of};
 ghost use Rattle.nr_shared.specs.declared.source_reader.InitialSource.{InitialSource};
 ghost use Rattle.nr_shared.specs.Callers.{IsCaller};
@@ -70,10 +71,10 @@ fn share_reader<I: Source, O: Sink, C: CallRule, K: SourceHistory<I, O, C>>(
 where
     I: Drop,
     O: Drop,
-    requires source_history { record { source = _source.now; pass = _pass.now } ∷ [] ≡ K.source_history }
-    requires feeds { FeedsFor I.left I.given I.faults (record { source = _source.now; pass = _pass.now }) reader }
-    ensures ok { IfOk result (λ t. Rests t.0 t.1 × (seen_by t.1 ≡ record { source = _source.now; pass = _pass.now } ∷ [])) }
-    ensures err { IfErr result (FeedsFor I.left I.given I.faults (record { source = _source.now; pass = _pass.now })) }
+    requires source_history { record { source = _source.now; pass = _pass.now; read = reader.read } ∷ [] ≡ K.source_history }
+    requires feeds { FeedsFor I.left I.given I.faults (record { source = _source.now; pass = _pass.now; read = reader.read }) reader }
+    ensures ok { IfOk result (λ t. Rests t.0 t.1 × (seen_by t.1 ≡ record { source = _source.now; pass = _pass.now; read = reader.read } ∷ [])) }
+    ensures err { IfErr result (FeedsFor I.left I.given I.faults (record { source = _source.now; pass = _pass.now; read = reader.read })) }
 {
     match Turnstile::new_or_value::<SourceHistoryOf<K>>(alloc, reader) {
         Ok(pair) => Ok(pair),
@@ -91,7 +92,7 @@ fn take_back<R: Wait, I: Source, O: Sink, C: CallRule>(
     requires rests { Rests main caller }
     requires caller { IsCaller caller }
     requires feeds { (b : InitialSource I O C) × (FeedsFor I.left I.given I.faults b reader × (home_of b.pass.value ≡ id_of main)) }
-    ensures { (b : InitialSource I O C) → FeedsFor I.left I.given I.faults b reader → GivesBack I.left I.given I.faults O.taken O.faults C.allows (seen_by caller) (mine_of caller) b.source.value result.0 result.1 result.2 }
+    ensures { (b : InitialSource I O C) → FeedsFor I.left I.given I.faults b reader → GivesBack I.left I.given I.faults O.taken O.faults C.allows (seen_by caller) (mine_of caller) b.source.value b.read result.0 result.1 result.2 }
 {
     let SourceReader {
         source,
@@ -109,22 +110,25 @@ fn take_back<R: Wait, I: Source, O: Sink, C: CallRule>(
 
 impl<I: Source, O: Sink, C: CallRule> SharedRequester<I, O, C> {
     /// Lets callers share a requester with its source and its sink. `H` names the history that it begins with, whose one entry is the initial
-    /// state. The pass has seen this history, and nothing is its own. After out of memory all three come back.
+    /// state. `read` is how many bytes of the source were read before: callers read what is left to the maximum. The pass has seen this
+    /// history, and nothing is its own. After out of memory all three come back.
     pub fn new<H: OpeningHistory<Entry>, R: Wait>(
         rt: &R,
         alloc: Global,
         requester: Requester,
         source: I,
         sink: O,
+        read: u64,
     ) -> Result<(SharedRequester<I, O, C>, Pass<I, O, C>), (Requester, I, O)>
     where
         I: Drop,
         O: Drop,
-        requires { IsInitialHistory O.taken O.faults requester sink H.history }
+        requires initial { IsInitialHistory O.taken O.faults requester sink H.history }
+        requires read { read ≤ read_max }
         ensures rests { IfOk result (λ t. SharedRests t.0 t.1) }
         ensures seen { IfOk result (λ t. (seen_by t.1.main ≡ H.history) × (mine_of t.1.main ≡ [])) }
-        ensures source { IfOk result (λ t. (b : InitialSource I O C) × ((seen_by t.1.source ≡ b ∷ []) × (b.source.value ≡ source))) }
-        ensures err { IfErr result (λ back. GivesBack I.left I.given I.faults O.taken O.faults C.allows H.history [] source back.0 back.1 back.2) }
+        ensures source { IfOk result (λ t. (b : InitialSource I O C) × ((seen_by t.1.source ≡ b ∷ []) × ((b.source.value ≡ source) × (b.read ≡ read)))) }
+        ensures err { IfErr result (λ back. GivesBack I.left I.given I.faults O.taken O.faults C.allows H.history [] source read back.0 back.1 back.2) }
     {
         let with_sink = RequesterWithSink::of_parts(requester, sink);
         let Ok(buf) = vec![in alloc; 0u8; PIECE_MAX] else {
@@ -153,7 +157,7 @@ impl<I: Source, O: Sink, C: CallRule> SharedRequester<I, O, C> {
         let reader = SourceReader {
             source,
             pass: feeding,
-            read: 0,
+            read,
             buf,
         };
         match share_reader::<I, O, C, Brand>(alloc, reader, &first_source, &first) {
@@ -171,7 +175,7 @@ impl<I: Source, O: Sink, C: CallRule> SharedRequester<I, O, C> {
     /// Waits until both turns are free, and gives the requester, the source and the sink back.
     pub fn close<R: Wait>(self, rt: &R, pass: Pass<I, O, C>) -> (Requester, I, O)
         requires { SharedRests self pass }
-        ensures { (b : InitialSource I O C) × ((seen_by pass.source ≡ b ∷ []) × GivesBack I.left I.given I.faults O.taken O.faults C.allows (seen_by pass.main) (mine_of pass.main) b.source.value result.0 result.1 result.2) }
+        ensures { (b : InitialSource I O C) × ((seen_by pass.source ≡ b ∷ []) × GivesBack I.left I.given I.faults O.taken O.faults C.allows (seen_by pass.main) (mine_of pass.main) b.source.value b.read result.0 result.1 result.2) }
     {
         let SharedRequester { main, source } = self;
         let Pass {

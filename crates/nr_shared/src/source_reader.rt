@@ -19,7 +19,7 @@ use std::snapshot::Snapshot;
 pub struct SourceReader<I, O: Sink, C: CallRule> {
     pub(crate) source: I,
     pub(crate) pass: Pass<RequesterWithSink<O, C>>,
-    // How many bytes were read.
+    // How many bytes were read, with those before it was shared.
     pub(crate) read: u64,
     // What is read is put into it.
     pub(crate) buf: Vec<u8>,
@@ -27,8 +27,12 @@ pub struct SourceReader<I, O: Sink, C: CallRule> {
 
 /// The source when it was shared, and the first pass that fed. No value of it is made.
 pub struct InitialSource<I, O: Sink, C: CallRule> {
+    /// The source.
     pub source: Snapshot<I>,
+    /// The pass.
     pub pass: Snapshot<Pass<RequesterWithSink<O, C>>>,
+    /// How many bytes of it were read before.
+    pub read: u64,
 }
 
 impl<I: Source, O: Sink, C: CallRule> Machine for SourceReader<I, O, C> {

@@ -5,6 +5,8 @@
 mod additions;
 mod asks;
 #[cfg(test)]
+mod broken;
+#[cfg(test)]
 mod cache;
 #[cfg(test)]
 mod callers;

@@ -249,37 +249,42 @@ fn two_callers(rt: HostRuntime) {
     same(&rt, 1, told, (Answer::Reply, Answer::Reply));
 }
 
-/// The first word that comes, how many bytes come, which read and which write fail; the end that is reported to whom gets no reply, and how
-/// many of two callers get theirs.
+/// The first word that comes, how many bytes come, how many are left to be read of the maximum, which read and which write fail; the end that is
+/// reported to whom gets no reply, and how many of two callers get theirs.
 type End = (
     u32,
     usize,
+    u64,
     &'static [usize],
     &'static [usize],
     Answer,
     usize,
 );
 
-static ENDS: [End; 11] = [
-    (0x4d504120, 172, &[0], &[], Answer::LinkRead, 0),
-    (0x4d504120, 172, &[1], &[], Answer::LinkRead, 0),
-    (0x4d504120, 172, &[2], &[], Answer::LinkRead, 1),
-    (0x4d504120, 172, &[3], &[], Answer::Other, 2),
-    (0x4d504120, 172, &[], &[0], Answer::LinkWrite, 0),
-    (0x4d504120, 172, &[], &[1], Answer::LinkWrite, 0),
-    (0x4d504120, 172, &[], &[2], Answer::LinkWrite, 1),
-    (0x4d504120, 172, &[], &[3], Answer::Other, 2),
-    (0x4d504120, 95, &[], &[], Answer::Closed, 0),
-    (0x4d504120, 96, &[], &[], Answer::Closed, 1),
+static ENDS: [End; 14] = [
+    (0x4d504120, 172, 1024, &[0], &[], Answer::LinkRead, 0),
+    (0x4d504120, 172, 1024, &[1], &[], Answer::LinkRead, 0),
+    (0x4d504120, 172, 1024, &[2], &[], Answer::LinkRead, 1),
+    (0x4d504120, 172, 1024, &[3], &[], Answer::Other, 2),
+    (0x4d504120, 172, 1024, &[], &[0], Answer::LinkWrite, 0),
+    (0x4d504120, 172, 1024, &[], &[1], Answer::LinkWrite, 0),
+    (0x4d504120, 172, 1024, &[], &[2], Answer::LinkWrite, 1),
+    (0x4d504120, 172, 1024, &[], &[3], Answer::Other, 2),
+    (0x4d504120, 95, 1024, &[], &[], Answer::Closed, 0),
+    (0x4d504120, 96, 1024, &[], &[], Answer::Closed, 1),
+    (0x4d504120, 172, 0, &[], &[], Answer::Budget, 0),
+    (0x4d504120, 172, 95, &[], &[], Answer::Budget, 0),
+    (0x4d504120, 172, 96, &[], &[], Answer::Budget, 1),
     // The hello has another key.
-    (0x4d504121, 172, &[], &[], Answer::Ended, 0),
+    (0x4d504121, 172, 1024, &[], &[], Answer::Ended, 0),
 ];
 
 fn met<R: Abort + Threads + Wait + Sync>(rt: &R, alloc: Global, row: usize, case: &End) {
-    let (first, most, reads, writes, end, replies) = *case;
+    let (first, most, left, reads, writes, end, replies) = *case;
     let link = Link {
         first,
         most,
+        left,
         reads,
         writes,
         ..good(&[1, 2])

@@ -1,6 +1,6 @@
 //! A shared requester over a source and a sink in memory, and NULL calls of it.
 
-ghost use Rattle.std.specs.Prelude.{[], ◌∷◌};
+ghost use Rattle.std.specs.Prelude.{◌≤◌, ◌^◌, [], ◌∷◌};
 ghost use Rattle.nr_rpc.specs.Credential.{CanWriteCred};
 ghost use Rattle.nr_shared.specs.Opening.{IsInitialHistory};
 ghost use Rattle.nr_shared.specs.Sharing.{SharedRests};
@@ -36,9 +36,12 @@ static REPLY: [u32; 6] = [1, 0, 0, 0, 0, 0];
 /// The first 20 bytes of the payload of a reply after its XID.
 static ACCEPTED: [u8; 20] = [0, 0, 0, 1, 0, 0, 0, 0, 0, 0, 0, 0, 0, 0, 0, 0, 0, 0, 0, 0];
 
+/// The maximum of bytes that are read of a connection.
+const READ_MAX: u64 = 1 << 40;
+
 /// What a link gives and takes: the replies to these XIDs, in this order, after a hello that begins with this word, at most this many bytes of
 /// them; the numbers of the reads and the writes that fail; from which read on the source waits until how many bytes were sent; and whether each
-/// write waits until another caller has looked.
+/// write waits until another caller has looked; and how many bytes are left to be read of the maximum.
 #[derive(Clone, Copy)]
 pub struct Link {
     pub first: u32,
@@ -49,6 +52,7 @@ pub struct Link {
     pub from: u64,
     pub until: u64,
     pub is_held: bool,
+    pub left: u64,
 }
 
 /// A link over which all goes well, and whose replies are those to these XIDs.
@@ -62,6 +66,7 @@ pub fn good(xids: &'static [u32]) -> Link {
         from: 1024,
         until: 0,
         is_held: false,
+        left: READ_MAX,
     }
 }
 
@@ -74,6 +79,8 @@ pub enum Answer {
     LinkRead,
     LinkWrite,
     Closed,
+    /// The maximum of bytes was read.
+    Budget,
     /// The call was revoked.
     Revoked,
     /// The turn was taken, and the call and its form came back.
@@ -121,21 +128,23 @@ pub fn null(alloc: Global, prog: u32) -> Call
     }
 }
 
-/// Shares a requester. `K` is the entry of its initial state, for the proof.
+/// Shares a requester, of whose source `read` bytes were read before. `K` is the entry of its initial state, for the proof.
 fn shared<K: Appended, I: Source, O: Sink>(
     rt: &(impl Abort + Wait),
     alloc: Global,
     requester: Requester,
     source: I,
     sink: O,
+    read: u64,
 ) -> (SharedRequester<I, O, AnyCall>, Pass<I, O, AnyCall>)
 where
     I: Drop,
     O: Drop,
-    requires { IsInitialHistory O.taken O.faults requester sink (K.entry ∷ []) }
+    requires initial { IsInitialHistory O.taken O.faults requester sink (K.entry ∷ []) }
+    requires read { read ≤ 2 ^ 40 }
     ensures { SharedRests result.0 result.1 }
 {
-    match SharedRequester::new::<InitialHistory<K>, _>(rt, alloc, requester, source, sink) {
+    match SharedRequester::new::<InitialHistory<K>, _>(rt, alloc, requester, source, sink, read) {
         Ok(opened) => opened,
         Err(_) => panic!(rt; "memory"),
     }
@@ -175,7 +184,10 @@ pub fn share_beside(
         sent: 0,
         is_held: link.is_held,
     };
-    shared::<Brand, HeldSource<MemSource>, HeldSink<MemSink>>(rt, alloc, requester, source, sink)
+    let read = READ_MAX - link.left.min(READ_MAX);
+    shared::<Brand, HeldSource<MemSource>, HeldSink<MemSink>>(
+        rt, alloc, requester, source, sink, read,
+    )
 }
 
 /// Whether a payload is the reply to a NULL call of this XID.
@@ -205,6 +217,7 @@ pub fn end_of(end: &CallEnd) -> Answer {
         CallEnd::LinkRead => Answer::LinkRead,
         CallEnd::LinkWrite => Answer::LinkWrite,
         CallEnd::Closed => Answer::Closed,
+        CallEnd::Budget { read: READ_MAX } => Answer::Budget,
         _ => Answer::Other,
     }
 }

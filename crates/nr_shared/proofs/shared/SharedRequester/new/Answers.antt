@@ -12,51 +12,51 @@ use Rattle.nr_shared.proofs.Resting.{new_caller}
 use Rattle.nr_shared.proofs.shared.SharedRequester.new.Goals as goal
 
 pub new_or_value-requires-clause-stands : goal.new_or_value-requires-clause-stands
-new_or_value-requires-clause-stands g c = c.of_parts-with_sink.ensures g.H.OpeningHistory.history c.requires
+new_or_value-requires-clause-stands g c = c.of_parts-with_sink.ensures g.H.OpeningHistory.history c.requires.initial
 
 pub new_or_value-requires-clause-earlier : goal.new_or_value-requires-clause-earlier
-new_or_value-requires-clause-earlier g c = earlier_opened g.O.Sink.taken g.O.Sink.faults c.args.requester c.args.sink g.H.OpeningHistory.history c.requires
+new_or_value-requires-clause-earlier g c = earlier_opened g.O.Sink.taken g.O.Sink.faults c.args.requester c.args.sink g.H.OpeningHistory.history c.requires.initial
 
 pub share_reader-requires-clause-feeds : goal.share_reader-requires-clause-feeds
 share_reader-requires-clause-feeds g c =
-    let o = c.requires in let m = c.in-Ok-new_or_value.ensures.ok in let u = c.split-caller.ensures.unchanged in let history = g.H.OpeningHistory.history in
+    let o = c.requires.initial in let m = c.in-Ok-new_or_value.ensures.ok in let u = c.split-caller.ensures.unchanged in let history = g.H.OpeningHistory.history in
     let p = c.split-caller.new.pass in let t = g.O.Sink.taken in let f = g.O.Sink.faults in let r = c.args.requester in let k = c.args.sink in
     let seen : seen_by p ≡ history = ap (λ x. x.0.seen) u.1 ∙ ap (λ v. v.seen) m.1 in
     let mine : mine_of p ≡ places (length history) = ap (λ x. x.0.mine) u.1 ∙ ap (λ v. v.mine) m.1 in
     first_reader g.I.Source.left g.I.Source.given g.I.Source.faults _ _ (ap home_of (sym c.of-first.ensures)) (ap (λ x. x.1) u.1 ∙ m.0.1, ap (λ x. x.0.stage) u.1 ∙ m.0.2)
     (first_lies t f history p seen mine) (first_feeds t f r k history p o seen mine) (sym c.of-first_source.ensures)
-    (ap (λ (l : List Entry). bytes_fed l) seen ∙ opened_fed t f r k history o) (ap (λ (l : List Entry). stop_of l) seen ∙ opened_stop t f r k history o) refl (sym c.in-Ok.buf.ok.0 ∙ c.in-Ok.ensures.len)
+    (ap (λ (l : List Entry). bytes_fed l) seen ∙ opened_fed t f r k history o) (ap (λ (l : List Entry). stop_of l) seen ∙ opened_stop t f r k history o) refl c.requires.read (sym c.in-Ok.buf.ok.0 ∙ c.in-Ok.ensures.len)
 
 pub returns-in-Ok-share_reader-clause-rests : goal.returns-in-Ok-share_reader-clause-rests
 returns-in-Ok-share_reader-clause-rests g c =
-    let o = c.requires in let m = c.in-Ok-new_or_value.ensures.ok in let u = c.split-caller.ensures.unchanged in let history = g.H.OpeningHistory.history in
+    let o = c.requires.initial in let m = c.in-Ok-new_or_value.ensures.ok in let u = c.split-caller.ensures.unchanged in let history = g.H.OpeningHistory.history in
     let t = c.in-Ok-share_reader.ensures.ok in let n = c.split-caller.ensures.new in
     let seen : seen_by c.split-caller.result ≡ history = ap (λ w. w.seen) n.1 ∙ ap (λ v. v.seen) m.1 in
     record {
       main = n.0;
       source = t.0;
-      initial_source = record { source = c.of-first_source.result; pass = c.of-first.result };
+      initial_source = record { source = c.of-first_source.result; pass = c.of-first.result; read = c.args.read };
       has_seen = t.1;
       home = ap home_of c.of-first.ensures ∙ (u.0.0 ∙ m.0.0);
       caller = new_caller c.split-caller.result (ap (λ w. w.mine) n.1);
-      law = subst KeepsLaw (sym seen) (law_of g.O.Sink.taken g.O.Sink.faults g.C.CallRule.allows c.of_parts-with_sink.result history (c.of_parts-with_sink.ensures history c.requires));
+      law = subst KeepsLaw (sym seen) (law_of g.O.Sink.taken g.O.Sink.faults g.C.CallRule.allows c.of_parts-with_sink.result history (c.of_parts-with_sink.ensures history c.requires.initial));
     }
 
 pub returns-in-Ok-share_reader-clause-source : goal.returns-in-Ok-share_reader-clause-source
-returns-in-Ok-share_reader-clause-source g c = (record { source = c.of-first_source.result; pass = c.of-first.result }, (c.in-Ok-share_reader.ensures.ok.1, c.of-first_source.ensures))
+returns-in-Ok-share_reader-clause-source g c = (record { source = c.of-first_source.result; pass = c.of-first.result; read = c.args.read }, (c.in-Ok-share_reader.ensures.ok.1, (c.of-first_source.ensures, refl)))
 
 -- ---- Out of memory
 
 pub returns-in_default-clause-err : goal.returns-in_default-clause-err
 returns-in_default-clause-err g c =
-    let o = c.requires in let t = g.O.Sink.taken in let f = g.O.Sink.faults in let r = c.args.requester in let k = c.args.sink in let history = g.H.OpeningHistory.history in
-    unshared g.I.Source.left g.I.Source.given g.I.Source.faults t f g.C.CallRule.allows c.of_parts-with_sink.result history c.args.source (c.of_parts-with_sink.ensures history o) (earlier_opened t f r k history o) (opened_fed t f r k history o) (opened_stop t f r k history o)
+    let o = c.requires.initial in let t = g.O.Sink.taken in let f = g.O.Sink.faults in let r = c.args.requester in let k = c.args.sink in let history = g.H.OpeningHistory.history in
+    unshared g.I.Source.left g.I.Source.given g.I.Source.faults t f g.C.CallRule.allows c.of_parts-with_sink.result history c.args.source c.args.read c.requires.read (c.of_parts-with_sink.ensures history o) (earlier_opened t f r k history o) (opened_fed t f r k history o) (opened_stop t f r k history o)
 
 pub returns-in-Err-clause-err : goal.returns-in-Err-clause-err
 returns-in-Err-clause-err g c =
-    let o = c.requires in let t = g.O.Sink.taken in let f = g.O.Sink.faults in let r = c.args.requester in let k = c.args.sink in let history = g.H.OpeningHistory.history in
-    subst (λ m. GivesBack g.I.Source.left g.I.Source.given g.I.Source.faults t f g.C.CallRule.allows history [] c.args.source m.requester c.args.source m.sink) (sym c.in-Err.ensures.err)
-    (unshared g.I.Source.left g.I.Source.given g.I.Source.faults t f g.C.CallRule.allows c.of_parts-with_sink.result history c.args.source (c.of_parts-with_sink.ensures history o) (earlier_opened t f r k history o) (opened_fed t f r k history o) (opened_stop t f r k history o))
+    let o = c.requires.initial in let t = g.O.Sink.taken in let f = g.O.Sink.faults in let r = c.args.requester in let k = c.args.sink in let history = g.H.OpeningHistory.history in
+    subst (λ m. GivesBack g.I.Source.left g.I.Source.given g.I.Source.faults t f g.C.CallRule.allows history [] c.args.source c.args.read m.requester c.args.source m.sink) (sym c.in-Err.ensures.err)
+    (unshared g.I.Source.left g.I.Source.given g.I.Source.faults t f g.C.CallRule.allows c.of_parts-with_sink.result history c.args.source c.args.read c.requires.read (c.of_parts-with_sink.ensures history o) (earlier_opened t f r k history o) (opened_fed t f r k history o) (opened_stop t f r k history o))
 
 pub take_back-requires-clause-caller : goal.take_back-requires-clause-caller
 take_back-requires-clause-caller g c = new_caller c.split-caller.result (ap (λ w. w.mine) c.split-caller.ensures.new.1)
@@ -64,14 +64,14 @@ take_back-requires-clause-caller g c = new_caller c.split-caller.result (ap (λ 
 pub take_back-requires-clause-feeds : goal.take_back-requires-clause-feeds
 take_back-requires-clause-feeds g c =
     let m = c.in-Ok-new_or_value.ensures.ok in let u = c.split-caller.ensures.unchanged in
-    (record { source = c.of-first_source.result; pass = c.of-first.result }, (c.in-Err-share_reader.ensures.err, ap home_of c.of-first.ensures ∙ (u.0.0 ∙ m.0.0)))
+    (record { source = c.of-first_source.result; pass = c.of-first.result; read = c.args.read }, (c.in-Err-share_reader.ensures.err, ap home_of c.of-first.ensures ∙ (u.0.0 ∙ m.0.0)))
 
 pub returns-clause-err : goal.returns-clause-err
 returns-clause-err g c =
     let m = c.in-Ok-new_or_value.ensures.ok in let n = c.split-caller.ensures.new in let history = g.H.OpeningHistory.history in let r = c.take_back.result in let caller = c.split-caller.result in
     let seen : seen_by caller ≡ history = ap (λ w. w.seen) n.1 ∙ ap (λ v. v.seen) m.1 in
     let mine : mine_of caller ≡ [] = ap (λ w. w.mine) n.1 in
-    subst (λ (l : List Entry). GivesBack g.I.Source.left g.I.Source.given g.I.Source.faults g.O.Sink.taken g.O.Sink.faults g.C.CallRule.allows l [] c.args.source r.0 r.1 r.2) seen
-    (subst (λ (ks : List ℕ). GivesBack g.I.Source.left g.I.Source.given g.I.Source.faults g.O.Sink.taken g.O.Sink.faults g.C.CallRule.allows (seen_by caller) ks c.args.source r.0 r.1 r.2) mine
-    (subst (λ i. GivesBack g.I.Source.left g.I.Source.given g.I.Source.faults g.O.Sink.taken g.O.Sink.faults g.C.CallRule.allows (seen_by caller) (mine_of caller) i r.0 r.1 r.2) c.of-first_source.ensures
-    (c.take_back.ensures (record { source = c.of-first_source.result; pass = c.of-first.result }) c.in-Err-share_reader.ensures.err)))
+    subst (λ (l : List Entry). GivesBack g.I.Source.left g.I.Source.given g.I.Source.faults g.O.Sink.taken g.O.Sink.faults g.C.CallRule.allows l [] c.args.source c.args.read r.0 r.1 r.2) seen
+    (subst (λ (ks : List ℕ). GivesBack g.I.Source.left g.I.Source.given g.I.Source.faults g.O.Sink.taken g.O.Sink.faults g.C.CallRule.allows (seen_by caller) ks c.args.source c.args.read r.0 r.1 r.2) mine
+    (subst (λ i. GivesBack g.I.Source.left g.I.Source.given g.I.Source.faults g.O.Sink.taken g.O.Sink.faults g.C.CallRule.allows (seen_by caller) (mine_of caller) i c.args.read r.0 r.1 r.2) c.of-first_source.ensures
+    (c.take_back.ensures (record { source = c.of-first_source.result; pass = c.of-first.result; read = c.args.read }) c.in-Err-share_reader.ensures.err)))
