@@ -19,21 +19,22 @@ use std::sync::{Arc, Wait};
 
 /// The shared requester, with the pass of a caller.
 #[derive(Drop)]
-pub(crate) struct GatedLinks<'a, J: Source, K: Sink, R> {
-    pub(crate) rt: R,
+pub(crate) struct GatedLinks<'a, 'b, J: Source, K: Sink, R> {
+    pub(crate) rt: &'a R,
     pub(crate) alloc: Global,
     pub(crate) remote: &'a Arc<SharedRequester<J, K, AnyCall>, Global>,
-    pub(crate) pass: &'a mut Pass<J, K, AnyCall>,
+    pub(crate) pass: &'b mut Pass<J, K, AnyCall>,
 }
 
 impl<
     'a,
+    'b,
     I: LinkSource + Drop + Send + 'static,
     O: LinkSink + Drop + Send + 'static,
     J: Source + Drop + Send + 'static,
     K: Sink + Drop + Send + 'static,
     R: Wait + Copy + Drop + Send + 'static,
-> LinkJobs<I, O, GateJob<I, O, J, K, R>> for GatedLinks<'a, J, K, R> {
+> LinkJobs<I, O, GateJob<I, O, J, K, R>> for GatedLinks<'a, 'b, J, K, R> {
     type Part = Arc<SharedRequester<J, K, AnyCall>, Global>;
 
     type End = GateEnd;
@@ -65,7 +66,7 @@ impl<
         let pass = self.remote.split(self.pass);
         let caller = RemoteCaller::new(part, pass);
         GateJob {
-            rt: self.rt,
+            rt: *self.rt,
             alloc: self.alloc,
             source,
             sink,

@@ -4,7 +4,7 @@ use Rattle.nr_shared.specs.Sharing.{SharedRests}
 use Rattle.nr_gate.proofs.gated_links.GatedLinksLinkJobsGateJob.make.Goals as goal
 
 pub new-caller-requires : goal.new-caller-requires
-new-caller-requires g c = subst (λ s. SharedRests s c.split-pass.result) (sym c.requires.fits) c.split-pass.ensures.rests.1
+new-caller-requires g c = subst (λ s. SharedRests s c.split-pass.result) (c.deref.ensures ∙ sym c.requires.fits) c.split-pass.ensures.rests.1
 
 pub returns-clause-makes : goal.returns-clause-makes
 returns-clause-makes g c = c.split-pass.ensures.unchanged

@@ -1,4 +1,4 @@
-use Rattle.std.proofs.Common.{◌≡◌, ℕ, List, ap, subst, ◌∙◌}
+use Rattle.std.proofs.Common.{◌≡◌, ℕ, List, ap, subst, sym, ◌∙◌}
 use Rattle.nr_turnstile.specs.Passes.{mine_of, seen_by}
 use Rattle.nr_turnstile.specs.Rule.{Begins, in_order, longer}
 use Rattle.nr_record_loop.specs.Connections.{SinkCount, SourceCount, loop_at}
@@ -9,8 +9,10 @@ use Rattle.nr_gate.proofs.gated_links.GatedLinksLinkJobsGateJob.run_here.Goals a
 
 pub join-requires : goal.join-requires
 join-requires g c =
-    let (first, (source, (sink, made))) = c.requires.made in
-    (c.requires.rests, subst (λ s. SharedRests s c.run-source.result.pass) made.1.1.0 c.run-source.ensures.rests)
+    let (first, (source, (sink, made))) = c.requires.made in (
+      subst (λ s. SharedRests s c.args.self.now.pass.now) (sym c.deref.ensures) c.requires.rests,
+      subst (λ s. SharedRests s c.run-source.result.pass) (made.1.1.0 ∙ sym c.deref.ensures) c.run-source.ensures.rests,
+    )
 
 pub returns-clause-links : goal.returns-clause-links
 returns-clause-links g c first source sink made = (
