@@ -184,8 +184,10 @@ where
     ensures asked { A.asked acceptor.new ≡ A.asked acceptor.old }
     ensures listens { A.listens acceptor.new ≡ A.listens acceptor.old }
 {
+    // The struct only borrows what it has, so the borrow of the pass ends without a drop.
+    let handle = rt;
     let mut jobs = GatedLinks {
-        rt: &rt,
+        rt: &handle,
         alloc,
         remote,
         pass,
