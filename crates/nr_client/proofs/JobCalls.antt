@@ -1,5 +1,5 @@
 -- A call over a shared requester: what it added to the history, and its outcome.
-use Rattle.std.proofs.Common.{◌≡◌, ◌≢◌, ◌⊎◌, inl, inr, arith, ℕ, zero, suc, ◌<◌, List, [], ◌∷◌, ◌++◌, length, take, Some, Result, Ok, Err, refl, sym, ap, subst, ◌∙◌}
+use Rattle.std.proofs.Common.{◌≡◌, inl, inr, arith, ℕ, zero, suc, List, [], ◌∷◌, ◌++◌, length, take, Some, Result, Ok, Err, refl, sym, ap, subst, ◌∙◌}
 use Rattle.std.proofs.Math.Seq.{take-append_seam}
 use Rattle.std.specs.declared.vec.Vec.{Vec}
 use Rattle.std.specs.declared.alloc.Global.{Global}
@@ -23,7 +23,7 @@ use Rattle.nr_shared.specs.declared.requester_with_sink.RequesterWithSink.{Reque
 use Rattle.nr_shared.specs.Adding.{Adds, AreAt}
 use Rattle.nr_shared.specs.Callers.{KeepsLaw}
 use Rattle.nr_shared.specs.Histories.{initial_of}
-use Rattle.nr_shared.specs.Waiting.{Calls, NoAnswer, OwnAnswer, SendsNone}
+use Rattle.nr_shared.specs.Waiting.{Calls, OwnAnswer}
 use Rattle.nr_shared.proofs.Adding.{begins_then, still_at}
 use Rattle.nr_shared.proofs.Lists.{at_after, begins_self, in_more, still_first, still_ordered}
 use Rattle.nr_shared.proofs.Submitting.{link_cause}

@@ -123,7 +123,7 @@ pub record ReadsShared (uid gid : ℕ) (file : List ℕ) (first : Outcome) (size
   pub of_sink : (initial.taken ≡ link.sink.taken) × (initial.faults ≡ link.sink.faults)
   pub requester : RequesterSide
   pub back : GivesBack {I = SourceAt} {O = SinkAt} (λ x. x.left) (λ x. x.given) (λ x. x.faults) (λ x. x.taken) (λ x. x.faults) (FileReads uid gid file size)
-    seen mine link.source link.read requester source sink
+      seen mine link.source link.read requester source sink
   pub reads : ReadsByJobs uid gid file first seen mine taken taken' result
 
 -- A file was read into an output by jobs over a link, whose source and sink came back so. GETATTR was made first. It gave no size, and nothing else was

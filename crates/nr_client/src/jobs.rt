@@ -81,7 +81,14 @@ fn fetch<R: Wait, I: Source, O: Sink, C: CallRule>(
             rt,
             shared,
             &mut job.pass,
-            read_call(file.alloc, file.uid, file.gid, file.handle, at, piece_left(file.size, at)),
+            read_call(
+                file.alloc,
+                file.uid,
+                file.gid,
+                file.handle,
+                at,
+                piece_left(file.size, at),
+            ),
         ) {
             Ok(outcome) => outcome,
             Err(_) => return,
@@ -344,12 +351,7 @@ pub(crate) fn read_shared<
     I: Source,
     O: Sink,
     K: Sink,
->(
-    rt: &R,
-    link: LinkEnds<I, O>,
-    file: &FileToRead<'_>,
-    out: &mut K,
-) -> (Result<(), ClientEnd>, I, O)
+>(rt: &R, link: LinkEnds<I, O>, file: &FileToRead<'_>, out: &mut K) -> (Result<(), ClientEnd>, I, O)
 where
     I: Drop + Send,
     O: Drop + Send,
@@ -372,8 +374,9 @@ where
         read,
     } = link;
     let alloc = file.alloc;
-    let (shared, mut pass) = match share::<N, R, I, O, C>(rt, alloc, requester, source, sink, read)
-    {
+    let (shared, mut pass) = match share::<N, R, I, O, C>(
+        rt, alloc, requester, source, sink, read,
+    ) {
         Ok(opened) => opened,
         Err((requester, source, sink)) => {
             drop(requester);

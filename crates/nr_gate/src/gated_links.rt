@@ -8,6 +8,7 @@ ghost use Rattle.nr_gate.specs.GateLinks.{GatesByPass, KeepsKnown, SplitsOff};
 
 use crate::gate_end::GateEnd;
 use crate::job::{GateCarried, GateJob};
+use crate::remote_caller::RemoteCaller;
 use nr_accept::LinkJobs;
 use nr_jobs::Job;
 use nr_links::{LinkSink, LinkSource};
@@ -18,21 +19,22 @@ use std::sync::{Arc, Wait};
 
 /// The shared requester, with the pass of a caller.
 #[derive(Drop)]
-pub(crate) struct GatedLinks<'a, J: Source, K: Sink, R> {
-    pub(crate) rt: R,
+pub(crate) struct GatedLinks<'a, 'b, J: Source, K: Sink, R> {
+    pub(crate) rt: &'a R,
     pub(crate) alloc: Global,
     pub(crate) remote: &'a Arc<SharedRequester<J, K, AnyCall>, Global>,
-    pub(crate) pass: &'a mut Pass<J, K, AnyCall>,
+    pub(crate) pass: &'b mut Pass<J, K, AnyCall>,
 }
 
 impl<
     'a,
+    'b,
     I: LinkSource + Drop + Send + 'static,
     O: LinkSink + Drop + Send + 'static,
     J: Source + Drop + Send + 'static,
     K: Sink + Drop + Send + 'static,
     R: Wait + Copy + Drop + Send + 'static,
-> LinkJobs<I, O, GateJob<I, O, J, K, R>> for GatedLinks<'a, J, K, R> {
+> LinkJobs<I, O, GateJob<I, O, J, K, R>> for GatedLinks<'a, 'b, J, K, R> {
     type Part = Arc<SharedRequester<J, K, AnyCall>, Global>;
 
     type End = GateEnd;
@@ -45,8 +47,8 @@ impl<
 
     ghost makes = { λ p q. KeepsKnown p.pass.now.main q.pass.now.main };
 
-    ghost made = { λ p q source sink job. (job.source ≡ source) × ((job.sink ≡ sink) × ((arc_value job.remote ≡ arc_value q.remote.now)
-        × (SplitsOff p.pass.now.main job.pass.main × KeepsKnown p.pass.now.main q.pass.now.main))) };
+    ghost made = { λ p q source sink job. (job.source ≡ source) × ((job.sink ≡ sink) × ((job.caller.remote ≡ arc_value q.remote.now)
+        × (SplitsOff p.pass.now.main job.caller.pass.main × KeepsKnown p.pass.now.main q.pass.now.main))) };
 
     ghost serves = { λ p opened closed source_faults sink_faults end q. GatesByPass p.pass.now.main opened closed source_faults sink_faults end q.pass.now.main };
 
@@ -61,13 +63,14 @@ impl<
         source: I,
         sink: O,
     ) -> GateJob<I, O, J, K, R> {
+        let pass = self.remote.split(self.pass);
+        let caller = RemoteCaller::new(part, pass);
         GateJob {
-            rt: self.rt,
+            rt: *self.rt,
             alloc: self.alloc,
             source,
             sink,
-            remote: part,
-            pass: self.remote.split(self.pass),
+            caller,
         }
     }
 

@@ -45,7 +45,7 @@ fn take_gated<
     alloc: Global,
     acceptor: &mut A,
     spawner: &mut P,
-    jobs: &mut GatedLinks<'_, J, K, R>,
+    jobs: &mut GatedLinks<'_, '_, J, K, R>,
     connections: u32,
     ends: &mut Vec<GateEnd>,
 ) -> Result<u64, ServeFault>
@@ -92,7 +92,7 @@ fn gate_links<
     alloc: Global,
     acceptor: &mut A,
     spawner: &mut P,
-    jobs: &mut GatedLinks<'_, J, K, R>,
+    jobs: &mut GatedLinks<'_, '_, J, K, R>,
     connections: u32,
 ) -> Result<Gated, ServeFault>
 where
@@ -184,8 +184,10 @@ where
     ensures asked { A.asked acceptor.new ≡ A.asked acceptor.old }
     ensures listens { A.listens acceptor.new ≡ A.listens acceptor.old }
 {
+    // The struct only borrows what it has, so the borrow of the pass ends without a drop.
+    let handle = rt;
     let mut jobs = GatedLinks {
-        rt,
+        rt: &handle,
         alloc,
         remote,
         pass,

@@ -1,7 +1,6 @@
 //! The work of one connection of a gateway, for a thread of its own.
 
 ghost use Rattle.std.specs.Prelude.{◌≡◌};
-ghost use Rattle.std.specs.Arc.{arc_value};
 ghost use Rattle.nr_turnstile.specs.Passes.{seen_by};
 ghost use Rattle.nr_shared.specs.Sharing.{SharedRests};
 ghost use Rattle.nr_record_loop.specs.Connections.{SinkCount, SourceCount, loop_at};
@@ -9,25 +8,23 @@ ghost use Rattle.nr_gate.specs.Gating.{IsGated, loop_end};
 
 use crate::connection::gate_connection;
 use crate::gate_end::GateEnd;
+use crate::remote_caller::RemoteCaller;
 use nr_jobs::Job;
 use nr_links::{LinkNumber, LinkSink, LinkSource, NumberedSink, NumberedSource};
 use nr_outside::{Sink, Source};
 use nr_shared::{AnyCall, Pass, SharedRequester};
 use std::alloc::Global;
 use std::marker::Brand;
-use std::sync::{Arc, Wait};
+use std::sync::Wait;
 
-/// One connection of a gateway, with all that it uses. The source and the sink are those of one link, and the pass is of the
-/// shared requester.
+/// One connection of a gateway, with all that it uses. The source and the sink are those of one link.
 #[derive(Drop)]
 pub struct GateJob<I: LinkSource, O: LinkSink, J: Source, K: Sink, R> {
     pub rt: R,
     pub alloc: Global,
     pub source: I,
     pub sink: O,
-    pub remote: Arc<SharedRequester<J, K, AnyCall>, Global>,
-    pub pass: Pass<J, K, AnyCall>,
-    ghost fits: { SharedRests (arc_value remote) pass },
+    pub caller: RemoteCaller<J, K>,
     ghost same: { I.link source ≡ O.link sink },
 }
 
@@ -77,9 +74,9 @@ impl<
     type Out = GateCarried<I, O, J, K>;
 
     fn run(self) -> GateCarried<I, O, J, K>
-        ensures rests { SharedRests (arc_value self.remote) result.pass }
-        ensures remote_source { seen_by result.pass.source ≡ seen_by self.pass.source }
-        ensures gated { IsGated (loop_at (I.left self.source) (I.given self.source) (O.taken self.sink) self.pass.main)
+        ensures rests { SharedRests self.caller.remote result.pass }
+        ensures remote_source { seen_by result.pass.source ≡ seen_by self.caller.pass.source }
+        ensures gated { IsGated (loop_at (I.left self.source) (I.given self.source) (O.taken self.sink) self.caller.pass.main)
             (loop_at (I.left result.source) (I.given result.source) (O.taken result.sink) result.pass.main) result.end }
         ensures source_count { SourceCount (loop_end result.end) (I.faults self.source) (I.faults result.source) }
         ensures sink_count { SinkCount (loop_end result.end) (O.faults self.sink) (O.faults result.sink) }
@@ -91,10 +88,9 @@ impl<
             alloc,
             source,
             sink,
-            remote,
-            pass,
+            caller,
         } = self;
-        let mut pass = pass;
+        let (remote, mut pass) = caller.into_parts();
         let (source, sink, end) = gate_numbered::<Brand, I, O, J, K, R>(
             &rt, alloc, source, sink, &remote, &mut pass,
         );

@@ -12,8 +12,10 @@ mod gate_end;
 mod gated_links;
 mod gating;
 mod job;
+mod remote_caller;
 
 pub use connection::gate_connection;
 pub use gate_end::GateEnd;
 pub use gating::{GateEnds, Gated, gate};
 pub use job::{GateCarried, GateJob};
+pub use remote_caller::RemoteCaller;

@@ -17,10 +17,11 @@ use nr_turnstile::{Machine, Pass, Turnstile};
 use std::alloc::{AllocError, Global};
 use std::sync::{Arc, Wait};
 
-/// The shared server, with the pass and the clock of a caller, and what it allows each connection.
+/// The shared server, with the pass and the clock of a caller, and what it allows each connection. All that has a type parameter is
+/// borrowed, so that the borrow of the pass ends without a drop.
 #[derive(Drop)]
-pub(crate) struct ServedLinks<'a, C, R> {
-    pub(crate) rt: R,
+pub(crate) struct ServedLinks<'r, 'a, C, R> {
+    pub(crate) rt: &'r R,
     pub(crate) alloc: Global,
     pub(crate) shared: &'a Arc<Turnstile<Server>, Global>,
     pub(crate) pass: &'a mut Pass<Server>,
@@ -30,12 +31,13 @@ pub(crate) struct ServedLinks<'a, C, R> {
 }
 
 impl<
+    'r,
     'a,
     I: LinkSource + Drop + Send + 'static,
     O: LinkSink + Drop + Send + 'static,
     C: Clock + Drop + Send + 'static,
     R: Wait + Copy + Drop + Send + 'static,
-> LinkJobs<I, O, ServeJob<I, O, C, R>> for ServedLinks<'a, C, R> {
+> LinkJobs<I, O, ServeJob<I, O, C, R>> for ServedLinks<'r, 'a, C, R> {
     type Part = Arc<Turnstile<Server>, Global>;
 
     type End = LinkEnd;
@@ -67,7 +69,7 @@ impl<
         sink: O,
     ) -> ServeJob<I, O, C, R> {
         ServeJob {
-            rt: self.rt,
+            rt: *self.rt,
             alloc: self.alloc,
             source,
             sink,

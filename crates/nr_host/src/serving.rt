@@ -48,7 +48,7 @@ fn take_served<
     alloc: Global,
     acceptor: &mut A,
     spawner: &mut P,
-    jobs: &mut ServedLinks<'_, C, R>,
+    jobs: &mut ServedLinks<'_, '_, C, R>,
     connections: u32,
     ends: &mut Vec<LinkEnd>,
 ) -> Result<u64, ServeFault>
@@ -95,7 +95,7 @@ fn serve_links<
     alloc: Global,
     acceptor: &mut A,
     spawner: &mut P,
-    jobs: &mut ServedLinks<'_, C, R>,
+    jobs: &mut ServedLinks<'_, '_, C, R>,
     connections: u32,
 ) -> Result<Ran, ServeFault>
 where
@@ -193,8 +193,9 @@ where
     ensures listens { A.listens acceptor.new ≡ A.listens acceptor.old }
 {
     raise_trim_threshold(alloc, TRIM_BLOCK_LEN);
+    let handle = rt;
     let mut jobs = ServedLinks {
-        rt,
+        rt: &handle,
         alloc,
         shared,
         pass,

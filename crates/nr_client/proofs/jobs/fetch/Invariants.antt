@@ -1,5 +1,4 @@
-use Rattle.std.proofs.Common.{◌≡◌, ◌-◌, ◌<◌, length, List, ℕ}
-use Rattle.std.specs.Prelude.{All}
+use Rattle.std.proofs.Common.{◌≡◌, ◌-◌, length}
 use Rattle.nr_client.specs.private.JobReads.{IsDone}
 use Rattle.nr_client.proofs.jobs.fetch.Given as goal
 

@@ -1,4 +1,4 @@
-use Rattle.std.proofs.Common.{◌≡◌, ◌<◌, [], ◌∷◌, ◌++◌, List, ℕ, length, arith, refl, subst, ◌∙◌}
+use Rattle.std.proofs.Common.{◌≡◌, ◌<◌, ◌∷◌, length, arith, refl, subst, ◌∙◌}
 use Rattle.std.specs.List.{All}
 use Rattle.nr_turnstile.specs.Passes.{mine_of, seen_by}
 use Rattle.nr_shared.specs.Sharing.{SharedRests}
@@ -33,7 +33,7 @@ jobs-preserved g c =
           let one = all_first (IsDone c.args.shared.now uid gid file size) c.remove-own.result c.remove-own.new.self.items (subst (All (IsDone c.args.shared.now uid gid file size)) is done) in (
             one.1,
             lists_more uid gid file size (seen_by p) (seen_by q) (mine_of p) (mine_of q) c.jobs.lists.items _ c.remove-own.result.fetched step.seen step.mine lists
-            (joined_fetched p o q uid gid file size c.remove-own.result.fetched.items c.join.ensures.seen.1 c.join.ensures.mine one.0.1) c.in_ok-push.ensures.items,
+                (joined_fetched p o q uid gid file size c.remove-own.result.fetched.items c.join.ensures.seen.1 c.join.ensures.mine one.0.1) c.in_ok-push.ensures.items,
           )),
     )
 

@@ -1,8 +1,6 @@
-use Rattle.std.proofs.Common.{◌≡◌, ◌<◌, ◌≤◌, ◌⊎◌, ⊎_elim, inl, inr, ℕ, List, arith, refl, ◌∙◌}
-use Rattle.std.specs.List.{All, slice_index_or}
+use Rattle.std.proofs.Common.{inl, inr, arith, refl, ◌∙◌}
 use Rattle.nr_turnstile.specs.Passes.{mine_of, seen_by}
-use Rattle.nr_client.specs.private.JobReads.{AreFetched, Grows}
-use Rattle.nr_client.proofs.JobCalls.{fetched_on, grows_none, grows_then}
+use Rattle.nr_client.proofs.JobCalls.{fetched_on, grows_then}
 use Rattle.nr_client.proofs.JobReading.{memory_out, read_same}
 use Rattle.nr_client.proofs.jobs.read_round.Goals as goal
 

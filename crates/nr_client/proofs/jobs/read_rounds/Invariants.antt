@@ -1,4 +1,4 @@
-use Rattle.std.proofs.Common.{◌≡◌, ◌-◌, ℕ}
+use Rattle.std.proofs.Common.{◌≡◌, ◌-◌}
 use Rattle.nr_turnstile.specs.Passes.{seen_by}
 use Rattle.nr_shared.specs.Sharing.{SharedRests}
 use Rattle.nr_client.specs.private.JobReads.{Grows, ReadsMore}

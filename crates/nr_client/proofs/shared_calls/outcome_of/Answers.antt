@@ -1,4 +1,4 @@
-use Rattle.std.proofs.Common.{◌≡◌, inl, inr, refl, ap, subst}
+use Rattle.std.proofs.Common.{inl, inr, refl, ap, subst}
 use Rattle.nr_reduce.specs.declared.call.Call.{Call}
 use Rattle.nr_reduce.specs.declared.call.Form.TheVariants as forms
 use Rattle.nr_turnstile.specs.Passes.{mine_of, seen_by}

@@ -1,4 +1,4 @@
-use Rattle.std.proofs.Common.{◌≡◌, ℕ, ◌+◌, refl, sym, ap, subst}
+use Rattle.std.proofs.Common.{ℕ, ◌+◌, refl, sym, subst}
 use Rattle.nr_turnstile.specs.Passes.{mine_of, seen_by}
 use Rattle.nr_client.specs.Jobs.{IsExchange}
 use Rattle.nr_client.specs.Reading.{piece_left, read_call}

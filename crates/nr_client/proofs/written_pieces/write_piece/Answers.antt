@@ -1,4 +1,4 @@
-use Rattle.std.proofs.Common.{◌≡◌, ℕ, ◌+◌, inr, arith, Option, sym, ap, subst}
+use Rattle.std.proofs.Common.{ℕ, ◌+◌, inr, arith, Option, sym, ap, subst}
 use Rattle.nr_reduce.specs.declared.call.Outcome.{Outcome}
 use Rattle.nr_turnstile.specs.Passes.{mine_of, seen_by}
 use Rattle.nr_client.specs.private.JobReads.{IsFetched}

@@ -9,9 +9,10 @@ use Rattle.nr_host.proofs.served_links.ServedLinksLinkJobsServeJob.run_here.Goal
 
 pub join-requires : goal.join-requires
 join-requires g c =
-    let (first, (source, (sink, made))) = c.requires.made in
-    (subst (λ t. Rests t c.args.self.now.pass.now) (sym c.deref.ensures) c.requires.rests,
-    subst (λ t. Rests t c.run-source.result.pass) (made.1.1.0 ∙ sym c.deref.ensures) c.run-source.ensures.rests)
+    let (first, (source, (sink, made))) = c.requires.made in (
+      subst (λ t. Rests t c.args.self.now.pass.now) (sym c.deref.ensures) c.requires.rests,
+      subst (λ t. Rests t c.run-source.result.pass) (made.1.1.0 ∙ sym c.deref.ensures) c.run-source.ensures.rests,
+    )
 
 pub returns-clause-links : goal.returns-clause-links
 returns-clause-links g c first source sink made = (

@@ -1,16 +1,18 @@
-use Rattle.std.proofs.Common.{◌≡◌, ℕ, List, ap, subst, ◌∙◌}
+use Rattle.std.proofs.Common.{◌≡◌, ℕ, List, ap, subst, sym, ◌∙◌}
 use Rattle.nr_turnstile.specs.Passes.{mine_of, seen_by}
 use Rattle.nr_turnstile.specs.Rule.{Begins, in_order, longer}
 use Rattle.nr_record_loop.specs.Connections.{SinkCount, SourceCount, loop_at}
 use Rattle.nr_shared.specs.Sharing.{SharedRests}
 use Rattle.nr_shared.specs.declared.entry.Entry.{Entry}
 use Rattle.nr_gate.specs.Gating.{IsGated, loop_end}
-use Rattle.nr_gate.proofs.gated_links.GatedLinksLinkJobs.run_here.Goals as goal
+use Rattle.nr_gate.proofs.gated_links.GatedLinksLinkJobsGateJob.run_here.Goals as goal
 
 pub join-requires : goal.join-requires
 join-requires g c =
-    let (first, (source, (sink, made))) = c.requires.made in
-    (c.requires.rests, subst (λ s. SharedRests s c.run-source.result.pass) made.1.1.0 c.run-source.ensures.rests)
+    let (first, (source, (sink, made))) = c.requires.made in (
+      subst (λ s. SharedRests s c.args.self.now.pass.now) (sym c.deref.ensures) c.requires.rests,
+      subst (λ s. SharedRests s c.run-source.result.pass) (made.1.1.0 ∙ sym c.deref.ensures) c.run-source.ensures.rests,
+    )
 
 pub returns-clause-links : goal.returns-clause-links
 returns-clause-links g c first source sink made = (
@@ -24,12 +26,12 @@ returns-clause-served g c first source sink made no_source_fault no_sink_fault =
     let r = c.run-source.result in let job = c.args.job in
     let after = loop_at (left r.source) (given r.source) (taken r.sink) r.pass.main in
     let kept = made.1.1.1.1 in
-    let with_source = subst (λ s. IsGated (loop_at (left s) (given s) (taken job.sink) job.pass.main) after r.end) made.0 c.run-source.ensures.gated in
+    let with_source = subst (λ s. IsGated (loop_at (left s) (given s) (taken job.sink) job.caller.pass.main) after r.end) made.0 c.run-source.ensures.gated in
     record {
-      first = job.pass.main;
+      first = job.caller.pass.main;
       own = r.pass.main;
       split = made.1.1.1.0;
-      gated = subst (λ s. IsGated (loop_at (left source) (given source) (taken s) job.pass.main) after r.end) made.1.0 with_source;
+      gated = subst (λ s. IsGated (loop_at (left source) (given source) (taken s) job.caller.pass.main) after r.end) made.1.0 with_source;
       source_count = subst (λ (n : ℕ). SourceCount (loop_end r.end) n (g.I.Source.faults r.source)) (ap (λ s. g.I.Source.faults s) made.0 ∙ no_source_fault) c.run-source.ensures.source_count;
       sink_count = subst (λ (n : ℕ). SinkCount (loop_end r.end) n (g.O.Sink.faults r.sink)) (ap (λ s. g.O.Sink.faults s) made.1.0 ∙ no_sink_fault) c.run-source.ensures.sink_count;
       joins = record {
