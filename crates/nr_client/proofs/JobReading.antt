@@ -1,40 +1,45 @@
 -- A file is read by jobs: one outcome more, and how it ends.
-use Rattle.std.proofs.Common.{◌≡◌, ◌⊎◌, ⊎_elim, inl, inr, arith, ℕ, ◌+◌, ◌<◌, ◌≤◌, List, [], ◌∷◌, ◌++◌, length, take, append-nil, append_assoc, Option, Some, Result, Ok, Err, refl, sym, ap, subst, ◌∙◌}
+use Rattle.std.proofs.Common.{◌≡◌, inl, inr, arith, ℕ, ◌+◌, ◌<◌, ◌≤◌, List, [], ◌∷◌, ◌++◌, length, take, append-nil, append_assoc, Option, Some, Result, Ok, Err, refl, sym, ap, subst, ◌∙◌}
+use Rattle.std.specs.List.{All, slice_index_or}
 use Rattle.std.proofs.lemmas.Bool.{le-ltb}
 use Rattle.std.proofs.KnownBytes.{Appends-nil, Appends-trans}
+use mathlib.Core.Option.{some-injective}
+use lib.ListN.{get_elem?}
+use Rattle.nr_outside.specs.Streams.{SinkAt, SourceAt, sink_at, source_at}
+use Rattle.nr_link.specs.declared.end.End.TheVariants as ends
+use Rattle.nr_nfs_base.specs.declared.attributes.Attributes.{Attributes}
 use Rattle.nr_reduce.specs.declared.call.Call.{Call}
+use Rattle.nr_reduce.specs.declared.call.Form.{Form}
 use Rattle.nr_reduce.specs.declared.call.Outcome.{Outcome}
+use Rattle.nr_requester.specs.RequesterState.{RequesterSide}
 use Rattle.nr_turnstile.specs.declared.turnstile.Pass.{Pass}
 use Rattle.nr_turnstile.specs.Passes.{mine_of, seen_by}
+use Rattle.nr_turnstile.specs.Rule.{Begins}
 use Rattle.nr_shared.specs.declared.entry.Entry.{Entry}
 use Rattle.nr_shared.specs.declared.entry.Entry.TheVariants as entries
 use Rattle.nr_shared.specs.declared.entry.InitialState.{InitialState}
-use Rattle.nr_shared.specs.Histories.{initial_of}
-use Rattle.nr_shared.proofs.Histories.{initial_more}
 use Rattle.nr_shared.specs.declared.requester_with_sink.RequesterWithSink.{RequesterWithSink}
+use Rattle.nr_shared.specs.declared.shared.SharedRequester.{SharedRequester}
+use Rattle.nr_shared.specs.Histories.{initial_of}
+use Rattle.nr_shared.specs.Opening.{GivesBack}
+use Rattle.nr_shared.proofs.Histories.{initial_more}
+use Rattle.nr_client.specs.declared.call_end.CallEnd.TheVariants as calls
 use Rattle.nr_client.specs.declared.client_end.ClientEnd.{ClientEnd}
 use Rattle.nr_client.specs.declared.client_end.ClientEnd.TheVariants as client
-use Rattle.nr_client.specs.Following.Next.{Calls, Returns}
-use mathlib.Core.Option.{some, some-injective, some-ne-none}
-use lib.ListN.{get_elem?}
-use Rattle.nr_nfs_base.specs.declared.attributes.Attributes.{Attributes}
-use Rattle.nr_turnstile.specs.Rule.{Begins, IsIn, Lies}
-use Rattle.nr_client.specs.Jobs.{AreExchanges, EndsByJobs, HasSize, IsExchange, IsOfRead, IsPiece, ReadsByJobs, Submits}
-use Rattle.nr_client.specs.Requests.{getattr_call, getattr_result}
-use Rattle.nr_client.specs.Results.{Gives}
-use Rattle.nr_client.proofs.CallsMade.{end_of_reply}
-use Rattle.std.specs.Io.KnownBytes.{Appends}
-use Rattle.nr_client.specs.Reading.{EndsAtReply, bytes_of, bytes_read, next_read, piece_left, read_call, reading, with_size}
-use Rattle.nr_client.specs.Reading.FileRead.{SizeKnown}
-use Rattle.nr_client.specs.private.JobReads.{EndedByJobs, EndedWith, Grows, HasNone, HasRun, IsDone, IsUpTo, ReadByJobs}
 use Rattle.nr_client.specs.declared.jobs.ReadJob.{ReadJob}
-use Rattle.nr_shared.specs.declared.shared.SharedRequester.{SharedRequester}
-use Rattle.std.specs.List.{All, slice_index_or}
+use Rattle.nr_client.specs.Following.Next.{Calls, Returns}
+use Rattle.nr_client.specs.Jobs.{AreExchanges, GetsAttributes, IsExchange, IsPiece, LinkAt, ReadsByJobs, ReadsFileByJobs, ReadsShared, bytes_at, link_at}
+use Rattle.nr_client.specs.Jobs.ReadsFileByJobs.{NoAttributes, OutOfMemory, Shared}
+use Rattle.nr_client.specs.LinkParts.{LinkParts}
+use Rattle.nr_client.specs.Reading.{file_read, next_read, piece_left, read_call, reading, with_size}
+use Rattle.nr_client.specs.Reading.FileRead.{SizeKnown}
+use Rattle.nr_client.specs.Requests.{Asks, SinkFaults, SourceFaults, getattr_call, getattr_result}
+use Rattle.nr_client.specs.private.JobReads.{Grows, HasNone, IsDone, IsUpTo, ReadByJobs}
 use Rattle.nr_client.specs.private.OpenReads.{GivesData, GivesNone, IsInPiece}
 use Rattle.nr_client.proofs.FileEnds.{at_reply, takes_bytes}
 use Rattle.nr_client.proofs.FilePieces.{in_piece}
 use Rattle.nr_client.proofs.FileReading.{data_came, follows}
-use Rattle.nr_client.proofs.JobCalls.{all_lent, exchanges_grow, grows_as, grows_more, grows_then}
+use Rattle.nr_client.proofs.JobCalls.{all_lent, exchanges_grow}
 
 -- one exchange more
 exchanges_end : (uid gid : ℕ) (file : List ℕ) (seen : List Entry) (mine : List ℕ) (before after : List Outcome) (outcome : Outcome) (call : Call)
@@ -42,11 +47,6 @@ exchanges_end : (uid gid : ℕ) (file : List ℕ) (seen : List Entry) (mine : Li
 exchanges_end uid gid file seen mine before [] outcome call is made all = ((call, ap (reading uid gid file) (sym (append-nil before)) ∙ is, made), tt)
 exchanges_end uid gid file seen mine before (o ∷ after) outcome call is made all =
     (all.0, exchanges_end uid gid file seen mine (before ++ o ∷ []) after outcome call (ap (reading uid gid file) (append_assoc before (o ∷ []) after) ∙ is) made all.1)
-
--- the first reply is the same
-size_more : (xs ys : List Outcome) (size : ℕ) → HasSize xs size → HasSize (xs ++ ys) size
-size_more [] ys size is = absurd is
-size_more (x ∷ xs) ys size is = is
 
 -- ---- Offsets
 
@@ -64,185 +64,140 @@ up_to_more size at at' end n count below same goes ends more within = up_to size
 pub piece_at : (uid gid : ℕ) (file : List ℕ) (size at count : ℕ) → at < size → count ≡ piece_left size at → IsPiece uid gid file size (read_call uid gid file at count)
 piece_at uid gid file size at count below same = (at, (below, ap (λ (n : ℕ). read_call uid gid file at n) same))
 
--- no bytes came with GETATTR
-none_first : (r : Result Attributes ClientEnd) → bytes_of (with_size r) ≡ []
-none_first (Ok attributes) = refl
-none_first (Err end) = refl
-
 module _ {O C : Type 0} where
-  exchanged_more : (Is : Call → Type 0) (uid gid : ℕ) (file : List ℕ) (size at count : ℕ) (p q : Pass (RequesterWithSink O C) Entry) (outcome : Outcome) (t u : Option (List ℕ))
-      → at < size → count ≡ piece_left size at → Grows Is p q → IsExchange (seen_by q) (mine_of q) (read_call uid gid file at count) outcome
-      → (so_far : ReadByJobs uid gid file size at p t u) → AreExchanges uid gid file (seen_by q) (mine_of q) [] (so_far.outcomes ++ outcome ∷ [])
-  exchanged_more Is uid gid file size at count p q outcome t u below same grows made so_far =
-      exchanges_end uid gid file (seen_by q) (mine_of q) [] so_far.outcomes outcome (read_call uid gid file at (piece_left size at))
-      (follows uid gid file size at so_far.bytes so_far.outcomes below so_far.state)
+  exchanged_more : (uid gid : ℕ) (file : List ℕ) (first : Outcome) (size at count : ℕ) (p q : Pass (RequesterWithSink O C) Entry) (outcome : Outcome) (t u : Option (List ℕ))
+      → at < size → count ≡ piece_left size at → Grows p q → IsExchange (seen_by q) (mine_of q) (read_call uid gid file at count) outcome
+      → (so_far : ReadByJobs uid gid file first size at p t u) → AreExchanges uid gid file (seen_by q) (mine_of q) (first ∷ []) (so_far.outcomes ++ outcome ∷ [])
+  exchanged_more uid gid file first size at count p q outcome t u below same grows made so_far =
+      exchanges_end uid gid file (seen_by q) (mine_of q) (first ∷ []) so_far.outcomes outcome (read_call uid gid file at (piece_left size at))
+      (follows uid gid file size at so_far.bytes (first ∷ so_far.outcomes) below so_far.state)
       (subst (λ (n : ℕ). IsExchange (seen_by q) (mine_of q) (read_call uid gid file at n) outcome) same made)
-      (exchanges_grow Is uid gid file p q [] so_far.outcomes grows so_far.made)
+      (exchanges_grow uid gid file p q (first ∷ []) so_far.outcomes grows so_far.made)
+
+  -- GETATTR told the size
+  pub started : (uid gid : ℕ) (file : List ℕ) (first : Outcome) (size : ℕ) (p : Pass (RequesterWithSink O C) Entry) (taken : Option (List ℕ)) → file_read (first ∷ []) ≡ SizeKnown size 0 [] → ReadByJobs uid gid file first size 0 p taken taken
+  started uid gid file first size p taken told = record { outcomes = []; bytes = []; made = tt; state = told; appends = Appends-nil taken }
 
   -- the data of one READ more
-  pub read_more : (Is : Call → Type 0) (uid gid : ℕ) (file : List ℕ) (size at at' count step : ℕ) (p q : Pass (RequesterWithSink O C) Entry) (outcome : Outcome) (t u v : Option (List ℕ))
-      → at < size → count ≡ piece_left size at → at' ≡ at + step → Grows Is p q → IsExchange (seen_by q) (mine_of q) (read_call uid gid file at count) outcome → GivesData count outcome step u v
-      → ReadByJobs uid gid file size at p t u → ReadByJobs uid gid file size at' q t v
-  read_more Is uid gid file size at at' count step p q outcome t u v below same goes grows made (results, (reads, (is, appends))) so_far = record {
+  pub read_more : (uid gid : ℕ) (file : List ℕ) (first : Outcome) (size at at' count step : ℕ) (p q : Pass (RequesterWithSink O C) Entry) (outcome : Outcome) (t u v : Option (List ℕ))
+      → at < size → count ≡ piece_left size at → at' ≡ at + step → Grows p q → IsExchange (seen_by q) (mine_of q) (read_call uid gid file at count) outcome → GivesData count outcome step u v
+      → ReadByJobs uid gid file first size at p t u → ReadByJobs uid gid file first size at' q t v
+  read_more uid gid file first size at at' count step p q outcome t u v below same goes grows made (results, (reads, (is, appends))) so_far = record {
     outcomes = so_far.outcomes ++ outcome ∷ [];
     bytes = so_far.bytes ++ results.bytes;
-    made = exchanged_more Is uid gid file size at count p q outcome t u below same grows made so_far;
-    state = data_came size at at' count step so_far.bytes so_far.outcomes outcome results so_far.state same goes reads is;
+    made = exchanged_more uid gid file first size at count p q outcome t u below same grows made so_far;
+    state = data_came size at at' count step so_far.bytes (first ∷ so_far.outcomes) outcome results so_far.state same goes reads is;
     appends = Appends-trans t u v so_far.bytes results.bytes so_far.appends appends;
-    has_size = size_more so_far.outcomes (outcome ∷ []) size so_far.has_size;
   }
 
   -- nothing more was read
-  pub read_same : (Is : Call → Type 0) (uid gid : ℕ) (file : List ℕ) (size at : ℕ) (p q : Pass (RequesterWithSink O C) Entry) (t u : Option (List ℕ)) → Grows Is p q → ReadByJobs uid gid file size at p t u → ReadByJobs uid gid file size at q t u
-  read_same Is uid gid file size at p q t u grows so_far = record {
+  pub read_same : (uid gid : ℕ) (file : List ℕ) (first : Outcome) (size at : ℕ) (p q : Pass (RequesterWithSink O C) Entry) (t u : Option (List ℕ)) → Grows p q → ReadByJobs uid gid file first size at p t u → ReadByJobs uid gid file first size at q t u
+  read_same uid gid file first size at p q t u grows so_far = record {
     outcomes = so_far.outcomes;
     bytes = so_far.bytes;
-    made = exchanges_grow Is uid gid file p q [] so_far.outcomes grows so_far.made;
+    made = exchanges_grow uid gid file p q (first ∷ []) so_far.outcomes grows so_far.made;
     state = so_far.state;
     appends = so_far.appends;
-    has_size = so_far.has_size;
   }
 
   -- ---- Ends
 
-  pub all_came : (uid gid : ℕ) (file : List ℕ) (size at : ℕ) (p : Pass (RequesterWithSink O C) Entry) (t u : Option (List ℕ)) → size ≤ at → ReadByJobs uid gid file size at p t u → EndedWith uid gid file size p t u (Ok tt)
-  all_came uid gid file size at p t u above so_far =
-      let returns : next_read uid gid file (SizeKnown size at so_far.bytes) ≡ Returns (Ok tt) = rw (le-ltb at size above) refl in (
-        record {
-          outcomes = so_far.outcomes;
-          made = so_far.made;
-          ends = inl (inl (inr (ap (next_read uid gid file) so_far.state ∙ returns), inl (takes_bytes so_far.outcomes (SizeKnown size at so_far.bytes) t u so_far.state so_far.appends)));
-        },
-        so_far.has_size,
-      )
+  pub all_came : (uid gid : ℕ) (file : List ℕ) (first : Outcome) (size at : ℕ) (p : Pass (RequesterWithSink O C) Entry) (t u : Option (List ℕ)) → size ≤ at → ReadByJobs uid gid file first size at p t u → ReadsByJobs uid gid file first (seen_by p) (mine_of p) t u (Ok tt)
+  all_came uid gid file first size at p t u above so_far =
+      let returns : next_read uid gid file (SizeKnown size at so_far.bytes) ≡ Returns (Ok tt) = rw (le-ltb at size above) refl in
+      record {
+        outcomes = so_far.outcomes;
+        made = so_far.made;
+        ends = inl (inl (inr (ap (next_read uid gid file) so_far.state ∙ returns), inl (takes_bytes (first ∷ so_far.outcomes) (SizeKnown size at so_far.bytes) t u so_far.state so_far.appends)));
+      }
 
-  pub memory_out : (uid gid : ℕ) (file : List ℕ) (size at : ℕ) (p : Pass (RequesterWithSink O C) Entry) (t u : Option (List ℕ)) → ReadByJobs uid gid file size at p t u → EndedWith uid gid file size p t u (Err client.Memory)
-  memory_out uid gid file size at p t u so_far = (
-    record {
-      outcomes = so_far.outcomes;
-      made = so_far.made;
-      ends = inl (inl (inl refl, inl (takes_bytes so_far.outcomes (SizeKnown size at so_far.bytes) t u so_far.state so_far.appends)));
-    },
-    so_far.has_size,
-  )
+  pub memory_out : (uid gid : ℕ) (file : List ℕ) (first : Outcome) (size at : ℕ) (p : Pass (RequesterWithSink O C) Entry) (t u : Option (List ℕ)) → ReadByJobs uid gid file first size at p t u → ReadsByJobs uid gid file first (seen_by p) (mine_of p) t u (Err client.Memory)
+  memory_out uid gid file first size at p t u so_far = record {
+    outcomes = so_far.outcomes;
+    made = so_far.made;
+    ends = inl (inl (inl refl, inl (takes_bytes (first ∷ so_far.outcomes) (SizeKnown size at so_far.bytes) t u so_far.state so_far.appends)));
+  }
 
   -- the next READ has no outcome
-  pub none_came : (Is : Call → Type 0) (uid gid : ℕ) (file : List ℕ) (size at count : ℕ) (p q : Pass (RequesterWithSink O C) Entry) (why : ClientEnd) (t u : Option (List ℕ)) → at < size → count ≡ piece_left size at → Grows Is p q
-      → HasNone (read_call uid gid file at count) why q → ReadByJobs uid gid file size at p t u → EndedWith uid gid file size q t u (Err why)
-  none_came Is uid gid file size at count p q why t u below same grows (inl memory) so_far =
-      subst (λ (e : ClientEnd). EndedWith uid gid file size q t u (Err e)) (sym memory) (memory_out uid gid file size at q t u (read_same Is uid gid file size at p q t u grows so_far))
-  none_came Is uid gid file size at count p q why t u below same grows (inr (cause, (is, lacks))) so_far = (
-    record {
-      outcomes = so_far.outcomes;
-      made = exchanges_grow Is uid gid file p q [] so_far.outcomes grows so_far.made;
-      ends = inr (
-        read_call uid gid file at count,
-        cause,
-        (
-          follows uid gid file size at so_far.bytes so_far.outcomes below so_far.state ∙ ap (λ (n : ℕ). Calls (read_call uid gid file at n)) (sym same),
-          (ap (λ (e : ClientEnd). Err e) is, (lacks, inl (takes_bytes so_far.outcomes (SizeKnown size at so_far.bytes) t u so_far.state so_far.appends))),
-        ),
-      );
-    },
-    so_far.has_size,
-  )
+  pub none_came : (uid gid : ℕ) (file : List ℕ) (first : Outcome) (size at count : ℕ) (p q : Pass (RequesterWithSink O C) Entry) (why : ClientEnd) (t u : Option (List ℕ)) → at < size → count ≡ piece_left size at → Grows p q
+      → HasNone (read_call uid gid file at count) why q → ReadByJobs uid gid file first size at p t u → ReadsByJobs uid gid file first (seen_by q) (mine_of q) t u (Err why)
+  none_came uid gid file first size at count p q why t u below same grows (inl memory) so_far =
+      subst (λ (e : ClientEnd). ReadsByJobs uid gid file first (seen_by q) (mine_of q) t u (Err e)) (sym memory) (memory_out uid gid file first size at q t u (read_same uid gid file first size at p q t u grows so_far))
+  none_came uid gid file first size at count p q why t u below same grows (inr (cause, (is, lacks))) so_far = record {
+    outcomes = so_far.outcomes;
+    made = exchanges_grow uid gid file p q (first ∷ []) so_far.outcomes grows so_far.made;
+    ends = inr (
+      read_call uid gid file at count,
+      cause,
+      (
+        follows uid gid file size at so_far.bytes (first ∷ so_far.outcomes) below so_far.state ∙ ap (λ (n : ℕ). Calls (read_call uid gid file at n)) (sym same),
+        (ap (λ (e : ClientEnd). Err e) is, (lacks, inl (takes_bytes (first ∷ so_far.outcomes) (SizeKnown size at so_far.bytes) t u so_far.state so_far.appends))),
+      ),
+    );
+  }
 
   -- its reply has no data, or some of these were not written
-  pub data_fails : (Is : Call → Type 0) (uid gid : ℕ) (file : List ℕ) (size at count : ℕ) (p q : Pass (RequesterWithSink O C) Entry) (outcome : Outcome) (why : ClientEnd) (t u v : Option (List ℕ)) → at < size → count ≡ piece_left size at → Grows Is p q
-      → IsExchange (seen_by q) (mine_of q) (read_call uid gid file at count) outcome → GivesNone count outcome why u v → ReadByJobs uid gid file size at p t u → EndedWith uid gid file size q t v (Err why)
-  data_fails Is uid gid file size at count p q outcome why t u v below same grows made gives so_far = (
-    record {
-      outcomes = so_far.outcomes ++ outcome ∷ [];
-      made = exchanged_more Is uid gid file size at count p q outcome t u below same grows made so_far;
-      ends = inl (at_reply uid gid file size at count so_far.bytes so_far.outcomes outcome why t u v same so_far.state so_far.appends gives);
-    },
-    size_more so_far.outcomes (outcome ∷ []) size so_far.has_size,
-  )
-
-  -- ---- GETATTR, and all of it
-
-  -- the size is known
-  pub started : (uid gid : ℕ) (file : List ℕ) (p : Pass (RequesterWithSink O C) Entry) (outcome : Outcome) (attributes : Attributes) (taken : Option (List ℕ)) → IsExchange (seen_by p) (mine_of p) (getattr_call uid gid file) outcome
-      → getattr_result outcome ≡ Ok attributes → ReadByJobs uid gid file attributes.size 0 p taken taken
-  started uid gid file p outcome attributes taken made reads = record {
-    outcomes = outcome ∷ [];
-    bytes = [];
-    made = ((getattr_call uid gid file, refl, made), tt);
-    state = ap with_size reads;
-    appends = Appends-nil taken;
-    has_size = (attributes, (reads, refl));
+  pub data_fails : (uid gid : ℕ) (file : List ℕ) (first : Outcome) (size at count : ℕ) (p q : Pass (RequesterWithSink O C) Entry) (outcome : Outcome) (why : ClientEnd) (t u v : Option (List ℕ)) → at < size → count ≡ piece_left size at → Grows p q
+      → IsExchange (seen_by q) (mine_of q) (read_call uid gid file at count) outcome → GivesNone count outcome why u v → ReadByJobs uid gid file first size at p t u → ReadsByJobs uid gid file first (seen_by q) (mine_of q) t v (Err why)
+  data_fails uid gid file first size at count p q outcome why t u v below same grows made gives so_far = record {
+    outcomes = so_far.outcomes ++ outcome ∷ [];
+    made = exchanged_more uid gid file first size at count p q outcome t u below same grows made so_far;
+    ends = inl (at_reply uid gid file size at count so_far.bytes (first ∷ so_far.outcomes) outcome why t u v same so_far.state so_far.appends gives);
   }
-
-  -- its reply has no attributes
-  pub not_told : (uid gid : ℕ) (file : List ℕ) (p : Pass (RequesterWithSink O C) Entry) (outcome : Outcome) (why : ClientEnd) (taken : Option (List ℕ)) → IsExchange (seen_by p) (mine_of p) (getattr_call uid gid file) outcome
-      → Gives {A = Attributes} (Err why) (getattr_result outcome) → EndedByJobs uid gid file p taken taken (Err why)
-  not_told uid gid file p outcome why taken made gives = record {
-    outcomes = outcome ∷ [];
-    made = ((getattr_call uid gid file, refl, made), tt);
-    ends = inl (by (end_of_reply {A = Attributes} (Unit {0}) why (getattr_result outcome) gives));
-  }
-    where
-      took : Appends taken taken (bytes_read (outcome ∷ []))
-      took = subst (λ (l : List ℕ). Appends taken taken l) (sym (none_first (getattr_result outcome))) (Appends-nil taken)
-
-      by : (why ≡ client.Memory) ⊎ ((getattr_result outcome ≡ Err why) × Gives {A = Unit {0}} (Err why) (Err why)) → EndsAtReply uid gid file (outcome ∷ []) taken taken (Err why)
-      by (inl memory) = inl (inl (ap (λ (e : ClientEnd). Err e) memory), inl took)
-      by (inr (reads, same)) = inl (inr (ap (λ (r : Result Attributes ClientEnd). next_read uid gid file (with_size r)) reads), inl took)
-
-  -- it has no outcome
-  pub not_asked : (uid gid : ℕ) (file : List ℕ) (p : Pass (RequesterWithSink O C) Entry) (why : ClientEnd) (taken : Option (List ℕ)) → HasNone (getattr_call uid gid file) why p → EndedByJobs uid gid file p taken taken (Err why)
-  not_asked uid gid file p why taken (inl memory) = record { outcomes = []; made = tt; ends = inl (inl (inl (ap (λ (e : ClientEnd). Err e) memory), inl (Appends-nil taken))) }
-  not_asked uid gid file p why taken (inr (cause, (is, lacks))) = record {
-    outcomes = [];
-    made = tt;
-    ends = inr (getattr_call uid gid file, cause, (refl, (ap (λ (e : ClientEnd). Err e) is, (lacks, inl (Appends-nil taken)))));
-  }
-
-  pub own_reads : (Is : Call → Type 0) (p q : Pass (RequesterWithSink O C) Entry) → mine_of p ≡ [] → Grows Is p q → (k : ℕ) (e : Entry) → IsIn k (mine_of q) → get_elem? (seen_by q) k ≡ some e → Submits Is e
-  own_reads Is p q none grows k e i at = ⊎_elim
-      (λ (old : IsIn k (mine_of p)). absurd (some-ne-none k (sym (subst (IsIn k) none old).1)))
-      (λ (new : Submits Is e). new)
-      (grows.own k e i at)
-
-  -- GETATTR alone was asked for
-  pub asked_only : (uid gid : ℕ) (file : List ℕ) (p q : Pass (RequesterWithSink O C) Entry) (taken taken' : Option (List ℕ)) (given : Result (Unit {0}) ClientEnd) → mine_of p ≡ [] → Grows (λ (c : Call). c ≡ getattr_call uid gid file) p q
-      → EndedByJobs uid gid file q taken taken' given → ReadsByJobs uid gid file (seen_by q) (mine_of q) taken taken' given
-  asked_only uid gid file p q taken taken' given none grows ended = record {
-    outcomes = ended.outcomes;
-    made = ended.made;
-    own = own_reads (IsOfRead uid gid file ended.outcomes) p q none (grows_as (IsOfRead uid gid file ended.outcomes) (getattr_call uid gid file) p q (inl refl) grows);
-    ends = ended.ends;
-  }
-
-  -- GETATTR, and then READs
-  pub all_reads : (uid gid : ℕ) (file : List ℕ) (size : ℕ) (p q r : Pass (RequesterWithSink O C) Entry) (taken taken' : Option (List ℕ)) (given : Result (Unit {0}) ClientEnd) → mine_of p ≡ [] → Lies (seen_by q) (mine_of q)
-      → Grows (λ (c : Call). c ≡ getattr_call uid gid file) p q → Grows (IsPiece uid gid file size) q r
-      → EndedWith uid gid file size r taken taken' given → ReadsByJobs uid gid file (seen_by r) (mine_of r) taken taken' given
-  all_reads uid gid file size p q r taken taken' given none lies first grows (ended, has_size) = record {
-    outcomes = ended.outcomes;
-    made = ended.made;
-    own = own_reads Is p r none (grows_then Is p q r lies (grows_as Is (getattr_call uid gid file) p q (inl refl) first) (grows_more (IsPiece uid gid file size) Is q r (λ c piece. inr (size, (has_size, piece))) grows));
-    ends = ended.ends;
-  }
-    where
-      Is : Call → Type 0
-      Is = IsOfRead uid gid file ended.outcomes
 
 -- ---- Jobs that have run
 
--- The jobs were lent as a slice, had no places before, and each has run: a caller can take their passes back.
-pub all_done : {I O C : Type 0} (s : SharedRequester I O C) (uid gid : ℕ) (file : List ℕ) (size len : ℕ) (old new rest : List (ReadJob I O C)) → length new ≡ length old → length old ≡ len → All (λ (j : ReadJob I O C). mine_of j.pass.main ≡ []) old
-    → ((k : ℕ) (d : ReadJob I O C) → k < length old → HasRun s uid gid file size (slice_index_or old k d) (slice_index_or new k d)) → All (IsDone s uid gid file size) (take len (new ++ rest))
-all_done {I} {O} {C} s uid gid file size len old new rest same lent none run =
-    subst (All (IsDone s uid gid file size)) (sym (all_lent len new rest (same ∙ lent))) done
-  where
-    done : All (IsDone s uid gid file size) new
-    done k d lt =
-        let first : k < length old = subst (λ (n : ℕ). k < n) same lt in
-        let r = run k d first in
-        (r.0, (own_reads (IsPiece uid gid file size) (slice_index_or old k d).pass.main (slice_index_or new k d).pass.main (none k d first) r.1.1.0, r.1.1.1))
+-- The jobs were lent as a slice, and each has run: a caller can take their passes back.
+pub all_done : {I O C : Type 0} (s : SharedRequester I O C) (uid gid : ℕ) (file : List ℕ) (size len : ℕ) (old new rest : List (ReadJob I O C)) → length new ≡ length old → length old ≡ len
+    → ((k : ℕ) (d : ReadJob I O C) → k < length old → IsDone s uid gid file size (slice_index_or new k d)) → All (IsDone s uid gid file size) (take len (new ++ rest))
+all_done s uid gid file size len old new rest same lent run =
+    subst (All (IsDone s uid gid file size)) (sym (all_lent len new rest (same ∙ lent))) (λ k d lt. run k d (subst (λ (n : ℕ). k < n) same lt))
 
 -- ---- Shared and taken back
+
+-- GETATTR over the link gave the attributes
+pub gets : (uid gid : ℕ) (file : List ℕ) (l m : LinkAt) (attributes : Attributes) → Asks getattr_result (getattr_call uid gid file) (bytes_at l) (bytes_at m) l.requester m.requester (Ok attributes)
+    → m.source.faults ≡ l.source.faults → m.sink.faults ≡ l.sink.faults → (outcome : Outcome) × GetsAttributes uid gid file outcome attributes l m
+gets uid gid file l m attributes (inl (outcome, (answered, reads))) source sink = (outcome, record { answers = answered; gives = reads; source_count = source; sink_count = sink })
+gets uid gid file l m attributes (inr (inl (end, (is, rest)))) source sink = absurd (cc)
+gets uid gid file l m attributes (inr (inr (is, rest))) source sink = absurd (cc)
+
+module _ {I O : Type 0} (left given : I → Option (List ℕ)) (source_faults : I → ℕ) (taken : O → Option (List ℕ)) (sink_faults : O → ℕ) where
+  -- what is known of a link
+  abbrev pub known : LinkParts I O → LinkAt
+  known l = link_at l.requester (source_at (left l.source) (given l.source) (source_faults l.source)) (sink_at (taken l.sink) (sink_faults l.sink)) l.read
+
+  pub no_attributes : (uid gid : ℕ) (file : List ℕ) (l m : LinkParts I O) (end : ClientEnd) (source : I) (sink : O) (out : Option (List ℕ))
+      → Asks getattr_result (getattr_call uid gid file) (bytes_at (known l)) (bytes_at (known m)) l.requester m.requester (Err end)
+      → SourceFaults {A = Attributes} (Err end) (source_faults l.source) (source_faults m.source) → SinkFaults {A = Attributes} (Err end) (sink_faults l.sink) (sink_faults m.sink)
+      → source ≡ m.source → sink ≡ m.sink
+      → ReadsFileByJobs uid gid file (known l) (source_at (left source) (given source) (source_faults source)) (sink_at (taken sink) (sink_faults sink)) out out (Err end)
+  no_attributes uid gid file l m end source sink out asks sources sinks same_source same_sink =
+      NoAttributes (known m) end (record { asks = asks; source_count = sources; sink_count = sinks }) refl
+      (ap (λ (x : I). source_at (left x) (given x) (source_faults x)) same_source, ap (λ (x : O). sink_at (taken x) (sink_faults x)) same_sink) refl
+
+  pub out_of_memory : (uid gid : ℕ) (file : List ℕ) (l m : LinkParts I O) (attributes : Attributes) (r : RequesterSide) (source : I) (sink : O) (out : Option (List ℕ))
+      → Asks getattr_result (getattr_call uid gid file) (bytes_at (known l)) (bytes_at (known m)) l.requester m.requester (Ok attributes)
+      → source_faults m.source ≡ source_faults l.source → sink_faults m.sink ≡ sink_faults l.sink
+      → r ≡ m.requester → source ≡ m.source → sink ≡ m.sink → r.state.side.ended ≡ Some ends.Memory
+      → ReadsFileByJobs uid gid file (known l) (source_at (left source) (given source) (source_faults source)) (sink_at (taken sink) (sink_faults sink)) out out (Err (client.Link (calls.Ended ends.Memory)))
+  out_of_memory uid gid file l m attributes r source sink out asks sources sinks same_requester same_source same_sink ended =
+      let (outcome, got) = gets uid gid file (known l) (known m) attributes asks sources sinks in
+      OutOfMemory (known m) outcome attributes got (subst (λ (x : RequesterSide). x.state.side.ended ≡ Some ends.Memory) same_requester ended) refl
+      (ap (λ (x : I). source_at (left x) (given x) (source_faults x)) same_source, ap (λ (x : O). sink_at (taken x) (sink_faults x)) same_sink) refl
+
+  pub shared_after : (uid gid : ℕ) (file : List ℕ) (l m : LinkParts I O) (attributes : Attributes) (r : RequesterSide) (source : I) (sink : O) (read : ℕ) (source' : SourceAt) (sink' : SinkAt) (t t' : Option (List ℕ)) (result : Result (Unit {0}) ClientEnd)
+      → Asks getattr_result (getattr_call uid gid file) (bytes_at (known l)) (bytes_at (known m)) l.requester m.requester (Ok attributes)
+      → source_faults m.source ≡ source_faults l.source → sink_faults m.sink ≡ sink_faults l.sink
+      → r ≡ m.requester → source ≡ m.source → sink ≡ m.sink → read ≡ m.read
+      → ((first : Outcome) → file_read (first ∷ []) ≡ SizeKnown attributes.size 0 []
+      → ReadsShared uid gid file first attributes.size (link_at r (source_at (left source) (given source) (source_faults source)) (sink_at (taken sink) (sink_faults sink)) read) source' sink' t t' result)
+      → ReadsFileByJobs uid gid file (known l) source' sink' t t' result
+  shared_after uid gid file l m attributes r source sink read source' sink' t t' result asks sources sinks same_requester same_source same_sink same_read reads =
+      let (outcome, got) = gets uid gid file (known l) (known m) attributes asks sources sinks in
+      let is : link_at r (source_at (left source) (given source) (source_faults source)) (sink_at (taken sink) (sink_faults sink)) read ≡ known m =
+      λ i. link_at (same_requester i) (source_at (left (same_source i)) (given (same_source i)) (source_faults (same_source i))) (sink_at (taken (same_sink i)) (sink_faults (same_sink i))) (same_read i) in
+      Shared (known m) outcome attributes got (subst (λ (k : LinkAt). ReadsShared uid gid file outcome attributes.size k source' sink' t t' result) is (reads outcome (ap with_size got.gives)))
 
 -- what was handed in first
 pub initial_first : (c : InitialState) (e : Entry) → entries.Initial c ≡ e → initial_of (e ∷ []) ≡ Some c
@@ -253,12 +208,41 @@ initial_on c e xs ys is one begins =
     ap (λ (l : List Entry). initial_of l) begins.1 ∙ initial_more xs begins.0 c (ap (λ (l : List Entry). initial_of l) one ∙ initial_first c e is)
 
 -- nothing was read, since memory ran out
-pub none_read : (uid gid : ℕ) (file : List ℕ) (seen : List Entry) (taken : Option (List ℕ)) → ReadsByJobs uid gid file seen [] taken taken (Err client.Memory)
-none_read uid gid file seen taken = record {
+pub none_read : (uid gid : ℕ) (file : List ℕ) (first : Outcome) (size : ℕ) (seen : List Entry) (taken : Option (List ℕ)) → file_read (first ∷ []) ≡ SizeKnown size 0 []
+    → ReadsByJobs uid gid file first seen [] taken taken (Err client.Memory)
+none_read uid gid file first size seen taken told = record {
   outcomes = [];
   made = tt;
-  own = λ k e i at. absurd (some-ne-none k (sym i.1));
-  ends = inl (inl (inl refl, inl (Appends-nil taken)));
+  ends = inl (inl (inl refl, inl (takes_bytes (first ∷ []) (SizeKnown size 0 []) taken taken told (Appends-nil taken))));
+}
+
+-- what was given back, by what is known of its source and its sink
+pub back_known : {I O : Type 0} (left given : I → Option (List ℕ)) (source_faults : I → ℕ) (taken : O → Option (List ℕ)) (sink_faults : O → ℕ) (allows : Call → Form → Type 0) (seen : List Entry) (mine : List ℕ) (first : I) (read : ℕ) (r : RequesterSide) (source : I) (sink : O)
+    → GivesBack left given source_faults taken sink_faults allows seen mine first read r source sink
+    → GivesBack {I = SourceAt} {O = SinkAt} (λ x. x.left) (λ x. x.given) (λ x. x.faults) (λ x. x.taken) (λ x. x.faults) allows seen mine (source_at (left first) (given first) (source_faults first)) read r
+    (source_at (left source) (given source) (source_faults source)) (sink_at (taken sink) (sink_faults sink))
+back_known left given source_faults taken sink_faults allows seen mine first read r source sink b = record {
+  history = b.history;
+  begins = b.begins;
+  lies = b.lies;
+  stays_open = b.stays_open;
+  earlier = b.earlier;
+  initial = b.initial;
+  is_initial = b.is_initial;
+  represents = b.represents;
+  calls = b.calls;
+  took = b.took;
+  sink_count = b.sink_count;
+  sink_failed = b.sink_failed;
+  in_order = b.in_order;
+  allowed = b.allowed;
+  closes_calls = b.closes_calls;
+  output = b.output;
+  fed = b.fed;
+  gave = b.gave;
+  read = b.read;
+  source_count = b.source_count;
+  stop = b.stop;
 }
 
 -- a list of one that is another list of one

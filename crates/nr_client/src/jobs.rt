@@ -1,32 +1,33 @@
 //! A file is read by several jobs, each in a thread of its own.
 
-ghost use Rattle.std.specs.Prelude.{◌≡◌, ◌≢◌, ◌<◌, ◌≤◌, ℕ, [], Some, None, Err, List, length, All, slice_index_or, IfOk, IfErr, OnOk};
+ghost use Rattle.std.specs.Prelude.{◌≡◌, ◌≢◌, ◌<◌, ◌≤◌, ℕ, [], ◌∷◌, Some, None, Err, List, length, All, slice_index_or, IfOk, IfErr, OnOk};
+ghost use Rattle.nr_outside.specs.Streams.{sink_at, source_at};
+ghost use Rattle.nr_link.specs.declared.end.End.TheVariants as ends;
+ghost use Rattle.nr_links.specs.Limits.{read_max};
 ghost use Rattle.nr_reduce.specs.declared.call.Call.{Call};
 ghost use Rattle.nr_reduce.specs.declared.call.Form.{Form};
+ghost use Rattle.nr_reduce.specs.declared.call.Outcome.{Outcome};
+ghost use Rattle.nr_requester.specs.Fed.{fed_bytes};
 ghost use Rattle.nr_turnstile.specs.Passes.{mine_of, seen_by};
-ghost use Rattle.nr_turnstile.specs.Rule.{Begins};
 ghost use Rattle.nr_shared.specs.declared.entry.Entry.{Entry};
 ghost use Rattle.nr_shared.specs.declared.entry.Entry.TheVariants as entries;
 ghost use Rattle.nr_shared.specs.declared.source_reader.InitialSource.{InitialSource};
 ghost use Rattle.nr_shared.specs.Sharing.{SharedRests};
-ghost use Rattle.nr_client.specs.Jobs.{FileCalls, IsPiece, ReadsByJobs, ReadsShared, jobs_max};
-ghost use Rattle.nr_client.specs.Reading.{OutputFaults, piece_left};
-ghost use Rattle.nr_requester.specs.Fed.{fed_bytes};
 ghost use Rattle.nr_shared.specs.Standing.{bytes_before};
-ghost use Rattle.nr_link.specs.declared.end.End.TheVariants as ends;
-ghost use Rattle.nr_client.specs.private.JobReads.{AreFetched, EndsMore, Grows, HasRun, IsDone, IsFetched, IsNewJob, IsReady, IsRuleOf, ReadsMore};
+ghost use Rattle.nr_client.specs.Jobs.{FileReads, ReadsShared, jobs_max, link_at};
+ghost use Rattle.nr_client.specs.Reading.{OutputFaults, file_read, piece_left};
+ghost use Rattle.nr_client.specs.Reading.FileRead.{SizeKnown};
+ghost use Rattle.nr_client.specs.private.JobReads.{AreFetched, EndsMore, Grows, IsDone, IsFetched, IsReady, IsRuleOf, ReadsMore};
 
 use crate::client_end::ClientEnd;
 use crate::file_calls::read_call;
+use crate::link::LinkEnds;
 use crate::read_data::piece_left;
-use crate::requests::getattr_call;
-use crate::results::nfs_results;
 use crate::shared_calls::{outcome_of, share};
 use crate::written_pieces::write_piece;
-use nr_nfs_base::{Attributes, Handle, TRANSFER_MAX};
+use nr_nfs_base::{Handle, TRANSFER_MAX};
 use nr_outside::{Sink, Source};
 use nr_reduce::Outcome;
-use nr_requester::Requester;
 use nr_shared::{Appended, CallRule, Pass, SharedRequester};
 use std::alloc::{AllocError, Global};
 use std::sync::Wait;
@@ -35,6 +36,17 @@ use std::thread::Threads;
 
 /// The most pieces that a job reads in one round. What is held ahead of the output is at most so many pieces of each job.
 const PIECES_AHEAD: usize = 4;
+
+/// A file that is read: by which user and group, its handle, its size in bytes, and by how many jobs, 1 to 16.
+#[derive(Drop)]
+pub(crate) struct FileToRead<'a> {
+    pub(crate) alloc: Global,
+    pub(crate) uid: u32,
+    pub(crate) gid: u32,
+    pub(crate) handle: &'a Handle,
+    pub(crate) size: u64,
+    pub(crate) jobs: usize,
+}
 
 /// A piece of a file that a job has read: where it begins, and the outcome of its READ.
 #[derive(Drop)]
@@ -54,17 +66,13 @@ struct ReadJob<I: Source, O: Sink, C: CallRule> {
 /// Reads the pieces of a job, one after another, up to one that gets no answer.
 fn fetch<R: Wait, I: Source, O: Sink, C: CallRule>(
     rt: &R,
-    alloc: Global,
     shared: &SharedRequester<I, O, C>,
-    uid: u32,
-    gid: u32,
-    file: &Handle,
-    size: u64,
+    file: &FileToRead<'_>,
     job: &mut ReadJob<I, O, C>,
 )
-    requires rule { IsRuleOf C.allows uid gid file.now }
-    requires ready { IsReady shared.now uid gid file.now size job.old }
-    ensures { HasRun shared.now uid gid file.now size job.old job.new }
+    requires rule { IsRuleOf C.allows file.now.uid file.now.gid file.now.handle.now file.now.size }
+    requires ready { IsReady shared.now file.now.uid file.now.gid file.now.handle.now file.now.size job.old }
+    ensures { IsDone shared.now file.now.uid file.now.gid file.now.handle.now file.now.size job.new }
 {
     let mut next = 0;
     'pieces: while next < job.offsets.len() {
@@ -73,7 +81,14 @@ fn fetch<R: Wait, I: Source, O: Sink, C: CallRule>(
             rt,
             shared,
             &mut job.pass,
-            read_call(alloc, uid, gid, file, at, piece_left(size, at)),
+            read_call(
+                file.alloc,
+                file.uid,
+                file.gid,
+                file.handle,
+                at,
+                piece_left(file.size, at),
+            ),
         ) {
             Ok(outcome) => outcome,
             Err(_) => return,
@@ -89,26 +104,21 @@ fn fetch<R: Wait, I: Source, O: Sink, C: CallRule>(
 /// Each job reads its pieces, in a thread of its own if there is one.
 fn fetch_all<R: Threads + Wait + Sync, I: Source + Send, O: Sink + Send, C: CallRule + Send>(
     rt: &R,
-    alloc: Global,
     shared: &SharedRequester<I, O, C>,
-    uid: u32,
-    gid: u32,
-    file: &Handle,
-    size: u64,
-    threads: usize,
+    file: &FileToRead<'_>,
     made: &mut [ReadJob<I, O, C>],
 )
-    requires rule { IsRuleOf C.allows uid gid file.now }
-    requires threads { 0 < threads }
-    requires ready { All (IsReady shared.now uid gid file.now size) made.old }
+    requires rule { IsRuleOf C.allows file.now.uid file.now.gid file.now.handle.now file.now.size }
+    requires threads { 0 < file.now.jobs }
+    requires ready { All (IsReady shared.now file.now.uid file.now.gid file.now.handle.now file.now.size) made.old }
     ensures len { length made.new ≡ length made.old }
-    ensures each { (i : ℕ) (d : _) → i < length made.old → HasRun shared.now uid gid file.now size (slice_index_or made.old i d) (slice_index_or made.new i d) }
+    ensures each { (i : ℕ) (d : _) → i < length made.old → IsDone shared.now file.now.uid file.now.gid file.now.handle.now file.now.size (slice_index_or made.new i d) }
 {
     let run = |_: usize, job: &mut ReadJob<I, O, C>|
-        requires { IsReady shared.now uid gid file.now size job.now × IsRuleOf C.allows uid gid file.now }
-        ensures { HasRun shared.entry.now uid gid file.entry.now size job.entry.now job.exit.now }
-    { fetch(rt, alloc, shared, uid, gid, file, size, job) };
-    thread::for_each_mut(rt, made, threads, &run);
+        requires { IsReady shared.now file.now.uid file.now.gid file.now.handle.now file.now.size job.now × IsRuleOf C.allows file.now.uid file.now.gid file.now.handle.now file.now.size }
+        ensures { IsDone shared.entry.now file.entry.now.uid file.entry.now.gid file.entry.now.handle.now file.entry.now.size job.exit.now }
+    { fetch(rt, shared, file, job) };
+    thread::for_each_mut(rt, made, file.jobs, &run);
 }
 
 /// Where the pieces of one job begin: every `step` bytes from an offset on, at most so many, before the size.
@@ -139,7 +149,7 @@ fn make_job<I: Source, O: Sink, C: CallRule>(
     ensures rests { SharedRests shared.now pass.new }
     ensures source { seen_by pass.new.source ≡ seen_by pass.old.source }
     ensures unchanged { (seen_by pass.new.main ≡ seen_by pass.old.main) × (mine_of pass.new.main ≡ mine_of pass.old.main) }
-    ensures ok { IfOk result (λ j. (uid gid : ℕ) (file : List ℕ) → IsNewJob shared.now uid gid file size (seen_by pass.old.source) j) }
+    ensures ok { IfOk result (λ j. (uid gid : ℕ) (file : List ℕ) → IsReady shared.now uid gid file size j) }
 {
     let offsets = offsets_from(alloc, size, from, step)?;
     let fetched = Vec::with_capacity(alloc, PIECES_AHEAD)?;
@@ -150,27 +160,25 @@ fn make_job<I: Source, O: Sink, C: CallRule>(
     })
 }
 
-/// The jobs of one round. Pieces go to jobs in turn.
+/// The jobs of one round, whose pieces begin at this offset. Pieces go to jobs in turn.
 fn make_jobs<I: Source, O: Sink, C: CallRule>(
-    alloc: Global,
     shared: &SharedRequester<I, O, C>,
     pass: &mut Pass<I, O, C>,
-    jobs: usize,
-    size: u64,
+    file: &FileToRead<'_>,
     from: u64,
 ) -> Result<Vec<ReadJob<I, O, C>>, AllocError>
     requires rests { SharedRests shared.now pass.old }
     ensures rests { SharedRests shared.now pass.new }
     ensures source { seen_by pass.new.source ≡ seen_by pass.old.source }
     ensures unchanged { (seen_by pass.new.main ≡ seen_by pass.old.main) × (mine_of pass.new.main ≡ mine_of pass.old.main) }
-    ensures ok { IfOk result (λ v. (uid gid : ℕ) (file : List ℕ) → All (IsNewJob shared.now uid gid file size (seen_by pass.old.source)) v.items) }
+    ensures ok { IfOk result (λ v. All (IsReady shared.now file.now.uid file.now.gid file.now.handle.now file.now.size) v.items) }
 {
-    let mut made = Vec::with_capacity(alloc, jobs)?;
+    let mut made = Vec::with_capacity(file.alloc, file.jobs)?;
     let piece = TRANSFER_MAX as u64;
-    let step = (jobs as u64).saturating_mul(piece);
+    let step = (file.jobs as u64).saturating_mul(piece);
     let mut at = from;
-    'jobs: while made.len() < jobs {
-        let job = make_job(alloc, shared, pass, size, at, step)?;
+    'jobs: while made.len() < file.jobs {
+        let job = make_job(file.alloc, shared, pass, file.size, at, step)?;
         made.push(job)?;
         at = at.saturating_add(piece);
     }
@@ -188,7 +196,7 @@ fn join_jobs<I: Source, O: Sink, C: CallRule>(
     requires jobs { All (λ j. SharedRests shared.now j.pass) made.items }
     ensures rests { SharedRests shared.now pass.new }
     ensures source { seen_by pass.new.source ≡ seen_by pass.old.source }
-    ensures grows { (uid gid size : ℕ) (file : List ℕ) → All (IsDone shared.now uid gid file size) made.items → Grows (IsPiece uid gid file size) pass.old.main pass.new.main }
+    ensures grows { Grows pass.old.main pass.new.main }
     ensures ok { IfOk result (λ lists. (uid gid size : ℕ) (file : List ℕ) → All (IsDone shared.now uid gid file size) made.items
         → All (λ list. AreFetched uid gid file size (seen_by pass.new.main) (mine_of pass.new.main) list.items) lists.items) }
 {
@@ -238,37 +246,22 @@ fn take_next(lists: &mut Vec<Vec<PieceRead>>, at: u64) -> Result<Option<Outcome>
 /// The pieces of one round, read by jobs.
 fn fetch_round<R: Threads + Wait + Sync, I: Source + Send, O: Sink + Send, C: CallRule + Send>(
     rt: &R,
-    alloc: Global,
     shared: &SharedRequester<I, O, C>,
     pass: &mut Pass<I, O, C>,
-    uid: u32,
-    gid: u32,
-    file: &Handle,
-    jobs: usize,
-    size: u64,
+    file: &FileToRead<'_>,
     from: u64,
 ) -> Result<Vec<Vec<PieceRead>>, AllocError>
-    requires rule { IsRuleOf C.allows uid gid file.now }
-    requires jobs { 0 < jobs }
+    requires rule { IsRuleOf C.allows file.now.uid file.now.gid file.now.handle.now file.now.size }
+    requires jobs { 0 < file.now.jobs }
     requires rests { SharedRests shared.now pass.old }
     ensures rests { SharedRests shared.now pass.new }
     ensures source { seen_by pass.new.source ≡ seen_by pass.old.source }
-    ensures grows { Grows (IsPiece uid gid file.now size) pass.old.main pass.new.main }
-    ensures ok { IfOk result (λ lists. All (λ list. AreFetched uid gid file.now size (seen_by pass.new.main) (mine_of pass.new.main) list.items) lists.items) }
+    ensures grows { Grows pass.old.main pass.new.main }
+    ensures ok { IfOk result (λ lists. All (λ list. AreFetched file.now.uid file.now.gid file.now.handle.now file.now.size (seen_by pass.new.main) (mine_of pass.new.main) list.items) lists.items) }
 {
-    let mut made = make_jobs(alloc, shared, pass, jobs, size, from)?;
-    fetch_all(
-        rt,
-        alloc,
-        shared,
-        uid,
-        gid,
-        file,
-        size,
-        jobs,
-        made.as_mut_slice(),
-    );
-    join_jobs(alloc, shared, pass, made)
+    let mut made = make_jobs(shared, pass, file, from)?;
+    fetch_all(rt, shared, file, made.as_mut_slice());
+    join_jobs(file.alloc, shared, pass, made)
 }
 
 /// Reads the pieces of one round by jobs, and writes them in order of offset.
@@ -280,42 +273,35 @@ fn read_round<
     K: Sink,
 >(
     rt: &R,
-    alloc: Global,
     shared: &SharedRequester<I, O, C>,
     pass: &mut Pass<I, O, C>,
-    uid: u32,
-    gid: u32,
-    file: &Handle,
-    jobs: usize,
-    size: u64,
+    file: &FileToRead<'_>,
     at: &mut u64,
     out: &mut K,
 ) -> Result<(), ClientEnd>
-    requires rule { IsRuleOf C.allows uid gid file.now }
-    requires jobs { (0 < jobs) × (jobs ≤ jobs_max) }
-    requires below { at.old < size }
+    requires rule { IsRuleOf C.allows file.now.uid file.now.gid file.now.handle.now file.now.size }
+    requires jobs { (0 < file.now.jobs) × (file.now.jobs ≤ jobs_max) }
+    requires below { at.old < file.now.size }
     requires rests { SharedRests shared.now pass.old }
     ensures rests { SharedRests shared.now pass.new }
     ensures source { seen_by pass.new.source ≡ seen_by pass.old.source }
-    ensures grows { Grows (IsPiece uid gid file.now size) pass.old.main pass.new.main }
+    ensures grows { Grows pass.old.main pass.new.main }
     ensures more { OnOk result (at.old < at.new) }
-    ensures ok { OnOk result (ReadsMore uid gid file.now size at.old at.new pass.old.main pass.new.main (K.taken out.old) (K.taken out.new)) }
-    ensures err { IfErr result (λ why. EndsMore uid gid file.now size at.old pass.old.main pass.new.main (K.taken out.old) (K.taken out.new) (Err why)) }
+    ensures ok { OnOk result (ReadsMore file.now.uid file.now.gid file.now.handle.now file.now.size at.old at.new pass.old.main pass.new.main (K.taken out.old) (K.taken out.new)) }
+    ensures err { IfErr result (λ why. EndsMore file.now.uid file.now.gid file.now.handle.now file.now.size at.old pass.old.main pass.new.main (K.taken out.old) (K.taken out.new) (Err why)) }
     ensures out_faults { OutputFaults result (K.faults out.old) (K.faults out.new) }
 {
-    let mut lists = match fetch_round(rt, alloc, shared, pass, uid, gid, file, jobs, size, *at) {
+    let mut lists = match fetch_round(rt, shared, pass, file, *at) {
         Ok(lists) => lists,
         Err(_) => return Err(ClientEnd::Memory),
     };
-    let mut left = jobs * PIECES_AHEAD;
-    'pieces: while left > 0 && *at < size {
+    let mut left = file.jobs * PIECES_AHEAD;
+    'pieces: while left > 0 && *at < file.size {
         let outcome = match take_next(&mut lists, *at) {
             Ok(outcome) => outcome,
             Err(_) => return Err(ClientEnd::Memory),
         };
-        match write_piece(
-            rt, alloc, shared, pass, uid, gid, file, size, outcome, at, out,
-        ) {
+        match write_piece(rt, shared, pass, file, outcome, at, out) {
             Ok(()) => {}
             Err(why) => return Err(why),
         }
@@ -324,7 +310,7 @@ fn read_round<
     Ok(())
 }
 
-/// Reads all pieces of a file of this size by jobs.
+/// Reads all pieces of a file by jobs.
 fn read_rounds<
     R: Threads + Wait + Sync,
     I: Source + Send,
@@ -333,30 +319,23 @@ fn read_rounds<
     K: Sink,
 >(
     rt: &R,
-    alloc: Global,
     shared: &SharedRequester<I, O, C>,
     pass: &mut Pass<I, O, C>,
-    uid: u32,
-    gid: u32,
-    file: &Handle,
-    jobs: usize,
-    size: u64,
+    file: &FileToRead<'_>,
     out: &mut K,
 ) -> Result<(), ClientEnd>
-    requires rule { IsRuleOf C.allows uid gid file.now }
-    requires jobs { (0 < jobs) × (jobs ≤ jobs_max) }
+    requires rule { IsRuleOf C.allows file.now.uid file.now.gid file.now.handle.now file.now.size }
+    requires jobs { (0 < file.now.jobs) × (file.now.jobs ≤ jobs_max) }
     requires rests { SharedRests shared.now pass.old }
     ensures rests { SharedRests shared.now pass.new }
     ensures source { seen_by pass.new.source ≡ seen_by pass.old.source }
-    ensures grows { Grows (IsPiece uid gid file.now size) pass.old.main pass.new.main }
-    ensures ends { EndsMore uid gid file.now size 0 pass.old.main pass.new.main (K.taken out.old) (K.taken out.new) result }
+    ensures grows { Grows pass.old.main pass.new.main }
+    ensures ends { EndsMore file.now.uid file.now.gid file.now.handle.now file.now.size 0 pass.old.main pass.new.main (K.taken out.old) (K.taken out.new) result }
     ensures out_faults { OutputFaults result (K.faults out.old) (K.faults out.new) }
 {
     let mut at = 0;
-    'rounds: while at < size {
-        match read_round(
-            rt, alloc, shared, pass, uid, gid, file, jobs, size, &mut at, out,
-        ) {
+    'rounds: while at < file.size {
+        match read_round(rt, shared, pass, file, &mut at, out) {
             Ok(()) => {}
             Err(why) => return Err(why),
         }
@@ -364,57 +343,7 @@ fn read_rounds<
     Ok(())
 }
 
-/// Reads a file into an output by this many jobs, 1 to 16.
-pub(crate) fn read_by_jobs<
-    R: Threads + Wait + Sync,
-    I: Source + Send,
-    O: Sink + Send,
-    C: CallRule + Send,
-    K: Sink,
->(
-    rt: &R,
-    alloc: Global,
-    shared: &SharedRequester<I, O, C>,
-    pass: &mut Pass<I, O, C>,
-    uid: u32,
-    gid: u32,
-    file: &Handle,
-    jobs: usize,
-    out: &mut K,
-) -> Result<(), ClientEnd>
-    requires rule { IsRuleOf C.allows uid gid file.now }
-    requires jobs { (0 < jobs) × (jobs ≤ jobs_max) }
-    requires own { mine_of pass.old.main ≡ [] }
-    requires rests { SharedRests shared.now pass.old }
-    ensures rests { SharedRests shared.now pass.new }
-    ensures source { seen_by pass.new.source ≡ seen_by pass.old.source }
-    ensures seen { Begins (seen_by pass.old.main) (seen_by pass.new.main) }
-    ensures reads { ReadsByJobs uid gid file.now (seen_by pass.new.main) (mine_of pass.new.main) (K.taken out.old) (K.taken out.new) result }
-    ensures out_faults { OutputFaults result (K.faults out.old) (K.faults out.new) }
-{
-    let outcome = match outcome_of(rt, shared, pass, getattr_call(alloc, uid, gid, file)) {
-        Ok(outcome) => outcome,
-        Err(end) => return Err(end),
-    };
-    let attributes = match nfs_results::<Attributes, ()>(alloc, &outcome) {
-        Ok(attributes) => attributes,
-        Err(end) => return Err(end),
-    };
-    read_rounds(
-        rt,
-        alloc,
-        shared,
-        pass,
-        uid,
-        gid,
-        file,
-        jobs,
-        attributes.size,
-        out,
-    )
-}
-
-/// Shares a requester with its source and its sink, reads a file into an output by jobs, and gives the source and the sink back.
+/// Shares the requester of a link with its source and its sink, reads a file into an output by jobs, and gives the source and the sink back.
 pub(crate) fn read_shared<
     N: Appended,
     C: CallRule + Send,
@@ -422,38 +351,39 @@ pub(crate) fn read_shared<
     I: Source,
     O: Sink,
     K: Sink,
->(
-    rt: &R,
-    alloc: Global,
-    requester: Requester,
-    source: I,
-    sink: O,
-    uid: u32,
-    gid: u32,
-    file: &Handle,
-    jobs: usize,
-    out: &mut K,
-) -> (Result<(), ClientEnd>, I, O)
+>(rt: &R, link: LinkEnds<I, O>, file: &FileToRead<'_>, out: &mut K) -> (Result<(), ClientEnd>, I, O)
 where
     I: Drop + Send,
     O: Drop + Send,
-    requires entry { entries.Initial (record { requester = requester; faults = O.faults sink; taken = O.taken sink }) ≡ N.entry }
-    requires has_memory { requester.state.side.ended ≢ Some ends.Memory }
-    requires fed { fed_bytes requester ≤ bytes_before }
-    requires rule { IsRuleOf C.allows uid gid file.now }
-    requires only { (call : Call) (form : Form) → C.allows call form → FileCalls uid gid file.now call form }
-    requires jobs { (0 < jobs) × (jobs ≤ jobs_max) }
-    ensures reads { ReadsShared I.left I.given I.faults O.taken O.faults uid gid file.now requester source sink result.1 result.2 (K.taken out.old) (K.taken out.new) result.0 }
+    requires entry { entries.Initial (record { requester = link.requester; faults = O.faults link.sink; taken = O.taken link.sink }) ≡ N.entry }
+    requires has_memory { link.requester.state.side.ended ≢ Some ends.Memory }
+    requires fed { fed_bytes link.requester ≤ bytes_before }
+    requires within { link.read ≤ read_max }
+    requires rule { IsRuleOf C.allows file.now.uid file.now.gid file.now.handle.now file.now.size }
+    requires only { (call : Call) (form : Form) → C.allows call form → FileReads file.now.uid file.now.gid file.now.handle.now file.now.size call form }
+    requires jobs { (0 < file.now.jobs) × (file.now.jobs ≤ jobs_max) }
+    ensures reads { (first : Outcome) → file_read (first ∷ []) ≡ SizeKnown file.now.size 0 [] → ReadsShared file.now.uid file.now.gid file.now.handle.now first file.now.size
+        (link_at link.requester (source_at (I.left link.source) (I.given link.source) (I.faults link.source)) (sink_at (O.taken link.sink) (O.faults link.sink)) link.read)
+        (source_at (I.left result.1) (I.given result.1) (I.faults result.1)) (sink_at (O.taken result.2) (O.faults result.2)) (K.taken out.old) (K.taken out.new) result.0 }
     ensures out_faults { OutputFaults result.0 (K.faults out.old) (K.faults out.new) }
 {
-    let (shared, mut pass) = match share::<N, R, I, O, C>(rt, alloc, requester, source, sink) {
+    let LinkEnds {
+        requester,
+        source,
+        sink,
+        read,
+    } = link;
+    let alloc = file.alloc;
+    let (shared, mut pass) = match share::<N, R, I, O, C>(
+        rt, alloc, requester, source, sink, read,
+    ) {
         Ok(opened) => opened,
         Err((requester, source, sink)) => {
             drop(requester);
             return (Err(ClientEnd::Memory), source, sink);
         }
     };
-    let result = read_by_jobs(rt, alloc, &shared, &mut pass, uid, gid, file, jobs, out);
+    let result = read_rounds(rt, &shared, &mut pass, file, out);
     let (requester, source, sink) = shared.close(rt, pass);
     drop(requester);
     (result, source, sink)

@@ -33,6 +33,14 @@ pub struct Link<I, O> {
     buf: Vec<u8>,
 }
 
+/// What a link leaves: its requester, its source and its sink, and how many bytes were read of the source.
+pub(crate) struct LinkEnds<I, O> {
+    pub(crate) requester: Requester,
+    pub(crate) source: I,
+    pub(crate) sink: O,
+    pub(crate) read: u64,
+}
+
 impl<I, O> Model for Link<I, O> {
     ghost use Rattle.nr_client.specs.LinkParts.{LinkParts};
     ghost use Rattle.nr_client.specs.Steps.{Fits};
@@ -167,20 +175,27 @@ impl<I: Source, O: Sink> Link<I, O> {
         self.requester.outstanding() < self.requester.grant() as usize
     }
 
-    /// The requester, the source and the sink.
-    pub(crate) fn into_parts(self) -> (Requester, I, O)
-        ensures parts { (result.0 ≡ self.requester) × ((result.1 ≡ self.source) × (result.2 ≡ self.sink)) }
-        ensures fed { fed_bytes result.0 ≤ read_max }
+    /// What it leaves.
+    pub(crate) fn into_ends(self) -> LinkEnds<I, O>
+        ensures requester { result.requester ≡ self.requester }
+        ensures rest { (result.source ≡ self.source) × ((result.sink ≡ self.sink) × (result.read ≡ self.read)) }
+        ensures fed { fed_bytes result.requester ≤ read_max }
+        ensures within { result.read ≤ read_max }
     {
         let Link {
             requester,
             source,
             sink,
-            read: _read,
+            read,
             buf,
         } = self;
         drop(buf);
-        (requester, source, sink)
+        LinkEnds {
+            requester,
+            source,
+            sink,
+            read,
+        }
     }
 
     /// The source and the sink. The requester is dropped.

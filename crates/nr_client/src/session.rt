@@ -1,6 +1,7 @@
 //! A session of a client: requests of a user over one link.
 
 ghost use Rattle.std.specs.Prelude.{◌≡◌, ◌≢◌, ◌<◌, ◌≤◌, ℕ, true, false, Some, [], OnOk, IfOk, IfErr, IfSome};
+ghost use Rattle.nr_outside.specs.Streams.{sink_at, source_at};
 ghost use Rattle.nr_link.specs.declared.end.End.TheVariants as ends;
 ghost use Rattle.nr_nfs_base.specs.declared.attributes.Attributes.{Attributes};
 ghost use Rattle.nr_links.specs.Asked.{Asks as AsksFor};
@@ -11,7 +12,7 @@ ghost use Rattle.nr_reduce.specs.declared.mark.LinkParameters.{LinkParameters};
 ghost use Rattle.nr_requester.specs.AfterCalls.{opened_as};
 ghost use Rattle.nr_requester.specs.Standing.{RequesterRepresents};
 ghost use Rattle.nr_client.specs.Following.{Follows};
-ghost use Rattle.nr_client.specs.Jobs.{ReadsFileByJobs, jobs_max};
+ghost use Rattle.nr_client.specs.Jobs.{ReadsFileByJobs, jobs_max, link_at};
 ghost use Rattle.nr_client.specs.Listing.{list_next};
 ghost use Rattle.nr_client.specs.Dialing.{OpenFails, dialer_at, session_credits};
 ghost use Rattle.nr_client.specs.Requests.{Asks, SinkFaults, SourceFaults, create_result, getattr_call, getattr_result, lookup_call, lookup_result, mkdir_call, mnt_call, mnt_result, readlink_call, readlink_result, remove_call, remove_result, symlink_call};
@@ -23,9 +24,9 @@ ghost use Rattle.nr_client.specs.Walking.{parent_next, walk_next};
 use crate::asking::{ask_nfs, mount_over};
 use crate::call_end::CallEnd;
 use crate::client_end::ClientEnd;
-use crate::jobs::read_shared;
+use crate::jobs::{FileToRead, read_shared};
 use crate::limits::CREDITS;
-use crate::link::Link;
+use crate::link::{Link, LinkEnds};
 use crate::listing::list_over;
 use crate::names::Names;
 use crate::read_file::read_file_over;
@@ -369,24 +370,45 @@ impl<I: Source, O: Sink> Session<I, O> {
         I: Drop + Send,
         O: Drop + Send,
         requires { (0 < jobs) × (jobs ≤ jobs_max) }
-        ensures reads { ReadsFileByJobs I.left I.given I.faults O.taken O.faults self.uid self.gid file.now self.link.requester self.link.source self.link.sink
-            result.1 result.2 (K.taken out.old) (K.taken out.new) result.0 }
+        ensures reads { ReadsFileByJobs self.uid self.gid file.now
+            (link_at self.link.requester (source_at (I.left self.link.source) (I.given self.link.source) (I.faults self.link.source)) (sink_at (O.taken self.link.sink) (O.faults self.link.sink)) self.link.read)
+            (source_at (I.left result.1) (I.given result.1) (I.faults result.1)) (sink_at (O.taken result.2) (O.faults result.2)) (K.taken out.old) (K.taken out.new) result.0 }
         ensures out_faults { OutputFaults result.0 (K.faults out.old) (K.faults out.new) }
     {
         let Session {
             alloc,
-            link,
+            mut link,
             uid,
             gid,
         } = self;
-        let (requester, source, sink) = link.into_parts();
-        if !has_memory(&requester) {
+        let call = getattr_call(alloc, uid, gid, file);
+        let size = match ask_nfs::<I, O, Attributes, ()>(alloc, &mut link, call) {
+            Ok(attributes) => attributes.size,
+            Err(end) => {
+                let (source, sink) = link.into_link();
+                return (Err(end), source, sink);
+            }
+        };
+        let link = link.into_ends();
+        if !has_memory(&link.requester) {
+            let LinkEnds {
+                requester,
+                source,
+                sink,
+                read: _read,
+            } = link;
             drop(requester);
             let end = CallEnd::Ended(End::Memory);
             return (Err(ClientEnd::Link(end)), source, sink);
         }
-        read_shared::<Brand, Brand, R, I, O, K>(
-            rt, alloc, requester, source, sink, uid, gid, file, jobs, out,
-        )
+        let file = FileToRead {
+            alloc,
+            uid,
+            gid,
+            handle: file,
+            size,
+            jobs,
+        };
+        read_shared::<Brand, Brand, R, I, O, K>(rt, link, &file, out)
     }
 }

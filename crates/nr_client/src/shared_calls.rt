@@ -3,6 +3,7 @@
 ghost use Rattle.std.specs.Prelude.{◌≡◌, ◌≢◌, ◌≤◌, [], ◌∷◌, Some, IfOk, IfErr};
 ghost use Rattle.nr_rpc.specs.Credential.{CanWriteCred};
 ghost use Rattle.nr_link.specs.declared.end.End.TheVariants as ends;
+ghost use Rattle.nr_links.specs.Limits.{read_max};
 ghost use Rattle.nr_reduce.specs.declared.call.Call.{Call};
 ghost use Rattle.nr_reduce.specs.declared.call.Form.TheVariants as forms;
 ghost use Rattle.nr_requester.specs.Fed.{fed_bytes};
@@ -26,13 +27,14 @@ use nr_xdr::Memory;
 use std::alloc::Global;
 use std::sync::Wait;
 
-/// Hands a requester in, to be shared, with its source and its sink.
+/// Hands a requester in, to be shared, with its source, of which this many bytes were read, and its sink.
 pub(crate) fn share<K: Appended, R: Wait, I: Source, O: Sink, C: CallRule>(
     rt: &R,
     alloc: Global,
     requester: Requester,
     source: I,
     sink: O,
+    read: u64,
 ) -> Result<(SharedRequester<I, O, C>, Pass<I, O, C>), (Requester, I, O)>
 where
     I: Drop,
@@ -40,12 +42,13 @@ where
     requires entry { entries.Initial (record { requester = requester; faults = O.faults sink; taken = O.taken sink }) ≡ K.entry }
     requires has_memory { requester.state.side.ended ≢ Some ends.Memory }
     requires fed { fed_bytes requester ≤ bytes_before }
+    requires within { read ≤ read_max }
     ensures rests { IfOk result (λ t. SharedRests t.0 t.1) }
     ensures seen { IfOk result (λ t. (seen_by t.1.main ≡ K.entry ∷ []) × (mine_of t.1.main ≡ [])) }
-    ensures source { IfOk result (λ t. (b : InitialSource I O C) × ((seen_by t.1.source ≡ b ∷ []) × (b.source.value ≡ source))) }
-    ensures err { IfErr result (λ back. GivesBack I.left I.given I.faults O.taken O.faults C.allows (K.entry ∷ []) [] source back.0 back.1 back.2) }
+    ensures source { IfOk result (λ t. (b : InitialSource I O C) × ((seen_by t.1.source ≡ b ∷ []) × ((b.source.value ≡ source) × (b.read ≡ read)))) }
+    ensures err { IfErr result (λ back. GivesBack I.left I.given I.faults O.taken O.faults C.allows (K.entry ∷ []) [] source read back.0 back.1 back.2) }
 {
-    SharedRequester::new::<InitialHistory<K>, R>(rt, alloc, requester, source, sink)
+    SharedRequester::new::<InitialHistory<K>, R>(rt, alloc, requester, source, sink, read)
 }
 
 /// Makes a call, if there was memory for it. Gives its outcome.
@@ -60,7 +63,7 @@ pub(crate) fn outcome_of<R: Wait, I: Source, O: Sink, C: CallRule>(
     requires rests { SharedRests shared.now pass.old }
     ensures rests { SharedRests shared.now pass.new }
     ensures source { seen_by pass.new.source ≡ seen_by pass.old.source }
-    ensures grows { (asked : Call) → IfOk call (λ c. c ≡ asked) → Grows (λ c. c ≡ asked) pass.old.main pass.new.main }
+    ensures grows { Grows pass.old.main pass.new.main }
     ensures ok { IfOk result (λ outcome. (asked : Call) → IfOk call (λ c. c ≡ asked) → IsExchange (seen_by pass.new.main) (mine_of pass.new.main) asked outcome) }
     ensures err { IfErr result (λ end. (asked : Call) → IfOk call (λ c. c ≡ asked) → HasNone asked end pass.new.main) }
     ensures of_call { IfErr result IsOfCall }

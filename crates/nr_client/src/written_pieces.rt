@@ -3,16 +3,15 @@
 ghost use Rattle.std.specs.Prelude.{◌≡◌, ◌<◌, ◌≤◌, ℕ, ◌+◌, Some, None, Err, IfErr, OnOk};
 ghost use Rattle.nr_turnstile.specs.Passes.{mine_of, seen_by};
 ghost use Rattle.nr_shared.specs.Sharing.{SharedRests};
-ghost use Rattle.nr_client.specs.Jobs.{IsPiece};
 ghost use Rattle.nr_client.specs.Reading.{OutputFaults, piece_left};
 ghost use Rattle.nr_client.specs.private.JobReads.{EndsMore, Grows, IsFetched, IsRuleOf, IsUpTo, ReadsMore};
 ghost use Rattle.nr_client.specs.private.OpenReads.{GivesData, GivesNone};
 
 use crate::client_end::ClientEnd;
 use crate::file_calls::read_call;
+use crate::jobs::FileToRead;
 use crate::read_data::{piece_left, write_data};
 use crate::shared_calls::outcome_of;
-use nr_nfs_base::Handle;
 use nr_outside::{Sink, Source};
 use nr_reduce::Outcome;
 use nr_shared::{CallRule, Pass, SharedRequester};
@@ -22,42 +21,38 @@ use std::sync::Wait;
 /// One READ by a call of the caller's own, of what is left of its piece. Its data are written to the output.
 fn read_on<R: Wait, I: Source, O: Sink, C: CallRule, K: Sink>(
     rt: &R,
-    alloc: Global,
     shared: &SharedRequester<I, O, C>,
     pass: &mut Pass<I, O, C>,
-    uid: u32,
-    gid: u32,
-    file: &Handle,
-    size: u64,
+    file: &FileToRead<'_>,
     end: u64,
     at: &mut u64,
     out: &mut K,
 ) -> Result<(), ClientEnd>
-    requires rule { IsRuleOf C.allows uid gid file.now }
-    requires below { at.old < size }
+    requires rule { IsRuleOf C.allows file.now.uid file.now.gid file.now.handle.now file.now.size }
+    requires below { at.old < file.now.size }
     requires within { at.old < end }
-    requires piece { IsUpTo size at.old end }
+    requires piece { IsUpTo file.now.size at.old end }
     requires rests { SharedRests shared.now pass.old }
     ensures rests { SharedRests shared.now pass.new }
     ensures source { seen_by pass.new.source ≡ seen_by pass.old.source }
-    ensures grows { Grows (IsPiece uid gid file.now size) pass.old.main pass.new.main }
-    ensures piece { OnOk result (IsUpTo size at.new end) }
+    ensures grows { Grows pass.old.main pass.new.main }
+    ensures piece { OnOk result (IsUpTo file.now.size at.new end) }
     ensures more { OnOk result (at.old < at.new) }
-    ensures ok { OnOk result (ReadsMore uid gid file.now size at.old at.new pass.old.main pass.new.main (K.taken out.old) (K.taken out.new)) }
-    ensures err { IfErr result (λ why. EndsMore uid gid file.now size at.old pass.old.main pass.new.main (K.taken out.old) (K.taken out.new) (Err why)) }
+    ensures ok { OnOk result (ReadsMore file.now.uid file.now.gid file.now.handle.now file.now.size at.old at.new pass.old.main pass.new.main (K.taken out.old) (K.taken out.new)) }
+    ensures err { IfErr result (λ why. EndsMore file.now.uid file.now.gid file.now.handle.now file.now.size at.old pass.old.main pass.new.main (K.taken out.old) (K.taken out.new) (Err why)) }
     ensures out_faults { OutputFaults result (K.faults out.old) (K.faults out.new) }
 {
-    let count = piece_left(size, *at);
+    let count = piece_left(file.size, *at);
     let outcome = match outcome_of(
         rt,
         shared,
         pass,
-        read_call(alloc, uid, gid, file, *at, count),
+        read_call(file.alloc, file.uid, file.gid, file.handle, *at, count),
     ) {
         Ok(outcome) => outcome,
         Err(end) => return Err(end),
     };
-    let step = match write_data(alloc, outcome, count, out) {
+    let step = match write_data(file.alloc, outcome, count, out) {
         Ok(step) => step,
         Err(end) => return Err(end),
     };
@@ -68,31 +63,27 @@ fn read_on<R: Wait, I: Source, O: Sink, C: CallRule, K: Sink>(
 /// READs by calls of the caller's own of the rest of a piece, one after another.
 fn read_rest<R: Wait, I: Source, O: Sink, C: CallRule, K: Sink>(
     rt: &R,
-    alloc: Global,
     shared: &SharedRequester<I, O, C>,
     pass: &mut Pass<I, O, C>,
-    uid: u32,
-    gid: u32,
-    file: &Handle,
-    size: u64,
+    file: &FileToRead<'_>,
     end: u64,
     at: &mut u64,
     out: &mut K,
 ) -> Result<(), ClientEnd>
-    requires rule { IsRuleOf C.allows uid gid file.now }
-    requires within { end ≤ size }
-    requires piece { IsUpTo size at.old end }
+    requires rule { IsRuleOf C.allows file.now.uid file.now.gid file.now.handle.now file.now.size }
+    requires within { end ≤ file.now.size }
+    requires piece { IsUpTo file.now.size at.old end }
     requires rests { SharedRests shared.now pass.old }
     ensures rests { SharedRests shared.now pass.new }
     ensures source { seen_by pass.new.source ≡ seen_by pass.old.source }
-    ensures grows { Grows (IsPiece uid gid file.now size) pass.old.main pass.new.main }
+    ensures grows { Grows pass.old.main pass.new.main }
     ensures end { OnOk result (at.new ≡ end) }
-    ensures ok { OnOk result (ReadsMore uid gid file.now size at.old at.new pass.old.main pass.new.main (K.taken out.old) (K.taken out.new)) }
-    ensures err { IfErr result (λ why. EndsMore uid gid file.now size at.old pass.old.main pass.new.main (K.taken out.old) (K.taken out.new) (Err why)) }
+    ensures ok { OnOk result (ReadsMore file.now.uid file.now.gid file.now.handle.now file.now.size at.old at.new pass.old.main pass.new.main (K.taken out.old) (K.taken out.new)) }
+    ensures err { IfErr result (λ why. EndsMore file.now.uid file.now.gid file.now.handle.now file.now.size at.old pass.old.main pass.new.main (K.taken out.old) (K.taken out.new) (Err why)) }
     ensures out_faults { OutputFaults result (K.faults out.old) (K.faults out.new) }
 {
     'rest: while *at < end {
-        match read_on(rt, alloc, shared, pass, uid, gid, file, size, end, at, out) {
+        match read_on(rt, shared, pass, file, end, at, out) {
             Ok(()) => {}
             Err(why) => return Err(why),
         }
@@ -126,35 +117,31 @@ fn write_fetched<K: Sink>(
 /// Writes the data of a piece whose first READ a job has made, and reads what is left of it.
 fn finish_piece<R: Wait, I: Source, O: Sink, C: CallRule, K: Sink>(
     rt: &R,
-    alloc: Global,
     shared: &SharedRequester<I, O, C>,
     pass: &mut Pass<I, O, C>,
-    uid: u32,
-    gid: u32,
-    file: &Handle,
-    size: u64,
+    file: &FileToRead<'_>,
     outcome: Outcome,
     at: &mut u64,
     out: &mut K,
 ) -> Result<(), ClientEnd>
-    requires rule { IsRuleOf C.allows uid gid file.now }
-    requires below { at.old < size }
-    requires fetched { IsFetched uid gid file.now size at.old (Some outcome) (seen_by pass.old.main) (mine_of pass.old.main) }
+    requires rule { IsRuleOf C.allows file.now.uid file.now.gid file.now.handle.now file.now.size }
+    requires below { at.old < file.now.size }
+    requires fetched { IsFetched file.now.uid file.now.gid file.now.handle.now file.now.size at.old (Some outcome) (seen_by pass.old.main) (mine_of pass.old.main) }
     requires rests { SharedRests shared.now pass.old }
     ensures rests { SharedRests shared.now pass.new }
     ensures source { seen_by pass.new.source ≡ seen_by pass.old.source }
-    ensures grows { Grows (IsPiece uid gid file.now size) pass.old.main pass.new.main }
-    ensures end { OnOk result (at.new ≡ at.old + piece_left size at.old) }
-    ensures ok { OnOk result (ReadsMore uid gid file.now size at.old at.new pass.old.main pass.new.main (K.taken out.old) (K.taken out.new)) }
-    ensures err { IfErr result (λ why. EndsMore uid gid file.now size at.old pass.old.main pass.new.main (K.taken out.old) (K.taken out.new) (Err why)) }
+    ensures grows { Grows pass.old.main pass.new.main }
+    ensures end { OnOk result (at.new ≡ at.old + piece_left file.now.size at.old) }
+    ensures ok { OnOk result (ReadsMore file.now.uid file.now.gid file.now.handle.now file.now.size at.old at.new pass.old.main pass.new.main (K.taken out.old) (K.taken out.new)) }
+    ensures err { IfErr result (λ why. EndsMore file.now.uid file.now.gid file.now.handle.now file.now.size at.old pass.old.main pass.new.main (K.taken out.old) (K.taken out.new) (Err why)) }
     ensures out_faults { OutputFaults result (K.faults out.old) (K.faults out.new) }
 {
-    let end = *at + piece_left(size, *at) as u64;
-    match write_fetched(alloc, size, outcome, at, out) {
+    let end = *at + piece_left(file.size, *at) as u64;
+    match write_fetched(file.alloc, file.size, outcome, at, out) {
         Ok(()) => {}
         Err(why) => return Err(why),
     }
-    match read_rest(rt, alloc, shared, pass, uid, gid, file, size, end, at, out) {
+    match read_rest(rt, shared, pass, file, end, at, out) {
         Ok(()) => Ok(()),
         Err(why) => Err(why),
     }
@@ -163,34 +150,28 @@ fn finish_piece<R: Wait, I: Source, O: Sink, C: CallRule, K: Sink>(
 /// Writes the data of one piece: those that a job has read, if it has, and what is left of it by calls of the caller's own.
 pub(crate) fn write_piece<R: Wait, I: Source, O: Sink, C: CallRule, K: Sink>(
     rt: &R,
-    alloc: Global,
     shared: &SharedRequester<I, O, C>,
     pass: &mut Pass<I, O, C>,
-    uid: u32,
-    gid: u32,
-    file: &Handle,
-    size: u64,
+    file: &FileToRead<'_>,
     outcome: Option<Outcome>,
     at: &mut u64,
     out: &mut K,
 ) -> Result<(), ClientEnd>
-    requires rule { IsRuleOf C.allows uid gid file.now }
-    requires below { at.old < size }
-    requires fetched { IsFetched uid gid file.now size at.old outcome (seen_by pass.old.main) (mine_of pass.old.main) }
+    requires rule { IsRuleOf C.allows file.now.uid file.now.gid file.now.handle.now file.now.size }
+    requires below { at.old < file.now.size }
+    requires fetched { IsFetched file.now.uid file.now.gid file.now.handle.now file.now.size at.old outcome (seen_by pass.old.main) (mine_of pass.old.main) }
     requires rests { SharedRests shared.now pass.old }
     ensures rests { SharedRests shared.now pass.new }
     ensures source { seen_by pass.new.source ≡ seen_by pass.old.source }
-    ensures grows { Grows (IsPiece uid gid file.now size) pass.old.main pass.new.main }
-    ensures end { OnOk result (at.new ≡ at.old + piece_left size at.old) }
-    ensures ok { OnOk result (ReadsMore uid gid file.now size at.old at.new pass.old.main pass.new.main (K.taken out.old) (K.taken out.new)) }
-    ensures err { IfErr result (λ why. EndsMore uid gid file.now size at.old pass.old.main pass.new.main (K.taken out.old) (K.taken out.new) (Err why)) }
+    ensures grows { Grows pass.old.main pass.new.main }
+    ensures end { OnOk result (at.new ≡ at.old + piece_left file.now.size at.old) }
+    ensures ok { OnOk result (ReadsMore file.now.uid file.now.gid file.now.handle.now file.now.size at.old at.new pass.old.main pass.new.main (K.taken out.old) (K.taken out.new)) }
+    ensures err { IfErr result (λ why. EndsMore file.now.uid file.now.gid file.now.handle.now file.now.size at.old pass.old.main pass.new.main (K.taken out.old) (K.taken out.new) (Err why)) }
     ensures out_faults { OutputFaults result (K.faults out.old) (K.faults out.new) }
 {
-    let end = *at + piece_left(size, *at) as u64;
+    let end = *at + piece_left(file.size, *at) as u64;
     match outcome {
-        None => read_rest(rt, alloc, shared, pass, uid, gid, file, size, end, at, out),
-        Some(outcome) => finish_piece(
-            rt, alloc, shared, pass, uid, gid, file, size, outcome, at, out,
-        ),
+        None => read_rest(rt, shared, pass, file, end, at, out),
+        Some(outcome) => finish_piece(rt, shared, pass, file, outcome, at, out),
     }
 }

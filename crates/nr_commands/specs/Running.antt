@@ -17,7 +17,7 @@ use Rattle.nr_client.specs.declared.client_end.ClientEnd.{ClientEnd}
 use Rattle.nr_client.specs.declared.client_end.ClientEnd.TheVariants as client
 use Rattle.nr_client.specs.Dialing.{DialerAt, OpenFails, session_credits}
 use Rattle.nr_commands.specs.Commands.{Gets, Lists, MakesDirectory, MakesSymlink, MountsAndPrints, Puts, ReadsLink, Removes, Stats}
-use Rattle.nr_commands.specs.Sessions.{Part, SessionAt}
+use Rattle.nr_commands.specs.Sessions.{Part, SessionAt, sink_of, source_of}
 
 -- what the client of a command says of the Sends of its link
 abbrev pub terms_of : Client Text → SideTerms
@@ -37,12 +37,16 @@ pub record Opens (addr : List ℕ) (terms : SideTerms) (before after : DialerAt)
   pub none_lost : after.lost ≡ before.lost
   pub unfailing : after.faults ≡ before.faults
 
--- It was closed: its link, of this number, was hung up.
-pub record Closes (number : ℕ) (s : SessionAt) (before after : DialerAt) : Type 0 where
-  pub ends : EndsLink before.ended after.ended (ended_link number s.bytes.given s.bytes.left s.bytes.taken)
-  pub lost : CountsLost s.source_faults s.sink_faults before.lost after.lost
+-- The link of this number was hung up, with its source and its sink as they were then.
+pub record HangsUp (number : ℕ) (source : SourceAt) (sink : SinkAt) (before after : DialerAt) : Type 0 where
+  pub ends : EndsLink before.ended after.ended (ended_link number source.given source.left sink.taken)
+  pub lost : CountsLost source.faults sink.faults before.lost after.lost
   pub asked : after.asked ≡ before.asked
   pub unfailing : after.faults ≡ before.faults
+
+-- a session was closed: its link, of this number, was hung up
+abbrev pub Closes : (number : ℕ) → SessionAt → (before after : DialerAt) → Type 0
+Closes number s before after = HangsUp number (source_of s) (sink_of s) before after
 
 -- the part of each command up to its text; `put` reads the input, and `get` writes to the output
 abbrev pub text_of : (uid gid : ℕ) → List ℕ → Action Text → (input input' : SourceAt) → (out out' : SinkAt) → Part (List ℕ)

@@ -1,5 +1,6 @@
 -- Parts of a command over a session: requests one after another, each by the results of those before it.
 use Rattle.std.specs.Prelude.{◌≡◌, ℕ, ◌⊎◌, List, Option, Result, Ok, Err, MatchResult}
+use Rattle.nr_outside.specs.Streams.{SinkAt, SourceAt, sink_at, source_at}
 use Rattle.nr_reduce.specs.declared.call.Call.{Call}
 use Rattle.nr_reduce.specs.declared.call.Outcome.{Outcome}
 use Rattle.nr_requester.specs.RequesterState.{RequesterSide}
@@ -19,6 +20,13 @@ pub record SessionAt : Type 0 where
 abbrev pub session_at : (left given taken : Option (List ℕ)) → ℕ → RequesterSide → (source_faults sink_faults : ℕ) → SessionAt
 session_at left given taken read requester source_faults sink_faults =
     record { bytes = link_bytes left given taken read; requester = requester; source_faults = source_faults; sink_faults = sink_faults }
+
+-- the source and the sink of its link
+abbrev pub source_of : SessionAt → SourceAt
+source_of s = source_at s.bytes.left s.bytes.given s.source_faults
+
+abbrev pub sink_of : SessionAt → SinkAt
+sink_of s = sink_at s.bytes.taken s.sink_faults
 
 -- a part of a command: from a session at one moment to the same session at a later one, with a result
 abbrev pub Part : Type 0 → Type 1

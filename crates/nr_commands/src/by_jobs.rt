@@ -6,7 +6,7 @@ ghost use Rattle.nr_links.specs.Links.{CountsLost, EndsLink, HasOpenLink, ended_
 ghost use Rattle.nr_words.specs.Lines.{plain_get};
 ghost use Rattle.nr_client.specs.Dialing.{dialer_at};
 ghost use Rattle.nr_client.specs.Jobs.{jobs_max};
-ghost use Rattle.nr_commands.specs.ByJobs.{GetsByJobs, ReadsAndCloses};
+ghost use Rattle.nr_commands.specs.ByJobs.{GetsByJobs, ReadsAndHangsUp};
 ghost use Rattle.nr_commands.specs.Sessions.{session_at};
 
 use crate::files::keep_pieces;
@@ -59,7 +59,7 @@ where
     Q: Drop + Send,
     requires jobs { (0 < jobs) × (jobs ≤ jobs_max) }
     requires made { HasOpenLink (D.ended dial.old) }
-    ensures { ReadsAndCloses session.uid session.gid file.now N.number
+    ensures { ReadsAndHangsUp session.uid session.gid file.now N.number
         (session_at (P.left session.link.source.source) (P.given session.link.source.source) (Q.taken session.link.sink.sink) session.link.read session.link.requester (P.faults session.link.source.source) (Q.faults session.link.sink.sink))
         (dialer_at (D.asked dial.old) (D.ended dial.old) (D.lost dial.old) (D.faults dial.old))
         (dialer_at (D.asked dial.new) (D.ended dial.new) (D.lost dial.new) (D.faults dial.new))

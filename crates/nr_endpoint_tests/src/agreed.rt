@@ -1,335 +1,149 @@
 //! Hellos with terms: what a responder answers, what is agreed, and which Sends are then taken. What private data says is this
 //! project's own (RFC 5044 section 7.1 leaves it to the sides).
 
-use crate::compare::same;
-use crate::endpoint::TestEndpoint;
-use crate::given::{REPLY, REQUEST, bytes_of, feed_pieces, greeted, writes};
-use nr_link::{End, SideTerms};
-use nr_outside::MemSink;
+use crate::script::{both, rows};
 use nr_wire::Side;
-use std::alloc::Global;
-use std::process::Abort;
 
-/// How the hello of a responder with private data begins (RFC 5044 section 7.1): its key, the revision, eight bytes, `NR01`.
-static ANSWER: [u32; 6] = [
-    0x4d50_4120,
-    0x4944_2052,
-    0x6570_2046,
-    0x7261_6d65,
-    0x0001_0008,
-    0x4e52_3031,
-];
+/// What a responder of some units makes of a hello.
+static ANSWERS: &str = "\
+open $0$ 0 0\n\
+agreed = (1024, 1024)\n\
+feed : peer-key $1$\n\
+agreed = $3$\n\
+writes : own-key $2$\n\
+";
 
-/// The units of a responder; how the private data of a request begins, and its length, up to which zeros follow; the last four bytes
-/// of the answer, if it has private data; what is agreed, from the initiator and from the responder.
-type Row = (u8, &'static [u8], usize, Option<u32>, (u32, u32));
+/// The units of a responder; the hello that it is fed, from its length of private data on; its own; what is agreed, from the initiator and
+/// from the responder. A byte of units is their number less one.
+static ANSWERED: &str = "\
+# No terms: nothing, seven bytes, another name, another version.\n\
+2 | 10000 | 10000 | (1024, 1024)\n\
+2 | 10007 'NR01 .1 .0 .3 | 10000 | (1024, 1024)\n\
+2 | 10008 'NR02 1000303 | 10000 | (1024, 1024)\n\
+2 | 10008 'NR01 2000303 | 10000 | (1024, 1024)\n\
+2 | 10200 'RN01 1000303 .0*504 | 10000 | (1024, 1024)\n\
+# Four units, and in each direction one. A byte of units is their number less one.\n\
+2 | 10008 'NR01 1000303 | 10008 'NR01 1000101 | (2048, 2048)\n\
+2 | 10008 'NR01 1000003 | 10008 'NR01 1000101 | (1024, 2048)\n\
+2 | 10008 'NR01 1000300 | 10008 'NR01 1000101 | (2048, 1024)\n\
+# Three units and five.\n\
+16 | 10008 'NR01 1000204 | 10008 'NR01 1000f0f | (3072, 5120)\n\
+# 15 and 16 units, and 17 and 256, which count as 16.\n\
+16 | 10008 'NR01 1000e0f | 10008 'NR01 1000f0f | (15360, 16384)\n\
+16 | 10008 'NR01 100100f | 10008 'NR01 1000f0f | (16384, 16384)\n\
+16 | 10008 'NR01 100ff10 | 10008 'NR01 1000f0f | (16384, 16384)\n\
+# A responder of one unit answers, too. One of 0 has one, and one of 17 has 16.\n\
+1 | 10008 'NR01 1000303 | 10008 'NR01 1000000 | (1024, 1024)\n\
+0 | 10008 'NR01 1000303 | 10008 'NR01 1000000 | (1024, 1024)\n\
+17 | 10008 'NR01 1000f0f | 10008 'NR01 1000f0f | (16384, 16384)\n\
+# Flags that nobody knows; a number of a client, and its flag without it; what follows.\n\
+2 | 10008 'NR01 1fc0101 | 10008 'NR01 1000101 | (2048, 2048)\n\
+2 | 10010 'NR01 1010101 0 5 | 10008 'NR01 1000101 | (2048, 2048)\n\
+2 | 10008 'NR01 1010101 | 10008 'NR01 1000101 | (2048, 2048)\n\
+2 | 10009 'NR01 1000101 .0 | 10008 'NR01 1000101 | (2048, 2048)\n\
+2 | 10200 'NR01 1000101 .0*504 | 10008 'NR01 1000101 | (2048, 2048)\n\
+";
 
-static ANSWERED: [Row; 20] = [
-    // No terms: nothing, seven bytes, another name, another version.
-    (2, b"", 0, None, (1024, 1024)),
-    (2, b"NR01\x01\x00\x03", 7, None, (1024, 1024)),
-    (2, b"NR02\x01\x00\x03\x03", 8, None, (1024, 1024)),
-    (2, b"NR01\x02\x00\x03\x03", 8, None, (1024, 1024)),
-    (2, b"RN01\x01\x00\x03\x03", 512, None, (1024, 1024)),
-    // Four units, and in each direction one. A byte of units is their number less one.
-    (
-        2,
-        b"NR01\x01\x00\x03\x03",
-        8,
-        Some(0x0100_0101),
-        (2048, 2048),
-    ),
-    (
-        2,
-        b"NR01\x01\x00\x00\x03",
-        8,
-        Some(0x0100_0101),
-        (1024, 2048),
-    ),
-    (
-        2,
-        b"NR01\x01\x00\x03\x00",
-        8,
-        Some(0x0100_0101),
-        (2048, 1024),
-    ),
-    // Three units and five.
-    (
-        16,
-        b"NR01\x01\x00\x02\x04",
-        8,
-        Some(0x0100_0f0f),
-        (3072, 5120),
-    ),
-    // 15 and 16 units, and 17 and 256, which count as 16.
-    (
-        16,
-        b"NR01\x01\x00\x0e\x0f",
-        8,
-        Some(0x0100_0f0f),
-        (15360, 16384),
-    ),
-    (
-        16,
-        b"NR01\x01\x00\x10\x0f",
-        8,
-        Some(0x0100_0f0f),
-        (16384, 16384),
-    ),
-    (
-        16,
-        b"NR01\x01\x00\xff\x10",
-        8,
-        Some(0x0100_0f0f),
-        (16384, 16384),
-    ),
-    // A responder of one unit answers, too. One of 0 has one, and one of 17 has 16.
-    (
-        1,
-        b"NR01\x01\x00\x03\x03",
-        8,
-        Some(0x0100_0000),
-        (1024, 1024),
-    ),
-    (
-        0,
-        b"NR01\x01\x00\x03\x03",
-        8,
-        Some(0x0100_0000),
-        (1024, 1024),
-    ),
-    (
-        17,
-        b"NR01\x01\x00\x0f\x0f",
-        8,
-        Some(0x0100_0f0f),
-        (16384, 16384),
-    ),
-    // Flags that nobody knows; a number of a client, and its flag without it; what follows.
-    (
-        2,
-        b"NR01\x01\xfc\x01\x01",
-        8,
-        Some(0x0100_0101),
-        (2048, 2048),
-    ),
-    (
-        2,
-        b"NR01\x01\x01\x01\x01\x00\x00\x00\x00\x00\x00\x00\x05",
-        16,
-        Some(0x0100_0101),
-        (2048, 2048),
-    ),
-    (
-        2,
-        b"NR01\x01\x01\x01\x01",
-        8,
-        Some(0x0100_0101),
-        (2048, 2048),
-    ),
-    (
-        2,
-        b"NR01\x01\x00\x01\x01",
-        9,
-        Some(0x0100_0101),
-        (2048, 2048),
-    ),
-    (
-        2,
-        b"NR01\x01\x00\x01\x01",
-        512,
-        Some(0x0100_0101),
-        (2048, 2048),
-    ),
-];
+/// What an initiator of four units makes of a hello.
+static AGREES: &str = "\
+open 4 0 0\n\
+feed : peer-key $0$\n\
+agreed = $1$\n\
+";
 
-/// A hello whose first four words are these and whose private data begins so and has this length.
-fn hello(rt: &impl Abort, alloc: Global, key: &[u32], front: &[u8], len: usize) -> Vec<u8> {
-    let mut bytes = bytes_of(rt, alloc, key);
-    bytes.extend_from_slice(&[0, 1]).expect(rt, "memory");
-    bytes
-        .extend_from_slice(&(len.min(512) as u16).to_be_bytes())
-        .expect(rt, "memory");
-    bytes.extend_from_slice(front).expect(rt, "memory");
-    for _ in front.len()..len {
-        bytes.push(0).expect(rt, "memory");
-    }
-    bytes
-}
-
-/// A responder of these units that was fed a request with this private data.
-fn requested(
-    rt: &impl Abort,
-    alloc: Global,
-    row: usize,
-    units: u8,
-    front: &[u8],
-    len: usize,
-) -> TestEndpoint {
-    let mut endpoint = TestEndpoint::open_with(rt, alloc, Side::Responder, SideTerms::sized(units));
-    same(rt, row, endpoint.endpoint().agreed(), (1024, 1024));
-    let request = hello(rt, alloc, &REQUEST[..4], front, len);
-    same(rt, row, endpoint.feed(rt, request.as_slice()), Ok(()));
-    endpoint
-}
-
-/// Ends the test if a responder makes something else of a row.
-fn answers(rt: &impl Abort, alloc: Global, row: usize, cells: Row) {
-    let (units, front, len, last, agreed) = cells;
-    let mut endpoint = requested(rt, alloc, row, units, front, len);
-    same(rt, row, endpoint.endpoint().agreed(), agreed);
-    match last {
-        None => writes(rt, alloc, row, &mut endpoint, &REPLY, &[]),
-        Some(word) => writes(rt, alloc, row, &mut endpoint, &ANSWER, &[word]),
-    }
-    drop(endpoint);
-}
+/// The hello of the responder, from its length of private data on, and what is agreed.
+static REPLIED: &str = "\
+10000 | (1024, 1024)\n\
+10008 'NR01 2000303 | (1024, 1024)\n\
+10008 'NR01 1000001 | (2048, 1024)\n\
+10008 'NR01 1000100 | (1024, 2048)\n\
+10008 'NR01 1000f0f | (4096, 4096)\n\
+";
 
 #[test]
-fn requests_with_terms(rt: HostRuntime) {
-    for (row, cells) in ANSWERED.iter().enumerate() {
-        answers(&rt, rt.alloc(), row, *cells);
-    }
+fn hellos_with_terms(rt: HostRuntime) {
+    let alloc = rt.alloc();
+    rows(&rt, alloc, Side::Responder, &[1000], ANSWERS, ANSWERED);
+    rows(&rt, alloc, Side::Initiator, &[1000], AGREES, REPLIED);
 }
 
-/// The private data of a reply to an initiator of four units, and what is agreed, from the initiator and from the responder.
-static REPLIED: [(&[u8], (u32, u32)); 5] = [
-    (b"", (1024, 1024)),
-    (b"NR01\x02\x00\x03\x03", (1024, 1024)),
-    (b"NR01\x01\x00\x00\x01", (2048, 1024)),
-    (b"NR01\x01\x00\x01\x00", (1024, 2048)),
-    (b"NR01\x01\x00\x0f\x0f", (4096, 4096)),
-];
-
-/// Ends the test if an initiator of four units agrees on something else.
-fn agrees(rt: &impl Abort, alloc: Global, row: usize, private: &[u8], agreed: (u32, u32)) {
-    let mut endpoint = TestEndpoint::open_with(rt, alloc, Side::Initiator, SideTerms::sized(4));
-    let reply = hello(rt, alloc, &REPLY[..4], private, private.len());
-    same(rt, row, endpoint.feed(rt, reply.as_slice()), Ok(()));
-    same(rt, row, endpoint.endpoint().agreed(), agreed);
-    drop(endpoint);
-}
-
-#[test]
-fn replies_with_terms(rt: HostRuntime) {
-    for (row, (private, agreed)) in REPLIED.iter().enumerate() {
-        agrees(&rt, rt.alloc(), row, private, *agreed);
-    }
-}
-
-/// The side that a Send comes to, the length of the Send, and the end of that side, which has agreed on 1,024 bytes, after a hello of 28.
-static LONG_SENDS: [(Side, usize, Option<End>); 4] = [
-    (Side::Responder, 1024, None),
-    (Side::Responder, 1025, Some(End::Bad { at: 28, reason: 22 })),
-    (Side::Initiator, 1024, None),
-    (Side::Initiator, 1025, Some(End::Bad { at: 28, reason: 22 })),
-];
-
-/// A side of two units, whose receives have 2,048 bytes, that was fed the hello of a peer of one unit.
-fn with_longer_receives(rt: &impl Abort, alloc: Global, row: usize, side: Side) -> TestEndpoint {
-    let one_unit = b"NR01\x01\x00\x00\x00";
-    match side {
-        Side::Responder => requested(rt, alloc, row, 2, one_unit, 8),
-        Side::Initiator => {
-            let mut to = TestEndpoint::open_with(rt, alloc, side, SideTerms::sized(2));
-            let reply = hello(rt, alloc, &REPLY[..4], one_unit, 8);
-            same(rt, row, to.feed(rt, reply.as_slice()), Ok(()));
-            to
-        }
-    }
-}
-
-/// Ends the test if a side ends otherwise for a Send of this length.
-fn long_send(rt: &impl Abort, alloc: Global, row: usize, cells: (Side, usize, Option<End>)) {
-    let (side, len, end) = cells;
-    let mut to = with_longer_receives(rt, alloc, row, side);
-    let mut from = match side {
-        Side::Responder => greeted(rt, alloc, Side::Initiator),
-        Side::Initiator => greeted(rt, alloc, Side::Responder),
-    };
-    let message = vec![in alloc; 7u8; len].expect(rt, "memory");
-    same(rt, row, from.send(rt, message.as_slice()), Ok(()));
-    let mut sink = MemSink::new(alloc, Vec::new(alloc));
-    same(rt, row, from.drain_into(&mut sink), Ok(()));
-    same(rt, row, to.feed(rt, sink.bytes()).err(), end);
-    drop(from);
-    drop(to);
-}
+static LONGER_THAN_AGREED: &str = "\
+# A side of two units, whose receives have 2,048 bytes, is fed the hello of a peer of one unit: 1,024 bytes are agreed.\n\
+open 2 0 0\n\
+agreed = (1024, 1024)\n\
+feed : peer-key 10008 'NR01 1000000\n\
+agreed = (1024, 1024)\n\
+feed : 4124143 0 0 1 0 7070707*256 0\n\
+message : .7*1024 = (2048, 1024)\n\
+open 2 0 0\n\
+feed : peer-key 10008 'NR01 1000000\n\
+feed : 4134143 0 0 1 0 7070707*256 7000000 0 = Bad { at: 28, reason: 22 }\n\
+# Such Sends are written.\n\
+open 1 0 0\n\
+feed : peer-key 10000\n\
+writes : own-key 10000\n\
+send : .7*1024\n\
+writes : 4124143 0 0 1 0 7070707*256 0\n\
+open 1 0 0\n\
+feed : peer-key 10000\n\
+writes : own-key 10000\n\
+send : .7*1025\n\
+writes : 4134143 0 0 1 0 7070707*256 7000000 0\n\
+";
 
 #[test]
 fn sends_longer_than_agreed(rt: HostRuntime) {
-    for (row, cells) in LONG_SENDS.iter().enumerate() {
-        long_send(&rt, rt.alloc(), row, *cells);
-    }
+    both(&rt, rt.alloc(), &[65544, 1], LONGER_THAN_AGREED);
 }
 
-/// What an initiator of 16 units writes, and a responder of 16 units answers.
-fn sixteen(rt: &impl Abort, alloc: Global) -> (TestEndpoint, TestEndpoint) {
-    let mut from = TestEndpoint::open_with(rt, alloc, Side::Initiator, SideTerms::sized(16));
-    let mut to = TestEndpoint::open_with(rt, alloc, Side::Responder, SideTerms::sized(16));
-    pass(rt, alloc, &mut from, &mut to, 65544);
-    pass(rt, alloc, &mut to, &mut from, 65544);
-    same(rt, 0, from.endpoint().agreed(), (16384, 16384));
-    same(rt, 1, to.endpoint().agreed(), (16384, 16384));
-    (from, to)
-}
+/// Of two sides of 16 units one writes a Send of this length in these frames (RFC 5041 section 5.2: each has 24 bytes beside its payload).
+static WRITES: &str = "\
+open 16 0 0\n\
+feed : peer-key 10008 'NR01 1000f0f\n\
+writes : own-key 10008 'NR01 1000f0f\n\
+agreed = (16384, 16384)\n\
+send : .7*$0$\n\
+writes : $1$\n\
+";
 
-/// Feeds to the one what the other has to write, in pieces of this length. Answers how many bytes those were.
-fn pass(
-    rt: &impl Abort,
-    alloc: Global,
-    from: &mut TestEndpoint,
-    to: &mut TestEndpoint,
-    piece: usize,
-) -> usize {
-    let mut sink = MemSink::new(alloc, Vec::new(alloc));
-    same(rt, 0, from.drain_into(&mut sink), Ok(()));
-    feed_pieces(rt, 1, to, sink.bytes(), piece);
-    sink.bytes().len()
-}
+static WRITTEN: &str = "\
+4096 | 10124143 0 0 1 0 7070707*1024 0\n\
+4097 | 10120143 0 0 1 0 7070707*1024 0 134143 0 0 1 1000 7000000 0\n\
+16384 | 10120143 0 0 1 0 7070707*1024 0 10120143 0 0 1 1000 7070707*1024 0 10120143 0 0 1 2000 7070707*1024 0 10124143 0 0 1 3000 7070707*1024 0\n\
+16385 | 10120143 0 0 1 0 7070707*1024 0 10120143 0 0 1 1000 7070707*1024 0 10120143 0 0 1 2000 7070707*1024 0 10120143 0 0 1 3000 7070707*1024 0 134143 0 0 1 4000 7000000 0\n\
+";
 
-/// The length of a Send, that of its frames (RFC 5041 section 5.2: each has 24 bytes beside its payload), and the end of the side that gets it.
-static SENDS: [(usize, usize, Option<End>); 4] = [
-    (4096, 4120, None),
-    (4097, 4120 + 28, None),
-    (16384, 4 * 4120, None),
-    // One more than agreed. The last frame begins after a hello of 28 bytes and four frames.
-    (
-        16385,
-        4 * 4120 + 28,
-        Some(End::Bad {
-            at: 28 + 4 * 4120,
-            reason: 22,
-        }),
-    ),
-];
+/// The other one is fed the frames.
+static RECEIVES: &str = "\
+open 16 0 0\n\
+feed : peer-key 10008 'NR01 1000f0f\n\
+writes : own-key 10008 'NR01 1000f0f\n\
+agreed = (16384, 16384)\n\
+feed : $1$\n\
+message : .7*$0$ = (16384, $0$)\n\
+";
 
-/// Ends the test if a Send makes something else of the side that gets it, in pieces of this length.
-fn sends(
-    rt: &impl Abort,
-    alloc: Global,
-    row: usize,
-    cells: (usize, usize, Option<End>),
-    piece: usize,
-) {
-    let (mut from, mut to) = sixteen(rt, alloc);
-    let message = vec![in alloc; 7u8; cells.0].expect(rt, "memory");
-    same(rt, row, from.send(rt, message.as_slice()), Ok(()));
-    same(rt, row, pass(rt, alloc, &mut from, &mut to, piece), cells.1);
-    same(rt, row, to.endpoint().end(), cells.2);
-    if cells.2.is_none() {
-        let (buf, len) = to.message(rt, alloc);
-        same(rt, row, (buf.len(), len), (16384, cells.0));
-    }
-    drop(from);
-    drop(to);
-}
+static RECEIVED: &str = "\
+4096 | 10124143 0 0 1 0 7070707*1024 0\n\
+4097 | 10120143 0 0 1 0 7070707*1024 0 134143 0 0 1 1000 7000000 0\n\
+16384 | 10120143 0 0 1 0 7070707*1024 0 10120143 0 0 1 1000 7070707*1024 0 10120143 0 0 1 2000 7070707*1024 0 10124143 0 0 1 3000 7070707*1024 0\n\
+";
+
+/// A Send of one byte more than agreed: the last frame begins after a hello of 28 bytes and four frames.
+static TOO_LONG: &str = "\
+open 16 0 0\n\
+feed : peer-key 10008 'NR01 1000f0f\n\
+writes : own-key 10008 'NR01 1000f0f\n\
+agreed = (16384, 16384)\n\
+feed : 10120143 0 0 1 0 7070707*1024 0 10120143 0 0 1 1000 7070707*1024 0 10120143 0 0 1 2000 7070707*1024 0 10120143 0 0 1 3000 7070707*1024 0 134143 0 0 1 4000 7000000 0 = Bad { at: 16508, reason: 22 }\n\
+";
 
 #[test]
 fn sends_of_several_frames(rt: HostRuntime) {
-    for (row, cells) in SENDS.iter().enumerate() {
-        for piece in [1, 65544] {
-            sends(&rt, rt.alloc(), row, *cells, piece);
-        }
+    let alloc = rt.alloc();
+    for side in [Side::Initiator, Side::Responder] {
+        rows(&rt, alloc, side, &[65544], WRITES, WRITTEN);
+        rows(&rt, alloc, side, &[65544, 1], RECEIVES, RECEIVED);
     }
+    both(&rt, alloc, &[65544, 1], TOO_LONG);
 }

@@ -1,4 +1,4 @@
-//! Tests of nr_endpoint: frames in words, and what an endpoint makes of them.
+//! Tests of nr_endpoint: scripts of calls, with bytes in words, and what an endpoint makes of them (`script.rt`).
 //!
 //! They stand in a crate of their own, above the crate that they test, since a crate with tests is proved twice.
 #![tactic(auto)]
@@ -6,27 +6,37 @@
 #[cfg(test)]
 mod agreed;
 #[cfg(test)]
+mod answers;
+#[cfg(test)]
 mod compare;
 #[cfg(test)]
 mod endpoint;
 #[cfg(test)]
-mod frames;
+mod feeding;
 #[cfg(test)]
-mod given;
+mod frames;
 #[cfg(test)]
 mod hellos;
 #[cfg(test)]
 mod invalidates;
 #[cfg(test)]
+mod line;
+#[cfg(test)]
+mod looking;
+#[cfg(test)]
 mod messages;
+#[cfg(test)]
+mod offers;
 #[cfg(test)]
 mod output;
 #[cfg(test)]
 mod owner;
 #[cfg(test)]
+mod queueing;
+#[cfg(test)]
 mod reasons;
 #[cfg(test)]
-mod rows;
+mod script;
 #[cfg(test)]
 mod segments;
 #[cfg(test)]
@@ -35,3 +45,5 @@ mod short_sink;
 mod terms;
 #[cfg(test)]
 mod vectors;
+#[cfg(test)]
+mod words;

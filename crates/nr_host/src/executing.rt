@@ -9,6 +9,7 @@ ghost use Rattle.nr_plain.specs.History.{pass_view};
 ghost use Rattle.nr_host.specs.Steps.{GoesOn, RunsOut};
 
 use nr_links::Clock;
+use nr_outside::raise_trim_threshold;
 use nr_plain::{Server, execute};
 use nr_responder::{CallId, Responder};
 use nr_turnstile::{Machine, Pass, Turnstile};
@@ -22,6 +23,16 @@ fn client_number(_responder: &Responder) -> u64
     ensures { result ≡ 0 }
 {
     0
+}
+
+/// A call with more bytes than this is large: it has the data of a WRITE.
+const LARGE_CALL_LEN: usize = 1 << 16;
+
+/// Has the heap of the thread grow once before a large call. It grows by single pages otherwise, with a call of the system for each.
+fn grow_heap(alloc: Global, call_len: usize) {
+    if call_len > LARGE_CALL_LEN {
+        raise_trim_threshold(alloc, call_len.saturating_mul(2));
+    }
 }
 
 /// Executes the next call at the clock's moment, under one turn, and queues its answer.
@@ -47,6 +58,7 @@ pub(crate) fn execute_one<C: Clock, R: Wait>(
     let moment = clock.now();
     let client = client_number(responder);
     let payload = responder.payload(&call);
+    grow_heap(alloc, payload.len());
     let Ok(reply) = execute(rt, alloc, shared, pass, client, moment, payload) else {
         return Err(Memory);
     };

@@ -137,7 +137,11 @@ impl Requester {
         ensures staging { IfOk result (λ r. length r.staging ≡ FPDU_MAX) }
         ensures fed { IfOk result (λ r. fed_bytes r ≡ 0) }
     {
-        let terms = SideTerms::unnumbered(units, invalidates);
+        let terms = SideTerms {
+            units,
+            number: 0,
+            invalidates,
+        };
         let endpoint = Endpoint::open(alloc, Side::Initiator, 1, first_stag, terms)?;
         Ok(Requester {
             alloc,

@@ -103,7 +103,11 @@ impl Responder {
         ensures staging { IfOk result (λ r. length r.staging ≡ FPDU_MAX) }
         ensures stands { IfOk result (λ r. (opened : LinkParameters) (link : ℕ) → ServerOpened opened credits low (terms_with units invalidates) → ResponderRepresents opened link [] r.side) }
     {
-        let terms = SideTerms::unnumbered(units, invalidates);
+        let terms = SideTerms {
+            units,
+            number: 0,
+            invalidates,
+        };
         Ok(Responder {
             end: ServerEnd::open(alloc, credits, low, terms)?,
         })

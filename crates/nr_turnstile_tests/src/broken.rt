@@ -7,6 +7,7 @@ use crate::compare::same;
 use crate::sharing::{Answer, Caller, Link, Shared, answer_of, append_words, good, null, share};
 use nr_reduce::{Call, Form};
 use nr_requester::{Buffers, Remains};
+use nr_rpc::Cred;
 use nr_xdr::Octets;
 use std::alloc::Global;
 use std::process::Abort;
@@ -18,8 +19,8 @@ const NFS: u32 = 100003;
 /// The arguments of a WRITE of 5 bytes into the file with handle 2 (RFC 1813 section 3.3.7).
 static WRITE: [u32; 10] = [8, 0, 2, 0, 0, 5, 2, 5, 0x68656c6c, 0x6f000000];
 
-/// The bytes.
-static DATA: [u8; 5] = *b"hello";
+/// Those bytes.
+static DATA: [u8; 5] = [0x68, 0x65, 0x6c, 0x6c, 0x6f];
 
 /// A WRITE.
 fn write(rt: &impl Abort, alloc: Global) -> Call
@@ -28,9 +29,11 @@ fn write(rt: &impl Abort, alloc: Global) -> Call
     let mut args = Vec::new(alloc);
     append_words(rt, &mut args, &WRITE);
     Call {
+        prog: NFS,
+        vers: 3,
         proc: 7,
+        cred: Cred::None,
         args: Octets::from_vec(args),
-        ..null(alloc, NFS)
     }
 }
 

@@ -217,7 +217,13 @@ pub fn end_of(end: &CallEnd) -> Answer {
         CallEnd::LinkRead => Answer::LinkRead,
         CallEnd::LinkWrite => Answer::LinkWrite,
         CallEnd::Closed => Answer::Closed,
-        CallEnd::Budget { read: READ_MAX } => Answer::Budget,
+        CallEnd::Budget { read } => {
+            if *read == READ_MAX {
+                Answer::Budget
+            } else {
+                Answer::Other
+            }
+        }
         _ => Answer::Other,
     }
 }

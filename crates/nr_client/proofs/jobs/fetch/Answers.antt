@@ -1,13 +1,12 @@
-use Rattle.std.proofs.Common.{◌≡◌, ◌<◌, ℕ, List, length, arith, inr, refl, sym, ap, subst, ◌∙◌}
+use Rattle.std.proofs.Common.{◌≡◌, ◌<◌, ℕ, List, length, arith, refl, sym, ap, subst}
 use Rattle.std.specs.List.{All, slice_index_or}
+use Rattle.nr_nfs_base.specs.Procedures.{nfs_program, nfs_version}
 use Rattle.nr_reduce.specs.declared.call.Call.{Call}
 use Rattle.nr_reduce.specs.declared.call.Form.TheVariants as forms
-use Rattle.nr_client.proofs.JobReading.{piece_at}
-use Rattle.nr_nfs_base.specs.Procedures.{nfs_program, nfs_version}
 use Rattle.nr_turnstile.specs.Passes.{mine_of, seen_by}
-use Rattle.nr_client.specs.Jobs.{IsPiece}
-use Rattle.nr_client.specs.private.JobReads.{AreFetched, Grows}
-use Rattle.nr_client.proofs.JobCalls.{fetched_more, fetched_on, grows_as, grows_none, grows_then}
+use Rattle.nr_client.specs.private.JobReads.{AreFetched}
+use Rattle.nr_client.proofs.JobCalls.{fetched_more, fetched_on}
+use Rattle.nr_client.proofs.JobReading.{piece_at}
 use Rattle.nr_client.proofs.Outcomes.{allowed_as, writable}
 use Rattle.nr_client.proofs.jobs.fetch.Goals as goal
 
@@ -17,47 +16,38 @@ below {size} {n} {next} {xs} {ys} same is all lt =
     subst (λ (m : ℕ). m < size) (sym is) (subst (λ (l : List ℕ). All (λ (at : ℕ). at < size) l) (sym same) all next n lt)
 
 pub outcome_of-requires-clause-writable : goal.outcome_of-requires-clause-writable
-outcome_of-requires-clause-writable g c = writable c.read_call.result nfs_program nfs_version 6 c.args.uid c.args.gid _ c.read_call.ensures
+outcome_of-requires-clause-writable g c = writable c.read_call.result nfs_program nfs_version 6 c.args.file.now.uid c.args.file.now.gid _ c.read_call.ensures
 
 pub outcome_of-requires-clause-allowed : goal.outcome_of-requires-clause-allowed
 outcome_of-requires-clause-allowed g c =
-    allowed_as (λ (d : Call). g.C.CallRule.allows d forms.Auto) c.read_call.result _ c.read_call.ensures (c.requires.rule _ (inr (c.args.size, piece_at c.args.uid c.args.gid c.args.file.now c.args.size c.index-at.result.now c.piece_left.result (below (ap (λ v. v.items) c.pieces.invariant.0) c.index-at.ensures c.requires.ready.1.0 (grind (arith, c.pieces-test.true, c.len.ensures))) c.piece_left.ensures.is)))
+    allowed_as (λ (d : Call). g.C.CallRule.allows d forms.Auto) c.read_call.result _ c.read_call.ensures
+    (c.requires.rule _ (piece_at c.args.file.now.uid c.args.file.now.gid c.args.file.now.handle.now c.args.file.now.size c.index-at.result.now c.piece_left.result (below (ap (λ v. v.items) c.pieces.invariant.0) c.index-at.ensures c.requires.ready.1 (grind (arith, c.pieces-test.true, c.len.ensures))) c.piece_left.ensures.is))
 
 pub pieces-init : goal.pieces-init
-pieces-init g c = (refl, c.requires.ready.0, refl, grows_none (IsPiece c.args.uid c.args.gid c.args.file.now c.args.size) c.args.job.now.pass.main c.args.job.now.pass.main refl refl, c.requires.ready.1.1)
+pieces-init g c = (refl, c.requires.ready.0)
 
 pub pieces-preserved : goal.pieces-preserved
 pieces-preserved g c =
-    let (offsets, rests, source, grows, got) = c.pieces.invariant in
     let p = c.pieces.job.pass.main in let q = c.outcome_of.new.pass.main in
-    let step : Grows (IsPiece c.args.uid c.args.gid c.args.file.now c.args.size) p q = grows_as (IsPiece c.args.uid c.args.gid c.args.file.now c.args.size) _ p q (piece_at c.args.uid c.args.gid c.args.file.now c.args.size c.index-at.result.now c.piece_left.result (below (ap (λ v. v.items) c.pieces.invariant.0) c.index-at.ensures c.requires.ready.1.0 (grind (arith, c.pieces-test.true, c.len.ensures))) c.piece_left.ensures.is) (c.outcome_of.ensures.grows _ c.read_call.ensures) in
-    let kept = fetched_on (seen_by p) (seen_by q) (mine_of p) (mine_of q) c.args.uid c.args.gid c.args.file.now c.args.size c.pieces.job.fetched.items step.seen step.mine got in
-    let grown = grows_then (IsPiece c.args.uid c.args.gid c.args.file.now c.args.size) c.args.job.now.pass.main p q rests.caller.lies grows step in (
-      offsets,
-      c.outcome_of.ensures.rests,
-      c.outcome_of.ensures.source ∙ source,
-      grown,
-      subst (λ l. AreFetched c.args.uid c.args.gid c.args.file.now c.args.size (seen_by q) (mine_of q) l) (sym c.in-Ok-push.ensures.items)
-          (fetched_more (seen_by q) (mine_of q) c.args.uid c.args.gid c.args.file.now c.args.size _ _ c.in-Ok.outcome c.pieces.job.fetched.items kept (c.in-Ok.ensures.ok _ c.read_call.ensures) c.piece_left.ensures.is),
+    let kept = fetched_on (seen_by p) (seen_by q) (mine_of p) (mine_of q) c.args.file.now.uid c.args.file.now.gid c.args.file.now.handle.now c.args.file.now.size c.pieces.job.fetched.items c.outcome_of.ensures.grows.seen c.outcome_of.ensures.grows.mine c.pieces.invariant.1.1 in (
+      c.pieces.invariant.0,
+      (
+        c.outcome_of.ensures.rests,
+        subst (λ l. AreFetched c.args.file.now.uid c.args.file.now.gid c.args.file.now.handle.now c.args.file.now.size (seen_by q) (mine_of q) l) (sym c.in-Ok-push.ensures.items)
+            (fetched_more (seen_by q) (mine_of q) c.args.file.now.uid c.args.file.now.gid c.args.file.now.handle.now c.args.file.now.size _ _ c.in-Ok.outcome c.pieces.job.fetched.items kept (c.in-Ok.ensures.ok _ c.read_call.ensures) c.piece_left.ensures.is),
+      ),
     )
 
 pub returns-in-Err : goal.returns-in-Err
 returns-in-Err g c =
-    let (offsets, rests, source, grows, got) = c.pieces.invariant in
     let p = c.pieces.job.pass.main in let q = c.outcome_of.new.pass.main in
-    let step : Grows (IsPiece c.args.uid c.args.gid c.args.file.now c.args.size) p q = grows_as (IsPiece c.args.uid c.args.gid c.args.file.now c.args.size) _ p q (piece_at c.args.uid c.args.gid c.args.file.now c.args.size c.index-at.result.now c.piece_left.result (below (ap (λ v. v.items) c.pieces.invariant.0) c.index-at.ensures c.requires.ready.1.0 (grind (arith, c.pieces-test.true, c.len.ensures))) c.piece_left.ensures.is) (c.outcome_of.ensures.grows _ c.read_call.ensures) in
-    let kept = fetched_on (seen_by p) (seen_by q) (mine_of p) (mine_of q) c.args.uid c.args.gid c.args.file.now c.args.size c.pieces.job.fetched.items step.seen step.mine got in
-    let grown = grows_then (IsPiece c.args.uid c.args.gid c.args.file.now c.args.size) c.args.job.now.pass.main p q rests.caller.lies grows step in
-    (c.outcome_of.ensures.rests, (c.outcome_of.ensures.source ∙ source, (grown, kept)))
+    (c.outcome_of.ensures.rests, fetched_on (seen_by p) (seen_by q) (mine_of p) (mine_of q) c.args.file.now.uid c.args.file.now.gid c.args.file.now.handle.now c.args.file.now.size c.pieces.job.fetched.items c.outcome_of.ensures.grows.seen c.outcome_of.ensures.grows.mine c.pieces.invariant.1.1)
 
 pub returns-in-Err-push : goal.returns-in-Err-push
 returns-in-Err-push g c =
-    let (offsets, rests, source, grows, got) = c.pieces.invariant in
     let p = c.pieces.job.pass.main in let q = c.outcome_of.new.pass.main in
-    let step : Grows (IsPiece c.args.uid c.args.gid c.args.file.now c.args.size) p q = grows_as (IsPiece c.args.uid c.args.gid c.args.file.now c.args.size) _ p q (piece_at c.args.uid c.args.gid c.args.file.now c.args.size c.index-at.result.now c.piece_left.result (below (ap (λ v. v.items) c.pieces.invariant.0) c.index-at.ensures c.requires.ready.1.0 (grind (arith, c.pieces-test.true, c.len.ensures))) c.piece_left.ensures.is) (c.outcome_of.ensures.grows _ c.read_call.ensures) in
-    let kept = fetched_on (seen_by p) (seen_by q) (mine_of p) (mine_of q) c.args.uid c.args.gid c.args.file.now c.args.size c.pieces.job.fetched.items step.seen step.mine got in
-    let grown = grows_then (IsPiece c.args.uid c.args.gid c.args.file.now c.args.size) c.args.job.now.pass.main p q rests.caller.lies grows step in
-    (c.outcome_of.ensures.rests, (c.outcome_of.ensures.source ∙ source, (grown, subst (λ l. AreFetched c.args.uid c.args.gid c.args.file.now c.args.size (seen_by q) (mine_of q) l) (sym c.in-Err-push.ensures.items) kept)))
+    let kept = fetched_on (seen_by p) (seen_by q) (mine_of p) (mine_of q) c.args.file.now.uid c.args.file.now.gid c.args.file.now.handle.now c.args.file.now.size c.pieces.job.fetched.items c.outcome_of.ensures.grows.seen c.outcome_of.ensures.grows.mine c.pieces.invariant.1.1 in
+    (c.outcome_of.ensures.rests, subst (λ l. AreFetched c.args.file.now.uid c.args.file.now.gid c.args.file.now.handle.now c.args.file.now.size (seen_by q) (mine_of q) l) (sym c.in-Err-push.ensures.items) kept)
 
 pub returns : goal.returns
-returns g c = let (offsets, rests, source, grows, got) = c.pieces.invariant in (rests, (source, (grows, got)))
+returns g c = c.pieces.invariant.1

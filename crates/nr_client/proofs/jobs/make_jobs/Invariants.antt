@@ -1,8 +1,8 @@
-use Rattle.std.proofs.Common.{◌≡◌, ◌-◌, [], length, ℕ, List}
+use Rattle.std.proofs.Common.{◌≡◌, ◌-◌, length}
 use Rattle.std.specs.List.{All}
 use Rattle.nr_turnstile.specs.Passes.{mine_of, seen_by}
 use Rattle.nr_shared.specs.Sharing.{SharedRests}
-use Rattle.nr_client.specs.private.JobReads.{IsNewJob}
+use Rattle.nr_client.specs.private.JobReads.{IsReady}
 use Rattle.nr_client.proofs.jobs.make_jobs.Given as goal
 
 abbrev pub invariant-jobs : goal.invariant-jobs
@@ -11,7 +11,7 @@ invariant-jobs g l =
     × (seen_by l.pass.source ≡ seen_by l.initial.pass.source)
     × (seen_by l.pass.main ≡ seen_by l.initial.pass.main)
     × (mine_of l.pass.main ≡ mine_of l.initial.pass.main)
-    × ((uid gid : ℕ) (file : List ℕ) → All (IsNewJob l.shared uid gid file l.size (seen_by l.initial.pass.source)) l.made.items)
+    × All (IsReady l.shared l.file.uid l.file.gid l.file.handle.now l.file.size) l.made.items
 
 abbrev pub decreases-jobs : goal.decreases-jobs
-decreases-jobs g l = l.jobs - length l.made.items
+decreases-jobs g l = l.file.jobs - length l.made.items

@@ -1,4 +1,4 @@
-use Rattle.std.proofs.Common.{◌≡◌, inl, inr, refl, ap, subst}
+use Rattle.std.proofs.Common.{inl, inr, refl, ap, subst}
 use Rattle.nr_reduce.specs.declared.call.Call.{Call}
 use Rattle.nr_reduce.specs.declared.call.Form.TheVariants as forms
 use Rattle.nr_turnstile.specs.Passes.{mine_of, seen_by}
@@ -9,14 +9,13 @@ use Rattle.nr_client.proofs.JobCalls.{call_grows, exchanged, grows_none, lacks}
 use Rattle.nr_client.proofs.shared_calls.outcome_of.Goals as goal
 
 pub returns-in-Err-clause-grows : goal.returns-in-Err-clause-grows
-returns-in-Err-clause-grows g c asked is = grows_none (λ (d : Call). d ≡ asked) _ _ refl refl
+returns-in-Err-clause-grows g c = grows_none _ _ refl refl
 
 pub returns-in-Err-clause-err : goal.returns-in-Err-clause-err
 returns-in-Err-clause-err g c asked is = inl refl
 
 pub returns-in-Err-call-clause-grows : goal.returns-in-Err-call-clause-grows
-returns-in-Err-call-clause-grows g c asked is =
-    call_grows (λ (d : Call). d ≡ asked) c.args.pass.now.main c.call.new.pass.main c.in-Ok.call forms.Auto c.call.result (same_asked c.in-Ok.call asked c.in-Ok.is is) c.call.ensures.called
+returns-in-Err-call-clause-grows g c = call_grows c.args.pass.now.main c.call.new.pass.main c.in-Ok.call forms.Auto c.call.result c.call.ensures.called
 
 pub returns-in-Err-call-clause-err : goal.returns-in-Err-call-clause-err
 returns-in-Err-call-clause-err g c asked is =
@@ -25,13 +24,12 @@ returns-in-Err-call-clause-err g c asked is =
       (
         ap client.Link c.of_shared.ensures,
         subst (λ (d : Call). LacksAnswer (seen_by c.call.new.pass.main) d c.in-Err-call.end) (same_asked c.in-Ok.call asked c.in-Ok.is is)
-            (lacks c.args.pass.now.main c.call.new.pass.main c.in-Ok.call c.in-Err-call.end c.in-Err-call.ensures.called),
+            (lacks c.args.pass.now.main c.call.new.pass.main c.in-Ok.call c.in-Err-call.end c.call.ensures.rests.law c.in-Err-call.ensures.called),
       ),
     )
 
 pub returns-in-Ok-call-clause-grows : goal.returns-in-Ok-call-clause-grows
-returns-in-Ok-call-clause-grows g c asked is =
-    call_grows (λ (d : Call). d ≡ asked) c.args.pass.now.main c.call.new.pass.main c.in-Ok.call forms.Auto c.call.result (same_asked c.in-Ok.call asked c.in-Ok.is is) c.call.ensures.called
+returns-in-Ok-call-clause-grows g c = call_grows c.args.pass.now.main c.call.new.pass.main c.in-Ok.call forms.Auto c.call.result c.call.ensures.called
 
 pub returns-in-Ok-call-clause-ok : goal.returns-in-Ok-call-clause-ok
 returns-in-Ok-call-clause-ok g c asked is =

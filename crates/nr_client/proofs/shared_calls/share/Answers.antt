@@ -2,8 +2,8 @@ use Rattle.std.proofs.Common.{[], ◌∷◌, refl, sym, ap}
 use Rattle.nr_shared.specs.declared.entry.Entry.{Entry}
 use Rattle.nr_client.proofs.shared_calls.share.Goals as goal
 
-pub new-requires : goal.new-requires
-new-requires g c = record {
+pub new-requires-clause-initial : goal.new-requires-clause-initial
+new-requires-clause-initial g c = record {
   initial = record { requester = c.args.requester; faults = g.O.Sink.faults c.args.sink; taken = g.O.Sink.taken c.args.sink };
   history_is = ap (λ (e : Entry). e ∷ []) (sym c.requires.entry);
   requester_is = refl;

@@ -1,4 +1,4 @@
-use Rattle.std.proofs.Common.{◌≡◌, ℕ, ◌+◌, inr, arith, Option, sym, ap, subst}
+use Rattle.std.proofs.Common.{ℕ, ◌+◌, inr, arith, Option, sym, ap, subst}
 use Rattle.nr_reduce.specs.declared.call.Outcome.{Outcome}
 use Rattle.nr_turnstile.specs.Passes.{mine_of, seen_by}
 use Rattle.nr_client.specs.private.JobReads.{IsFetched}
@@ -9,4 +9,4 @@ read_rest-requires-clause-piece g c = inr (omega (arith, c.piece_left.ensures.so
 
 pub finish_piece-requires-clause-fetched : goal.finish_piece-requires-clause-fetched
 finish_piece-requires-clause-fetched g c =
-    subst (λ (o : Option Outcome). IsFetched c.args.uid c.args.gid c.args.file.now c.args.size c.args.at.now o (seen_by c.args.pass.now.main) (mine_of c.args.pass.now.main)) c.in-Some.is c.requires.fetched
+    subst (λ (o : Option Outcome). IsFetched c.args.file.now.uid c.args.file.now.gid c.args.file.now.handle.now c.args.file.now.size c.args.at.now o (seen_by c.args.pass.now.main) (mine_of c.args.pass.now.main)) c.in-Some.is c.requires.fetched

@@ -7,6 +7,7 @@ use Rattle.nr_requester.specs.OpenCalls.{found_answer}
 use Rattle.nr_shared.specs.declared.requester_with_sink.RequesterWithSink.{RequesterWithSink}
 use Rattle.nr_shared.specs.declared.entry.Entry.{Entry}
 use Rattle.nr_shared.specs.declared.entry.Entry.TheVariants as entries
+use Rattle.nr_shared.specs.Callers.{Writes}
 use Rattle.nr_shared.specs.Ending.{LinkEnded}
 use Rattle.nr_shared.specs.HandedBack.{IsUnanswered}
 use Rattle.nr_shared.specs.Histories.{IsCallAt, closes_of, place_or_none}
@@ -32,19 +33,22 @@ try_take_under-requires-clause-ready g c =
       earlier = r.earlier;
     }
 
-pub drain_under-requires-clause-ready : goal.drain_under-requires-clause-ready
-drain_under-requires-clause-ready g c =
+pub drain_under-requires : goal.drain_under-requires
+drain_under-requires g c =
     let r = c.requires.ready in let f = c.value-with_sink.result.now in let e = c.value-with_sink.ensures.value in
     record {
-      value = f;
-      has = (r.has.0, written _ _ f e, r.has.2);
-      stands = subst (λ (z : RequesterWithSink g.row.O.Denot g.row.C.Denot). Stands g.O.Sink.taken g.O.Sink.faults g.C.CallRule.allows z (seen_by (pass_of c.args.turn.now))) (same_value _ r.value f r.has.1 e) r.stands;
-      lies = r.lies;
-      earlier = r.earlier;
+      ready = record {
+        value = f;
+        has = (r.has.0, written _ _ f e, r.has.2);
+        stands = subst (λ (z : RequesterWithSink g.row.O.Denot g.row.C.Denot). Stands g.O.Sink.taken g.O.Sink.faults g.C.CallRule.allows z (seen_by (pass_of c.args.turn.now))) (same_value _ r.value f r.has.1 e) r.stands;
+        lies = r.lies;
+        earlier = r.earlier;
+      };
     }
 
 pub forget_under-requires-clause-has_call : goal.forget_under-requires-clause-has_call
-forget_under-requires-clause-has_call g c = let p = pass_of c.args.turn.now in let q = pass_of c.drain_under.new.turn in let w = c.drain_under.ensures.wrote in
+forget_under-requires-clause-has_call g c = let p = pass_of c.args.turn.now in let q = pass_of c.drain_under.new.turn in let d = c.drain_under.ensures.wrote in
+    let w : Writes p q = record { es = d.es; are = d.are; seen = d.seen; adds = record { seen = d.adds.seen; places = d.adds.places; mine = d.adds.mine; rising = d.adds.rising; at = d.adds.at; new = d.adds.new } } in
     still_open_call p q c.args.ticket w.adds.seen (λ k o. open_writes p q k w o) c.drain_under.ensures.ready.lies c.requires.has_call
 
 pub returns-in-None-clause-ready : goal.returns-in-None-clause-ready
@@ -64,7 +68,8 @@ returns-in-None-clause-polled g c = let p = pass_of c.args.turn.now in (refl, (a
 pub returns-in-Some-clause-polled : goal.returns-in-Some-clause-polled
 returns-in-Some-clause-polled g c = λ k call asked o.
     (let r = c.requires.ready in let f = c.value-with_sink.result.now in let p = pass_of c.args.turn.now in let q = pass_of c.drain_under.new.turn in let seen = seen_by p in
-    let w = c.drain_under.ensures.wrote in let xid = c.args.ticket in
+    let xid = c.args.ticket in let d = c.drain_under.ensures.wrote in
+    let w : Writes p q = record { es = d.es; are = d.are; seen = d.seen; adds = record { seen = d.adds.seen; places = d.adds.places; mine = d.adds.mine; rising = d.adds.rising; at = d.adds.at; new = d.adds.new } } in
     let st : Stands g.O.Sink.taken g.O.Sink.faults g.C.CallRule.allows f seen = subst (λ (z : RequesterWithSink g.row.O.Denot g.row.C.Denot). Stands g.O.Sink.taken g.O.Sink.faults g.C.CallRule.allows z seen) (same_value _ r.value f r.has.1 c.value-with_sink.ensures.value) r.stands in
     let still : IsCallAt (seen_by q) xid k call = asked_on seen (seen_by q) xid k call w.adds.seen asked in
     let opened : IsOpen closes_of (seen_by q) (mine_of q) k = open_writes p q k w o in

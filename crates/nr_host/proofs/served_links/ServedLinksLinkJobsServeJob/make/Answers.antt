@@ -2,7 +2,7 @@ use Rattle.std.proofs.Common.{refl, ap}
 use Rattle.nr_turnstile.specs.declared.plays.View.{View}
 use Rattle.nr_plain.specs.declared.history_entry.HistoryEntry.{HistoryEntry}
 use Rattle.nr_host.proofs.Links.{view_of_pass}
-use Rattle.nr_host.proofs.served_links.ServedLinksLinkJobs.make.Goals as goal
+use Rattle.nr_host.proofs.served_links.ServedLinksLinkJobsServeJob.make.Goals as goal
 
 pub returns-clause-makes : goal.returns-clause-makes
 returns-clause-makes g c = (ap (λ m. view_of_pass m.0) c.split.ensures.unchanged.1, (refl, refl))

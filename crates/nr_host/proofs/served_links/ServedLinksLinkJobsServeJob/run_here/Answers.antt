@@ -1,16 +1,17 @@
-use Rattle.std.proofs.Common.{◌≡◌, ℕ, Bool, false, ap, subst, ◌∙◌}
+use Rattle.std.proofs.Common.{ℕ, Bool, false, ap, subst, sym, ◌∙◌}
 use Rattle.nr_turnstile.specs.Passes.{Rests, mine_of, seen_by}
 use Rattle.nr_turnstile.specs.Rule.{Begins, in_order, longer}
 use Rattle.nr_plain.specs.History.{PassView, pass_view}
 use Rattle.nr_host.specs.LinkServing.{IsLinkServed, LinkSinkCount, LinkSourceCount}
 use Rattle.nr_host.specs.Steps.{outside, sink_state}
 use Rattle.nr_host.specs.declared.connection_limits.ConnectionLimits.{ConnectionLimits}
-use Rattle.nr_host.proofs.served_links.ServedLinksLinkJobs.run_here.Goals as goal
+use Rattle.nr_host.proofs.served_links.ServedLinksLinkJobsServeJob.run_here.Goals as goal
 
 pub join-requires : goal.join-requires
 join-requires g c =
     let (first, (source, (sink, made))) = c.requires.made in
-    (c.requires.rests, subst (λ t. Rests t c.run-source.result.pass) made.1.1.0 c.run-source.ensures.rests)
+    (subst (λ t. Rests t c.args.self.now.pass.now) (sym c.deref.ensures) c.requires.rests,
+    subst (λ t. Rests t c.run-source.result.pass) (made.1.1.0 ∙ sym c.deref.ensures) c.run-source.ensures.rests)
 
 pub returns-clause-links : goal.returns-clause-links
 returns-clause-links g c first source sink made = (
