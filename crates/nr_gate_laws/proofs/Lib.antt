@@ -1,5 +1,2 @@
 pub mod Worded
 pub mod Forwarding
-pub mod AutoFits
-pub mod Remote
-pub mod GatedReplies

@@ -15,8 +15,6 @@ mod ends;
 #[cfg(test)]
 mod gates;
 #[cfg(test)]
-mod gateways;
-#[cfg(test)]
 mod host;
 #[cfg(test)]
 mod jobs;

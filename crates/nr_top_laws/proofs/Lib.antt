@@ -1,4 +1,3 @@
 pub mod CommandStatuses
 pub mod ServerStatuses
-pub mod GatewayStatuses
 pub mod StatusCauses

@@ -1,5 +1,0 @@
-pub mod Forwarding
-pub mod Gating
-pub mod CallerParts
-pub mod GateLinks
-pub mod private
