@@ -15,7 +15,6 @@ mod compare;
 mod counter;
 mod feeder;
 #[cfg(test)]
-#[cfg(test)]
 mod held;
 mod jobs;
 mod log;
