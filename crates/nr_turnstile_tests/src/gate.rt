@@ -32,7 +32,7 @@ enum Ended {
     Other,
 }
 
-fn ended(end: &GateEnd) -> Ended {
+fn end_of(end: &GateEnd) -> Ended {
     match end {
         GateEnd::Closed => Ended::Closed,
         GateEnd::Cut { at } => Ended::Cut(*at),
@@ -161,7 +161,7 @@ fn gated(rt: &(impl Abort + Wait), alloc: Global, row: usize, case: &Row) {
     let mut source = MemSource::new(stream, Vec::new(alloc), failing);
     let mut sink = MemSink::new(alloc, writes.to_vec(alloc).expect(rt, "memory"));
     let end = gate_connection(rt, alloc, &mut source, &mut sink, &shared, &mut pass);
-    same(rt, row, ended(&end), want);
+    same(rt, row, end_of(&end), want);
     let expected = first_of(rt, alloc, replies, &ANSWERED, written);
     same(rt, row, sink.bytes() == expected.as_slice(), true);
     carried(rt, row, (shared, pass), sent);
@@ -191,7 +191,7 @@ fn one(rt: &(impl Abort + Wait), alloc: Global, row: usize, shared: &Shared, pas
     let mut source = MemSource::new(stream, Vec::new(alloc), Vec::new(alloc));
     let mut sink = MemSink::new(alloc, Vec::new(alloc));
     let end = gate_connection(rt, alloc, &mut source, &mut sink, shared, pass);
-    same(rt, row, ended(&end), Ended::Closed);
+    same(rt, row, end_of(&end), Ended::Closed);
     let expected = first_of(rt, alloc, &ANSWERED, &ANSWERED, 28);
     same(rt, row, sink.bytes() == expected.as_slice(), true);
 }
