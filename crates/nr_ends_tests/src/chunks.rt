@@ -1,191 +1,36 @@
 //! Calls at the limits of an offer, fed to a server end as bytes, with all that it writes; and nine reads, of which eight are open at a time.
 
-use crate::calls::{Way, form, greeted};
-use crate::compare::same;
-use crate::link::TestLink;
-use crate::words::{HELLO, HELLO_BACK, bytes, call, put};
-use nr_responder::Sent;
-use std::alloc::Global;
-use std::process::Abort;
+use crate::script::run;
 
-/// The handles of four write chunks of four segments, and of a reply chunk of 16: a header may have no more.
-static WRITE_HANDLES: [[u32; 4]; 4] = [
-    [11, 12, 13, 14],
-    [21, 22, 23, 24],
-    [31, 32, 33, 34],
-    [41, 42, 43, 44],
-];
-
-static REPLY_HANDLES: [u32; 16] = [
-    51, 52, 53, 54, 55, 56, 57, 58, 59, 60, 61, 62, 63, 64, 65, 66,
-];
-
-/// Puts segments with these handles and lengths, all at one offset.
-fn put_segments(rt: &impl Abort, bytes: &mut Vec<u8>, handles: &[u32], lengths: &[u32], at: u32) {
-    for (handle, length) in handles.iter().zip(lengths.iter()) {
-        put(rt, bytes, &[*handle, *length, 0, at]);
-    }
-}
-
-/// Puts the write list (RFC 8166 section 4.3.2): the lengths of the first chunk, and those of each other.
-fn put_write_list(rt: &impl Abort, bytes: &mut Vec<u8>, first: [u32; 4], others: [u32; 4]) {
-    for (chunk, handles) in WRITE_HANDLES.iter().enumerate() {
-        let lengths = if chunk == 0 { first } else { others };
-        put(rt, bytes, &[1, 4]);
-        put_segments(rt, bytes, handles, &lengths, 7);
-    }
-    put(rt, bytes, &[0]);
-}
-
-/// Puts the reply chunk (RFC 8166 section 4.3.3) with these lengths.
-fn put_reply_chunk(rt: &impl Abort, bytes: &mut Vec<u8>, lengths: &[u32; 16]) {
-    put(rt, bytes, &[1, 16]);
-    put_segments(rt, bytes, &REPLY_HANDLES, lengths, 9);
-}
-
-/// The hello and a Send with this first word, of a call with these words (RFC 5531 section 9): its header offers all of the chunks.
-fn offering(rt: &impl Abort, alloc: Global, control: u32, call: &[u32]) -> Vec<u8> {
-    let mut sent = bytes(rt, alloc, &HELLO);
-    put(rt, &mut sent, &[control, 0, 0, 1, 0, 1, 1, 16, 0, 0]);
-    put_write_list(rt, &mut sent, [4; 4], [4; 4]);
-    put_reply_chunk(rt, &mut sent, &[100; 16]);
-    put(rt, &mut sent, call);
-    put(rt, &mut sent, &[0]);
-    sent
-}
-
-/// Ends the test if the server end, fed these bytes in pieces of this length, executes a call of another length, answers it otherwise, or
-/// writes other bytes.
-fn server_writes(
-    rt: &impl Abort,
-    alloc: Global,
-    size: usize,
-    fed: &[u8],
-    answer: (usize, &[u8], Sent),
-    written: &[u8],
-) {
-    let (len, reply, sent) = answer;
-    let mut link = TestLink::open(rt, alloc, 16);
-    same(rt, size, link.pieces_up(rt, fed, size), Ok(()));
-    same(rt, size, link.answer_len(rt, alloc, reply), (len, sent));
-    link.server_writes(rt, alloc, size, written);
-    link.close();
-}
-
-/// Puts the RDMA Writes of the data and the Send of the answer to the READ.
-fn put_data_answer(rt: &impl Abort, written: &mut Vec<u8>) {
-    put(rt, written, &[0x0012c140, 11, 0, 7, 0x68656c6c, 0]);
-    put(rt, written, &[0x000fc140, 12, 0, 7, 0x6f000000, 0]);
-    put(rt, written, &[0x017a4143, 0, 0, 1, 0, 1, 1, 16, 0, 0]);
-    put_write_list(rt, written, [4, 1, 0, 0], [0; 4]);
-    put(rt, written, &[0, 1, 1, 0, 0, 0, 0, 0, 0, 5, 1, 5, 0]);
-}
-
-/// A READ of `hello`: four bytes go to the first segment of the first chunk, one to the second.
-fn data_goes(rt: &impl Abort, alloc: Global, size: usize) {
-    let call = [1, 0, 2, 100003, 3, 6, 0, 0, 0, 0, 8, 0, 2, 0, 0, 5];
-    let fed = offering(rt, alloc, 0x02924143, &call);
-    let words = [1, 1, 0, 0, 0, 0, 0, 0, 5, 1, 5, 0x68656c6c, 0x6f000000];
-    let reply = bytes(rt, alloc, &words);
-    let mut written = bytes(rt, alloc, &HELLO_BACK);
-    put_data_answer(rt, &mut written);
-    let answer = (64, reply.as_slice(), Sent::Inline);
-    server_writes(rt, alloc, size, fed.as_slice(), answer, written.as_slice());
-}
-
-/// The first word of an RDMA Write of as many bytes; none is written for no bytes.
-fn write_control(len: usize) -> Option<u32> {
-    match len {
-        100 => Some(0x0072c140),
-        24 => Some(0x0026c140),
-        _ => None,
-    }
-}
-
-/// Puts RDMA Writes of at most 100 bytes each into the segments of the reply chunk.
-fn put_writes(rt: &impl Abort, written: &mut Vec<u8>, reply: &[u8]) {
-    let mut rest = reply;
-    for handle in &REPLY_HANDLES {
-        let (piece, more) = rest.split_at(rest.len().min(100));
-        if let Some(control) = write_control(piece.len()) {
-            put(rt, written, &[control, *handle, 0, 9]);
-            written.extend_from_slice(piece).expect(rt, "memory");
-            put(rt, written, &[0]);
-        }
-        rest = more;
-    }
-}
-
-/// Puts 300 words of results, which count up from 0.
-fn put_counting(rt: &impl Abort, reply: &mut Vec<u8>) {
-    for word in 0..300u32 {
-        put(rt, reply, &[word]);
-    }
-}
-
-/// Puts the RDMA Writes of a reply of 1,224 bytes, and the Send of the answer to the READDIR.
-fn put_reply_answer(rt: &impl Abort, written: &mut Vec<u8>, reply: &[u8]) {
-    put_writes(rt, written, reply);
-    put(rt, written, &[0x02524143, 0, 0, 1, 0, 1, 1, 16, 1, 0]);
-    put_write_list(rt, written, [0; 4], [0; 4]);
-    let lengths = [
-        100, 100, 100, 100, 100, 100, 100, 100, 100, 100, 100, 100, 24, 0, 0, 0,
-    ];
-    put_reply_chunk(rt, written, &lengths);
-    put(rt, written, &[0]);
-}
-
-/// A READDIR with a reply of 1,224 bytes: twelve segments of the reply chunk are filled, and 24 bytes go to the next one.
-fn reply_goes(rt: &impl Abort, alloc: Global, size: usize) {
-    let call = [
-        1, 0, 2, 100003, 3, 16, 0, 0, 0, 0, 8, 0, 4, 0, 0, 0, 0, 1200,
-    ];
-    let fed = offering(rt, alloc, 0x029a4143, &call);
-    let mut reply = bytes(rt, alloc, &[1, 1, 0, 0, 0, 0]);
-    put_counting(rt, &mut reply);
-    let mut written = bytes(rt, alloc, &HELLO_BACK);
-    put_reply_answer(rt, &mut written, reply.as_slice());
-    let answer = (72, reply.as_slice(), Sent::Long);
-    server_writes(rt, alloc, size, fed.as_slice(), answer, written.as_slice());
-}
+/// Four write chunks of four segments, with handles from 11, 21, 31 and 41 on (RFC 8166 section 4.3.2), and a reply chunk of 16, with handles from
+/// 51 on (section 4.3.3): a header may have no more.
+static CHUNKS: &str = "\
+# A READ of `hello`: four bytes go to the first segment of the first chunk, one to the second.\n\
+open 16\n\
+feed-up : hello 10000 2924143 0 0 1 0 1 1 10 0 0 1 4 b 4 0 7 c 4 0 7 d 4 0 7 e 4 0 7 1 4 15 4 0 7 16 4 0 7 17 4 0 7 18 4 0 7 1 4 1f 4 0 7 20 4 0 7 21 4 0 7 22 4 0 7 1 4 29 4 0 7 2a 4 0 7 2b 4 0 7 2c 4 0 7 0 1 10 33 64 0 9 34 64 0 9 35 64 0 9 36 64 0 9 37 64 0 9 38 64 0 9 39 64 0 9 3a 64 0 9 3b 64 0 9 3c 64 0 9 3d 64 0 9 3e 64 0 9 3f 64 0 9 40 64 0 9 41 64 0 9 42 64 0 9 1 0 2 186a3 3 6 0*4 8 0 2 0 0 5 0\n\
+answer : 1 1 0*6 5 1 5 68656c6c 6f000000 = (64, Inline)\n\
+server-writes : hello-back 10000 12c140 b 0 7 68656c6c 0 fc140 c 0 7 6f000000 0 17a4143 0 0 1 0 1 1 10 0 0 1 4 b 4 0 7 c 1 0 7 d 0 0 7 e 0 0 7 1 4 15 0 0 7 16 0 0 7 17 0 0 7 18 0 0 7 1 4 1f 0 0 7 20 0 0 7 21 0 0 7 22 0 0 7 1 4 29 0 0 7 2a 0 0 7 2b 0 0 7 2c 0 0 7 0 0 1 1 0*6 5 1 5 0\n\
+# A READDIR with a reply of 1,224 bytes: twelve segments of the reply chunk are filled, and 24 bytes go to the next one.\n\
+open 16\n\
+feed-up : hello 10000 29a4143 0 0 1 0 1 1 10 0 0 1 4 b 4 0 7 c 4 0 7 d 4 0 7 e 4 0 7 1 4 15 4 0 7 16 4 0 7 17 4 0 7 18 4 0 7 1 4 1f 4 0 7 20 4 0 7 21 4 0 7 22 4 0 7 1 4 29 4 0 7 2a 4 0 7 2b 4 0 7 2c 4 0 7 0 1 10 33 64 0 9 34 64 0 9 35 64 0 9 36 64 0 9 37 64 0 9 38 64 0 9 39 64 0 9 3a 64 0 9 3b 64 0 9 3c 64 0 9 3d 64 0 9 3e 64 0 9 3f 64 0 9 40 64 0 9 41 64 0 9 42 64 0 9 1 0 2 186a3 3 10 0*4 8 0 4 0*4 4b0 0\n\
+answer : 1 1 0*5 1 2 3 4 5 6 7 8 9 a b c d e f 10 11 12 13 14 15 16 17 18 19 1a 1b 1c 1d 1e 1f 20 21 22 23 24 25 26 27 28 29 2a 2b 2c 2d 2e 2f 30 31 32 33 34 35 36 37 38 39 3a 3b 3c 3d 3e 3f 40 41 42 43 44 45 46 47 48 49 4a 4b 4c 4d 4e 4f 50 51 52 53 54 55 56 57 58 59 5a 5b 5c 5d 5e 5f 60 61 62 63 64 65 66 67 68 69 6a 6b 6c 6d 6e 6f 70 71 72 73 74 75 76 77 78 79 7a 7b 7c 7d 7e 7f 80 81 82 83 84 85 86 87 88 89 8a 8b 8c 8d 8e 8f 90 91 92 93 94 95 96 97 98 99 9a 9b 9c 9d 9e 9f a0 a1 a2 a3 a4 a5 a6 a7 a8 a9 aa ab ac ad ae af b0 b1 b2 b3 b4 b5 b6 b7 b8 b9 ba bb bc bd be bf c0 c1 c2 c3 c4 c5 c6 c7 c8 c9 ca cb cc cd ce cf d0 d1 d2 d3 d4 d5 d6 d7 d8 d9 da db dc dd de df e0 e1 e2 e3 e4 e5 e6 e7 e8 e9 ea eb ec ed ee ef f0 f1 f2 f3 f4 f5 f6 f7 f8 f9 fa fb fc fd fe ff 100 101 102 103 104 105 106 107 108 109 10a 10b 10c 10d 10e 10f 110 111 112 113 114 115 116 117 118 119 11a 11b 11c 11d 11e 11f 120 121 122 123 124 125 126 127 128 129 12a 12b = (72, Long)\n\
+server-writes : hello-back 10000 72c140 33 0 9 1 1 0*5 1 2 3 4 5 6 7 8 9 a b c d e f 10 11 12 0 72c140 34 0 9 13 14 15 16 17 18 19 1a 1b 1c 1d 1e 1f 20 21 22 23 24 25 26 27 28 29 2a 2b 0 72c140 35 0 9 2c 2d 2e 2f 30 31 32 33 34 35 36 37 38 39 3a 3b 3c 3d 3e 3f 40 41 42 43 44 0 72c140 36 0 9 45 46 47 48 49 4a 4b 4c 4d 4e 4f 50 51 52 53 54 55 56 57 58 59 5a 5b 5c 5d 0 72c140 37 0 9 5e 5f 60 61 62 63 64 65 66 67 68 69 6a 6b 6c 6d 6e 6f 70 71 72 73 74 75 76 0 72c140 38 0 9 77 78 79 7a 7b 7c 7d 7e 7f 80 81 82 83 84 85 86 87 88 89 8a 8b 8c 8d 8e 8f 0 72c140 39 0 9 90 91 92 93 94 95 96 97 98 99 9a 9b 9c 9d 9e 9f a0 a1 a2 a3 a4 a5 a6 a7 a8 0 72c140 3a 0 9 a9 aa ab ac ad ae af b0 b1 b2 b3 b4 b5 b6 b7 b8 b9 ba bb bc bd be bf c0 c1 0 72c140 3b 0 9 c2 c3 c4 c5 c6 c7 c8 c9 ca cb cc cd ce cf d0 d1 d2 d3 d4 d5 d6 d7 d8 d9 da 0 72c140 3c 0 9 db dc dd de df e0 e1 e2 e3 e4 e5 e6 e7 e8 e9 ea eb ec ed ee ef f0 f1 f2 f3 0 72c140 3d 0 9 f4 f5 f6 f7 f8 f9 fa fb fc fd fe ff 100 101 102 103 104 105 106 107 108 109 10a 10b 10c 0 72c140 3e 0 9 10d 10e 10f 110 111 112 113 114 115 116 117 118 119 11a 11b 11c 11d 11e 11f 120 121 122 123 124 125 0 26c140 3f 0 9 126 127 128 129 12a 12b 0 2524143 0 0 1 0 1 1 10 1 0 1 4 b 0 0 7 c 0 0 7 d 0 0 7 e 0 0 7 1 4 15 0 0 7 16 0 0 7 17 0 0 7 18 0 0 7 1 4 1f 0 0 7 20 0 0 7 21 0 0 7 22 0 0 7 1 4 29 0 0 7 2a 0 0 7 2b 0 0 7 2c 0 0 7 0 1 10 33 64 0 9 34 64 0 9 35 64 0 9 36 64 0 9 37 64 0 9 38 64 0 9 39 64 0 9 3a 64 0 9 3b 64 0 9 3c 64 0 9 3d 64 0 9 3e 64 0 9 3f 18 0 9 40 0 0 9 41 0 0 9 42 0 0 9 0\n\
+# A read chunk of nine segments: eight Read Requests go out, and the ninth once a response is complete.\n\
+open 16\n\
+up\n\
+down\n\
+submit 72/1,1,1,1,1,1,1,1,1/-/- 7 : 8 0 2 0 0 9 2 9 61626364 65666768 69000000\n\
+# The Send; eight Read Requests, and their responses of one byte; one more.\n\
+up-bytes = 340\n\
+down-bytes = 416\n\
+up-bytes = 192\n\
+counts = [1, 1, 1, 1, 0, 2]\n\
+down-bytes = 52\n\
+up-bytes = 24\n\
+answer : 0*6 = (84, Inline)\n\
+";
 
 #[test]
-fn four_write_chunks_and_a_reply_chunk(rt: HostRuntime) {
-    for size in [1, 65536] {
-        data_goes(&rt, rt.alloc(), size);
-        reply_goes(&rt, rt.alloc(), size);
-    }
-}
-
-/// A WRITE of nine bytes is submitted, whose read chunk has a segment for each.
-fn submit_nine(rt: &impl Abort, alloc: Global, link: &mut TestLink) {
-    let args = [8, 0, 2, 0, 0, 9, 2, 9, 0x61626364, 0x65666768, 0x69000000];
-    drop(link.submit(
-        rt,
-        call(rt, alloc, 7, &args),
-        form(rt, alloc, Way::Read(&[1, 1, 1, 1, 1, 1, 1, 1, 1])),
-    ));
-}
-
-/// A read chunk of nine segments: eight Read Requests go out, and the ninth once a response is complete.
-fn nine_reads(rt: &impl Abort, alloc: Global, size: usize) {
-    let mut link = greeted(rt, alloc, 16, size);
-    submit_nine(rt, alloc, &mut link);
-    // The Send; eight Read Requests, and their responses of one byte; one more.
-    same(rt, 0, link.up(rt, alloc, size), 340);
-    same(rt, 1, link.down(rt, alloc, size), 8 * 52);
-    same(rt, 2, link.up(rt, alloc, size), 8 * 24);
-    same(rt, 3, link.counts(), [1, 1, 1, 1, 0, 2]);
-    same(rt, 4, link.down(rt, alloc, size), 52);
-    same(rt, 5, link.up(rt, alloc, size), 24);
-    let answered = link.answer_len(rt, alloc, &[0; 24]);
-    same(rt, 6, answered, (84, Sent::Inline));
-    link.close();
-}
-
-#[test]
-fn eight_reads_at_a_time(rt: HostRuntime) {
-    for size in [1, 65536] {
-        nine_reads(&rt, rt.alloc(), size);
-    }
+fn chunks(rt: HostRuntime) {
+    run(&rt, rt.alloc(), &[1, 65536], CHUNKS);
 }

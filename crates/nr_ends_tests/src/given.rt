@@ -1,24 +1,9 @@
-//! What the rows of the tables give: payloads, forms and offers.
+//! What the rows of the tables give: payloads and offers.
 
+use crate::line::parted;
 use nr_header::{Chunk, ChunkLists, InlineVec, RdmaSegment, WriteList};
-use nr_reduce::{Form, Lengths, Offer};
 use std::alloc::Global;
 use std::process::Abort;
-
-/// A payload: a number of bytes of data or of a path in a call of NFS or MOUNT, or a number of zeros, which are no
-/// call.
-#[derive(Clone, Copy)]
-pub enum Payload {
-    Getattr,
-    Readlink,
-    Read(u32),
-    Write(u32),
-    /// A WRITE that ends before its data.
-    WriteFront(u32),
-    Symlink(u32),
-    Mnt(u32),
-    Zeros(usize),
-}
 
 pub const NFS: u32 = 100003;
 
@@ -67,18 +52,32 @@ fn text_call(
     out
 }
 
-/// The call's words before its data (RFC 1813 sections 3.3.1, 3.3.5 to 3.3.7, 3.3.10 and 5.2.1), and the data.
-pub fn payload_of(rt: &impl Abort, alloc: Global, payload: Payload) -> Vec<u8> {
-    match payload {
-        Payload::Getattr => call_of(rt, alloc, NFS, 1, &[8, 0, 2]),
-        Payload::Readlink => call_of(rt, alloc, NFS, 5, &[8, 0, 3]),
-        Payload::Read(count) => call_of(rt, alloc, NFS, 6, &[8, 0, 2, 0, 0, count]),
-        Payload::Write(len) => write_call(rt, alloc, len),
-        Payload::WriteFront(len) => call_of(rt, alloc, NFS, 7, &[8, 0, 2, 0, 0, len, 2, len]),
-        Payload::Symlink(len) => symlink_call(rt, alloc, len),
-        Payload::Mnt(len) => text_call(rt, alloc, MOUNT, 1, &[], len),
-        Payload::Zeros(len) => vec![in alloc; 0; len].expect(rt, "memory"),
+/// A payload by its name: a call of NFS or MOUNT with `len` bytes of data or of a path (RFC 1813 sections 3.3.1, 3.3.5 to 3.3.7, 3.3.10 and 5.2.1),
+/// a WRITE that ends before its data, or so many zeros, which are no call.
+fn payload_of(rt: &impl Abort, alloc: Global, name: &str, len: u32) -> Vec<u8> {
+    match name {
+        "getattr" => call_of(rt, alloc, NFS, 1, &[8, 0, 2]),
+        "readlink" => call_of(rt, alloc, NFS, 5, &[8, 0, 3]),
+        "read" => call_of(rt, alloc, NFS, 6, &[8, 0, 2, 0, 0, len]),
+        "write" => write_call(rt, alloc, len),
+        "write-front" => call_of(rt, alloc, NFS, 7, &[8, 0, 2, 0, 0, len, 2, len]),
+        "symlink" => symlink_call(rt, alloc, len),
+        "mnt" => text_call(rt, alloc, MOUNT, 1, &[], len),
+        "zeros" => zeros(rt, alloc, len),
+        _ => panic!(rt; "no payload {name}"),
     }
+}
+
+/// A payload by its name and its number, with a space between them.
+pub fn payload_named(rt: &impl Abort, alloc: Global, text: &str) -> Vec<u8> {
+    let (name, len) = parted(text, ' ');
+    payload_of(rt, alloc, name, len.parse::<u32>().expect(rt, "a length"))
+}
+
+fn zeros(rt: &impl Abort, alloc: Global, len: u32) -> Vec<u8> {
+    let mut out = Vec::new(alloc);
+    put_bytes(rt, &mut out, 0, len);
+    out
 }
 
 fn write_call(rt: &impl Abort, alloc: Global, len: u32) -> Vec<u8> {
@@ -88,52 +87,6 @@ fn write_call(rt: &impl Abort, alloc: Global, len: u32) -> Vec<u8> {
 fn symlink_call(rt: &impl Abort, alloc: Global, len: u32) -> Vec<u8> {
     let link = [8, 0, 1, 1, 0x6c00_0000, 0, 0, 0, 0, 0, 0];
     text_call(rt, alloc, NFS, 10, &link, len)
-}
-
-/// The lengths of the segments of an offer: the position of its read chunk, the read chunk, a write chunk, a reply
-/// chunk.
-#[derive(Clone, Copy)]
-pub struct Given(
-    pub u32,
-    pub Option<&'static [u32]>,
-    pub Option<&'static [u32]>,
-    pub Option<&'static [u32]>,
-);
-
-#[derive(Clone, Copy)]
-pub enum Way {
-    Auto,
-    Inline,
-    Chunk,
-    Long,
-    Offer(Given),
-}
-
-fn lengths_or(rt: &impl Abort, alloc: Global, list: Option<&[u32]>) -> Option<Lengths> {
-    match list {
-        Some(list) => Some(Lengths::from_vec(list.to_vec(alloc).expect(rt, "memory"))),
-        None => None,
-    }
-}
-
-fn offer_of(rt: &impl Abort, alloc: Global, given: Given) -> Offer {
-    let Given(read_at, read, write, reply) = given;
-    Offer {
-        read_at,
-        read: lengths_or(rt, alloc, read),
-        write: lengths_or(rt, alloc, write),
-        reply: lengths_or(rt, alloc, reply),
-    }
-}
-
-pub fn form_of(rt: &impl Abort, alloc: Global, way: Way) -> Form {
-    match way {
-        Way::Auto => Form::Auto,
-        Way::Inline => Form::Inline,
-        Way::Chunk => Form::Chunk,
-        Way::Long => Form::Long,
-        Way::Offer(given) => Form::Given(offer_of(rt, alloc, given)),
-    }
 }
 
 fn put_segments(rt: &impl Abort, segments: &mut Vec<RdmaSegment>, lengths: &[u32]) {

@@ -1,7 +1,7 @@
 //! Items of calls and replies, what is cut and put together again, and how long replies may be.
 
 use crate::compare::same;
-use crate::given::{MOUNT, NFS, Payload, call_of, payload_of, put_text, put_words};
+use crate::given::{MOUNT, NFS, call_of, payload_named, put_text, put_words};
 use nr_reduce::{
     Item, Mismatch, Of, PayloadBuffer, PayloadFault, call_item, cut, largest_reply, rebuild,
     rebuild_into, rebuild_undoes_cut, reducible_item,
@@ -34,32 +34,32 @@ fn reply_of(
     out
 }
 
-fn item_of_call(rt: &impl Abort, alloc: Global, payload: Payload) -> (Option<Item>, Option<Item>) {
-    let bytes = payload_of(rt, alloc, payload);
-    (call_item(&bytes), reducible_item(&Of::Call, &bytes))
+/// The item of a call, and the item if it can be cut.
+fn item_of_call(rt: &impl Abort, alloc: Global, payload: &str) -> (Option<Item>, Option<Item>) {
+    let bytes = payload_named(rt, alloc, payload);
+    let bytes = bytes.as_slice();
+    (call_item(bytes), reducible_item(&Of::Call, bytes))
 }
 
 const ITEM: Option<Item> = Some(Item { pos: 72, len: 5 });
 
+const PATH: Option<Item> = Some(Item { pos: 88, len: 6 });
+
 /// Calls, their items, and the items of those that can be cut.
-static CALLS: [(Payload, Option<Item>, Option<Item>); 7] = [
-    (Payload::Write(5), ITEM, ITEM),
-    (Payload::WriteFront(5), ITEM, None),
-    (
-        Payload::Symlink(6),
-        Some(Item { pos: 88, len: 6 }),
-        Some(Item { pos: 88, len: 6 }),
-    ),
-    (Payload::Read(5), None, None),
-    (Payload::Readlink, None, None),
-    (Payload::Mnt(5), None, None),
-    (Payload::Zeros(80), None, None),
+static CALLS: [(&str, Option<Item>, Option<Item>); 7] = [
+    ("write 5", ITEM, ITEM),
+    ("write-front 5", ITEM, None),
+    ("symlink 6", PATH, PATH),
+    ("read 5", None, None),
+    ("readlink 0", None, None),
+    ("mnt 5", None, None),
+    ("zeros 80", None, None),
 ];
 
 #[test]
 fn items_of_calls(rt: HostRuntime) {
     for (row, (payload, item, reducible)) in CALLS.iter().enumerate() {
-        let got = item_of_call(&rt, rt.alloc(), *payload);
+        let got = item_of_call(&rt, rt.alloc(), payload);
         same(&rt, row, got, (*item, *reducible));
     }
 }
@@ -190,7 +190,7 @@ fn streams_are_rebuilt_in_room(rt: HostRuntime) {
 
 #[test]
 fn no_item_in_getattr(rt: HostRuntime) {
-    let getattr = payload_of(&rt, rt.alloc(), Payload::Getattr);
+    let getattr = payload_named(&rt, rt.alloc(), "getattr 0");
     let got = is_hello(&rt, rt.alloc(), &getattr, 52, b"HELLO");
     same(&rt, 0, got, Err(NO_ITEM));
 }

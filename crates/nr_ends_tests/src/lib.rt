@@ -7,6 +7,10 @@
 #[cfg(test)]
 mod accesses;
 #[cfg(test)]
+mod answers;
+#[cfg(test)]
+mod calling;
+#[cfg(test)]
 mod calls;
 #[cfg(test)]
 mod chunks;
@@ -25,7 +29,13 @@ mod invalidates;
 #[cfg(test)]
 mod items;
 #[cfg(test)]
+mod line;
+#[cfg(test)]
 mod link;
+#[cfg(test)]
+mod looking;
+#[cfg(test)]
+mod moving;
 #[cfg(test)]
 mod plan_rows;
 #[cfg(test)]
@@ -36,6 +46,8 @@ mod random;
 mod refused;
 #[cfg(test)]
 mod replies;
+#[cfg(test)]
+mod script;
 #[cfg(test)]
 mod segments;
 #[cfg(test)]

@@ -5,7 +5,6 @@ ghost use Rattle.nr_requester.specs.OpenCalls.{open_call, KeepsTickets, OpensTic
 ghost use Rattle.nr_rpc.specs.Credential.{CanWriteCred};
 
 use crate::compare::same;
-use crate::words::bytes;
 use nr_link::End;
 use nr_outside::MemSink;
 use nr_reduce::{Call, Form, Refused};
@@ -21,13 +20,14 @@ const MANY: usize = 1 << 32;
 /// The most bytes of a reply.
 const REPLY_MAX: usize = 1_056_768;
 
-/// A client end and a server end, and how many bytes each was fed at most.
+/// A client end and a server end, how many bytes each was fed at most, and the xid of the next call.
 #[derive(Drop)]
 pub struct TestLink {
     client: Requester,
     server: Responder,
     fed_up: u64,
     fed_down: u64,
+    next_xid: u32,
 }
 
 impl Model for TestLink {
@@ -102,6 +102,7 @@ impl TestLink {
             server: Responder::open(alloc, credits).expect(rt, "memory"),
             fed_up: 0,
             fed_down: 0,
+            next_xid: first_xid,
         }
     }
 
@@ -114,6 +115,7 @@ impl TestLink {
             ),
             fed_up: 0,
             fed_down: 0,
+            next_xid: 1,
         }
     }
 
@@ -129,6 +131,7 @@ impl TestLink {
             server: Responder::open_sized(alloc, 16, 16, units, invalidates.1).expect(rt, "memory"),
             fed_up: 0,
             fed_down: 0,
+            next_xid: 1,
         }
     }
 
@@ -139,6 +142,7 @@ impl TestLink {
             server: Responder::open_sized(alloc, credits, low, 1, false).expect(rt, "memory"),
             fed_up: 0,
             fed_down: 0,
+            next_xid: 1,
         }
     }
 
@@ -275,34 +279,6 @@ impl TestLink {
         Ok(())
     }
 
-    /// Feeds the server end the bytes of words in pieces of this length, until it ends.
-    pub fn words_up(
-        &mut self,
-        rt: &impl Abort,
-        alloc: Global,
-        words: &[u32],
-        size: usize,
-    ) -> Result<(), End>
-        ensures { self.new ≡ self.old }
-    {
-        let fed = bytes(rt, alloc, words);
-        self.pieces_up(rt, fed.as_slice(), size)
-    }
-
-    /// Feeds the client end the bytes of words in pieces of this length, until it ends.
-    pub fn words_down(
-        &mut self,
-        rt: &impl Abort,
-        alloc: Global,
-        words: &[u32],
-        size: usize,
-    ) -> Result<(), End>
-        ensures { KeepsTickets self.old.state self.new.state }
-    {
-        let fed = bytes(rt, alloc, words);
-        self.pieces_down(rt, fed.as_slice(), size)
-    }
-
     /// Ends the test if a sink doesn't take all that the client end has to write, or if these are other bytes.
     pub fn client_writes(&mut self, rt: &impl Abort, alloc: Global, row: usize, written: &[u8])
         ensures { KeepsTickets self.old.state self.new.state }
@@ -346,10 +322,16 @@ impl TestLink {
         requires { CanWriteCred call.cred }
         ensures { OpensTicket result call self.old.state self.new.state }
     {
+        self.next_xid = self.next_xid.wrapping_add(1);
         match self.client.submit(call, form) {
             Ok(ticket) => ticket,
             Err(_) => panic!(rt; "the call is refused"),
         }
+    }
+
+    /// The xid of the next call.
+    pub fn next_xid(&self) -> u32 {
+        self.next_xid
     }
 
     /// Why a call is refused. One that is accepted is forgotten.

@@ -1,8 +1,8 @@
 //! Many calls in pieces of random lengths.
 
-use crate::calls::{ROWS, exchange, greeted};
-use crate::compare::same;
+use crate::calls::CALLS;
 use crate::link::TestLink;
+use crate::script::run_lines;
 use std::alloc::Global;
 use std::process::Abort;
 
@@ -14,29 +14,38 @@ fn draw(state: &mut u64) -> usize {
     (*state >> 33) as usize
 }
 
-/// One call of a random row, in pieces of a random length of up to 3,000 bytes.
-fn random_call(rt: &impl Abort, alloc: Global, link: &mut TestLink, xid: u32, state: &mut u64) {
-    let row = draw(state) % ROWS.len();
-    let size = 1 + draw(state) % 3000;
-    match ROWS.get(row) {
-        Some(row) => exchange(rt, alloc, link, xid, size, *row),
-        None => panic!(rt; "no row {row}"),
+/// The call of this number among those of [`CALLS`].
+fn numbered(rt: &impl Abort, number: usize) -> &'static str {
+    let mut left = number;
+    for line in CALLS.lines() {
+        if line.starts_with('#') {
+            continue;
+        }
+        if left == 0 {
+            return line;
+        }
+        left -= 1;
     }
+    panic!(rt; "no call {number}")
+}
+
+/// One call of a random row, in pieces of a random length of up to 3,000 bytes.
+fn random_call(rt: &impl Abort, alloc: Global, link: &mut TestLink, state: &mut u64) {
+    let call = numbered(rt, draw(state) % 12);
+    let size = 1 + draw(state) % 3000;
+    run_lines(rt, alloc, link, size, call);
 }
 
 /// Each is executed with its own payload and has the reply that it was given, and at the end nothing is outstanding.
-fn random_calls(rt: &impl Abort, alloc: Global, count: u32) {
-    let mut link = greeted(rt, alloc, 16, 65536);
-    let mut state = 7;
-    for xid in 1..=count {
-        random_call(rt, alloc, &mut link, xid, &mut state);
-    }
-    same(rt, 0, link.counts(), [0, 16, 0, 0, 0, 2]);
-    same(rt, 1, link.ends(), (None, None));
-    link.close();
-}
-
 #[test]
 fn ten_thousand_calls(rt: HostRuntime) {
-    random_calls(&rt, rt.alloc(), 10000);
+    let mut link = TestLink::open(&rt, rt.alloc(), 16);
+    run_lines(&rt, rt.alloc(), &mut link, 65536, "up\ndown\n");
+    let mut state = 7;
+    for _ in 0..10000 {
+        random_call(&rt, rt.alloc(), &mut link, &mut state);
+    }
+    let end = "counts = [0, 16, 0, 0, 0, 2]\nends = (None, None)\n";
+    run_lines(&rt, rt.alloc(), &mut link, 65536, end);
+    link.close();
 }

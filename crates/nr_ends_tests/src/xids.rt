@@ -1,34 +1,28 @@
 //! The first xid of a client, and its last.
 
-use crate::calls::{ROWS, exchange};
 use crate::compare::same;
 use crate::link::TestLink;
+use crate::script::{run, run_lines};
 use crate::words::call;
 use nr_reduce::{Form, Refused};
 use std::alloc::Global;
 use std::process::Abort;
 
-/// The first xid is the one that was asked for.
-fn first_xid(rt: &impl Abort, alloc: Global) {
-    let mut link = TestLink::open_at(rt, alloc, 7, 3, 1);
-    let ticket = link.submit(rt, call(rt, alloc, 0, &[]), Form::Auto);
-    same(rt, 0, ticket.xid(), 7);
-    link.forget(ticket);
-    let [outstanding, ..] = link.counts();
-    same(rt, 1, outstanding, 1);
-    same(rt, 2, link.ends(), (None, None));
-    link.close();
-}
+/// The first xid is the one that was asked for: that of the call that is forgotten.
+static FIRST: &str = "\
+open-at 7 3 1\n\
+forget auto 0 :\n\
+counts = [1, 1, 0, 0, 0, 2]\n\
+ends = (None, None)\n\
+";
 
-/// After the call with the last xid no xid is left.
-fn last_xid(rt: &impl Abort, alloc: Global) {
-    let mut link = TestLink::open_at(rt, alloc, u32::MAX, 1, 4);
-    let _hello = link.up(rt, alloc, 65536);
-    let _back = link.down(rt, alloc, 65536);
-    exchange(rt, alloc, &mut link, u32::MAX, 65536, ROWS[0]);
-    no_xid_is_left(rt, alloc, &mut link);
-    link.close();
-}
+/// The call with the last xid.
+static LAST: &str = "\
+open-at 4294967295 1 4\n\
+up\n\
+down\n\
+exchange auto 0 : ; = Inline\n\
+";
 
 /// A call is refused, since no xid is left.
 fn no_xid_is_left(rt: &impl Abort, alloc: Global, link: &mut TestLink) {
@@ -40,6 +34,9 @@ fn no_xid_is_left(rt: &impl Abort, alloc: Global, link: &mut TestLink) {
 
 #[test]
 fn xids_begin_and_end(rt: HostRuntime) {
-    first_xid(&rt, rt.alloc());
-    last_xid(&rt, rt.alloc());
+    run(&rt, rt.alloc(), &[65536], FIRST);
+    let mut link = TestLink::open(&rt, rt.alloc(), 16);
+    run_lines(&rt, rt.alloc(), &mut link, 65536, LAST);
+    no_xid_is_left(&rt, rt.alloc(), &mut link);
+    link.close();
 }
