@@ -1,5 +1,5 @@
 -- A call that is forwarded with another xid.
-use Rattle.std.proofs.Common.{◌≡◌, ℕ, ◌+◌, ◌^◌, ◌<◌, ◌≤◌, true, List, [], ◌∷◌, ◌++◌, length, drop, replicate, Option, None, Some, Result, Ok, Err, refl, sym, ap, ◌∙◌, subst, arith, le_refl}
+use Rattle.std.proofs.Common.{◌≡◌, ℕ, ◌+◌, ◌^◌, ◌<◌, ◌≤◌, true, List, [], ◌∷◌, ◌++◌, length, drop, take, replicate, Option, None, Some, Result, Ok, Err, refl, sym, ap, ◌∙◌, subst, arith, le_refl}
 use Rattle.std.specs.Prelude.{is_some}
 use Rattle.std.specs.Option.{option_map}
 use Rattle.std.proofs.lemmas.Bool.{false≢true}
@@ -9,7 +9,7 @@ use Rattle.nr_xdr.specs.Item.Item.{Unsigned, Hyper, Boolean, Opaque, Fixed}
 use Rattle.nr_xdr.specs.Items.{AllFit, ReadsAll, encodings}
 use Rattle.nr_xdr.proofs.WordBytes.{length_word}
 use Rattle.nr_rpc.specs.Call.{ReadsCall, call_encoding, call_head, version2_items}
-use Rattle.nr_rpc.specs.Credential.{Auth, CanWriteCred, CredFits, ReadsCred, auth_of, sys_items}
+use Rattle.nr_rpc.specs.Credential.{Auth, CredFits, ReadsCred, auth_of, sys_items}
 use Rattle.nr_rpc.specs.Reading.{call_of, head_xid, target_of}
 use Rattle.nr_rpc.specs.declared.cred.Cred.{Cred}
 use Rattle.nr_rpc.specs.declared.cred.Cred.TheVariants as creds
@@ -17,9 +17,13 @@ use Rattle.nr_rpc.specs.declared.head.CallHead.{CallHead}
 use Rattle.nr_rpc.specs.declared.head.CallHead.TheVariants as calls
 use Rattle.nr_rpc.proofs.Calls.{call_begins, call_written}
 use Rattle.nr_outside.specs.declared.moment.Moment.{Moment}
-use Rattle.nr_plain.specs.Setup.{Parameters, State}
-use Rattle.nr_plain.specs.Replies.{Answer, answer_by, call_by_cred, cred_refusal, plain_answer, program_call}
-use Rattle.nr_gate_laws.specs.Forwarded.{answer_with_xid, forwarded, forwarded_by, with_xid}
+use Rattle.nr_reduce.specs.declared.mark.Entry.{Entry as JournalEntry}
+use Rattle.nr_plain.specs.Journal.{state_of}
+use Rattle.nr_plain.specs.Setup.{Parameters, Setup, State}
+use Rattle.nr_plain.specs.Replies.{Answer, answer_by, call_by_cred, cred_refusal, plain_answer, plain_reply, program_call}
+use Rattle.nr_gate.proofs.Asked.{can_write}
+use Rattle.nr_gate.specs.Forwarding.{forwarded, forwarded_by, with_xid}
+use Rattle.nr_gate_laws.specs.Forwarded.{answer_with_xid}
 use Rattle.nr_gate_laws.proofs.Worded.{IsWorded, alike, call_worded}
 
 -- ---- items that were read
@@ -46,12 +50,7 @@ all_length [] bytes r = ap length r
 all_length (item ∷ items) bytes (front, rest, one, others, is) =
     omega (arith, ap length is, length-append front rest, length-append (encoding item) (encodings items), reads_length item front one, all_length items rest others)
 
--- ---- a credential that was read can be written, and takes no more bytes
-
-can_write : (cred : Cred) (auth : Auth) → ReadsCred cred auth → CanWriteCred cred
-can_write creds.None auth r = tt
-can_write (creds.Sys stamp machine uid gid gids) auth r = (r.1.machine_within, r.1.gids_within)
-can_write (creds.Other flavor) auth r = r.1
+-- ---- a credential that was read takes no more bytes when it is written
 
 cred_fits : (cred : Cred) (auth : Auth) → ReadsCred cred auth → auth.flavor < 2 ^ 32 → CredFits cred
 cred_fits creds.None auth r fits = tt
@@ -178,7 +177,7 @@ module _ (s : Parameters) (st : State) (m : Moment) (x : ℕ) (q : List ℕ) (by
     by_head (Err at) e is = absurd (false≢true is)
 
   -- its own xid again
-  pub comes_back : (head : CallHead) → is_some (target_of (call_of q)) ≡ true → call_of q ≡ Ok head
+  comes_back : (head : CallHead) → is_some (target_of (call_of q)) ≡ true → call_of q ≡ Ok head
       → option_map (answer_with_xid (head_xid head)) (plain_answer s st m (forwarded x q)) ≡ plain_answer s st m q
   comes_back head two e =
       ap (option_map (answer_with_xid (head_xid head))) (answered_alike two)
@@ -196,3 +195,11 @@ module _ (s : Parameters) (st : State) (m : Moment) (x : ℕ) (q : List ℕ) (by
 pub replies_map : (x : ℕ) (o : Option Answer) → option_map (λ (a : Answer). a.reply) (option_map (answer_with_xid x) o) ≡ option_map (with_xid x) (option_map (λ (a : Answer). a.reply) o)
 replies_map x None = refl
 replies_map x (Some a) = refl
+
+-- the reply to the forwarded call, with the xid of the call again, is the reply to the call
+pub reply_comes_back : (s : Setup) (J : List JournalEntry) (place : ℕ) (m : Moment) (x : ℕ) (q : List ℕ) (head : CallHead) → IsBytes q → x < 2 ^ 32 → is_some (target_of (call_of q)) ≡ true → call_of q ≡ Ok head
+    → option_map (with_xid (head_xid head)) (plain_reply s J place m (forwarded x q)) ≡ plain_reply s J place m q
+reply_comes_back s J place m x q head bytes fits two e =
+    let st = state_of s (take place J) in
+    sym (replies_map (head_xid head) (plain_answer s.parameters st m (forwarded x q)))
+    ∙ ap (option_map (λ (a : Answer). a.reply)) (comes_back s.parameters st m x q bytes fits head two e)

@@ -1,2 +1,5 @@
 pub mod Worded
 pub mod Forwarding
+pub mod AutoFits
+pub mod Remote
+pub mod GatedReplies

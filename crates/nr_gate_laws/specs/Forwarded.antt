@@ -1,29 +1,21 @@
--- A call as a gateway forwards it (RFC 5531 section 9): with another xid, its credential as it was read, and the verifier AUTH_NONE.
-use Rattle.std.specs.Prelude.{◌≡◌, ℕ, ◌^◌, ◌<◌, ◌≤◌, true, List, ◌++◌, length, drop, is_some, Result, Ok, Err}
+-- How the plain server answers a call as a gateway forwards it (RFC 5531 section 9).
+use Rattle.std.specs.Prelude.{◌≡◌, ℕ, ◌^◌, ◌<◌, ◌≤◌, true, List, length, is_some, Ok}
 use Rattle.std.specs.Option.{option_map}
-use Rattle.nr_xdr.specs.Item.{IsBytes, word}
-use Rattle.nr_rpc.specs.Call.{call_encoding}
+use Rattle.nr_xdr.specs.Item.{IsBytes}
 use Rattle.nr_rpc.specs.Reading.{call_of, head_xid, target_of}
 use Rattle.nr_rpc.specs.declared.head.CallHead.{CallHead}
-use Rattle.nr_rpc.specs.declared.head.CallHead.TheVariants as calls
 use Rattle.nr_outside.specs.declared.moment.Moment.{Moment}
 use Rattle.nr_reduce.specs.declared.mark.Entry.{Entry}
 use Rattle.nr_plain.specs.Replies.{Answer, plain_answer, plain_reply}
 use Rattle.nr_plain.specs.Setup.{Parameters, Setup, State}
+use Rattle.nr_link.specs.Limits.{send_unit}
+use Rattle.nr_record.specs.Constants.{RECORD_MAX}
+use Rattle.nr_reduce.specs.declared.call.Form.TheVariants as forms
+use Rattle.nr_reduce.specs.declared.outline.Plan.{Plan}
+use Rattle.nr_reduce.specs.Plans.{plan_of}
+use Rattle.nr_gate.specs.Forwarding.{forwarded, with_xid}
 
--- by the head that was read: what is no call of RPC version 2 is not forwarded
-abbrev pub forwarded_by : ℕ → List ℕ → Result CallHead ℕ → List ℕ
-forwarded_by x q (Ok (calls.Version2 xid prog vers proc cred args_at)) = call_encoding (calls.Version2 x prog vers proc cred args_at) (drop args_at q)
-forwarded_by x q (Ok (calls.Other xid rpcvers)) = q
-forwarded_by x q (Err at) = q
-
-abbrev pub forwarded : ℕ → List ℕ → List ℕ
-forwarded x q = forwarded_by x q (call_of q)
-
--- a reply with another xid, which is its first word
-abbrev pub with_xid : ℕ → List ℕ → List ℕ
-with_xid x reply = word x ++ drop 4 reply
-
+-- an answer with another xid
 abbrev pub answer_with_xid : ℕ → Answer → Answer
 answer_with_xid x a = record { reply = with_xid x a.reply; entries = a.entries }
 
@@ -49,3 +41,8 @@ RepliesComeBack = (s : Setup) (J : List Entry) (place : ℕ) (m : Moment) (x : �
 -- A forwarded call has at most as many bytes as the call.
 abbrev pub ForwardedCallsAreNoLonger : Type 0
 ForwardedCallsAreNoLonger = (x : ℕ) (q : List ℕ) → IsBytes q → length (forwarded x q) ≤ length q
+
+-- The forwarded call of a record within the limit has a plan in the form Auto (RFC 8166 section 3.5), whatever sizes of a Send its link has agreed
+-- on: so it is never too large.
+abbrev pub ForwardedCallsHavePlans : Type 0
+ForwardedCallsHavePlans = (x : ℕ) (q : List ℕ) (up down : ℕ) → IsBytes q → length q ≤ RECORD_MAX → send_unit ≤ up → (p : Plan) × (plan_of (forwarded x q) forms.Auto up down ≡ Ok p)

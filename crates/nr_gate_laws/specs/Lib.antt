@@ -1,1 +1,2 @@
 pub mod Forwarded
+pub mod GatedReplies

@@ -1,6 +1,7 @@
 //! Laws of calls that are forwarded with another xid.
 
-ghost use Rattle.nr_gate_laws.specs.Forwarded.{ForwardedAnswersAreAlike, ForwardedCallsAreNoLonger, ForwardedRepliesAreAlike, RepliesComeBack};
+ghost use Rattle.nr_gate_laws.specs.GatedReplies.{GatedRepliesArePlain};
+ghost use Rattle.nr_gate_laws.specs.Forwarded.{ForwardedAnswersAreAlike, ForwardedCallsAreNoLonger, ForwardedCallsHavePlans, ForwardedRepliesAreAlike, RepliesComeBack};
 
 /// Over every state the plain server answers a forwarded call of RPC version 2 (RFC 5531 section 9) as the call itself: both
 /// add the same entry to the journal, or none, and the replies differ in the xid alone. So the reply to the forwarded call
@@ -11,7 +12,15 @@ pub fn forwarded_calls_are_answered_alike()
     ensures back { RepliesComeBack }
 {}
 
-/// A forwarded call has at most as many bytes as the call.
+/// A forwarded call has at most as many bytes as the call. If that is a record within the limit, it has a plan in the form Auto
+/// (RFC 8166 section 3.5), so it is never too large for a link.
 pub fn forwarded_calls_are_no_longer()
-    ensures { ForwardedCallsAreNoLonger }
+    ensures no_longer { ForwardedCallsAreNoLonger }
+    ensures planned { ForwardedCallsHavePlans }
+{}
+
+/// If the remote link of a gateway is matched and served, each record that a connection of the gateway answered has the reply of the plain server to
+/// the record's own call, with its own xid, at a place of the server's one journal; the places don't fall within the connection.
+pub fn gated_replies_are_plain<O, C>()
+    ensures { GatedRepliesArePlain O C }
 {}

@@ -1,5 +1,5 @@
 //! Tests of `nr_turnstile`, over three values that stand for a history: a counter, a list, and a desk of questions and
-//! answers; and over a value with a pass of another turnstile. Tests of `nr_cache` and of `nr_shared`.
+//! answers; and over a value with a pass of another turnstile. Tests of `nr_cache`, of `nr_shared` and of `nr_gate`.
 #![tactic(auto)]
 
 mod additions;
@@ -14,6 +14,8 @@ mod callers;
 mod compare;
 mod counter;
 mod feeder;
+#[cfg(test)]
+mod gate;
 #[cfg(test)]
 mod held;
 mod jobs;

@@ -1,0 +1,5 @@
+pub mod Asked
+pub mod OwnXid
+pub mod Steps
+pub mod Ends
+pub mod Links

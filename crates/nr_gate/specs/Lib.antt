@@ -1,0 +1,4 @@
+pub mod Forwarding
+pub mod Gating
+pub mod CallerParts
+pub mod private

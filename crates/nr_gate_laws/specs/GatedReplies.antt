@@ -1,0 +1,48 @@
+-- The replies of a gateway's connection, if its remote link is matched and served.
+use Rattle.std.specs.Prelude.{◌≡◌, ⊤, ℕ, ◌≤◌, List, ◌∷◌, [], Some}
+use Rattle.std.specs.List.{AllByRecursion}
+use Rattle.nr_xdr.specs.Item.{IsBytes}
+use Rattle.nr_outside.specs.declared.moment.Moment.{Moment}
+use Rattle.nr_reduce.specs.declared.mark.Entry.{Entry as JournalEntry}
+use Rattle.nr_reduce.specs.declared.mark.LinkParameters.{LinkParameters}
+use Rattle.nr_reduce.specs.declared.mark.Mark.{Mark}
+use Rattle.nr_reduce.specs.Journal.{Journaled}
+use Rattle.nr_reduce.specs.PlainJournal.{any_that_adds}
+use Rattle.nr_laws.specs.MatchedSoFar.{MatchedSoFar}
+use Rattle.nr_laws.specs.PlainLinks.{AtPlacesOn}
+use Rattle.nr_laws.specs.Typed.{IsTyped}
+use Rattle.nr_service_laws.specs.ServedCommands.{client_marks}
+use Rattle.nr_plain.specs.Added.{entries_of_call}
+use Rattle.nr_plain.specs.ReplyLaws.{plain_server}
+use Rattle.nr_plain.specs.Replies.{plain_reply}
+use Rattle.nr_plain.specs.Setup.{Setup}
+use Rattle.nr_turnstile.specs.declared.turnstile.Pass.{Pass}
+use Rattle.nr_turnstile.specs.Passes.{seen_by}
+use Rattle.nr_record_loop.specs.Connections.{Exchange, Loop}
+use Rattle.nr_shared.specs.declared.entry.Entry.{Entry}
+use Rattle.nr_shared.specs.declared.requester_with_sink.RequesterWithSink.{RequesterWithSink}
+use Rattle.nr_shared.specs.Histories.{run_of}
+use Rattle.nr_gate.specs.declared.gate_end.GateEnd.{GateEnd}
+use Rattle.nr_gate.specs.Gating.{IsGated}
+
+-- A run has both sides of the link over which a gateway forwards: its client's marks are those of this history, after the marks `before`.
+-- The link is matched so far, the journal is what all calls of the run add, and each call of the link is answered as the plain server answers at
+-- its place in the journal.
+pub record IsRemoteLink (s : Setup) (J : List JournalEntry) (opened : LinkParameters) (link : ℕ) (history : List Entry) (both : List Mark) : Type 0 where
+  pub n : ℕ
+  pub before : List Mark
+  pub client_side : client_marks link both ≡ run_of before n link history
+  pub typed : IsTyped both
+  pub matched : MatchedSoFar opened link both
+  pub journaled : Journaled (any_that_adds entries_of_call) J both
+  pub at_places : AtPlacesOn (plain_server s) J link both
+
+-- Each of these calls has the reply of the plain server at a place of the journal. The places don't fall, and none is below `least`.
+abbrev pub ArePlain : Setup → List JournalEntry → (least : ℕ) → List Exchange → Type 0
+ArePlain s J least [] = ⊤
+ArePlain s J least (x ∷ xs) = (place : ℕ) × ((moment : Moment) × ((least ≤ place) × ((plain_reply s J place moment x.call ≡ Some x.reply) × ArePlain s J place xs)))
+
+-- So has each record that a connection of the gateway answered.
+abbrev pub GatedRepliesArePlain : (O C : Type 0) → Type 0
+GatedRepliesArePlain O C = (s : Setup) (J : List JournalEntry) (opened : LinkParameters) (link : ℕ) (both : List Mark) (before after : Loop (Pass (RequesterWithSink O C) Entry)) (end : GateEnd)
+    (g : IsGated before after end) → AllByRecursion IsBytes g.records → IsRemoteLink s J opened link (seen_by after.state) both → ArePlain s J 0 g.exchanges
