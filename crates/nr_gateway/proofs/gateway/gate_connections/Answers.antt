@@ -28,8 +28,8 @@ returns-in-Ok-gate_links g c =
     c.in-Ok-open_remote.ensures.opens
     c.in-Ok-gate_links.ensures
 
-pub returns : goal.returns
-returns g c =
+pub returns-in-Err-gate_links : goal.returns-in-Err-gate_links
+returns-in-Err-gate_links g c =
     takes_fewer (gate_config_settings c.args.config.now)
     (around (acceptor_at (g.A.Acceptor.asked c.args.accept.now) (g.A.Acceptor.ended c.args.accept.now) (g.A.Acceptor.lost c.args.accept.now) (g.A.Acceptor.faults c.args.accept.now)) (dialer_at (g.D.Dialer.asked c.args.dial.now) (g.D.Dialer.ended c.args.dial.now) (g.D.Dialer.lost c.args.dial.now) (g.D.Dialer.faults c.args.dial.now)) (spawner_at (g.P.Spawner.started c.args.spawn.now) (g.P.Spawner.ended c.args.spawn.now) (g.P.Spawner.faults c.args.spawn.now)))
     (acceptor_at (g.A.Acceptor.asked c.listen.new.self) (g.A.Acceptor.ended c.listen.new.self) (g.A.Acceptor.lost c.listen.new.self) (g.A.Acceptor.faults c.listen.new.self)) (acceptor_at (g.A.Acceptor.asked c.gate_links.new.accept) (g.A.Acceptor.ended c.gate_links.new.accept) (g.A.Acceptor.lost c.gate_links.new.accept) (g.A.Acceptor.faults c.gate_links.new.accept))

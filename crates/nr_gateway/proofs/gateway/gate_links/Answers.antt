@@ -18,8 +18,8 @@ returns-in-Ok g c =
       unfailing = c.in-Ok.ensures.counted;
     }
 
-pub returns-in-Err : goal.returns-in-Err
-returns-in-Err g c =
+pub returns : goal.returns
+returns g c =
     let (ends, (less, (gates, back))) = c.in-Err.ensures.err in
     subst (λ (stop : ServeStop). TakesFewer stop (gate_config_settings c.args.config.now) (acceptor_at (g.A.Acceptor.asked c.args.accept.now) (g.A.Acceptor.ended c.args.accept.now) (g.A.Acceptor.lost c.args.accept.now) (g.A.Acceptor.faults c.args.accept.now)) (acceptor_at (g.A.Acceptor.asked c.gate.new.acceptor) (g.A.Acceptor.ended c.gate.new.acceptor) (g.A.Acceptor.lost c.gate.new.acceptor) (g.A.Acceptor.faults c.gate.new.acceptor))
     (spawner_at (g.P.Spawner.started c.args.spawn.now) (g.P.Spawner.ended c.args.spawn.now) (g.P.Spawner.faults c.args.spawn.now)) (spawner_at (g.P.Spawner.started c.gate.new.spawner) (g.P.Spawner.ended c.gate.new.spawner) (g.P.Spawner.faults c.gate.new.spawner)) c.args.pass.main) (sym c.stop_of_serve.ensures)

@@ -6,5 +6,5 @@ returns-in-Err-clause-dials g c = record { asked = c.in-Err.ensures.err_asked; e
 pub returns-in-Ok-share_opened-clause-dials : goal.returns-in-Ok-share_opened-clause-dials
 returns-in-Ok-share_opened-clause-dials g c = record { asked = c.in-Ok.ensures.asked; made = c.in-Ok.ensures.made; lost = c.dial.ensures.lost; unfailing = c.in-Ok.ensures.counted }
 
-pub returns-clause-dials : goal.returns-clause-dials
-returns-clause-dials g c = record { asked = c.in-Ok.ensures.asked; made = c.in-Ok.ensures.made; lost = c.dial.ensures.lost; unfailing = c.in-Ok.ensures.counted }
+pub returns-in-Err-share_opened-clause-dials : goal.returns-in-Err-share_opened-clause-dials
+returns-in-Err-share_opened-clause-dials g c = record { asked = c.in-Ok.ensures.asked; made = c.in-Ok.ensures.made; lost = c.dial.ensures.lost; unfailing = c.in-Ok.ensures.counted }
