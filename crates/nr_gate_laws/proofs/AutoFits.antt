@@ -1,5 +1,6 @@
 -- A call of at most the maximum of bytes has a plan in the form Auto, whatever its link's sizes are.
 use Rattle.std.proofs.Common.{◌≡◌, ℕ, ◌+◌, ◌≤◌, Bool, true, false, cond, ◌&&◌, leb, ltb, eqb, not, List, [], length, Option, None, Some, Result, Ok, Err, refl, sym, ◌∙◌, subst, arith}
+use Rattle.std.proofs.lemmas.Bool.{leb-true, ltb-true}
 use Rattle.nr_header.specs.Constants.{HEADER_LEN_MIN, PAYLOAD_MAX}
 use Rattle.nr_link.specs.Limits.{send_unit}
 use Rattle.nr_reduce.specs.Largest.{largest_reply}
@@ -57,8 +58,8 @@ long_size payload p small le =
     omega (arith, count, w, r)
 
 first_size : (up : ℕ) (p q l : Plan) (b d c : Bool) → leb (plan_size p) up ≡ b → leb (plan_size q) up ≡ c → plan_size l ≤ up → plan_size (cond b p (cond (d && c) q l)) ≤ up
-first_size up p q l true d c one two last = omega (arith, one)
-first_size up p q l false true true one two last = omega (arith, two)
+first_size up p q l true d c one two last = leb-true (plan_size p) up one
+first_size up p q l false true true one two last = leb-true (plan_size q) up two
 first_size up p q l false true false one two last = last
 first_size up p q l false false c one two last = last
 
@@ -66,7 +67,7 @@ within_room : {A : Type 0} (need room : ℕ) (answer : Result A TooLarge) → ne
 within_room {A} need room answer le = by (ltb room need) refl where
   by : (b : Bool) → ltb room need ≡ b → cond b (Err (record { need = need; room = room })) answer ≡ answer
   by false e = refl
-  by true e = absurd (omega (arith, e, le))
+  by true e = absurd (omega (arith, ltb-true room need e, le))
 
 pub auto_fits : (payload : List ℕ) (up down : ℕ) → length payload ≤ PAYLOAD_MAX → send_unit ≤ up → plan_of payload forms.Auto up down ≡ Ok (plan_in_form payload forms.Auto up down)
 unfolding plan_of
