@@ -13,7 +13,7 @@ use crate::gated_links::GatedLinks;
 use crate::job::GateJob;
 use nr_accept::{ServeFault, take_links};
 use nr_jobs::Spawner;
-use nr_links::Acceptor;
+use nr_links::{Acceptor, LinkSink, LinkSource};
 use nr_outside::{Sink, Source};
 use nr_reduce::Sequence;
 use nr_shared::{AnyCall, Pass, SharedRequester};
@@ -35,11 +35,13 @@ pub struct Gated {
 
 /// Accepts `connections` links, and starts the job of each or serves it here. Answers how many jobs were started.
 fn take_gated<
-    A: Acceptor,
+    I: LinkSource + Drop + Send + 'static,
+    O: LinkSink + Drop + Send + 'static,
     J: Source + Drop + Send + 'static,
     K: Sink + Drop + Send + 'static,
-    P: Spawner<GateJob<A::Source, A::Sink, J, K, R>>,
     R: Threads + Wait + Copy + Drop + Send + 'static,
+    A: Acceptor<Source = I, Sink = O>,
+    P: Spawner<GateJob<I, O, J, K, R>>,
 >(
     rt: R,
     alloc: Global,
@@ -50,8 +52,6 @@ fn take_gated<
     ends: &mut Vec<GateEnd>,
 ) -> Result<u64, ServeFault>
 where
-    A::Source: Drop + Send + 'static,
-    A::Sink: Drop + Send + 'static,
     requires rests { SharedRests (arc_value jobs.old.remote.now) jobs.old.pass.now }
     requires room { P.started spawner.old < 2 ^ 63 }
     requires none { ends.old.items ≡ [] }
@@ -69,7 +69,7 @@ where
     ensures asked { A.asked acceptor.new ≡ A.asked acceptor.old }
     ensures listens { A.listens acceptor.new ≡ A.listens acceptor.old }
 {
-    take_links::<A, GateJob<A::Source, A::Sink, J, K, R>, _, P, R>(
+    take_links::<A, GateJob<I, O, J, K, R>, _, P, R>(
         rt,
         alloc,
         acceptor,
@@ -119,7 +119,7 @@ where
     ensures listens { A.listens acceptor.new ≡ A.listens acceptor.old }
 {
     let mut ends = Vec::new(alloc);
-    let taken = take_gated::<A, J, K, P, R>(
+    let taken = take_gated::<A::Source, A::Sink, J, K, R, A, P>(
         rt,
         alloc,
         acceptor,
