@@ -74,10 +74,11 @@ impl Endpoint {
         ensures outside { IfOk result (λ e. e.outside ≡ empty) }
         ensures stands { IfOk result (λ e. RepresentsCalls (initial_link side receives first_stag terms) [] e.link) }
     {
+        let staging = vec![in alloc; 0u8; FPDU_MAX]?;
         Ok(Endpoint {
             link: LinkSide::new(alloc, side, receives, first_stag, terms)?,
             awaited: Awaited::Hello(peer(side)),
-            staging: vec![in alloc; 0u8; FPDU_MAX]?,
+            staging,
             staged: 0,
         })
     }

@@ -263,9 +263,40 @@ fn append_writes(out: &mut Output, writes: &[RemoteWrite<'_>])
     }
 }
 
+/// A message of several segments that comes in two parts.
+fn joined(alloc: Global, front: &[u8], stream: &[u8]) -> Result<Octets, Memory>
+    ensures { IfOk result (λ o. o ≡ front.now ++ stream.now) }
+{
+    let mut message = Vec::with_capacity(alloc, front.len() + stream.len())?;
+    message.extend_from_slice(front)?;
+    message.extend_from_slice(stream)?;
+    Ok(Octets::from_vec(message))
+}
+
+/// Puts the Send of a message in two parts at the end, which are not joined before if they take one segment. An `Err` leaves
+/// the bytes as they were.
+pub fn push_message(
+    out: &mut Output,
+    alloc: Global,
+    named: Option<u32>,
+    msn: u32,
+    front: &[u8],
+    stream: &[u8],
+) -> Result<(), Memory>
+    requires { length front.now + length stream.now < 2 ^ 32 }
+    ensures ok { OnOk result (out.new.items ≡ out.old.items ++ cut (operation_segment (sender named msn)) (front.now ++ stream.now)) }
+    ensures err { OnErr result (out.new.items ≡ out.old.items) }
+{
+    if front.len() + stream.len() <= SEGMENT_MAX {
+        return push_send(out, named, msn, front, stream);
+    }
+    let message = joined(alloc, front, stream)?;
+    push_cut(out, sender(named, msn), message.as_slice())
+}
+
 /// Puts RDMA Writes and then the Send of a message in two parts at the end, which is one segment. An `Err` leaves the bytes as they
 /// were.
-pub fn push_answer(
+fn push_short_answer(
     out: &mut Output,
     writes: &[RemoteWrite<'_>],
     named: Option<u32>,
@@ -286,7 +317,7 @@ pub fn push_answer(
 }
 
 /// Puts RDMA Writes and then the Send of a message at the end. An `Err` leaves the bytes as they were.
-pub fn push_long_answer(
+fn push_long_answer(
     out: &mut Output,
     writes: &[RemoteWrite<'_>],
     named: Option<u32>,
@@ -305,14 +336,27 @@ pub fn push_long_answer(
     Ok(())
 }
 
-/// A message of several segments that comes in two parts.
-pub fn joined(alloc: Global, front: &[u8], stream: &[u8]) -> Result<Octets, Memory>
-    ensures { IfOk result (λ o. o ≡ front.now ++ stream.now) }
+/// Puts RDMA Writes and then the Send of a message in two parts at the end, which are not joined before if they take one segment. An `Err`
+/// leaves the bytes as they were.
+pub fn push_answer(
+    out: &mut Output,
+    alloc: Global,
+    writes: &[RemoteWrite<'_>],
+    named: Option<u32>,
+    msn: u32,
+    front: &[u8],
+    stream: &[u8],
+) -> Result<(), Memory>
+    requires fits { All FitsRegion writes.now }
+    requires size { length front.now + length stream.now < 2 ^ 32 }
+    ensures ok { OnOk result (out.new.items ≡ (out.old.items ++ writes_output writes.now) ++ cut (operation_segment (sender named msn)) (front.now ++ stream.now)) }
+    ensures err { OnErr result (out.new.items ≡ out.old.items) }
 {
-    let mut message = Vec::with_capacity(alloc, front.len() + stream.len())?;
-    message.extend_from_slice(front)?;
-    message.extend_from_slice(stream)?;
-    Ok(Octets::from_vec(message))
+    if front.len() + stream.len() <= SEGMENT_MAX {
+        return push_short_answer(out, writes, named, msn, front, stream);
+    }
+    let message = joined(alloc, front, stream)?;
+    push_long_answer(out, writes, named, msn, message.as_slice())
 }
 
 /// Puts a Terminate with this word at the end (RFC 5040 section 4.8). An `Err` leaves the bytes as they were.

@@ -80,8 +80,8 @@ impl LinkSide {
         ensures outside { IfOk result (λ l. l.outside ≡ empty) }
     {
         let private = first_private(terms, side);
-        let send_queue = SendQueue::new(alloc, side, private.as_slice())?;
         let receive_queue = ReceiveQueue::new(alloc, receives, receive_length(terms))?;
+        let send_queue = SendQueue::new(alloc, side, private.as_slice())?;
         Ok(LinkSide {
             side,
             has_hello: false,

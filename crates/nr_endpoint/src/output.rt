@@ -2,6 +2,7 @@
 
 ghost use Rattle.std.specs.Prelude.{◌≡◌, ◌+◌, ◌^◌, ◌<◌, ◌≤◌, [], ◌++◌, length, take, drop, OnOk, OnErr, MatchResult};
 ghost use Rattle.std.specs.List.{concat};
+ghost use Rattle.std.specs.VecDeque.{deque_len, deque_capacity};
 ghost use Rattle.std.specs.Io.KnownBytes.{Appends};
 ghost use Rattle.nr_outside.specs.Faults.{Rises};
 
@@ -32,6 +33,20 @@ impl Model for Pieces {
     ghost view = { λ p. concat p.queue.items };
 
     ghost invariant = { λ p. ArePieces p.queue.items p.len };
+}
+
+/// Makes room for one more piece of this length beside pieces of `held` bytes in sum. It leaves them as they are.
+fn make_room(pieces: &mut VecDeque<Bytes>, held: usize, len: usize) -> Result<(), Memory>
+    requires { held ≤ 2 ^ 62 }
+    ensures items { pieces.new.items ≡ pieces.old.items }
+    ensures room { OnOk result (deque_len pieces.new < deque_capacity pieces.new) }
+    ensures most { OnOk result (held + len ≤ 2 ^ 62) }
+{
+    if len > PIECES_MAX - held {
+        return Err(Memory);
+    }
+    pieces.reserve(1)?;
+    Ok(())
 }
 
 /// Writes a piece to a sink, and drops from its front what the sink took; answers how many bytes those were.
@@ -96,10 +111,7 @@ impl Pieces {
         if len == 0 {
             return Ok(());
         }
-        if len > PIECES_MAX - self.len {
-            return Err(Memory);
-        }
-        self.queue.reserve(1)?;
+        make_room(&mut self.queue, self.len, len)?;
         self.queue.push_back_reserved(piece);
         self.len += len;
         Ok(())
@@ -118,10 +130,7 @@ impl Pieces {
         if len == 0 {
             return Ok(());
         }
-        if len > PIECES_MAX - self.len {
-            return Err(Memory);
-        }
-        self.queue.reserve(1)?;
+        make_room(&mut self.queue, self.len, len)?;
         let piece = run.freeze_to(len)?;
         self.queue.push_back_reserved(piece);
         self.len += len;

@@ -11,11 +11,11 @@ ghost use Rattle.nr_endpoint.specs.Requesting.{with_read_requests};
 ghost use Rattle.nr_endpoint.specs.Offering.{FitsRegion, FitsSharedRegion, shared_output, writes_output};
 ghost use Rattle.nr_endpoint.specs.SendQueue.{initial_queue, output_len, with_hello, with_fpdus, with_send, with_send_by, with_write, with_request, with_response, with_end, writable, written, ends_left, ends_passed};
 
-use crate::constants::{OPEN_READS_MAX, SEGMENT_MAX};
+use crate::constants::OPEN_READS_MAX;
 use crate::ending::{is_rejection, terminate_word};
 use crate::framing::{
-    Operation, RemoteWrite, append_segments, cut_room, joined, push_answer, push_cut,
-    push_long_answer, push_send, push_terminate, sender,
+    Operation, RemoteWrite, append_segments, cut_room, push_answer, push_cut, push_message,
+    push_terminate, sender,
 };
 use crate::output::{Output, write_run};
 use crate::requests::{REQUEST_ROOM, RemoteRead, append_request, append_requests};
@@ -186,6 +186,7 @@ impl SendQueue {
     }
 
     /// The Send of a message in two parts, which are not joined before if they take one segment. An `Err` changes nothing.
+    #[tactic(auto, using(crate::proofs::Cuts::carried_by))]
     pub fn send_parts(
         &mut self,
         named: Option<u32>,
@@ -196,23 +197,9 @@ impl SendQueue {
         ensures ok { OnOk result (self.new ≡ with_send_by named (front.now ++ stream.now) self.old) }
         ensures err { OnErr result (self.new ≡ self.old) }
     {
-        if front.len() + stream.len() <= SEGMENT_MAX {
-            return self.send_short(named, front, stream);
-        }
-        let message = joined(self.alloc, front, stream)?;
-        self.send(named, message.as_slice())
-    }
-
-    /// The Send of a message in two parts, which is one segment. An `Err` changes nothing.
-    #[tactic(auto, using(crate::proofs::Cuts::carried_by))]
-    fn send_short(&mut self, named: Option<u32>, front: &[u8], stream: &[u8]) -> Result<(), Memory>
-        requires { length front.now + length stream.now ≤ SEGMENT_MAX }
-        ensures ok { OnOk result (self.new ≡ with_send_by named (front.now ++ stream.now) self.old) }
-        ensures err { OnErr result (self.new ≡ self.old) }
-    {
         let msn = self.last_send.wrapping_add(1);
         self.send_ends.reserve(1)?;
-        push_send(&mut self.fpdus, named, msn, front, stream)?;
+        push_message(&mut self.fpdus, self.alloc, named, msn, front, stream)?;
         self.send_ends.push_back_reserved(self.fpdus.len());
         self.last_send = msn;
         Ok(())
@@ -229,6 +216,7 @@ impl SendQueue {
     }
 
     /// RDMA Writes and then the Send of a message in two parts. An `Err` changes nothing.
+    #[tactic(auto, using(crate::proofs::Cuts::carried_by))]
     pub fn answer(
         &mut self,
         writes: &[RemoteWrite<'_>],
@@ -241,51 +229,17 @@ impl SendQueue {
         ensures ok { OnOk result (self.new ≡ with_send_by named (front.now ++ stream.now) (with_fpdus (writes_output writes.now) self.old)) }
         ensures err { OnErr result (self.new ≡ self.old) }
     {
-        if front.len() + stream.len() <= SEGMENT_MAX {
-            return self.answer_short(writes, named, front, stream);
-        }
-        let message = joined(self.alloc, front, stream)?;
-        self.answer_long(writes, named, message.as_slice())
-    }
-
-    /// RDMA Writes and then the Send of a message in two parts, which is one segment. An `Err` changes nothing.
-    #[tactic(auto, using(crate::proofs::Cuts::carried_by))]
-    fn answer_short(
-        &mut self,
-        writes: &[RemoteWrite<'_>],
-        named: Option<u32>,
-        front: &[u8],
-        stream: &[u8],
-    ) -> Result<(), Memory>
-        requires size { length front.now + length stream.now ≤ SEGMENT_MAX }
-        requires fits { All FitsRegion writes.now }
-        ensures ok { OnOk result (self.new ≡ with_send_by named (front.now ++ stream.now) (with_fpdus (writes_output writes.now) self.old)) }
-        ensures err { OnErr result (self.new ≡ self.old) }
-    {
         let msn = self.last_send.wrapping_add(1);
         self.send_ends.reserve(1)?;
-        push_answer(&mut self.fpdus, writes, named, msn, front, stream)?;
-        self.send_ends.push_back_reserved(self.fpdus.len());
-        self.last_send = msn;
-        Ok(())
-    }
-
-    /// RDMA Writes and then a Send. An `Err` changes nothing.
-    #[tactic(auto, using(crate::proofs::Cuts::carried_by))]
-    fn answer_long(
-        &mut self,
-        writes: &[RemoteWrite<'_>],
-        named: Option<u32>,
-        message: &[u8],
-    ) -> Result<(), Memory>
-        requires size { length message.now < 2 ^ 32 }
-        requires fits { All FitsRegion writes.now }
-        ensures ok { OnOk result (self.new ≡ with_send_by named message.now (with_fpdus (writes_output writes.now) self.old)) }
-        ensures err { OnErr result (self.new ≡ self.old) }
-    {
-        let msn = self.last_send.wrapping_add(1);
-        self.send_ends.reserve(1)?;
-        push_long_answer(&mut self.fpdus, writes, named, msn, message)?;
+        push_answer(
+            &mut self.fpdus,
+            self.alloc,
+            writes,
+            named,
+            msn,
+            front,
+            stream,
+        )?;
         self.send_ends.push_back_reserved(self.fpdus.len());
         self.last_send = msn;
         Ok(())

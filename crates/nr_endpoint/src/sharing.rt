@@ -7,7 +7,7 @@ ghost use Rattle.nr_endpoint.specs.OperationSegments.{operation_segment, sender,
 ghost use Rattle.nr_endpoint.specs.Offering.{FitsSharedRegion, shared_output};
 
 use crate::constants::{FRAMING_MAX, SEGMENT_MAX, SHARED_MIN};
-use crate::framing::{Operation, joined, push_cut, push_send, segment, segment_count, sender};
+use crate::framing::{Operation, push_cut, push_message, segment, segment_count};
 use crate::output::Output;
 use bytes::Bytes;
 use nr_wire::{segment_header, segment_tail, ulpdu_size};
@@ -97,25 +97,6 @@ fn push_shared_writes(out: &mut Output, writes: &[SharedWrite]) -> Result<(), Me
         push_write(out, write)?;
     }
     Ok(())
-}
-
-/// Puts the Send of a message in two parts at the end, which are not joined before if they take one segment.
-fn push_message(
-    out: &mut Output,
-    alloc: Global,
-    named: Option<u32>,
-    msn: u32,
-    front: &[u8],
-    stream: &[u8],
-) -> Result<(), Memory>
-    requires { length front.now + length stream.now < 2 ^ 32 }
-    ensures { OnOk result (out.new.items ≡ out.old.items ++ cut (operation_segment (sender named msn)) (front.now ++ stream.now)) }
-{
-    if front.len() + stream.len() <= SEGMENT_MAX {
-        return push_send(out, named, msn, front, stream);
-    }
-    let message = joined(alloc, front, stream)?;
-    push_cut(out, sender(named, msn), message.as_slice())
 }
 
 /// RDMA Writes and then the Send of a message in two parts, apart from other output.

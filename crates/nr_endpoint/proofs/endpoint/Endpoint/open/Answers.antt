@@ -8,7 +8,7 @@ use Rattle.nr_endpoint.proofs.endpoint.Endpoint.open.Goals as goal
 
 pub invariant_of-result : goal.invariant_of-result
 invariant_of-result c = record {
-  len = grind (arith, common_steps, c.in_ok-vec.ensures.len);
+  len = grind (arith, common_steps, c.in_ok-staging.ensures.len);
   within = omega arith;
   partial = partial_nil (HelloFrom c.peer.result);
   ended_empty = λ _. refl;
