@@ -175,7 +175,7 @@ queue_written c r o h is stopped represents none whole going opened link before 
 
 module _ {O C : Type 0} (taken : O → Option (List ℕ)) (faults : O → ℕ) (allows : Call → Form → Type 0) where
   pub output_written : (m : RequesterWithSink O C) (h : List Entry) → IsFlushed m → Stands taken faults allows m h → HasWrittenOutput h
-  output_written m h (inl sink_failed) st whole going opened link before fits = absurd (true_false (sym sink_failed ∙ (st.write_failed ∙ whole)))
+  output_written m h (inl sink_failed) st = λ whole going opened link before fits. absurd (true_false (sym sink_failed ∙ (st.write_failed ∙ whole)))
   output_written m h (inr none) st = queue_written st.initial m.requester m.stopped h st.is_initial st.stopped st.represents (st.pending none)
 
   pub turn_written : (t : Turn (RequesterWithSink O C) Entry) → IsReady taken faults allows t → HasFlushed t → HasWrittenOutput (seen_by (pass_of t))

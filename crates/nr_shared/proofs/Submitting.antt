@@ -46,6 +46,10 @@ both_write (entries.Revoke x bytes asked ∷ xs) ys one two = absurd one
 both_write (entries.Stopped cause previous ∷ xs) ys one two = absurd one
 both_write (entries.OutOfMemory piece previous ∷ xs) ys one two = absurd one
 
+-- what is written before a call is closed is written after its Submit
+one_more_written : (s t before : List Entry) (e f : Entry) → (before ++ e ∷ s) ++ (t ++ f ∷ []) ≡ (before ++ e ∷ (s ++ t)) ++ f ∷ []
+one_more_written s t before e f = sym (append_assoc (before ++ e ∷ s) t (f ∷ [])) ∙ ap (λ (l : List Entry). l ++ f ∷ []) (append_assoc before (e ∷ s) t)
+
 -- an end of the link is a cause
 pub link_cause : (end : CallEnd) (call : Call) (form : Form) (h : List Entry) → LinkEnded end h → IsCause end call form h
 link_cause (calls.Ended end) call form h is = is
@@ -205,10 +209,6 @@ module _ {O C : Type 0} where
   pub sent_open_call : (p q : Pass (RequesterWithSink O C) Entry) (call : Call) (form : Form) (xid : ℕ) → Lies (seen_by q) (mine_of q) → Sends p q call form xid → HasOpenCall q xid
   sent_open_call p q call form xid lies s = record { at = s.at; call = call; is_call = (entries.Submit call form xid, s.stands, asked_just xid call form); stays = s.opened; lies = lies }
 
-  -- what is written before a call is closed is written after its Submit
-  one_more_written : (s t : List Entry) (before : List Entry) (e f : Entry) → (before ++ e ∷ s) ++ (t ++ f ∷ []) ≡ (before ++ e ∷ (s ++ t)) ++ f ∷ []
-  one_more_written s t before e f = sym (append_assoc (before ++ e ∷ s) t (f ∷ [])) ∙ ap (λ (l : List Entry). l ++ f ∷ []) (append_assoc before (e ∷ s) t)
-
   pub own_answer : (p q r : Pass (RequesterWithSink O C) Entry) (call : Call) (form : Form) (xid : ℕ) (done : Done) → Lies (seen_by p) (mine_of p) → Sends p q call form xid → Waits q r xid (Ok done) → OwnAnswer p r call form done
   own_answer p q r call form xid done lies s waits =
       let e0 : Entry = entries.Submit call form xid in
@@ -259,8 +259,8 @@ module _ {O C : Type 0} where
   -- ---- A call that is waited for, after bytes were written
 
   pub waits_after : (p q r : Pass (RequesterWithSink O C) Entry) (xid : ℕ) (result : Result Done CallEnd) → WritesDue p q → Awaits q r xid result → Waits p r xid result
-  waits_after p q r xid (Ok done) w awaits k call asked o =
-      let t = awaits k call (asked_on (seen_by p) (seen_by q) xid k call w.adds.seen asked) (w.keeps k o) in
+  waits_after p q r xid (Ok done) w awaits = λ k call asked o.
+      (let t = awaits k call (asked_on (seen_by p) (seen_by q) xid k call w.adds.seen asked) (w.keeps k o) in
       let f : Entry = entries.Done xid done.outcome k in
       record {
         own = t.own;
@@ -275,9 +275,9 @@ module _ {O C : Type 0} where
         begins = w.adds.seen;
         goes_on = t.adds.seen;
         written = w.written;
-      }
-  waits_after p q r xid (Err end) w awaits k call asked o =
-      let t = awaits k call (asked_on (seen_by p) (seen_by q) xid k call w.adds.seen asked) (w.keeps k o) in
+      })
+  waits_after p q r xid (Err end) w awaits = λ k call asked o.
+      (let t = awaits k call (asked_on (seen_by p) (seen_by q) xid k call w.adds.seen asked) (w.keeps k o) in
       let f : Entry = entries.Forget xid k in
       record {
         writes = w.writes ++ t.writes;
@@ -289,7 +289,7 @@ module _ {O C : Type 0} where
         ended = t.ended;
         unanswered = t.unanswered;
         written = t.written;
-      }
+      })
 
   pub caller_writes : (p q : Pass (RequesterWithSink O C) Entry) → IsCaller p → WritesDue p q → IsCaller q
   caller_writes p q c w = caller_on p q w.writes c w.adds (of_writes p w.writes w.are_writes)

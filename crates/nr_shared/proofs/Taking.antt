@@ -77,7 +77,7 @@ none_came opened link r run xid k awaited none c there own = of_answer xid c r.s
     (ap (λ (x : ℕ). is_due link run x) own ∙ due_by link run xid awaited)))
     own none
 
-not_some : {A : Type 0} (o : Option A) → is_some o ≡ false → o ≡ None
+pub not_some : {A : Type 0} (o : Option A) → is_some o ≡ false → o ≡ None
 not_some None is = refl
 not_some (Some a) is = absurd cc
 
