@@ -34,16 +34,17 @@ impl<
     R: Wait + Copy + Drop + Send + 'static,
 > GatedLinks<'a, 'b, J, K, R> {
     /// The share of the shared requester that the next job takes, or out of memory.
-    pub(crate) fn share(
-        &self,
-    ) -> Result<Arc<SharedRequester<J, K, AnyCall>, Global>, AllocError>
+    pub(crate) fn share(&self) -> Result<Arc<SharedRequester<J, K, AnyCall>, Global>, AllocError>
         ensures { IfOk result (λ share. arc_value share ≡ arc_value self.now.remote.now) }
     {
         Arc::try_clone(self.remote)
     }
 
     /// The job of a link, with this share and a pass of its own.
-    pub(crate) fn make_job<I: LinkSource + Drop + Send + 'static, O: LinkSink + Drop + Send + 'static>(
+    pub(crate) fn make_job<
+        I: LinkSource + Drop + Send + 'static,
+        O: LinkSink + Drop + Send + 'static,
+    >(
         &mut self,
         share: Arc<SharedRequester<J, K, AnyCall>, Global>,
         source: I,
@@ -74,10 +75,10 @@ impl<
     }
 
     /// Runs the job that was made last, and takes in its pass. Gives its link back, and how that ended.
-    pub(crate) fn run_here<I: LinkSource + Drop + Send + 'static, O: LinkSink + Drop + Send + 'static>(
-        &mut self,
-        job: GateJob<I, O, J, K, R>,
-    ) -> (I, O, GateEnd)
+    pub(crate) fn run_here<
+        I: LinkSource + Drop + Send + 'static,
+        O: LinkSink + Drop + Send + 'static,
+    >(&mut self, job: GateJob<I, O, J, K, R>) -> (I, O, GateEnd)
         requires rests { SharedRests (arc_value self.old.remote.now) self.old.pass.now }
         requires share { job.caller.remote ≡ arc_value self.old.remote.now }
         requires split { SplitsOff self.old.pass.now.main job.caller.pass.main }

@@ -14,7 +14,7 @@ use crate::job::GateJob;
 use crate::taking::take_gated;
 use nr_accept::ServeFault;
 use nr_jobs::Spawner;
-use nr_links::{Acceptor, LinkSink, LinkSource};
+use nr_links::Acceptor;
 use nr_outside::{Sink, Source};
 use nr_reduce::Sequence;
 use nr_shared::{AnyCall, Pass, SharedRequester};

@@ -12,11 +12,14 @@ use crate::gated_links::GatedLinks;
 use crate::job::GateJob;
 use nr_accept::ServeFault;
 use nr_jobs::Spawner;
-use nr_links::{Acceptor, LinkSink, LinkSource};
+use nr_links::Acceptor;
 use nr_outside::{Sink, Source};
 use std::alloc::Global;
 use std::sync::Wait;
 use std::thread::Threads;
+
+// This is `take_links` of nr_accept for the jobs of a gateway alone. `GatedLinks` has no `impl LinkJobs` by which it could call that: the
+// prover compares its type with the type of the impl through all that a `SharedRequester` holds, and meets its step limit.
 
 /// Accepts a link and starts its job. If the job is handed back, runs it, and hangs the link up.
 fn take_next<

@@ -6,13 +6,13 @@ use Rattle.nr_gate.proofs.Links.{gates_from}
 use Rattle.nr_gate.proofs.taking.take_next.Goals as goal
 
 pub make_job-job-requires-clause-link : goal.make_job-job-requires-clause-link
-make_job-job-requires-clause-link g c = c.in-Ok-accept.ensures.numbered.source ∙ sym c.in-Ok-accept.ensures.numbered.sink
+make_job-job-requires-clause-link g c κs bounds = c.in-Ok-accept.ensures.numbered.source ∙ sym c.in-Ok-accept.ensures.numbered.sink
 
 pub run_here-source-requires-clause-share : goal.run_here-source-requires-clause-share
-run_here-source-requires-clause-share g c = ap (λ j. j.caller.remote) c.in-Err.ensures.back ∙ c.make_job-job.ensures.share
+run_here-source-requires-clause-share g c κs bounds = ap (λ j. j.caller.remote) c.in-Err.ensures.back ∙ c.make_job-job.ensures.share
 
 pub run_here-source-requires-clause-split : goal.run_here-source-requires-clause-split
-run_here-source-requires-clause-split g c =
+run_here-source-requires-clause-split g c κs bounds =
     subst (λ j. SplitsOff c.make_job-job.new.self.pass.now.main j.caller.pass.main) (sym c.in-Err.ensures.back) c.make_job-job.ensures.split
 
 pub hang_up-requires-clause-same : goal.hang_up-requires-clause-same

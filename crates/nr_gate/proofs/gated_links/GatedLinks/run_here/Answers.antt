@@ -1,4 +1,4 @@
-use Rattle.std.proofs.Common.{◌≡◌, ℕ, subst, sym, ◌∙◌}
+use Rattle.std.proofs.Common.{ℕ, subst, sym, ◌∙◌}
 use Rattle.nr_record_loop.specs.Connections.{SinkCount, SourceCount}
 use Rattle.nr_shared.specs.Sharing.{SharedRests}
 use Rattle.nr_gate.specs.Gating.{loop_end}
