@@ -46,8 +46,7 @@ server-hello mounted found-a \
 0000000000002000000010000000200000000";
 
 /// As many bytes as the client has sent if it made a READ of each piece: all five are as long as `piece-1`.
-static ONCE: &str =
-    "client-hello mnt lookup-a getattr-a piece-1 piece-1 piece-1 piece-1 piece-1";
+static ONCE: &str = "client-hello mnt lookup-a getattr-a piece-1 piece-1 piece-1 piece-1 piece-1";
 
 /// How often the link looks whether both READs were sent.
 const TURNS: u32 = 20_000_000;
@@ -68,7 +67,15 @@ fn same_get<
     let mut input = source(rt, alloc, b"", Vec::new(alloc));
     let mut out = MemSink::new(alloc, Vec::new(alloc));
     let mut err = MemSink::new(alloc, Vec::new(alloc));
-    let got = run_client(rt, alloc, words.as_slice(), &mut input, &mut out, &mut err, dial);
+    let got = run_client(
+        rt,
+        alloc,
+        words.as_slice(),
+        &mut input,
+        &mut out,
+        &mut err,
+        dial,
+    );
     same(rt, 0, u32::from(got), status);
     same_text(rt, alloc, 1, out.bytes(), printed);
     same_text(rt, alloc, 2, err.bytes(), reported);
