@@ -1,15 +1,14 @@
--- Links that a gateway takes one after another, by what makes their jobs; and a connection whose link is known by other names.
-use Rattle.std.proofs.Common.{◌≡◌, ℕ, List, subst}
-use Rattle.std.specs.Prelude.{⊤}
+-- Links that a gateway takes one after another; and a connection whose link is known by other names.
+use Rattle.std.proofs.Common.{◌≡◌, ℕ, List, ap, subst, ◌∙◌}
 use Rattle.nr_links.specs.Links.{EndedLink}
 use Rattle.nr_turnstile.specs.declared.turnstile.Pass.{Pass}
+use Rattle.nr_turnstile.specs.Passes.{mine_of, seen_by}
+use Rattle.nr_turnstile.specs.Rule.{Begins, in_order, longer}
 use Rattle.nr_record_loop.specs.Connections.{Loop}
 use Rattle.nr_shared.specs.declared.entry.Entry.{Entry}
 use Rattle.nr_shared.specs.declared.requester_with_sink.RequesterWithSink.{RequesterWithSink}
-use Rattle.nr_accept.specs.Accepting as accept
-use Rattle.nr_accept.proofs.Links.{seen_as, serves_as}
 use Rattle.nr_gate.specs.Gating.{IsGated}
-use Rattle.nr_gate.specs.GateLinks.{GatesByPass, GatesLinks, KeepsKnown}
+use Rattle.nr_gate.specs.GateLinks.{GatesByPass, KeepsKnown}
 use Rattle.nr_gate.specs.declared.gate_end.GateEnd.{GateEnd}
 
 module _ {O C : Type 0} where
@@ -17,14 +16,20 @@ module _ {O C : Type 0} where
   gated_same before before' after after' end b a gated =
       subst (λ (x : Loop (Pass (RequesterWithSink O C) Entry)). IsGated x after' end) b (subst (λ (x : Loop (Pass (RequesterWithSink O C) Entry)). IsGated before x end) a gated)
 
-  module _ {S : Type 0} (main_of : S → Pass (RequesterWithSink O C) Entry) where
-    abbrev Makes : S → S → Type 0
-    Makes p q = KeepsKnown (main_of p) (main_of q)
-
-    abbrev Served : S → EndedLink → EndedLink → ℕ → ℕ → GateEnd → S → Type 0
-    Served p opened closed source_faults sink_faults end q = GatesByPass (main_of p) opened closed source_faults sink_faults end (main_of q)
-
-    -- links that were taken by such jobs
-    pub links_gated : (before after : accept.Between S) (ends : List GateEnd) → accept.Serves Makes Served before ends after → GatesLinks (seen_as main_of before) ends (seen_as main_of after)
-    links_gated before after ends served =
-        serves_as main_of (λ s. ⊤) Makes Served KeepsKnown GatesByPass (λ p q none makes. (tt, makes)) (λ p q opened closed source_faults sink_faults end none serves. (tt, serves)) before after ends tt served
+  -- a connection was served by a pass that was split off after another one had been, which left what is known
+  pub gates_from : (p p' q : Pass (RequesterWithSink O C) Entry) (opened closed : EndedLink) (source_faults sink_faults : ℕ) (end : GateEnd)
+      → KeepsKnown p p' → GatesByPass p' opened closed source_faults sink_faults end q → GatesByPass p opened closed source_faults sink_faults end q
+  gates_from p p' q opened closed source_faults sink_faults end (seen, mine) g = record {
+    first = g.first;
+    own = g.own;
+    split = (g.split.0 ∙ seen, g.split.1);
+    gated = g.gated;
+    source_count = g.source_count;
+    sink_count = g.sink_count;
+    joins = record {
+      seen = g.joins.seen ∙ ap (λ (s : List Entry). longer s (seen_by g.own)) seen;
+      begins = subst (λ (s : List Entry). Begins s (seen_by q)) seen g.joins.begins;
+      own_begins = g.joins.own_begins;
+      mine = g.joins.mine ∙ ap (λ (m : List ℕ). in_order m (mine_of g.own)) mine;
+    };
+  }

@@ -11,9 +11,10 @@ ghost use Rattle.nr_gate.specs.GateLinks.{GatesLinks};
 use crate::gate_end::GateEnd;
 use crate::gated_links::GatedLinks;
 use crate::job::GateJob;
-use nr_accept::{ServeFault, take_links};
+use crate::taking::take_gated;
+use nr_accept::ServeFault;
 use nr_jobs::Spawner;
-use nr_links::{Acceptor, LinkSink, LinkSource};
+use nr_links::Acceptor;
 use nr_outside::{Sink, Source};
 use nr_reduce::Sequence;
 use nr_shared::{AnyCall, Pass, SharedRequester};
@@ -31,53 +32,6 @@ pub struct Gated {
     pub started: u64,
     /// How each other connection ended, in the order in which they were accepted.
     pub ends: GateEnds,
-}
-
-/// Accepts `connections` links, and starts the job of each or serves it here. Answers how many jobs were started.
-fn take_gated<
-    I: LinkSource + Drop + Send + 'static,
-    O: LinkSink + Drop + Send + 'static,
-    J: Source + Drop + Send + 'static,
-    K: Sink + Drop + Send + 'static,
-    R: Threads + Wait + Copy + Drop + Send + 'static,
-    A: Acceptor<Source = I, Sink = O>,
-    P: Spawner<GateJob<I, O, J, K, R>>,
->(
-    rt: R,
-    alloc: Global,
-    acceptor: &mut A,
-    spawner: &mut P,
-    jobs: &mut GatedLinks<'_, '_, J, K, R>,
-    connections: u32,
-    ends: &mut Vec<GateEnd>,
-) -> Result<u64, ServeFault>
-where
-    requires rests { SharedRests (arc_value jobs.old.remote.now) jobs.old.pass.now }
-    requires room { P.started spawner.old < 2 ^ 63 }
-    requires none { ends.old.items ≡ [] }
-    ensures rests { SharedRests (arc_value jobs.new.remote.now) jobs.new.pass.now }
-    ensures remote { jobs.new.remote.now ≡ jobs.old.remote.now }
-    ensures pass { jobs.new.pass.ghost_name ≡ jobs.old.pass.ghost_name }
-    ensures remote_source { seen_by jobs.new.pass.now.source ≡ seen_by jobs.old.pass.now.source }
-    ensures gated { GatesLinks (between (A.ended acceptor.old) (A.lost acceptor.old) (P.started spawner.old) jobs.old.pass.now.main) ends.new.items
-        (between (A.ended acceptor.new) (A.lost acceptor.new) (P.started spawner.new) jobs.new.pass.now.main) }
-    ensures all { IfOk result (λ started. (started + length ends.new.items ≡ connections) × (P.started spawner.new ≡ P.started spawner.old + started)) }
-    ensures fewer { OnErr result (P.started spawner.new + length ends.new.items < P.started spawner.old + connections) }
-    ensures back { BackCount ends.new.items (P.faults spawner.old) (P.faults spawner.new) }
-    ensures counted { MatchResult result
-        (λ _. A.faults acceptor.new ≡ A.faults acceptor.old) (λ fault. AcceptorCount fault (A.faults acceptor.old) (A.faults acceptor.new)) }
-    ensures asked { A.asked acceptor.new ≡ A.asked acceptor.old }
-    ensures listens { A.listens acceptor.new ≡ A.listens acceptor.old }
-{
-    take_links::<A, GateJob<I, O, J, K, R>, _, P, R>(
-        rt,
-        alloc,
-        acceptor,
-        spawner,
-        jobs,
-        connections,
-        ends,
-    )
 }
 
 /// Serves links by these jobs, and waits until all have ended.
@@ -119,7 +73,7 @@ where
     ensures listens { A.listens acceptor.new ≡ A.listens acceptor.old }
 {
     let mut ends = Vec::new(alloc);
-    let taken = take_gated::<A::Source, A::Sink, J, K, R, A, P>(
+    let taken = take_gated::<A, J, K, P, R>(
         rt,
         alloc,
         acceptor,

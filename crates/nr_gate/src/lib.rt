@@ -13,6 +13,7 @@ mod gated_links;
 mod gating;
 mod job;
 mod remote_caller;
+mod taking;
 
 pub use connection::gate_connection;
 pub use gate_end::GateEnd;

@@ -1,9 +1,5 @@
-use Rattle.std.proofs.Common.{◌+◌, ◌<◌, List, IfOk, OnErr, ap, length, subst, sym}
+use Rattle.std.proofs.Common.{ap, sym}
 use Rattle.std.specs.Arc.{arc_value}
-use Rattle.nr_turnstile.specs.Passes.{seen_by}
-use Rattle.nr_accept.specs.Accepting.{BackCount, between}
-use Rattle.nr_gate.specs.GateLinks.{GatesLinks}
-use Rattle.nr_gate.specs.declared.gate_end.GateEnd.{GateEnd}
 use Rattle.nr_gate.proofs.Steps.{rests_with}
 use Rattle.nr_gate.proofs.gating.gate.Goals as goal
 
