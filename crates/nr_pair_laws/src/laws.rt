@@ -1,0 +1,17 @@
+//! Laws of a command and a connection on one link.
+
+ghost use Rattle.nr_pair_laws.specs.Pairs.{ConnectionsHaveARun, PairsAreServed};
+
+/// A connection that doesn't run out of memory has one run of its link, which keeps the law of a link's server with each Wrote in full, and whose calls
+/// are answered at their places in a journal that goes on from the one that its pass had seen.
+pub fn connections_have_a_run()
+    ensures { ConnectionsHaveARun }
+{}
+
+/// A command's run and a connection's run that are the sides of one matched list meet all premises of the laws on served commands: the marks are of
+/// their types, the server keeps its law with each Wrote in full, and each call is answered by the plain server that was opened so, at its place in the
+/// server's journal. Each outcome of the command is the reply at such a place, and the places follow the order of its calls. The connection doesn't end
+/// with `Protocol`, unless a write of the command failed.
+pub fn pairs_are_served()
+    ensures { PairsAreServed }
+{}
