@@ -1,5 +1,5 @@
 -- A command and a connection of a server as the two sides of one link.
-use Rattle.std.specs.Prelude.{◌≡◌, ⊤, ℕ, Bool, ◌+◌, ◌<◌, ◌≤◌, ◌^◌, ◌||◌, true, List, [], ◌∷◌, ◌++◌, length, take, drop, Contains, Some, Result, Err}
+use Rattle.std.specs.Prelude.{◌≡◌, ⊤, ℕ, Bool, ◌+◌, ◌<◌, ◌≤◌, ◌^◌, ◌||◌, true, List, [], ◌∷◌, ◌++◌, length, take, drop, Some, Result, Err}
 use Rattle.std.specs.List.{AllByRecursion}
 use Rattle.nr_outside.specs.Streams.{SinkAt, SourceAt}
 use Rattle.nr_outside.specs.declared.moment.Moment.{Moment}
@@ -110,7 +110,7 @@ AreAnsweredFrom s J least waiting (Submitted xid call ∷ made) =
     AreAnsweredFrom s J least (record { xid = xid; call = call; least = least } ∷ waiting) made
 AreAnsweredFrom s J least waiting (HandedOver xid outcome ∷ made) =
     (next : ℕ) × ((least ≤ next)
-    × (((c : OpenCall) → Contains waiting c → c.xid ≡ xid → (a : IsAnsweredAt s J c.call outcome) × ((c.least ≤ a.place) × (next_place a ≤ next)))
+    × (AllByRecursion (λ (c : OpenCall). c.xid ≡ xid → (a : IsAnsweredAt s J c.call outcome) × ((c.least ≤ a.place) × (next_place a ≤ next))) waiting
     × AreAnsweredFrom s J next waiting made))
 AreAnsweredFrom s J least waiting (Forgotten call ∷ made) = AreAnsweredFrom s J least waiting made
 AreAnsweredFrom s J least waiting (GivenUp xid ∷ made) = AreAnsweredFrom s J least waiting made
