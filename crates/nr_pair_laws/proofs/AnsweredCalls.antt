@@ -68,8 +68,8 @@ filter_twice f g (m ∷ run) = by (f m) (filter_twice f g run)
     by false rest = rest
 
 -- the marks of the client of this link that move no bytes
-pub is_exchanged : ℕ → Mark → Bool
-abbrev is_exchanged link mark = is_client_mark link mark && not (moves_bytes mark)
+abbrev pub is_exchanged : ℕ → Mark → Bool
+is_exchanged link mark = is_client_mark link mark && not (moves_bytes mark)
 
 pub exchanged_in : (link : ℕ) (both : List Mark) → without_bytes (client_marks link both) ≡ filter (is_exchanged link) both
 exchanged_in link both = filter_twice (is_client_mark link) (λ mark. not (moves_bytes mark)) both

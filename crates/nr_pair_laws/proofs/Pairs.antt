@@ -59,8 +59,8 @@ connections_have_a_run_lem limits first J opened link before after end served ot
 
 -- ---- A link that stays
 
-plain_replies : Setup → List Entry → Moment → List ℕ → Option (List ℕ)
-abbrev plain_replies s entries moment payload = plain_reply s entries (length entries) moment payload
+abbrev plain_replies : Setup → List Entry → Moment → List ℕ → Option (List ℕ)
+plain_replies s entries moment payload = plain_reply s entries (length entries) moment payload
 
 ended_server : (opened : LinkParameters) (link : ℕ) (run own : List Mark) (why : End) → own_marks link run ≡ own → end_of_side opened link Responder run ≡ None → (server opened link own).ended ≡ Some why → ⊥
 unfolding end_of_side

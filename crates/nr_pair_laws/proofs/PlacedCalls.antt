@@ -24,9 +24,9 @@ use Rattle.nr_pair_laws.proofs.ServerSide.{own_more}
 -- ---- Calls at their places
 
 -- the place after the entries of all these calls, the first of which has at least place n
-pub place_after : ℕ → List Answered → ℕ
-abbrev place_after n [] = n
-abbrev place_after n (a ∷ calls) = place_after (a.place + length (entries_in a)) calls
+abbrev pub place_after : ℕ → List Answered → ℕ
+place_after n [] = n
+place_after n (a ∷ calls) = place_after (a.place + length (entries_in a)) calls
 
 pub after_more : (n : ℕ) (xs ys : List Answered) → place_after n (xs ++ ys) ≡ place_after (place_after n xs) ys
 after_more n [] ys = refl
@@ -79,8 +79,8 @@ each_placed s J link n front (marks.Told l what ∷ run) h = (tt, each_placed s 
 -- ---- In a run of both sides
 
 -- the calls that the server of this link answered, in order
-pub served_calls : ℕ → List Mark → List Answered
-abbrev served_calls link run = flat_map answer_of (own_marks link run)
+abbrev pub served_calls : ℕ → List Mark → List Answered
+served_calls link run = flat_map answer_of (own_marks link run)
 
 pub calls_more : (link : ℕ) (before rest : List Mark) → served_calls link (before ++ rest) ≡ served_calls link before ++ served_calls link rest
 calls_more link before rest = ap (λ (l : List Mark). flat_map answer_of l) (own_more link before rest) ∙ flat_map-append answer_of (own_marks link before) (own_marks link rest)
@@ -99,8 +99,8 @@ pub record StandsBetween (s : Setup) (J : List Entry) (moment : Moment) (reply :
   pub until : place + length (entries_in (record { moment = moment; payload = payload; place = place; reply = reply })) ≤ last
 
 module _ (s : Setup) (J : List Entry) (link n : ℕ) (both : List Mark) (placed : AllPlaced s J n (served_calls link both)) where
-  pub bound : List Mark → ℕ
-  abbrev bound run = place_after n (served_calls link run)
+  abbrev pub bound : List Mark → ℕ
+  bound run = place_after n (served_calls link run)
 
   pub bound_rises : (front more rest : List Mark) → both ≡ front ++ (more ++ rest) → bound front ≤ bound (front ++ more)
   bound_rises front more rest is =

@@ -111,19 +111,12 @@ outcomes_more (marks.Told l what ∷ front) m h o = outcomes_more front m h o
 -- ---- The marks of both sides
 
 -- a mark of a side is of its link
-one_link : (link l : ℕ) (a b : Bool) → ((eqb l link && a) || (eqb l link && b)) ≡ true → l ≡ link
-one_link link l a b is = by (eqb l link) refl is
+one_link : (link l : ℕ) (of : Bool → Bool) → of false ≡ false → of (eqb l link) ≡ true → l ≡ link
+one_link link l of never is = by (eqb l link) refl is
   where
-    by : (c : Bool) → eqb l link ≡ c → ((c && a) || (c && b)) ≡ true → l ≡ link
+    by : (b : Bool) → eqb l link ≡ b → of b ≡ true → l ≡ link
     by true same is = eqb-true l link same
-    by false same is = absurd cc
-
-own_client : (link l : ℕ) → (eqb l link || false) ≡ true → l ≡ link
-own_client link l is = by (eqb l link) refl is
-  where
-    by : (c : Bool) → eqb l link ≡ c → (c || false) ≡ true → l ≡ link
-    by true same is = eqb-true l link same
-    by false same is = absurd cc
+    by false same is = absurd (let wrong : false ≡ true = sym never ∙ is in cc)
 
 module _ (s : Setup) (J : List Entry) (opened : LinkParameters) (link : ℕ) (tree : IsInBytes s.tree) (entries : EntriesInBytes J) (both : List Mark) (far : MatchedSoFar opened link both)
     (placed : AtPlacesOn (plain_server s) J link both) (own : AllByRecursion (IsOwn link) (client_marks link both)) (calls : MarksOfBytes (filter (is_exchanged link) both)) where
@@ -181,7 +174,7 @@ module _ (s : Setup) (J : List Entry) (opened : LinkParameters) (link : ℕ) (tr
 
   mark_typed : (front rest : List Mark) (m : Mark) → both ≡ front ++ m ∷ rest → IsTyped front → OutcomesOfBytes (filter (is_exchanged link) front) → IsOfSide link m → TypedMark front m
   mark_typed front rest (marks.Submit l call form (submissions.Accepted xid)) is typed outs side =
-      let same = own_client link l side in
+      let same = one_link link l (λ b. b || false) refl side in
       let byte = submitted_bytes front rest l call form xid is same outs in
       let auto = own_here front rest (marks.Submit l call form (submissions.Accepted xid)) is typed (ap (λ (k : ℕ). eqb k link) same ∙ itself link) in
       (byte.1 xid, form_typed link l call form xid auto, byte.0)
@@ -189,10 +182,10 @@ module _ (s : Setup) (J : List Entry) (opened : LinkParameters) (link : ℕ) (tr
   mark_typed front rest (marks.Submit l call form submissions.Dropped) is typed outs side = tt
   mark_typed front rest (marks.Fed l Initiator bytes) is typed outs side =
       fed_is_bytes front rest (marks.Fed l Initiator bytes) is typed (bytes_received link Initiator front) bytes (bytes_sent link Responder front)
-      (matched_here front rest (marks.Fed l Initiator bytes) is typed (one_link link l true false side)) (down_is_bytes front rest (marks.Fed l Initiator bytes) is typed)
+      (matched_here front rest (marks.Fed l Initiator bytes) is typed (one_link link l (λ b. (b && true) || false) refl side)) (down_is_bytes front rest (marks.Fed l Initiator bytes) is typed)
   mark_typed front rest (marks.Fed l Responder bytes) is typed outs side =
       fed_is_bytes front rest (marks.Fed l Responder bytes) is typed (bytes_received link Responder front) bytes (bytes_sent link Initiator front)
-      (matched_here front rest (marks.Fed l Responder bytes) is typed (one_link link l false true side)) (up_is_bytes front rest (marks.Fed l Responder bytes) is typed)
+      (matched_here front rest (marks.Fed l Responder bytes) is typed (one_link link l (λ b. (b && false) || b) refl side)) (up_is_bytes front rest (marks.Fed l Responder bytes) is typed)
   mark_typed front rest (marks.Execute l xid moment payload place reply) is typed outs side = executed_bytes front rest l xid moment payload place reply is (eqb-true l link side)
   mark_typed front rest (marks.Wrote l at bytes) is typed outs side = tt
   mark_typed front rest (marks.Done l xid outcome) is typed outs side = tt
@@ -205,7 +198,7 @@ module _ (s : Setup) (J : List Entry) (opened : LinkParameters) (link : ℕ) (tr
   -- an outcome that is handed over is one that messages brought to a client that was fed bytes
   outcome_of : (front rest : List Mark) (m : Mark) → both ≡ front ++ m ∷ rest → IsTyped front → IsOfSide link m → OutcomeOfBytes m
   outcome_of front rest (marks.Done l xid outcome) is typed side =
-      let completed : IsCompleted opened link front xid outcome = at_mark (AskedMark IsPrefixOf opened link) both front (marks.Done l xid outcome) rest is far.asked (own_client link l side) in
+      let completed : IsCompleted opened link front xid outcome = at_mark (AskedMark IsPrefixOf opened link) both front (marks.Done l xid outcome) rest is far.asked (one_link link l (λ b. b || false) refl side) in
       All-contains CompletedInBytes (client opened link front).state.outcomes (record { xid = xid; outcome = outcome })
       (All-from_recursion CompletedInBytes (client opened link front).state.outcomes (outcome_bytes opened link front typed)) completed.is_received
   outcome_of front rest (marks.Submit l call form answer) is typed side = tt

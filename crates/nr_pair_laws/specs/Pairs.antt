@@ -91,7 +91,7 @@ pub record IsAnsweredAt (s : Setup) (J : List Entry) (call : Call) (o : Outcome)
 
 -- the place after its entry
 abbrev pub next_place : {s : Setup} {J : List Entry} {call : Call} {o : Outcome} → IsAnsweredAt s J call o → ℕ
-next_place a = a.place + length (entries_of_call a.moment (call_payload a.xid _) a.reply)
+next_place {s} {J} {call} {o} a = a.place + length (entries_of_call a.moment (call_payload a.xid call) a.reply)
 
 -- a call that was submitted and has no outcome yet, beside others, and the least place that it may have
 pub record OpenCall : Type 0 where
