@@ -281,5 +281,5 @@ module _ (s : Setup) (sane : IsSane s.tree) (J : List Entry) (n : ℕ) (opened :
       answered_from made waiting least (front ++ part) one.after (there ∙ sym (append_assoc front part one.after)) (let m : least ≤ limit (front ++ part) = omega (arith, from, up) in m)
       (all_later front part waiting all) (subst (λ (l : List Mark). AreMarksOf link made l) (sym one.kept) more)
 
-  pub exchanges_answered : (made : List Exchange) → AreMarksOf link made (without_bytes (client_marks link both)) → n ≤ length J → AreAnsweredFrom s J n [] made
-  exchanges_answered made are low = answered_from made [] n [] both refl (omega arith) tt (subst (λ (l : List Mark). AreMarksOf link made l) (exchanged_in link both) are)
+  pub exchanges_answered : (made : List Exchange) → AreMarksOf link made (without_bytes (client_marks link both)) → AreAnsweredFrom s J n [] made
+  exchanges_answered made are = answered_from made [] n [] both refl (omega arith) tt (subst (λ (l : List Mark). AreMarksOf link made l) (exchanged_in link both) are)

@@ -1,5 +1,7 @@
 pub mod AnsweredCalls
+pub mod AtPlace
 pub mod Pairs
 pub mod PlacedCalls
+pub mod ReadResults
 pub mod ServerSide
 pub mod TypedPairs

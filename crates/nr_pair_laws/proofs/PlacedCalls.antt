@@ -50,7 +50,7 @@ take_all : {X : Type 0} (xs : List X) → take (length xs) xs ≡ xs
 take_all [] = refl
 take_all (x ∷ xs) = ap (λ l. x ∷ l) (take_all xs)
 
-reply_at_end : (s : Setup) (J : List Entry) (place : ℕ) (moment : Moment) (payload reply : List ℕ) → plain_reply s J place moment payload ≡ Some reply
+pub reply_at_end : (s : Setup) (J : List Entry) (place : ℕ) (moment : Moment) (payload reply : List ℕ) → plain_reply s J place moment payload ≡ Some reply
     → plain_reply s (take place J) (length (take place J)) moment payload ≡ Some reply
 reply_at_end s J place moment payload reply is =
     ap (λ (K : List Entry). option_map (λ (a : Answer). a.reply) (plain_answer s.parameters (state_of s K) moment payload)) (take_all (take place J)) ∙ is

@@ -1,6 +1,7 @@
 //! Laws of a command and a connection on one link.
 
 ghost use Rattle.nr_pair_laws.specs.Pairs.{ConnectionsHaveARun, PairsAreServed};
+ghost use Rattle.nr_pair_laws.specs.ReadResults.{ResultsAreRead};
 
 /// A connection that doesn't run out of memory has one run of its link, which keeps the law of a link's server with each Wrote in full, and whose calls
 /// are answered at their places in a journal that goes on from the one that its pass had seen.
@@ -14,4 +15,10 @@ pub fn connections_have_a_run()
 /// with `Protocol`, unless a write of the command failed.
 pub fn pairs_are_served()
     ensures { PairsAreServed }
+{}
+
+/// What a client reads of the reply to a call of NFS that was answered at a place of a journal is exactly what the procedure answers over the tree at
+/// that place: all parts of a value, or the status and what comes with it (RFC 1813 section 3.3). The arguments and the results fit their fields.
+pub fn results_are_read()
+    ensures { ResultsAreRead }
 {}
