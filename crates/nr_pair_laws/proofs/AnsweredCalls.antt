@@ -38,7 +38,7 @@ use Rattle.nr_service_laws.specs.ClientMarks.{AreMarksOf, moves_bytes, without_b
 use Rattle.nr_service_laws.specs.Exchanges.{Exchange}
 use Rattle.nr_service_laws.specs.Exchanges.Exchange.{Answered, Forgotten, GivenUp, HandedOver, Submitted}
 use Rattle.nr_service_laws.specs.ServedCommands.{client_marks, is_client_mark}
-use Rattle.nr_pair_laws.specs.Pairs.{AreAnsweredFrom, IsAnsweredAt, OpenCall, next_place}
+use Rattle.nr_pair_laws.specs.Pairs.{AreAnsweredFrom, IsAnsweredBetween, OpenCall, place_after}
 use Rattle.nr_pair_laws.proofs.PlacedCalls.{StandsBetween, bound, bound_low, bound_rises, served_calls, stands_between}
 
 -- ---- Marks of a filtered run
@@ -78,10 +78,6 @@ exchanged_in link both = filter_twice (is_client_mark link) (λ mark. not (moves
 
 abbrev submit_of : ℕ → Call → ℕ → Mark
 submit_of link call xid = marks.Submit link call forms.Auto (submissions.Accepted xid)
-
--- a call with its place, of at least `first`, which with its entry is at most `last`
-abbrev IsAnsweredBetween : Setup → List Entry → Call → Outcome → (first last : ℕ) → Type 0
-IsAnsweredBetween s J call outcome first last = (a : IsAnsweredAt s J call outcome) × ((first ≤ a.place) × (next_place a ≤ last))
 
 front_is_short : (first : List Mark) (m : Mark) (rest : List Mark) → first ≡ first ++ m ∷ rest → ⊥
 front_is_short first m rest is = let same = ap (λ (l : List Mark). length l) is in let sum = length-append first (m ∷ rest) in absurd (omega (arith, same, sum))
@@ -154,9 +150,9 @@ module _ (s : Setup) (sane : IsSane s.tree) (J : List Entry) (n : ℕ) (opened :
       let a : StandsBetween s J own.moment reply own.place (limit own.before) (limit (own.before ++ execute ∷ (own.at.after ++ done ∷ []))) (call_payload xid call) =
       subst (λ (l : List ℕ). StandsBetween s J own.moment reply own.place (limit own.before) (limit (own.before ++ execute ∷ (own.at.after ++ done ∷ []))) l) (sym same) stands in
       let from = a.from in
-      (record { xid = xid; fits = accepted.xids; moment = own.moment; place = own.place; reply = reply; is = refl; within = a.within; replied = a.replied; entry = a.entry },
+      (own.place, (record { xid = xid; fits = accepted.xids; moment = own.moment; reply = reply; is = refl; at = a.at },
       ((let m : limit u ≤ own.place = omega (arith, first, from) in m),
-      subst (λ (l : List Mark). own.place + length (entries_of_call own.moment (call_payload xid call) reply) ≤ limit l) (sym whole) a.until))
+      subst (λ (l : List Mark). own.place + length (entries_of_call own.moment (call_payload xid call) reply) ≤ limit l) (sym whole) a.until)))
 
   one_outcome : (call : Call) (xid : ℕ) (outcome : Outcome) (u v w : List Mark) → both ≡ u ++ submit_of link call xid ∷ (v ++ marks.Done link xid outcome ∷ w)
       → IsAnsweredBetween s J call outcome (limit u) (limit (u ++ submit_of link call xid ∷ (v ++ marks.Done link xid outcome ∷ [])))
@@ -193,11 +189,11 @@ module _ (s : Setup) (sane : IsSane s.tree) (J : List Entry) (n : ℕ) (opened :
 
   -- what the outcome of each waiting call under this xid is
   handed_over : (front rest w : List Mark) (xid : ℕ) (outcome : Outcome) → both ≡ front ++ (rest ++ marks.Done link xid outcome ∷ w) → (waiting : List OpenCall) → AllByRecursion (WasSubmitted front) waiting
-      → AllByRecursion (λ (c : OpenCall). c.xid ≡ xid → (a : IsAnsweredAt s J c.call outcome) × ((c.least ≤ a.place) × (next_place a ≤ limit (front ++ (rest ++ marks.Done link xid outcome ∷ []))))) waiting
+      → AllByRecursion (λ (c : OpenCall). c.xid ≡ xid → IsAnsweredBetween s J c.call outcome c.least (limit (front ++ (rest ++ marks.Done link xid outcome ∷ [])))) waiting
   handed_over front rest w xid outcome is [] all = tt
   handed_over front rest w xid outcome is (c ∷ waiting) (one, all) = (by, handed_over front rest w xid outcome is waiting all)
     where
-      by : c.xid ≡ xid → (a : IsAnsweredAt s J c.call outcome) × ((c.least ≤ a.place) × (next_place a ≤ limit (front ++ (rest ++ marks.Done link xid outcome ∷ []))))
+      by : c.xid ≡ xid → IsAnsweredBetween s J c.call outcome c.least (limit (front ++ (rest ++ marks.Done link xid outcome ∷ [])))
       by same =
           let submit = submit_of link c.call xid in
           let done = marks.Done link xid outcome in
@@ -206,9 +202,9 @@ module _ (s : Setup) (sane : IsSane s.tree) (J : List Entry) (n : ℕ) (opened :
               ap (λ (l : List Mark). l ++ (rest ++ done ∷ tail)) front_is ∙ append_assoc one.before (submit ∷ one.after) (rest ++ done ∷ tail)
               ∙ ap (λ (l : List Mark). one.before ++ submit ∷ l) (sym (append_assoc one.after rest (done ∷ tail)))) in
           let a = one_outcome c.call xid outcome one.before (one.after ++ rest) w (is ∙ there w) in
-          let low = a.1.0 in
+          let low = a.1.1.0 in
           let least = one.least in
-          (a.0, ((let m : c.least ≤ a.0.place = omega (arith, low, least) in m), subst (λ (l : List Mark). next_place a.0 ≤ limit l) (sym (there [])) a.1.1))
+          (a.0, (a.1.0, ((let m : c.least ≤ a.0 = omega (arith, low, least) in m), subst (λ (l : List Mark). place_after s J c.call outcome a.0 a.1.0 ≤ limit l) (sym (there [])) a.1.1.1)))
 
   answered_from : (made : List Exchange) (waiting : List OpenCall) (least : ℕ) (front rest : List Mark) → both ≡ front ++ rest → least ≤ limit front → AllByRecursion (WasSubmitted front) waiting
       → AreMarksOf link made (filter (is_exchanged link) rest) → AreAnsweredFrom s J least waiting made
@@ -226,11 +222,12 @@ module _ (s : Setup) (sane : IsSane s.tree) (J : List Entry) (n : ℕ) (opened :
       is ∙ ap (λ (l : List Mark). front ++ l) rest_is ∙ sym (append_assoc front one.before (submit ∷ (two.before ++ done ∷ two.after))) in
       let a = one_outcome call xid outcome (front ++ one.before) two.before two.after whole in
       let up = bound_rises s J link n both placed front one.before (submit ∷ (two.before ++ done ∷ two.after)) (is ∙ ap (λ (l : List Mark). front ++ l) rest_is) in
-      let at = a.1.0 in
-      let end : next_place a.0 ≤ limit (front ++ part) = subst (λ (l : List Mark). next_place a.0 ≤ limit l) (append_assoc front one.before (submit ∷ (two.before ++ done ∷ []))) a.1.1 in
-      (a.0, ((let m : least ≤ a.0.place = omega (arith, from, up, at) in m),
-      answered_from made waiting (next_place a.0) (front ++ part) two.after (is ∙ ap (λ (l : List Mark). front ++ l) cut ∙ sym (append_assoc front part two.after)) end
-      (all_later front part waiting all) (subst (λ (l : List Mark). AreMarksOf link made l) (sym two.kept) more)))
+      let at = a.1.1.0 in
+      let next = place_after s J call outcome a.0 a.1.0 in
+      let end : next ≤ limit (front ++ part) = subst (λ (l : List Mark). next ≤ limit l) (append_assoc front one.before (submit ∷ (two.before ++ done ∷ []))) a.1.1.1 in
+      (a.0, (a.1.0, ((let m : least ≤ a.0 = omega (arith, from, up, at) in m),
+      answered_from made waiting next (front ++ part) two.after (is ∙ ap (λ (l : List Mark). front ++ l) cut ∙ sym (append_assoc front part two.after)) end
+      (all_later front part waiting all) (subst (λ (l : List Mark). AreMarksOf link made l) (sym two.kept) more))))
   answered_from (Forgotten call ∷ made) waiting least front rest is from all (xid, others, (same, more)) =
       let submit = submit_of link call xid in
       let gone = marks.Forget link xid in

@@ -1,5 +1,6 @@
 pub mod AnsweredCalls
 pub mod AtPlace
+pub mod FirstTrees
 pub mod Pairs
 pub mod PlacedCalls
 pub mod ReadResults

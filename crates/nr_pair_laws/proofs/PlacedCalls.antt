@@ -24,15 +24,15 @@ use Rattle.nr_pair_laws.proofs.ServerSide.{own_more}
 -- ---- Calls at their places
 
 -- the place after the entries of all these calls, the first of which has at least place n
-abbrev pub place_after : ℕ → List Answered → ℕ
-place_after n [] = n
-place_after n (a ∷ calls) = place_after (a.place + length (entries_in a)) calls
+abbrev pub place_after_all : ℕ → List Answered → ℕ
+place_after_all n [] = n
+place_after_all n (a ∷ calls) = place_after_all (a.place + length (entries_in a)) calls
 
-pub after_more : (n : ℕ) (xs ys : List Answered) → place_after n (xs ++ ys) ≡ place_after (place_after n xs) ys
+pub after_more : (n : ℕ) (xs ys : List Answered) → place_after_all n (xs ++ ys) ≡ place_after_all (place_after_all n xs) ys
 after_more n [] ys = refl
 after_more n (a ∷ xs) ys = after_more (a.place + length (entries_in a)) xs ys
 
-pub placed_last : (s : Setup) (J : List Entry) (n : ℕ) (xs ys : List Answered) → AllPlaced s J n (xs ++ ys) → AllPlaced s J (place_after n xs) ys
+pub placed_last : (s : Setup) (J : List Entry) (n : ℕ) (xs ys : List Answered) → AllPlaced s J n (xs ++ ys) → AllPlaced s J (place_after_all n xs) ys
 placed_last s J n [] ys h = h
 placed_last s J n (a ∷ xs) ys (from, (replied, (there, rest))) = placed_last s J (a.place + length (entries_in a)) xs ys rest
 
@@ -40,7 +40,7 @@ pub placed_first : (s : Setup) (J : List Entry) (n : ℕ) (xs ys : List Answered
 placed_first s J n [] ys h = low s J n ys h
 placed_first s J n (a ∷ xs) ys (from, (replied, (there, rest))) = (from, (replied, (there, placed_first s J (a.place + length (entries_in a)) xs ys rest)))
 
-pub rises : (s : Setup) (J : List Entry) (n : ℕ) (calls : List Answered) → AllPlaced s J n calls → n ≤ place_after n calls
+pub rises : (s : Setup) (J : List Entry) (n : ℕ) (calls : List Answered) → AllPlaced s J n calls → n ≤ place_after_all n calls
 rises s J n [] h = omega arith
 rises s J n (a ∷ calls) (from, (replied, (there, rest))) = let later = rises s J (a.place + length (entries_in a)) calls rest in omega (arith, from, later)
 
@@ -50,7 +50,7 @@ take_all : {X : Type 0} (xs : List X) → take (length xs) xs ≡ xs
 take_all [] = refl
 take_all (x ∷ xs) = ap (λ l. x ∷ l) (take_all xs)
 
-pub reply_at_end : (s : Setup) (J : List Entry) (place : ℕ) (moment : Moment) (payload reply : List ℕ) → plain_reply s J place moment payload ≡ Some reply
+reply_at_end : (s : Setup) (J : List Entry) (place : ℕ) (moment : Moment) (payload reply : List ℕ) → plain_reply s J place moment payload ≡ Some reply
     → plain_reply s (take place J) (length (take place J)) moment payload ≡ Some reply
 reply_at_end s J place moment payload reply is =
     ap (λ (K : List Entry). option_map (λ (a : Answer). a.reply) (plain_answer s.parameters (state_of s K) moment payload)) (take_all (take place J)) ∙ is
@@ -90,17 +90,15 @@ execute_calls : (link xid : ℕ) (moment : Moment) (payload : List ℕ) (place :
 execute_calls link xid moment payload place reply rest =
     ap (λ b. flat_map answer_of (cond b (marks.Execute link xid moment payload place reply ∷ own_marks link rest) (own_marks link rest))) (itself link)
 
--- what is known of a call at its place, above the calls before it and below those after it
+-- a call at its place, after the calls before it and before those after it
 pub record StandsBetween (s : Setup) (J : List Entry) (moment : Moment) (reply : List ℕ) (place first last : ℕ) (payload : List ℕ) : Type 0 where
-  pub replied : plain_reply s J place moment payload ≡ Some reply
-  pub entry : take (length (entries_in (record { moment = moment; payload = payload; place = place; reply = reply }))) (drop place J) ≡ entries_in (record { moment = moment; payload = payload; place = place; reply = reply })
-  pub within : place ≤ length J
+  pub at : AtPlace (plain_server s) J moment payload place reply
   pub from : first ≤ place
   pub until : place + length (entries_in (record { moment = moment; payload = payload; place = place; reply = reply })) ≤ last
 
 module _ (s : Setup) (J : List Entry) (link n : ℕ) (both : List Mark) (placed : AllPlaced s J n (served_calls link both)) where
   abbrev pub bound : List Mark → ℕ
-  bound run = place_after n (served_calls link run)
+  bound run = place_after_all n (served_calls link run)
 
   pub bound_rises : (front more rest : List Mark) → both ≡ front ++ (more ++ rest) → bound front ≤ bound (front ++ more)
   bound_rises front more rest is =
@@ -108,7 +106,7 @@ module _ (s : Setup) (J : List Entry) (link n : ℕ) (both : List Mark) (placed 
       ap (λ (b : List Mark). served_calls link b) is ∙ calls_more link front (more ++ rest) ∙ ap (λ (l : List Answered). served_calls link front ++ l) (calls_more link more rest) in
       let last = placed_last s J n (served_calls link front) (served_calls link more ++ served_calls link rest) (subst (λ (l : List Answered). AllPlaced s J n l) calls placed) in
       let later = rises s J (bound front) (served_calls link more) (placed_first s J (bound front) (served_calls link more) (served_calls link rest) last) in
-      let sum : bound (front ++ more) ≡ place_after (bound front) (served_calls link more) = ap (λ (l : List Answered). place_after n l) (calls_more link front more) ∙ after_more n (served_calls link front) (served_calls link more) in
+      let sum : bound (front ++ more) ≡ place_after_all (bound front) (served_calls link more) = ap (λ (l : List Answered). place_after_all n l) (calls_more link front more) ∙ after_more n (served_calls link front) (served_calls link more) in
       subst (λ (k : ℕ). bound front ≤ k) (sym sum) later
 
   pub bound_low : (front rest : List Mark) → both ≡ front ++ rest → bound front ≤ length J
@@ -127,15 +125,12 @@ module _ (s : Setup) (J : List Entry) (link n : ℕ) (both : List Mark) (placed 
       ∙ ap (λ (l : List Answered). served_calls link before ++ l) (execute_calls link xid moment payload place reply (after ++ rest) ∙ ap (λ (l : List Answered). a ∷ l) (calls_more link after rest)) in
       let at = placed_last s J n (served_calls link before) (a ∷ (served_calls link after ++ served_calls link rest)) (subst (λ (l : List Answered). AllPlaced s J n l) calls placed) in
       let next : ℕ = place + length (entries_in a) in
-      let end = low s J next (served_calls link after ++ served_calls link rest) at.1.1.1 in
       let later = rises s J next (served_calls link after) (placed_first s J next (served_calls link after) (served_calls link rest) at.1.1.1) in
-      let sum : bound (before ++ execute ∷ after) ≡ place_after next (served_calls link after) =
-      ap (λ (l : List Answered). place_after n l) (calls_more link before (execute ∷ after) ∙ ap (λ (l : List Answered). served_calls link before ++ l) (execute_calls link xid moment payload place reply after))
+      let sum : bound (before ++ execute ∷ after) ≡ place_after_all next (served_calls link after) =
+      ap (λ (l : List Answered). place_after_all n l) (calls_more link before (execute ∷ after) ∙ ap (λ (l : List Answered). served_calls link before ++ l) (execute_calls link xid moment payload place reply after))
       ∙ after_more n (served_calls link before) (a ∷ served_calls link after) in
       record {
-        replied = at.1.0;
-        entry = at.1.1.0;
-        within = omega (arith, end);
+        at = at_place_of s J (bound before) a (served_calls link after ++ served_calls link rest) at;
         from = at.0;
         until = subst (λ (k : ℕ). next ≤ k) (sym sum) later;
       }

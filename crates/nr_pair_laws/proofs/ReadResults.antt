@@ -34,14 +34,12 @@ use Rattle.nr_nfs_res.specs.Remove.{link_wcc_codec, link_wcc_lawful, rename_wcc_
 use Rattle.nr_nfs_res.specs.Results.{NfsResults, nfs_result, nfs_results_codec}
 use Rattle.nr_reduce.specs.declared.call.Outcome.{Outcome}
 use Rattle.nr_reduce.specs.declared.call.Outcome.TheVariants as outcomes
-use Rattle.nr_reduce.specs.ClientState.{call_payload}
-use Rattle.nr_plain.specs.Replies.{Answer, plain_reply, results_reply}
+use Rattle.nr_plain.specs.Replies.{Answer, results_reply}
 use Rattle.nr_client.specs.Results.{result_of_outcome, result_of_reply}
 use Rattle.nr_reply_laws.proofs.Decoding.{lawful_read}
 use Rattle.nr_reply_laws.proofs.Replied.{results_read}
-use Rattle.nr_pair_laws.specs.ReadResults.{IsEncodable, ResultsAreRead, encoded_arguments, procedure_call, results_there}
+use Rattle.nr_pair_laws.specs.ReadResults.{IsEncodable, ResultsAreRead, encoded_arguments, results_there}
 use Rattle.nr_pair_laws.proofs.AtPlace.{answered_at}
-use Rattle.nr_pair_laws.proofs.PlacedCalls.{reply_at_end}
 
 -- ---- Each encoding is read as what it encodes
 
@@ -118,10 +116,8 @@ reply_read xid xid_fits p results reply fits is =
     ap (λ (l : List ℕ). result_of_reply codec l) is ∙ read.1.0 ∙ ap (λ (w : NfsResults p). Ok w) read.1.1
 
 pub results_are_read_lem : ResultsAreRead
-results_are_read_lem s J uid gid p a o answered ids arguments_fit results_fit =
-    let args = encoded_arguments p a in
-    let results = results_there s J answered.place answered.moment uid gid p a in
-    let at = answered_at s uid gid answered.xid ids answered.fits p args a J answered.place answered.moment answered.reply (read_again (nfs_arguments_codec p) a (arguments_lawful p) arguments_fit)
-    (reply_at_end s J answered.place answered.moment (call_payload answered.xid (procedure_call uid gid p a)) answered.reply answered.replied) in
+results_are_read_lem s J uid gid p a o place answered ids arguments_fit results_fit =
+    let results = results_there s J place answered.moment uid gid p a in
+    let at = answered_at s uid gid answered.xid ids answered.fits p (encoded_arguments p a) a J place answered.moment answered.reply (read_again (nfs_arguments_codec p) a (arguments_lawful p) arguments_fit) answered.at.replied in
     ap (λ (x : Outcome). result_of_outcome (nfs_results_codec p) x) answered.is
     ∙ reply_read answered.xid answered.fits p results answered.reply results_fit (ap (λ (x : Answer). x.reply) at)

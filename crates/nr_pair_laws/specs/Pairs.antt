@@ -1,5 +1,5 @@
 -- A command and a connection of a server as the two sides of one link.
-use Rattle.std.specs.Prelude.{◌≡◌, ⊤, ℕ, Bool, ◌+◌, ◌<◌, ◌≤◌, ◌^◌, ◌||◌, true, List, [], ◌∷◌, ◌++◌, length, take, drop, Some, Result, Err}
+use Rattle.std.specs.Prelude.{◌≡◌, ⊤, ℕ, Bool, ◌+◌, ◌<◌, ◌≤◌, ◌^◌, ◌||◌, true, List, [], ◌∷◌, ◌++◌, length, Result, Err}
 use Rattle.std.specs.List.{AllByRecursion}
 use Rattle.nr_outside.specs.Streams.{SinkAt, SourceAt}
 use Rattle.nr_outside.specs.declared.moment.Moment.{Moment}
@@ -11,13 +11,13 @@ use Rattle.nr_reduce.specs.declared.mark.Entry.{Entry}
 use Rattle.nr_reduce.specs.declared.mark.LinkParameters.{LinkParameters}
 use Rattle.nr_reduce.specs.declared.mark.Mark.{Mark}
 use Rattle.nr_reduce.specs.ClientState.{call_payload}
+use Rattle.nr_reduce.specs.Journal.{AtPlace}
 use Rattle.nr_reduce.specs.Matched.{Matched}
 use Rattle.nr_reduce.specs.Served.{Served}
 use Rattle.nr_laws.specs.PlainLinks.{AtPlacesOn}
 use Rattle.nr_tree.specs.Sane.{IsSane}
 use Rattle.nr_plain.specs.Added.{entries_of_call}
 use Rattle.nr_plain.specs.History.{IsHistory, Opening, OverHistory, setup_in}
-use Rattle.nr_plain.specs.Replies.{plain_reply}
 use Rattle.nr_plain.specs.ReplyLaws.{plain_server}
 use Rattle.nr_plain.specs.Setup.{Setup}
 use Rattle.nr_byte_laws.specs.InBytes.{EntriesInBytes, IsInBytes}
@@ -76,22 +76,23 @@ ConnectionsHaveARun =
 
 -- ===== what a command's calls are answered with
 
--- A call was answered with the reply of the plain server at its place in a journal, and the entry that the call adds, if
--- it adds one, stands there.
-pub record IsAnsweredAt (s : Setup) (J : List Entry) (call : Call) (o : Outcome) : Type 0 where
+-- The outcome of a call is the plain server's reply to it under some xid, at this place of a journal, and the entry that
+-- the call adds, if it adds one, stands there.
+pub record IsAnsweredAt (s : Setup) (J : List Entry) (call : Call) (o : Outcome) (place : ℕ) : Type 0 where
   pub xid : ℕ
   pub fits : xid < 2 ^ 32
   pub moment : Moment
-  pub place : ℕ
   pub reply : List ℕ
   pub is : o ≡ outcomes.Reply reply
-  pub within : place ≤ length J
-  pub replied : plain_reply s J place moment (call_payload xid call) ≡ Some reply
-  pub entry : take (length (entries_of_call moment (call_payload xid call) reply)) (drop place J) ≡ entries_of_call moment (call_payload xid call) reply
+  pub at : AtPlace (plain_server s) J moment (call_payload xid call) place reply
 
--- the place after its entry
-abbrev pub next_place : {s : Setup} {J : List Entry} {call : Call} {o : Outcome} → IsAnsweredAt s J call o → ℕ
-next_place {s} {J} {call} {o} a = a.place + length (entries_of_call a.moment (call_payload a.xid call) a.reply)
+-- the place after a call and what it added
+abbrev pub place_after : (s : Setup) (J : List Entry) (call : Call) (o : Outcome) (place : ℕ) → IsAnsweredAt s J call o place → ℕ
+place_after s J call o place a = place + length (entries_of_call a.moment (call_payload a.xid call) a.reply)
+
+-- its place is at least `least`, and it and its entry are before `next`
+abbrev pub IsAnsweredBetween : Setup → List Entry → Call → Outcome → (least next : ℕ) → Type 0
+IsAnsweredBetween s J call o least next = (place : ℕ) × ((a : IsAnsweredAt s J call o place) × ((least ≤ place) × (place_after s J call o place a ≤ next)))
 
 -- a call that was submitted and has no outcome yet, beside others, and the least place that it may have
 pub record OpenCall : Type 0 where
@@ -105,12 +106,12 @@ pub record OpenCall : Type 0 where
 abbrev pub AreAnsweredFrom : Setup → List Entry → (least : ℕ) → List OpenCall → List Exchange → Type 0
 AreAnsweredFrom s J least waiting [] = least ≤ length J
 AreAnsweredFrom s J least waiting (Answered call outcome ∷ made) =
-    (a : IsAnsweredAt s J call outcome) × ((least ≤ a.place) × AreAnsweredFrom s J (next_place a) waiting made)
+    (place : ℕ) × ((a : IsAnsweredAt s J call outcome place) × ((least ≤ place) × AreAnsweredFrom s J (place_after s J call outcome place a) waiting made))
 AreAnsweredFrom s J least waiting (Submitted xid call ∷ made) =
     AreAnsweredFrom s J least (record { xid = xid; call = call; least = least } ∷ waiting) made
 AreAnsweredFrom s J least waiting (HandedOver xid outcome ∷ made) =
     (next : ℕ) × ((least ≤ next)
-    × (AllByRecursion (λ (c : OpenCall). c.xid ≡ xid → (a : IsAnsweredAt s J c.call outcome) × ((c.least ≤ a.place) × (next_place a ≤ next))) waiting
+    × (AllByRecursion (λ (c : OpenCall). c.xid ≡ xid → IsAnsweredBetween s J c.call outcome c.least next) waiting
     × AreAnsweredFrom s J next waiting made))
 AreAnsweredFrom s J least waiting (Forgotten call ∷ made) = AreAnsweredFrom s J least waiting made
 AreAnsweredFrom s J least waiting (GivenUp xid ∷ made) = AreAnsweredFrom s J least waiting made

@@ -39,6 +39,6 @@ results_there s J place m uid gid p a =
 -- fields: as all parts of a value, or as the status and what comes with it.
 abbrev pub ResultsAreRead : Type 0
 ResultsAreRead =
-    (s : Setup) (J : List Entry) (uid gid : ℕ) (p : NfsProcedure) (a : NfsArguments p) (o : Outcome) (answered : IsAnsweredAt s J (procedure_call uid gid p a) o) →
-    AreIds uid gid → IsEncodable (nfs_arguments_codec p) a → IsEncodable (nfs_results_codec p) (results_there s J answered.place answered.moment uid gid p a) →
-    result_of_outcome (nfs_results_codec p) o ≡ Ok (results_there s J answered.place answered.moment uid gid p a)
+    (s : Setup) (J : List Entry) (uid gid : ℕ) (p : NfsProcedure) (a : NfsArguments p) (o : Outcome) (place : ℕ) (answered : IsAnsweredAt s J (procedure_call uid gid p a) o place) →
+    AreIds uid gid → IsEncodable (nfs_arguments_codec p) a → IsEncodable (nfs_results_codec p) (results_there s J place answered.moment uid gid p a) →
+    result_of_outcome (nfs_results_codec p) o ≡ Ok (results_there s J place answered.moment uid gid p a)

@@ -1,5 +1,6 @@
 //! Laws of a command and a connection on one link.
 
+ghost use Rattle.nr_pair_laws.specs.FirstTrees.{RootsAreSane};
 ghost use Rattle.nr_pair_laws.specs.Pairs.{ConnectionsHaveARun, PairsAreServed};
 ghost use Rattle.nr_pair_laws.specs.ReadResults.{ResultsAreRead};
 
@@ -21,4 +22,10 @@ pub fn pairs_are_served()
 /// that place: all parts of a value, or the status and what comes with it (RFC 1813 section 3.3). The arguments and the results fit their fields.
 pub fn results_are_read()
     ensures { ResultsAreRead }
+{}
+
+/// The first tree of a server of a configuration, a root alone, is sane and holds bytes: so the premises of `pairs_are_served` on the first tree hold of
+/// each such server.
+pub fn roots_are_sane()
+    ensures { RootsAreSane }
 {}

@@ -5,4 +5,4 @@
 
 mod laws;
 
-pub use laws::{connections_have_a_run, pairs_are_served, results_are_read};
+pub use laws::{connections_have_a_run, pairs_are_served, results_are_read, roots_are_sane};
