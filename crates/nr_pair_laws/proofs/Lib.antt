@@ -3,3 +3,8 @@ pub mod Changed
 pub mod Created
 pub mod AtPlace
 pub mod ReadBack
+pub mod Results
+pub mod Calls
+pub mod Bytes
+pub mod Kept
+pub mod Walked

@@ -39,12 +39,18 @@ pub record IsAnsweredAt (s : Setup) (J : List Entry) (call : Call) (o : Outcome)
 abbrev pub place_after : (s : Setup) (J : List Entry) (call : Call) (o : Outcome) (place : ℕ) → IsAnsweredAt s J call o place → ℕ
 place_after s J call o place a = place + length (entries_of_call a.moment (call_payload a.xid call) a.reply)
 
+-- what holds of the call that a request makes next; a request that has its result makes none
+abbrev pub OnCall : {A : Type 0} → Next A → (Call → Type 0) → Type 0
+OnCall (Calls call) P = P call
+OnCall (Returns result) P = ⊥
+
 -- The first calls of a request were answered with these outcomes, one after another, from a place on up to another. Of the entries between two calls
 -- the others say what holds.
 abbrev pub AnsweredInOrder : {A : Type 0} → Setup → List Entry → (Others : ℕ → ℕ → Type 0) → (request : List Outcome → Next A) → List Outcome → (from to : ℕ) → Type 0
 AnsweredInOrder s J Others request [] from to = to ≡ from
 AnsweredInOrder s J Others request (o ∷ later) from to =
-    (call : Call) × (place : ℕ) × (answered : IsAnsweredAt s J call o place) × ((request [] ≡ Calls call) × ((from ≤ place) × (Others from place
+    OnCall (request [])
+    (λ call. (place : ℕ) × (answered : IsAnsweredAt s J call o place) × ((from ≤ place) × (Others from place
     × AnsweredInOrder s J Others (λ more. request (o ∷ more)) later (place_after s J call o place answered) to)))
 
 -- The first calls of a request were answered with these outcomes, each at a place that isn't before this one. Of the entries before the place the
@@ -52,7 +58,8 @@ AnsweredInOrder s J Others request (o ∷ later) from to =
 abbrev pub AnsweredSince : {A : Type 0} → Setup → List Entry → (Others : ℕ → ℕ → Type 0) → (request : List Outcome → Next A) → List Outcome → (from : ℕ) → Type 0
 AnsweredSince s J Others request [] from = ⊤
 AnsweredSince s J Others request (o ∷ later) from =
-    (call : Call) × (place : ℕ) × (answered : IsAnsweredAt s J call o place) × ((request [] ≡ Calls call) × ((from ≤ place) × (Others from place
+    OnCall (request [])
+    (λ call. (place : ℕ) × (answered : IsAnsweredAt s J call o place) × ((from ≤ place) × (Others from place
     × AnsweredSince s J Others (λ more. request (o ∷ more)) later from)))
 
 -- ===== put
@@ -132,3 +139,6 @@ GetsGiveWhatWasPut =
     (s : Setup) (J : List Entry) (uid gid other_uid other_gid : ℕ) (export other_export path other_path : List ℕ) (names : List (List ℕ)) (input : List ℕ) (from to : ℕ) (outcomes : List Outcome)
     → IsSane s.tree → NumbersFit s J → AreIds uid gid → AreIds other_uid other_gid
     → PutsFile s J uid gid export path names input from to → GetsFile s J other_uid other_gid other_export other_path names to outcomes → bytes_read outcomes ≡ input
+
+abbrev pub Trial : Type 0
+Trial = (n : ℕ) → n ≡ n
