@@ -17,7 +17,7 @@ use Rattle.nr_nfs_base.specs.FileType.{each_file_type, file_type_codec, file_typ
 use Rattle.nr_nfs_base.specs.Laws.{hyper_lawful}
 use Rattle.nr_nfs_base.specs.Limits.{handle_max, name_length_max, transfer_max}
 use Rattle.nr_nfs_base.specs.Procedures.{mount_procedure_number, mount_program, mount_version}
-use Rattle.nr_nfs_base.specs.SetAttributes.{set_attributes_codec, set_time_codec}
+use Rattle.nr_nfs_base.specs.SetAttributes.{set_attributes_codec, set_time_codec, time_how_codec}
 use Rattle.nr_nfs_base.specs.Stable.{stable_how_codec}
 use Rattle.nr_nfs_base.specs.Time.{time_codec}
 use Rattle.nr_nfs_base.specs.WeakCache.{wcc_data_codec}
@@ -65,7 +65,7 @@ use Rattle.nr_ops_file.specs.Bytes.{piece_read}
 use Rattle.nr_ops_dir.specs.Create.{create_reply, create_rules, create_tree}
 use Rattle.nr_ops_dir.specs.Creation.{create_ok}
 use Rattle.nr_plain.specs.Added.{entries_of_call}
-use Rattle.nr_plain.specs.Journal.{tree_at}
+use Rattle.nr_plain.specs.Journal.{state_of, tree_at}
 use Rattle.nr_plain.specs.Programs.{is_change}
 use Rattle.nr_plain.specs.Replies.{Answer, entries_if, results_reply}
 use Rattle.nr_plain.specs.Setup.{Setup, caller_of, space_of, time_of}
@@ -73,7 +73,7 @@ use Rattle.nr_plain.proofs.Lengths.{length_handle}
 use Rattle.nr_plain.proofs.SaneTrees.{tree_sane}
 use Rattle.nr_client.specs.declared.client_end.ClientEnd.{ClientEnd}
 use Rattle.nr_client.specs.Reading.{checked_read, is_bad_read, read_call, read_result, results_offset}
-use Rattle.nr_client.specs.Requests.{create_result, getattr_call, getattr_result, lookup_call, lookup_result, nfs_reads}
+use Rattle.nr_client.specs.Requests.{create_result, getattr_call, getattr_result, lookup_call, lookup_result, machine, nfs_reads}
 use Rattle.nr_client.specs.Walking.{object_in, object_result}
 use Rattle.nr_client.specs.Writing.{checked_write, create_call, created_file, created_handle, handle_or, write_call, write_result}
 use Rattle.nr_reply_laws.specs.Replies.{AreIds}
@@ -83,8 +83,8 @@ use Rattle.nr_pair_laws.specs.FilesAt.{content_at, handle_in}
 use Rattle.nr_pair_laws.specs.PutThenGet.{IsAnsweredAt, place_after}
 use Rattle.nr_pair_laws.proofs.AtPlace.{answered_at, entry_by, nfs_client_call, results_at, tree_after_call, tree_by}
 use Rattle.nr_pair_laws.proofs.Created.{IsCreated, create_args, created}
-use Rattle.nr_pair_laws.proofs.ReadBack.{read_as_done, written_read}
-use Rattle.nr_pair_laws.proofs.Results.{answer_done, getattr_is, lookup_found, lookup_short, read_is, read_short, write_done}
+use Rattle.nr_pair_laws.proofs.ReadBack.{Gave, read_as_done, written_read}
+use Rattle.nr_pair_laws.proofs.Results.{create_done, getattr_is, lookup_found, lookup_short, read_is, read_short, write_done}
 
 -- ---- Arguments
 
@@ -117,7 +117,7 @@ write_args_read file offset bytes short at few =
 
 create_args_read : (dir name : List ℕ) → length dir ≤ handle_max → length name ≤ name_length_max
     → read_all create_args_codec (encodings (create_args_codec.items (create_args dir name))) ≡ Ok (create_args dir name)
-unfolding create_args_codec create_how_codec create_mode_codec set_attributes_codec set_time_codec opaque hyper word boolean enumeration optional
+unfolding create_args_codec create_how_codec create_mode_codec set_attributes_codec set_time_codec time_how_codec opaque hyper word boolean enumeration optional
 create_args_read dir name short few =
     written_read create_args_codec (create_args dir name) create_args_lawful
     (short, (omega (arith, few), (tt, ((tt, tt), ((tt, tt), ((tt, tt), ((tt, tt), ((tt, tt), (tt, tt)))))))))
@@ -131,6 +131,10 @@ same_outcome reads o reply reply' r is same e = sym (ap reads is ∙ ap (λ (l :
 object_read : (r : Result LookupOk ClientEnd) (g : List ℕ) → object_in r ≡ Ok g → (w : LookupOk) × ((r ≡ Ok w) × (w.object ≡ g))
 object_read (Ok w) g e = (w, (refl, cc))
 object_read (Err end) g e = absurd cc
+
+not_bad : {A : Type 0} (b : Bool) (end : ClientEnd) (value w : A) → Gave (cond b (Err end) (Ok value)) w → value ≡ w
+not_bad true end value w e = absurd cc
+not_bad false end value w e = cc
 
 -- the entry of a call, which stands at its place
 placed : (J : List Entry) (place : ℕ) (es : List Entry) (e : Entry) → es ≡ e ∷ [] → take (length es) (drop place J) ≡ es → take 1 (drop place J) ≡ e ∷ []
@@ -194,9 +198,9 @@ module _ (s : Setup) (J : List Entry) (uid gid : ℕ) (ids : AreIds uid gid) whe
       let both = answered_at s uid gid a.xid ids a.fits nfs.Lookup args v J place a.moment a.reply (lookup_args_read dir name short few) a.at.replied in
       let read = object_read (lookup_result o) g is in
       let d = read_as_done a.xid a.fits lookup_ok_codec (optional attributes_codec) (λ d w. w.object ≡ d.object) (results_at s uid gid nfs.Lookup args v J place a.moment) read.0 some_attributes
-      (λ d same. lookup_ok_is d (lookup_short (tree_at s J place) _ v d same))
+      (λ d same. lookup_ok_is d (lookup_short (tree_at s J place) (caller_of (creds.Sys 0 machine uid gid [])) v d same))
       (same_outcome lookup_result o a.reply _ (Ok read.0) a.is (ap (λ (x : Answer). x.reply) both) read.1.0) in
-      let n = lookup_found (tree_at s J place) _ v d.0 d.1.0 in
+      let n = lookup_found (tree_at s J place) (caller_of (creds.Sys 0 machine uid gid [])) v d.0 d.1.0 in
       let g_is : g ≡ handle_of n.0 = sym read.1.1 ∙ d.1.1 ∙ n.1.1 in
       let none = ap (λ (x : Answer). length x.entries) both in (
         ap (λ (p : Option ℕ). option_map handle_of p) n.1.0 ∙ ap (λ (h : List ℕ). Some h) (sym g_is),
@@ -208,7 +212,7 @@ module _ (s : Setup) (J : List Entry) (uid gid : ℕ) (ids : AreIds uid gid) whe
   handle_read : (at : ℕ) (r : Result CreateOk ClientEnd) (file : List ℕ) → created_handle at r ≡ Ok file → (w : CreateOk) × ((r ≡ Ok w) × (w.object ≡ Some file))
   handle_read at (Ok w) file e = by w.object refl e
     where
-      by : (p : Option (List ℕ)) → w.object ≡ p → handle_or at p ≡ Ok file → (x : CreateOk) × ((Ok w ≡ Ok x) × (x.object ≡ Some file))
+      by : (p : Option (List ℕ)) → w.object ≡ p → Gave (handle_or at p) file → (x : CreateOk) × (Gave {A = CreateOk} (Ok w) x × (x.object ≡ Some file))
       by None is none = absurd cc
       by (Some h) is some = let same : h ≡ file = cc in (w, (refl, is ∙ ap (λ (k : List ℕ). Some k) same))
   handle_read at (Err end) file e = absurd cc
@@ -226,8 +230,8 @@ module _ (s : Setup) (J : List Entry) (uid gid : ℕ) (ids : AreIds uid gid) whe
       let read = handle_read (results_offset o) (create_result o) file is in
       let made : (d : CreateOk) → results_at s uid gid nfs.Create args v J place a.moment ≡ Done d → (c : IsCreated t (tree_by s uid gid nfs.Create args v J place a.moment) dir name) × (d.object ≡ Some (handle_of c.number)) =
       λ d same.
-          let passed = answer_done _ _ _ d same in
-          let c = created t _ _ _ dir name (tree_sane s J place sane) below passed.0 in
+          let passed = create_done t (caller_of (creds.Sys 0 machine uid gid [])) (space_of s.parameters (state_of s (take place J)) args) (time_of a.moment) v d same in
+          let c = created t (caller_of (creds.Sys 0 machine uid gid [])) (space_of s.parameters (state_of s (take place J)) args) (time_of a.moment) dir name (tree_sane s J place sane) below passed.0 in
           (c, sym (ap (λ (x : CreateOk). x.object) passed.1) ∙ ap (λ (p : Option ℕ). option_map handle_of p) c.named) in
       let d = read_as_done a.xid a.fits create_ok_codec wcc_data_codec (λ d w. w.object ≡ d.object) (results_at s uid gid nfs.Create args v J place a.moment) read.0 wcc_any
       (λ d same. let m = made d same in some_object d (handle_of m.0.number) m.1 (handle_short m.0.number))
@@ -244,11 +248,7 @@ module _ (s : Setup) (J : List Entry) (uid gid : ℕ) (ids : AreIds uid gid) whe
   -- ---- WRITE
 
   count_read : (sent at : ℕ) (r : Result WriteOk ClientEnd) (count : ℕ) → checked_write sent at r ≡ Ok count → (w : WriteOk) × ((r ≡ Ok w) × (w.count ≡ count))
-  count_read sent at (Ok w) count e = by (w.count == 0 || nat_lt sent w.count) e
-    where
-      by : (b : Bool) → cond b (Err _) (Ok w.count) ≡ Ok count → (x : WriteOk) × ((Ok w ≡ Ok x) × (x.count ≡ count))
-      by true bad = absurd cc
-      by false good = (w, (refl, cc))
+  count_read sent at (Ok w) count e = (w, (refl, not_bad (w.count == 0 || nat_lt sent w.count) _ w.count count e))
   count_read sent at (Err end) count e = absurd cc
 
   -- all that was sent was written, at the offset
@@ -263,9 +263,9 @@ module _ (s : Setup) (J : List Entry) (uid gid : ℕ) (ids : AreIds uid gid) whe
       let both = answered_at s uid gid a.xid ids a.fits nfs.Write args v J place a.moment a.reply args_read a.at.replied in
       let read = count_read (length bytes) (results_offset o) (nfs_reads write_ok_codec wcc_data_codec o) count is in
       let d = read_as_done a.xid a.fits write_ok_codec wcc_data_codec (λ d w. w.count ≡ d.count) (results_at s uid gid nfs.Write args v J place a.moment) read.0 wcc_any
-      (λ d same. write_ok_is d (let w = write_done _ _ _ _ v d same few in omega (arith, w.0, few)))
+      (λ d same. write_ok_is d (let w = write_done (tree_at s J place) (caller_of (creds.Sys 0 machine uid gid [])) (space_of s.parameters (state_of s (take place J)) args) (time_of a.moment) v d same few in omega (arith, w.0, few)))
       (same_outcome (nfs_reads write_ok_codec wcc_data_codec) o a.reply _ (Ok read.0) a.is (ap (λ (x : Answer). x.reply) both) read.1.0) in
-      let w = write_done _ _ _ _ v d.0 d.1.0 few in
+      let w = write_done (tree_at s J place) (caller_of (creds.Sys 0 machine uid gid [])) (space_of s.parameters (state_of s (take place J)) args) (time_of a.moment) v d.0 d.1.0 few in
       let entries : entries_of_call a.moment (call_payload a.xid (write_call uid gid file offset bytes)) a.reply ≡ entry_by uid gid a.moment nfs.Write args ∷ [] =
       ap (λ (x : Answer). x.entries) both ∙ ap (λ (r : NfsResults nfs.Write). entries_if (is_change nfs.Write r) (entry_by uid gid a.moment nfs.Write args)) d.1.0 in
       let tree : tree_at s J (suc place) ≡ tree_by s uid gid nfs.Write args v J place a.moment =
@@ -275,11 +275,7 @@ module _ (s : Setup) (J : List Entry) (uid gid : ℕ) (ids : AreIds uid gid) whe
   -- ---- READ and GETATTR
 
   data_read : (count at : ℕ) (r : Result ReadOk ClientEnd) (w : ReadOk) → checked_read count at r ≡ Ok w → r ≡ Ok w
-  data_read count at (Ok x) w e = by (is_bad_read count x) e
-    where
-      by : (b : Bool) → cond b (Err _) (Ok x) ≡ Ok w → Ok x ≡ Ok w
-      by true bad = absurd cc
-      by false good = good
+  data_read count at (Ok x) w e = ap (λ (y : ReadOk). Ok y) (not_bad (is_bad_read count x) _ x w e)
   data_read count at (Err end) w e = absurd cc
 
   pub data_at : (file : List ℕ) (offset count : ℕ) (o : Outcome) (place : ℕ) (bytes : List ℕ) → length file ≤ handle_max → offset < 2 ^ 64 → count < 2 ^ 32
@@ -291,9 +287,9 @@ module _ (s : Setup) (J : List Entry) (uid gid : ℕ) (ids : AreIds uid gid) whe
       let both = answered_at s uid gid a.xid ids a.fits nfs.Read args v J place a.moment a.reply (read_args_read file offset count short at few) a.at.replied in
       let read = data_read count (results_offset o) (nfs_reads read_ok_codec (optional attributes_codec) o) w is in
       let d = read_as_done a.xid a.fits read_ok_codec (optional attributes_codec) (λ d w. (w.bytes ≡ d.bytes) × (w.eof ≡ d.eof)) (results_at s uid gid nfs.Read args v J place a.moment) w some_attributes
-      (λ d same. read_ok_is d (let short = read_short (tree_at s J place) _ v d same in omega (arith, short)))
+      (λ d same. read_ok_is d (let short = read_short (tree_at s J place) (caller_of (creds.Sys 0 machine uid gid [])) v d same in omega (arith, short)))
       (same_outcome (nfs_reads read_ok_codec (optional attributes_codec)) o a.reply _ (Ok w) a.is (ap (λ (x : Answer). x.reply) both) read) in
-      let is = read_is (tree_at s J place) _ v d.0 bytes holds d.1.0 in
+      let is = read_is (tree_at s J place) (caller_of (creds.Sys 0 machine uid gid [])) v d.0 bytes holds d.1.0 in
       (d.1.1.0 ∙ is.0, d.1.1.1 ∙ is.1)
 
   pub size_at : (file : List ℕ) (o : Outcome) (place : ℕ) (bytes : List ℕ) → length file ≤ handle_max → length bytes < 2 ^ 64 → content_at (tree_at s J place) file ≡ Some (Regular bytes)

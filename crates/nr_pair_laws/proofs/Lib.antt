@@ -8,3 +8,7 @@ pub mod Calls
 pub mod Bytes
 pub mod Kept
 pub mod Walked
+pub mod FileWrites
+pub mod FileReads
+pub mod Mounts
+pub mod PutThenGet

@@ -34,6 +34,13 @@ written_read {A} codec v lawful fits all =
 
 -- ---- Results
 
+-- the value that a client read, or that a procedure had
+abbrev pub Gave : {A : Type 0} → Result A ClientEnd → A → Type 0
+Gave result value = result ≡ Ok value
+
+abbrev pub Succeeds : {D F : Type 0} → StatusUnion D F Status → D → Type 0
+Succeeds results value = results ≡ Done value
+
 status_fits : (s : Status) → status_number s < 2 ^ 32
 status_fits Perm = omega arith
 status_fits Noent = omega arith
@@ -90,13 +97,13 @@ module _ (xid : ℕ) (xid_fits : xid < 2 ^ 32) where
       let r = results_read (nfs_result done failed) (Done d) (UnionIs (P d)) (done_is status_number statuses status_not_ok each_status status_fits done failed d (P d) (reads d refl)) in
       by r.0 r.1.1 (sym (ap (λ (x : Result (StatusUnion D F Status) ClientEnd). nfs_done x) r.1.0) ∙ e)
     where
-      by : (v : StatusUnion D F Status) → UnionIs (P d) v → nfs_done {D = D} {F = F} (Ok v) ≡ Ok w → (x : D) × ((Done {D = D} {F = F} d ≡ Done x) × P x w)
+      by : (v : StatusUnion D F Status) → UnionIs (P d) v → Gave (nfs_done {D = D} {F = F} (Ok v)) w → (x : D) × (Succeeds {D = D} {F = F} (Done d) x × P x w)
       by (Done x) holds is = let same : x ≡ w = cc in (d, (refl, subst (P d) same holds))
-      by (Failed s part) holds is = absurd cc
+      by (Failed status part) holds is = absurd cc
   read_as_done {D} {F} done failed P (Failed s part) w fails reads e =
       let r = results_read (nfs_result done failed) (Failed s part) (UnionIs (λ (x : D). ⊥)) (failed_is status_number statuses status_not_ok each_status status_fits done failed s part (λ (x : D). ⊥) (fails part)) in
       by r.0 r.1.1 (sym (ap (λ (x : Result (StatusUnion D F Status) ClientEnd). nfs_done x) r.1.0) ∙ e)
     where
-      by : (v : StatusUnion D F Status) → UnionIs (λ (x : D). ⊥) v → nfs_done {D = D} {F = F} (Ok v) ≡ Ok w → (x : D) × ((Failed s part ≡ Done x) × P x w)
+      by : (v : StatusUnion D F Status) → UnionIs (λ (x : D). ⊥) v → Gave (nfs_done {D = D} {F = F} (Ok v)) w → (x : D) × (Succeeds {D = D} {F = F} (Failed s part) x × P x w)
       by (Done x) holds is = absurd holds
-      by (Failed s part) holds is = absurd cc
+      by (Failed status rest) holds is = absurd cc

@@ -14,12 +14,14 @@ use Rattle.nr_nfs_base.specs.declared.time.Time.{Time}
 use Rattle.nr_nfs_args.specs.declared.attributes.GetattrArgs.{GetattrArgs}
 use Rattle.nr_nfs_args.specs.declared.bytes.ReadArgs.{ReadArgs}
 use Rattle.nr_nfs_args.specs.declared.bytes.WriteArgs.{WriteArgs}
+use Rattle.nr_nfs_args.specs.declared.create.CreateArgs.{CreateArgs}
 use Rattle.nr_nfs_args.specs.declared.lookup.LookupArgs.{LookupArgs}
 use Rattle.nr_nfs_res.specs.declared.bytes.ReadOk.{ReadOk}
 use Rattle.nr_nfs_res.specs.declared.bytes.WriteOk.{WriteOk}
+use Rattle.nr_nfs_res.specs.declared.create.CreateOk.{CreateOk}
 use Rattle.nr_nfs_res.specs.declared.lookup.LookupOk.{LookupOk}
 use Rattle.nr_tree.specs.Changes.{tree_with_bytes}
-use Rattle.nr_tree.specs.Replies.{attributes_at}
+use Rattle.nr_tree.specs.Replies.{attributes_at, wcc_data}
 use Rattle.nr_tree.specs.Rules.{after, answer, first, handle_of, node_of_handle, number_of_handle, on, ◌⇒◌}
 use Rattle.nr_tree.specs.Tree.{Tree, attributes_of, bytes_of}
 use Rattle.nr_tree.specs.declared.node.Content.{Content}
@@ -29,6 +31,8 @@ use Rattle.nr_tree.specs.declared.rules.Space.{Space}
 use Rattle.nr_tree.proofs.PassedRules.{AllClear, all_clear, clear, handled, on_some, there}
 use Rattle.nr_ops_file.specs.Attributes.{getattr_done, getattr_reply, getattr_rules}
 use Rattle.nr_ops_file.specs.Bytes.{bytes_at, piece_read, read_done, read_reply, read_rules, write_ok, write_reply, write_rules, write_tree}
+use Rattle.nr_ops_dir.specs.Create.{create_reply, create_rules, create_tree}
+use Rattle.nr_ops_dir.specs.Creation.{create_ok}
 use Rattle.nr_ops_list.specs.Lookup.{found_by, lookup_in, lookup_ok, lookup_reply, lookup_rules, number_of_name}
 use Rattle.nr_plain.proofs.Lengths.{length_handle}
 use Rattle.nr_pair_laws.specs.FilesAt.{content_at}
@@ -54,6 +58,12 @@ lookup_found t c a d is =
 
 pub lookup_short : (t : Tree) (c : Caller) (a : LookupArgs) (d : LookupOk) → lookup_reply t c a ≡ Done d → length d.object ≤ handle_max
 lookup_short t c a d is = let n = lookup_found t c a d is in let long = length_handle n.0 in omega (arith, long, ap length n.1.1)
+
+-- ---- CREATE
+
+pub create_done : (t : Tree) (c : Caller) (space : Space) (now : Time) (a : CreateArgs) (d : CreateOk) → create_reply t c space now a ≡ Done d
+    → (first (create_rules t c space a) ≡ None) × (create_ok t (create_tree t c space now a) a.dir a.name ≡ d)
+create_done t c space now a d is = answer_done (first (create_rules t c space a)) (λ s. wcc_data t t a.dir) (create_ok t (create_tree t c space now a) a.dir a.name) d is
 
 -- ---- WRITE
 

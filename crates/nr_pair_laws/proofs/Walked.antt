@@ -31,15 +31,15 @@ AreShort (name ∷ names) = (length name ≤ name_length_max) × AreShort names
 
 names_short : (components : List (ℕ × List ℕ)) (names : List (List ℕ)) → names_in components ≡ Ok names → AreShort names
 names_short [] names is = let none : [] ≡ names = cc in subst AreShort none tt
-names_short (component ∷ rest) names is = by (ltb component_max (length component.1)) refl (names_in rest) refl is
+names_short (component ∷ rest) names is = by (ltb component_max (length component.1)) refl (names_in rest) refl is (λ others same. names_short rest others same)
   where
     by : (b : Bool) → ltb component_max (length component.1) ≡ b → (r : Result (List (List ℕ)) ClientEnd) → names_in rest ≡ r
-        → cond b (Err (client.BadPath component.0)) (with_name component.1 r) ≡ Ok names → AreShort names
-    by true long r same bad = absurd cc
-    by false short (Ok others) same good =
+        → cond b (Err (client.BadPath component.0)) (with_name component.1 r) ≡ Ok names → ((others : List (List ℕ)) → names_in rest ≡ Ok others → AreShort others) → AreShort names
+    by true long r same bad rest_of = absurd cc
+    by false short (Ok others) same good rest_of =
         let all : component.1 ∷ others ≡ names = cc in
-        subst AreShort all (ltb-false component_max (length component.1) short, names_short rest others same)
-    by false short (Err end) same bad = absurd cc
+        subst AreShort all (ltb-false component_max (length component.1) short, rest_of others same)
+    by false short (Err end) same bad rest_of = absurd cc
 
 pub path_short : (path : List ℕ) (names : List (List ℕ)) → path_names path ≡ Ok names → AreShort names
 path_short path names is = names_short (components_of path) names is

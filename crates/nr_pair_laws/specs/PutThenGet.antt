@@ -130,7 +130,7 @@ pub record GetsFile (s : Setup) (J : List Entry) (uid gid : ℕ) (export path : 
 -- Then what it read is the bytes of the file: these are what the output of a `get` takes.
 abbrev pub GetsGiveTheFile : Type 0
 GetsGiveTheFile =
-    (s : Setup) (J : List Entry) (uid gid : ℕ) (export path : List ℕ) (names : List (List ℕ)) (bytes : List ℕ) (from : ℕ) (outcomes : List Outcome) → length bytes < 2 ^ 64 → AreIds uid gid
+    (s : Setup) (J : List Entry) (uid gid : ℕ) (export path : List ℕ) (names : List (List ℕ)) (bytes : List ℕ) (from : ℕ) (outcomes : List Outcome) → IsSane s.tree → AreIds uid gid
     → HoldsFile s J names bytes from → GetsFile s J uid gid export path names from outcomes → bytes_read outcomes ≡ bytes
 
 -- So a `get` after a `put` of the same path gives the input, whoever makes either.
@@ -139,6 +139,3 @@ GetsGiveWhatWasPut =
     (s : Setup) (J : List Entry) (uid gid other_uid other_gid : ℕ) (export other_export path other_path : List ℕ) (names : List (List ℕ)) (input : List ℕ) (from to : ℕ) (outcomes : List Outcome)
     → IsSane s.tree → NumbersFit s J → AreIds uid gid → AreIds other_uid other_gid
     → PutsFile s J uid gid export path names input from to → GetsFile s J other_uid other_gid other_export other_path names to outcomes → bytes_read outcomes ≡ input
-
-abbrev pub Trial : Type 0
-Trial = (n : ℕ) → n ≡ n

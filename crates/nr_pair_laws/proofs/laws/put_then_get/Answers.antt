@@ -1,13 +1,14 @@
-use Rattle.std.proofs.Common.{refl}
-use Rattle.nr_pair_laws.proofs.Created.{created}
-use Rattle.nr_pair_laws.proofs.AtPlace.{answered_at}
-use Rattle.nr_pair_laws.proofs.ReadBack.{read_as_done}
-use Rattle.nr_pair_laws.proofs.Results.{getattr_is}
-use Rattle.nr_pair_laws.proofs.Calls.{looked_up}
-use Rattle.nr_pair_laws.proofs.Bytes.{piece_added}
-use Rattle.nr_pair_laws.proofs.Kept.{kept}
-use Rattle.nr_pair_laws.proofs.Walked.{walk_found}
+use Rattle.nr_pair_laws.proofs.PutThenGet.{get_gives, others_keep, put_leaves, put_then_get}
 use Rattle.nr_pair_laws.proofs.laws.put_then_get.Goals as goal
 
-pub returns : goal.returns
-returns c n = refl
+pub returns-clause-left : goal.returns-clause-left
+returns-clause-left c = put_leaves
+
+pub returns-clause-kept : goal.returns-clause-kept
+returns-clause-kept c = others_keep
+
+pub returns-clause-given : goal.returns-clause-given
+returns-clause-given c = get_gives
+
+pub returns-clause-both : goal.returns-clause-both
+returns-clause-both c = put_then_get
