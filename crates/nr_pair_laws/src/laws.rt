@@ -2,6 +2,7 @@
 
 ghost use Rattle.nr_pair_laws.specs.FirstTrees.{RootsAreSane};
 ghost use Rattle.nr_pair_laws.specs.Pairs.{ConnectionsHaveARun, PairsAreServed};
+ghost use Rattle.nr_pair_laws.specs.PutThenGet.{GetsGiveTheFile, GetsGiveWhatWasPut, OtherEntriesKeepTheFile, PutsLeaveTheFile};
 ghost use Rattle.nr_pair_laws.specs.ReadResults.{ResultsAreRead};
 
 /// A connection that doesn't run out of memory has one run of its link, which keeps the law of a link's server with each Wrote in full, and whose calls
@@ -28,4 +29,13 @@ pub fn results_are_read()
 /// each such server.
 pub fn roots_are_sane()
     ensures { RootsAreSane }
+{}
+
+/// A `get` after a `put` of the same path gives the input of the `put`, if both are answered by one server and no other
+/// entry of its journal between the calls changes what the path leads to.
+pub fn put_then_get()
+    ensures left { PutsLeaveTheFile }
+    ensures kept { OtherEntriesKeepTheFile }
+    ensures given { GetsGiveTheFile }
+    ensures both { GetsGiveWhatWasPut }
 {}

@@ -5,4 +5,6 @@
 
 mod laws;
 
-pub use laws::{connections_have_a_run, pairs_are_served, results_are_read, roots_are_sane};
+pub use laws::{
+    connections_have_a_run, pairs_are_served, put_then_get, results_are_read, roots_are_sane,
+};
