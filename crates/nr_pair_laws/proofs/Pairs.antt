@@ -1,0 +1,115 @@
+-- A command and a connection that are the sides of one list of marks.
+use Rattle.std.proofs.Common.{◌≡◌, ◌⊎◌, ℕ, List, [], ◌++◌, length, Option, None, Some, Result, Err, inl, inr, refl, sym, ap, subst, ◌∙◌}
+use Rattle.std.specs.List.{AllByRecursion, flat_map}
+use Rattle.std.proofs.lemmas.Option.{none-some}
+use Rattle.nr_outside.specs.declared.moment.Moment.{Moment}
+use Rattle.nr_wire.specs.declared.hello.Side.TheVariants.{Initiator, Responder}
+use Rattle.nr_link.specs.declared.end.End.{End}
+use Rattle.nr_reduce.specs.declared.mark.Entry.{Entry}
+use Rattle.nr_reduce.specs.declared.mark.LinkParameters.{LinkParameters}
+use Rattle.nr_reduce.specs.declared.mark.Mark.{Mark}
+use Rattle.nr_reduce.specs.Asked.{AskedSoFar, IsAll}
+use Rattle.nr_reduce.specs.AtEachMark.{AtEachMark}
+use Rattle.nr_reduce.specs.EndRules.{EndState}
+use Rattle.nr_reduce.specs.Opening.{IsOpened}
+use Rattle.nr_reduce.specs.Run.{end_of_side, server}
+use Rattle.nr_reduce.specs.Served.{ServedMark}
+use Rattle.nr_reduce.specs.ServerState.{ServerState}
+use Rattle.nr_laws.specs.EndCauses.{KeepLaws}
+use Rattle.nr_laws.specs.PlainLinks.{AtPlacesOn, HasPlainReplies}
+use Rattle.nr_laws.specs.Stays.{ConveyedMark, NotRevokedMark}
+use Rattle.nr_laws.specs.Typed.{IsTyped}
+use Rattle.nr_laws.proofs.NeitherEnds.{links_stay}
+use Rattle.nr_laws.proofs.PlacedLinks.{placed_links_have_plain_replies}
+use Rattle.nr_tree.specs.Sane.{IsSane}
+use Rattle.nr_plain.specs.Added.{entries_of_call}
+use Rattle.nr_plain.specs.History.{AllPlaced, Answered, setup_in}
+use Rattle.nr_plain.specs.Replies.{plain_reply}
+use Rattle.nr_plain.specs.ReplyLaws.{plain_server}
+use Rattle.nr_plain.specs.Setup.{Setup}
+use Rattle.nr_plain.proofs.PlainServers.{server_is_plain}
+use Rattle.nr_byte_laws.specs.InBytes.{EntriesInBytes}
+use Rattle.nr_client.specs.declared.call_end.CallEnd.TheVariants as calls
+use Rattle.nr_client.specs.declared.client_end.ClientEnd.{ClientEnd}
+use Rattle.nr_client.specs.declared.client_end.ClientEnd.TheVariants as client
+use Rattle.nr_commands.specs.Running.Runs.{NotOpened, Opened}
+use Rattle.nr_host.specs.Connections.{answer_of, answers_of, IsOpenedWith}
+use Rattle.nr_host.specs.Ending.{IsCause}
+use Rattle.nr_host.specs.declared.connection_limits.ConnectionLimits.{ConnectionLimits}
+use Rattle.nr_host.specs.declared.conn_end.ConnEnd.{ConnEnd}
+use Rattle.nr_host.specs.declared.conn_end.ConnEnd.TheVariants as ends
+use Rattle.nr_host_laws.specs.OwnMarks.{own_marks}
+use Rattle.nr_host_laws.proofs.Lawful.{keep_the_law}
+use Rattle.nr_service_laws.specs.ClientMarks.{AreMarksOf, IsOwn, without_bytes}
+use Rattle.nr_service_laws.specs.Exchanges.{tells_text}
+use Rattle.nr_service_laws.specs.ServedCommands.{client_marks}
+use Rattle.nr_service_laws.proofs.ByteCommands.{command_calls}
+use Rattle.nr_service_laws.proofs.OpenLinks.{conveyed, not_revoked, own_each}
+use Rattle.nr_service_laws.proofs.ServedLaws.{ServerKeeps, matched_by, served_keep_laws_lem}
+use Rattle.nr_pair_laws.specs.Pairs.{AreSidesOf, ConnectionsHaveARun, PairsAreServed}
+use Rattle.nr_pair_laws.proofs.AnsweredCalls.{exchanged_in, exchanges_answered, is_exchanged}
+use Rattle.nr_pair_laws.proofs.PlacedCalls.{each_placed, served_calls}
+use Rattle.nr_pair_laws.proofs.ServerSide.{placed_in_both, served_in_both, server_same}
+use Rattle.nr_pair_laws.proofs.TypedPairs.{entries_typed, pair_is_typed}
+
+pub connections_have_a_run_lem : ConnectionsHaveARun
+connections_have_a_run_lem limits first J opened link before after end served other same history =
+    let kept = keep_the_law limits before after end other served link in
+    record { read = kept.0; failed = kept.1.0; ended = kept.1.1.0; served = kept.1.1.1 opened same; over = kept.1.1.0.runs.over first J history }
+
+-- ---- A link that stays
+
+abbrev plain_replies : Setup → List Entry → Moment → List ℕ → Option (List ℕ)
+plain_replies s entries moment payload = plain_reply s entries (length entries) moment payload
+
+ended_server : (opened : LinkParameters) (link : ℕ) (run own : List Mark) (why : End) → own_marks link run ≡ own → end_of_side opened link Responder run ≡ None → (server opened link own).ended ≡ Some why → ⊥
+unfolding end_of_side
+ended_server opened link run own why same open_still out =
+    none-some why (sym open_still ∙ ap (λ (x : EndState ServerState). x.ended) (server_same opened link run ∙ ap (λ (r : List Mark). server opened link r) same) ∙ out)
+
+-- the client's marks are those of a command
+never_ends : (s : Setup) → IsSane s.tree → (opened : LinkParameters) (link : ℕ) (both : List Mark) → IsOpened opened → IsTyped both → KeepLaws opened link both → HasPlainReplies (plain_server s) link both
+    → AllByRecursion (IsOwn link) (client_marks link both) → end_of_side opened link Responder both ≡ None
+never_ends s sane opened link both fine typed laws plain owns =
+    (links_stay (plain_replies s) entries_of_call opened link both fine typed laws (own_each (NotRevokedMark link) link [] both (not_revoked link) owns)
+    (own_each (ConveyedMark opened link) link [] both (conveyed opened link) owns) (server_is_plain s sane) plain).1
+
+-- ---- The pair
+
+placed_of : (s : Setup) (J : List Entry) (n : ℕ) (link : ℕ) (own both : List Mark) → own_marks link both ≡ own → AllPlaced s J n (answers_of own) → AllPlaced s J n (served_calls link both)
+unfolding answers_of
+placed_of s J n link own both same placed = subst (λ (r : List Mark). AllPlaced s J n (flat_map answer_of r)) (sym same) placed
+
+pub pairs_are_served_lem : PairsAreServed
+pairs_are_served_lem limits first J opened link outside outside' end connection c before after input input' out out' result (NotOpened why is fails same_input same_out) session same of sane tree entries = tt
+pairs_are_served_lem limits first J opened link outside outside' end connection c before after input input' out out' result (Opened dialed s s' opens prints closes) session same of sane tree entries = λ ran both sides.
+    let setup = setup_in first in
+    let journal : List Entry = J ++ connection.over.more in
+    let own = connection.ended.run in
+    let made = (tells_text c.uid c.gid c.export c.action input input' out prints.written s s' prints.text prints.made).made in
+    let served : AtEachMark (ServedMark IsAll opened link) [] both =
+    served_in_both IsAll opened link both (subst (λ (r : List Mark). AtEachMark (ServedMark IsAll opened link) [] r) (sym sides.server_side) connection.served.each) in
+    let placed = placed_of setup journal (length J) link own both sides.server_side connection.over.placed in
+    let at_places : AtPlacesOn (plain_server setup) journal link both = placed_in_both (plain_server setup) journal link both (each_placed setup journal link (length J) [] (own_marks link both) placed) in
+    let plain : HasPlainReplies (plain_server setup) link both = placed_links_have_plain_replies (plain_replies setup) entries_of_call journal link both at_places in
+    let keeps : ServerKeeps opened link ran.run both = record { client_side = sides.client_side; served = served; matched = sides.matched } in
+    let far = matched_by opened link ran.run both ran.own ran.asked keeps in
+    let owns = subst (λ (r : List Mark). AllByRecursion (IsOwn link) r) (sym sides.client_side) ran.own in
+    let are = subst (λ (r : List Mark). AreMarksOf link made (without_bytes r)) (sym sides.client_side) ran.marks_are in
+    let all_entries : EntriesInBytes journal = entries_typed setup J connection.over.more entries connection.over.of_calls in
+    let words = command_calls c.uid c.gid c.export c.action input input' out prints.written s s' prints.text prints.made (of.uid, of.gid) of.export of.names in
+    let typed : IsTyped both =
+    pair_is_typed setup journal opened link both made tree all_entries far at_places owns (subst (λ (r : List Mark). AreMarksOf link made r) (exchanged_in link both) are) words sides.no_others in
+    record {
+      served = record { client_side = sides.client_side; typed = typed; served = served; matched = sides.matched; plain = plain };
+      at_places = at_places;
+      answered = exchanges_answered setup sane journal (length J) opened link both typed far plain placed made are;
+      stays = λ why is. by (λ laws. ended_server opened link both own why sides.server_side (never_ends setup sane opened link both session.fine typed laws plain owns)
+          (subst (λ (e : ConnEnd). IsCause opened link own outside'.left e) is (connection.ended.cause opened same)).0)
+          (served_keep_laws_lem opened link c before after input input' out out' result (Opened dialed s s' opens prints closes) ran (plain_replies setup) entries_of_call both session.fine
+          (record { client_side = sides.client_side; typed = typed; served = served; matched = sides.matched; limits = server_is_plain setup sane; plain = plain })).1;
+    }
+  where
+    by : {K : Type 0} → (K → ⊥) → (result ≡ Err (client.Link calls.LinkWrite)) ⊎ K → result ≡ Err (client.Link calls.LinkWrite)
+    by clash (inl failed) = failed
+    by clash (inr laws) = absurd (clash laws)

@@ -1,0 +1,41 @@
+//! Laws of a command and a connection on one link.
+
+ghost use Rattle.nr_pair_laws.specs.FirstTrees.{RootsAreSane};
+ghost use Rattle.nr_pair_laws.specs.Pairs.{ConnectionsHaveARun, PairsAreServed};
+ghost use Rattle.nr_pair_laws.specs.PutThenGet.{GetsGiveTheFile, GetsGiveWhatWasPut, OtherEntriesKeepTheFile, PutsLeaveTheFile};
+ghost use Rattle.nr_pair_laws.specs.ReadResults.{ResultsAreRead};
+
+/// A connection that doesn't run out of memory has one run of its link, which keeps the law of a link's server with each Wrote in full, and whose calls
+/// are answered at their places in a journal that goes on from the one that its pass had seen.
+pub fn connections_have_a_run()
+    ensures { ConnectionsHaveARun }
+{}
+
+/// A command's run and a connection's run that are the sides of one matched list meet all premises of the laws on served commands: the marks are of
+/// their types, the server keeps its law with each Wrote in full, and each call is answered by the plain server that was opened so, at its place in the
+/// server's journal. Each outcome of the command is the reply at such a place, and the places follow the order of its calls. The connection doesn't end
+/// with `Protocol`, unless a write of the command failed.
+pub fn pairs_are_served()
+    ensures { PairsAreServed }
+{}
+
+/// What a client reads of the reply to a call of NFS that was answered at a place of a journal is exactly what the procedure answers over the tree at
+/// that place: all parts of a value, or the status and what comes with it (RFC 1813 section 3.3). The arguments and the results fit their fields.
+pub fn results_are_read()
+    ensures { ResultsAreRead }
+{}
+
+/// The first tree of a server of a configuration, a root alone, is sane and holds bytes: so the premises of `pairs_are_served` on the first tree hold of
+/// each such server.
+pub fn roots_are_sane()
+    ensures { RootsAreSane }
+{}
+
+/// A `get` after a `put` of the same path gives the input of the `put`, if both are answered by one server and no other
+/// entry of its journal between the calls changes what the path leads to.
+pub fn put_then_get()
+    ensures left { PutsLeaveTheFile }
+    ensures kept { OtherEntriesKeepTheFile }
+    ensures given { GetsGiveTheFile }
+    ensures both { GetsGiveWhatWasPut }
+{}

@@ -1,0 +1,10 @@
+//! What holds of a command and of the connection of a server that served it, as the two sides of one link.
+//!
+//! It is proved from the laws of commands and those of connections. Nothing of it runs: each public function has a law as its contract.
+#![tactic(auto)]
+
+mod laws;
+
+pub use laws::{
+    connections_have_a_run, pairs_are_served, put_then_get, results_are_read, roots_are_sane,
+};
