@@ -59,8 +59,8 @@ fn gate(rt: &impl Abort, alloc: Global) -> Arc<Gate, Global> {
 
 /// Runs a `get` by two jobs, and compares its status and what it prints and reports.
 fn same_get<
-    P: LinkSource + Drop + Send,
-    Q: LinkSink + Drop + Send,
+    P: LinkSource + Drop + Send + 'static,
+    Q: LinkSink + Drop + Send + 'static,
     D: Dialer<Source = P, Sink = Q>,
 >(rt: &impl Host, alloc: Global, dial: &mut D, status: u32, printed: &str, reported: &str) {
     let words = words(rt, alloc, "get here / /a --jobs 2", "here");
