@@ -149,10 +149,16 @@ module _ (s : Setup) (sane : IsSane s.tree) (J : List Entry) (n : ℕ) (opened :
       (split ∙ ap (λ (l : List Mark). l ++ execute ∷ ((own.at.after ++ done ∷ []) ++ w)) later.1 ∙ append_assoc u (submit ∷ later.0) (execute ∷ ((own.at.after ++ done ∷ []) ++ w)))) in
       let a : StandsBetween s J own.moment reply own.place (limit own.before) (limit (own.before ++ execute ∷ (own.at.after ++ done ∷ []))) (call_payload xid call) =
       subst (λ (l : List ℕ). StandsBetween s J own.moment reply own.place (limit own.before) (limit (own.before ++ execute ∷ (own.at.after ++ done ∷ []))) l) (sym same) stands in
-      let from = a.from in
-      (own.place, (record { xid = xid; fits = accepted.xids; moment = own.moment; reply = reply; is = refl; at = a.at },
-      ((let m : limit u ≤ own.place = omega (arith, first, from) in m),
-      subst (λ (l : List Mark). own.place + length (entries_of_call own.moment (call_payload xid call) reply) ≤ limit l) (sym whole) a.until)))
+      let from = a.from in (
+        own.place,
+        (
+          record { xid = xid; fits = accepted.xids; moment = own.moment; reply = reply; is = refl; at = a.at },
+          (
+            (let m : limit u ≤ own.place = omega (arith, first, from) in m),
+            subst (λ (l : List Mark). own.place + length (entries_of_call own.moment (call_payload xid call) reply) ≤ limit l) (sym whole) a.until,
+          ),
+        ),
+      )
 
   one_outcome : (call : Call) (xid : ℕ) (outcome : Outcome) (u v w : List Mark) → both ≡ u ++ submit_of link call xid ∷ (v ++ marks.Done link xid outcome ∷ w)
       → IsAnsweredBetween s J call outcome (limit u) (limit (u ++ submit_of link call xid ∷ (v ++ marks.Done link xid outcome ∷ [])))
@@ -199,8 +205,8 @@ module _ (s : Setup) (sane : IsSane s.tree) (J : List Entry) (n : ℕ) (opened :
           let done = marks.Done link xid outcome in
           let front_is : front ≡ one.before ++ submit ∷ one.after = one.is ∙ ap (λ (x : ℕ). one.before ++ submit_of link c.call x ∷ one.after) same in
           let there : (tail : List Mark) → front ++ (rest ++ done ∷ tail) ≡ one.before ++ submit ∷ ((one.after ++ rest) ++ done ∷ tail) = (λ tail.
-              ap (λ (l : List Mark). l ++ (rest ++ done ∷ tail)) front_is ∙ append_assoc one.before (submit ∷ one.after) (rest ++ done ∷ tail)
-              ∙ ap (λ (l : List Mark). one.before ++ submit ∷ l) (sym (append_assoc one.after rest (done ∷ tail)))) in
+          ap (λ (l : List Mark). l ++ (rest ++ done ∷ tail)) front_is ∙ append_assoc one.before (submit ∷ one.after) (rest ++ done ∷ tail)
+          ∙ ap (λ (l : List Mark). one.before ++ submit ∷ l) (sym (append_assoc one.after rest (done ∷ tail)))) in
           let a = one_outcome c.call xid outcome one.before (one.after ++ rest) w (is ∙ there w) in
           let low = a.1.1.0 in
           let least = one.least in
@@ -224,10 +230,17 @@ module _ (s : Setup) (sane : IsSane s.tree) (J : List Entry) (n : ℕ) (opened :
       let up = bound_rises s J link n both placed front one.before (submit ∷ (two.before ++ done ∷ two.after)) (is ∙ ap (λ (l : List Mark). front ++ l) rest_is) in
       let at = a.1.1.0 in
       let next = place_after s J call outcome a.0 a.1.0 in
-      let end : next ≤ limit (front ++ part) = subst (λ (l : List Mark). next ≤ limit l) (append_assoc front one.before (submit ∷ (two.before ++ done ∷ []))) a.1.1.1 in
-      (a.0, (a.1.0, ((let m : least ≤ a.0 = omega (arith, from, up, at) in m),
-      answered_from made waiting next (front ++ part) two.after (is ∙ ap (λ (l : List Mark). front ++ l) cut ∙ sym (append_assoc front part two.after)) end
-      (all_later front part waiting all) (subst (λ (l : List Mark). AreMarksOf link made l) (sym two.kept) more))))
+      let end : next ≤ limit (front ++ part) = subst (λ (l : List Mark). next ≤ limit l) (append_assoc front one.before (submit ∷ (two.before ++ done ∷ []))) a.1.1.1 in (
+        a.0,
+        (
+          a.1.0,
+          (
+            (let m : least ≤ a.0 = omega (arith, from, up, at) in m),
+            answered_from made waiting next (front ++ part) two.after (is ∙ ap (λ (l : List Mark). front ++ l) cut ∙ sym (append_assoc front part two.after)) end
+                (all_later front part waiting all) (subst (λ (l : List Mark). AreMarksOf link made l) (sym two.kept) more),
+          ),
+        ),
+      )
   answered_from (Forgotten call ∷ made) waiting least front rest is from all (xid, others, (same, more)) =
       let submit = submit_of link call xid in
       let gone = marks.Forget link xid in
@@ -248,8 +261,7 @@ module _ (s : Setup) (sane : IsSane s.tree) (J : List Entry) (n : ℕ) (opened :
       let up = bound_rises s J link n both placed front part one.after there in
       let upto = bound_rises s J link n both placed front one.before (submit ∷ one.after) (is ∙ ap (λ (l : List Mark). front ++ l) one.is) in
       answered_from made (record { xid = number; call = call; least = least } ∷ waiting) least (front ++ part) one.after (there ∙ sym (append_assoc front part one.after))
-      (let m : least ≤ limit (front ++ part) = omega (arith, from, up) in m)
-      (
+      (let m : least ≤ limit (front ++ part) = omega (arith, from, up) in m) (
         record {
           before = front ++ one.before;
           after = [];
@@ -265,10 +277,17 @@ module _ (s : Setup) (sane : IsSane s.tree) (J : List Entry) (n : ℕ) (opened :
       let part = one.before ++ done ∷ [] in
       let here : both ≡ front ++ (one.before ++ done ∷ one.after) = is ∙ ap (λ (l : List Mark). front ++ l) one.is in
       let there : both ≡ front ++ (part ++ one.after) = here ∙ ap (λ (l : List Mark). front ++ l) (sym (append_assoc one.before (done ∷ []) one.after)) in
-      let up = bound_rises s J link n both placed front part one.after there in
-      (limit (front ++ part), ((let m : least ≤ limit (front ++ part) = omega (arith, from, up) in m), (handed_over front one.before one.after number outcome here waiting all,
-      answered_from made waiting (limit (front ++ part)) (front ++ part) one.after (there ∙ sym (append_assoc front part one.after)) (omega arith)
-      (all_later front part waiting all) (subst (λ (l : List Mark). AreMarksOf link made l) (sym one.kept) more))))
+      let up = bound_rises s J link n both placed front part one.after there in (
+        limit (front ++ part),
+        (
+          (let m : least ≤ limit (front ++ part) = omega (arith, from, up) in m),
+          (
+            handed_over front one.before one.after number outcome here waiting all,
+            answered_from made waiting (limit (front ++ part)) (front ++ part) one.after (there ∙ sym (append_assoc front part one.after)) (omega arith)
+                (all_later front part waiting all) (subst (λ (l : List Mark). AreMarksOf link made l) (sym one.kept) more),
+          ),
+        ),
+      )
   answered_from (GivenUp number ∷ made) waiting least front rest is from all (xid, others, (same, more)) =
       let gone = marks.Forget link number in
       let one = found_first (is_exchanged link) rest gone others same in

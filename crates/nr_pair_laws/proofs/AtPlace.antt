@@ -130,7 +130,7 @@ module _ (s : Setup) (uid gid xid : ℕ) (ids : AreIds uid gid) (xid_fits : xid 
   pub answered_at : (p : NfsProcedure) (args : List ℕ) (a : NfsArguments p) (J : List Entry) (place : ℕ) (m : Moment) (reply : List ℕ) → read_all (nfs_arguments_codec p) args ≡ Ok a
       → plain_reply s (take place J) (length (take place J)) m (call_payload xid (nfs_client_call uid gid p args)) ≡ Some reply
       → record { reply = reply; entries = entries_of_call m (call_payload xid (nfs_client_call uid gid p args)) reply }
-          ≡ nfs_answer xid (entry_by uid gid m p args) p (results_at s uid gid p args a J place m)
+      ≡ nfs_answer xid (entry_by uid gid m p args) p (results_at s uid gid p args a J place m)
   answered_at p args a J place m reply read e =
       let payload = call_payload xid (nfs_client_call uid gid p args) in
       let st : State = state_of s (take place J) in

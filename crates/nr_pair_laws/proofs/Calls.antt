@@ -109,7 +109,7 @@ write_args_of file offset bytes = record { file = file; offset = offset; count =
 
 write_args_read : (file : List ℕ) (offset : ℕ) (bytes : List ℕ) → length file ≤ handle_max → offset < 2 ^ 64 → length bytes < 2 ^ 32
     → read_all write_args_codec (encodings (write_args_codec.items (record { file = file; offset = offset; count = length bytes; stable = stable.FileSync; bytes = bytes })))
-        ≡ Ok (record { file = file; offset = offset; count = length bytes; stable = stable.FileSync; bytes = bytes })
+    ≡ Ok (record { file = file; offset = offset; count = length bytes; stable = stable.FileSync; bytes = bytes })
 unfolding write_args_codec opaque hyper word stable_how_codec enumeration
 write_args_read file offset bytes short at few =
     written_read write_args_codec (record { file = file; offset = offset; count = length bytes; stable = stable.FileSync; bytes = bytes }) write_args_lawful
@@ -230,9 +230,9 @@ module _ (s : Setup) (J : List Entry) (uid gid : ℕ) (ids : AreIds uid gid) whe
       let read = handle_read (results_offset o) (create_result o) file is in
       let made : (d : CreateOk) → results_at s uid gid nfs.Create args v J place a.moment ≡ Done d → (c : IsCreated t (tree_by s uid gid nfs.Create args v J place a.moment) dir name) × (d.object ≡ Some (handle_of c.number)) =
       λ d same.
-          let passed = create_done t (caller_of (creds.Sys 0 machine uid gid [])) (space_of s.parameters (state_of s (take place J)) args) (time_of a.moment) v d same in
-          let c = created t (caller_of (creds.Sys 0 machine uid gid [])) (space_of s.parameters (state_of s (take place J)) args) (time_of a.moment) dir name (tree_sane s J place sane) below passed.0 in
-          (c, sym (ap (λ (x : CreateOk). x.object) passed.1) ∙ ap (λ (p : Option ℕ). option_map handle_of p) c.named) in
+      let passed = create_done t (caller_of (creds.Sys 0 machine uid gid [])) (space_of s.parameters (state_of s (take place J)) args) (time_of a.moment) v d same in
+      let c = created t (caller_of (creds.Sys 0 machine uid gid [])) (space_of s.parameters (state_of s (take place J)) args) (time_of a.moment) dir name (tree_sane s J place sane) below passed.0 in
+      (c, sym (ap (λ (x : CreateOk). x.object) passed.1) ∙ ap (λ (p : Option ℕ). option_map handle_of p) c.named) in
       let d = read_as_done a.xid a.fits create_ok_codec wcc_data_codec (λ d w. w.object ≡ d.object) (results_at s uid gid nfs.Create args v J place a.moment) read.0 wcc_any
       (λ d same. let m = made d same in some_object d (handle_of m.0.number) m.1 (handle_short m.0.number))
       (same_outcome create_result o a.reply _ (Ok read.0) a.is (ap (λ (x : Answer). x.reply) both) read.1.0) in
@@ -255,7 +255,7 @@ module _ (s : Setup) (J : List Entry) (uid gid : ℕ) (ids : AreIds uid gid) whe
   pub written_at : (file : List ℕ) (offset : ℕ) (bytes : List ℕ) (o : Outcome) (place : ℕ) → length file ≤ handle_max → offset < 2 ^ 64 → length bytes ≤ transfer_max
       → (a : IsAnsweredAt s J (write_call uid gid file offset bytes) o place) → (count : ℕ) → write_result (length bytes) o ≡ Ok count
       → (count ≡ length bytes) × ((tree_at s J (suc place) ≡ tree_with_bytes (tree_at s J place) (time_of a.moment) (number_of_handle file) offset bytes)
-          × (place_after s J (write_call uid gid file offset bytes) o place a ≡ suc place))
+      × (place_after s J (write_call uid gid file offset bytes) o place a ≡ suc place))
   written_at file offset bytes o place short at few a count is =
       let v : WriteArgs = record { file = file; offset = offset; count = length bytes; stable = stable.FileSync; bytes = bytes } in
       let args : List ℕ = encodings (write_args_codec.items v) in

@@ -89,10 +89,10 @@ module _ (s : Setup) (J : List Entry) (uid gid : ℕ) (ids : AreIds uid gid) (na
     where
       by : (b : Bool) → ltb at (length bytes) ≡ b
           → OnCall {A = Unit {0}} (cond b (Calls (read_call uid gid file at (piece_left (length bytes) at))) (Returns (Ok tt)))
-              (λ call. (place : ℕ) × (answered : IsAnsweredAt s J call o place) × ((from ≤ place) × (KeepPath s J root_handle names from place
-              × AnsweredSince s J (KeepPath s J root_handle names) (λ more. request_after uid gid file (SizeKnown (length bytes) at (take at bytes)) (o ∷ more)) os from)))
+          (λ call. (place : ℕ) × (answered : IsAnsweredAt s J call o place) × ((from ≤ place) × (KeepPath s J root_handle names from place
+          × AnsweredSince s J (KeepPath s J root_handle names) (λ more. request_after uid gid file (SizeKnown (length bytes) at (take at bytes)) (o ∷ more)) os from)))
           → ((next : ℕ) → next ≤ length bytes → AnsweredSince s J (KeepPath s J root_handle names) (request_after uid gid file (SizeKnown (length bytes) next (take next bytes))) os from
-              → request_after uid gid file (SizeKnown (length bytes) next (take next bytes)) os ≡ Returns (Ok tt) → bytes_of (read_after (SizeKnown (length bytes) next (take next bytes)) os) ≡ bytes)
+          → request_after uid gid file (SizeKnown (length bytes) next (take next bytes)) os ≡ Returns (Ok tt) → bytes_of (read_after (SizeKnown (length bytes) next (take next bytes)) os) ≡ bytes)
           → bytes_of (read_after (SizeKnown (length bytes) at (take at bytes)) (o ∷ os)) ≡ bytes
       by false full none rest_of = absurd none
       by true less (place, answered, (rises, (keeps, calls))) rest_of = read (read_result (piece_left (length bytes) at) o) refl calls ends

@@ -108,17 +108,17 @@ module _ (s : Setup) (J : List Entry) (uid gid : ℕ) (ids : AreIds uid gid) (na
     where
       by : (b : Bool) → ltb at (length (take input_max input)) ≡ b
           → OnCall {A = Unit {0}} (cond b (Calls (write_call uid gid file at (piece_at input at))) (Returns (write_end input)))
-              (λ call. (place : ℕ) × (answered : IsAnsweredAt s J call o place) × ((from ≤ place) × (KeepPath s J root_handle names from place
-              × AnsweredInOrder s J (KeepPath s J root_handle names) (λ more. written_after uid gid dir name input (Created file at) (o ∷ more)) os (place_after s J call o place answered) to)))
+          (λ call. (place : ℕ) × (answered : IsAnsweredAt s J call o place) × ((from ≤ place) × (KeepPath s J root_handle names from place
+          × AnsweredInOrder s J (KeepPath s J root_handle names) (λ more. written_after uid gid dir name input (Created file at) (o ∷ more)) os (place_after s J call o place answered) to)))
           → ((next count : ℕ) → HasWritten file (at + count) next → AnsweredInOrder s J (KeepPath s J root_handle names) (written_after uid gid dir name input (Created file (at + count))) os next to
-              → written_after uid gid dir name input (Created file (at + count)) os ≡ Returns (Ok tt) → HoldsFile s J names input to)
+          → written_after uid gid dir name input (Created file (at + count)) os ≡ Returns (Ok tt) → HoldsFile s J names input to)
           → HoldsFile s J names input to
       by false full none rest_of = absurd none
       by true less (place, answered, (rises, (keeps, calls))) rest_of = counted (write_result (length (piece_at input at)) o) refl ends calls
         where
           counted : (r : Result ℕ ClientEnd) → write_result (length (piece_at input at)) o ≡ r → written_after uid gid dir name input (with_count file at r) os ≡ Returns (Ok tt)
               → AnsweredInOrder s J (KeepPath s J root_handle names) (written_after uid gid dir name input (with_count file at r)) os
-                  (place_after s J (write_call uid gid file at (piece_at input at)) o place answered) to
+              (place_after s J (write_call uid gid file at (piece_at input at)) o place answered) to
               → HoldsFile s J names input to
           counted (Err end) is bad next_calls = absurd (ended uid gid dir name input end os bad)
           counted (Ok count) is good next_calls = rest_of (place_after s J (write_call uid gid file at (piece_at input at)) o place answered) count (piece_written file at from place o short has less rises keeps answered count is) next_calls good

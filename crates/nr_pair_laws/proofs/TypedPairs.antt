@@ -222,9 +222,11 @@ module _ (s : Setup) (J : List Entry) (opened : LinkParameters) (link : ℕ) (tr
   typed_from : (front rest : List Mark) → both ≡ front ++ rest → IsTyped front → OutcomesOfBytes (filter (is_exchanged link) front) → AllByRecursion (IsOfSide link) rest → AtEachMark TypedMark front rest
   typed_from front [] is typed outs sides = tt
   typed_from front (m ∷ rest) is typed outs sides =
-      let here = mark_typed front rest m is typed outs sides.0 in
-      (here, typed_from (front ++ m ∷ []) rest (is ∙ sym (append_assoc front (m ∷ []) rest)) (AtEachMark_more TypedMark [] front m typed here)
-      (outcomes_then front m outs (outcome_of front rest m is typed sides.0)) sides.1)
+      let here = mark_typed front rest m is typed outs sides.0 in (
+        here,
+        typed_from (front ++ m ∷ []) rest (is ∙ sym (append_assoc front (m ∷ []) rest)) (AtEachMark_more TypedMark [] front m typed here)
+            (outcomes_then front m outs (outcome_of front rest m is typed sides.0)) sides.1,
+      )
 
 -- ---- The entries of a journal
 

@@ -82,8 +82,8 @@ module _ (s : Setup) (J : List Entry) (uid gid : ℕ) (ids : AreIds uid gid) (al
       by : (r : Result (List ℕ) ClientEnd) → object_result o ≡ r → go_on r (λ object. parent_from uid gid object next rest os) ≡ Returns (Ok last)
           → AnsweredInOrder s J (KeepPath s J root_handle all) (λ more. go_on r (λ object. parent_from uid gid object next rest more)) os (place_after s J (lookup_call uid gid dir name) o place answered) to
           → ((g : List ℕ) → IsAbove (walked ++ name ∷ []) g next (place_after s J (lookup_call uid gid dir name) o place answered)
-              → AnsweredInOrder s J (KeepPath s J root_handle all) (parent_from uid gid g next rest) os (place_after s J (lookup_call uid gid dir name) o place answered) to
-              → parent_from uid gid g next rest os ≡ Returns (Ok last) → EndsAbove last.0 last.1 to)
+          → AnsweredInOrder s J (KeepPath s J root_handle all) (parent_from uid gid g next rest) os (place_after s J (lookup_call uid gid dir name) o place answered) to
+          → parent_from uid gid g next rest os ≡ Returns (Ok last) → EndsAbove last.0 last.1 to)
           → EndsAbove last.0 last.1 to
       by (Err end) found bad calls rest_of = absurd cc
       by (Ok g) found good calls rest_of =
@@ -111,8 +111,8 @@ module _ (s : Setup) (J : List Entry) (uid gid : ℕ) (ids : AreIds uid gid) (al
       by : (r : Result (List ℕ) ClientEnd) → object_result o ≡ r → go_on r (λ object. walk_from uid gid object rest os) ≡ Returns (Ok file)
           → AnsweredSince s J (KeepPath s J root_handle all) (λ more. go_on r (λ object. walk_from uid gid object rest more)) os from
           → ((g : List ℕ) → handle_along (tree_at s J from) root_handle (walked ++ name ∷ []) ≡ Some g → length g ≡ 8
-              → AnsweredSince s J (KeepPath s J root_handle all) (walk_from uid gid g rest) os from → walk_from uid gid g rest os ≡ Returns (Ok file)
-              → (handle_along (tree_at s J from) root_handle all ≡ Some file) × (length file ≡ 8))
+          → AnsweredSince s J (KeepPath s J root_handle all) (walk_from uid gid g rest) os from → walk_from uid gid g rest os ≡ Returns (Ok file)
+          → (handle_along (tree_at s J from) root_handle all ≡ Some file) × (length file ≡ 8))
           → (handle_along (tree_at s J from) root_handle all ≡ Some file) × (length file ≡ 8)
       by (Err end) found bad calls rest_of = absurd cc
       by (Ok g) found good calls rest_of =
