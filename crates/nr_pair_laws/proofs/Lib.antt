@@ -1,4 +1,5 @@
 pub mod AnsweredCalls
+pub mod AnyReads
 pub mod AtPlace
 pub mod Bytes
 pub mod Calls
@@ -13,6 +14,7 @@ pub mod Pairs
 pub mod Paths
 pub mod PlacedCalls
 pub mod PutThenGet
+pub mod Putting
 pub mod ReadBack
 pub mod ReadResults
 pub mod Results

@@ -2,7 +2,8 @@
 
 ghost use Rattle.nr_pair_laws.specs.FirstTrees.{RootsAreSane};
 ghost use Rattle.nr_pair_laws.specs.Pairs.{ConnectionsHaveARun, PairsAreServed};
-ghost use Rattle.nr_pair_laws.specs.PutThenGet.{GetsGiveTheFile, GetsGiveWhatWasPut, OtherEntriesKeepTheFile, PutsLeaveTheFile};
+ghost use Rattle.nr_pair_laws.specs.PutCommands.{CommandsPutTheirInput};
+ghost use Rattle.nr_pair_laws.specs.PutThenGet.{GetsGiveTheFile, GetsGiveWhatWasPut, OtherEntriesKeepTheFile, PutsLeaveTheFile, ReadsGiveTheFile};
 ghost use Rattle.nr_pair_laws.specs.ReadResults.{ResultsAreRead};
 
 /// A connection that doesn't run out of memory has one run of its link, which keeps the law of a link's server with each Wrote in full, and whose calls
@@ -38,4 +39,11 @@ pub fn put_then_get()
     ensures kept { OtherEntriesKeepTheFile }
     ensures given { GetsGiveTheFile }
     ensures both { GetsGiveWhatWasPut }
+    ensures read { ReadsGiveTheFile }
+{}
+
+/// After a `put` command that was done, and whose calls are answered as `pairs_are_served` says, its path leads to a file
+/// with exactly the bytes that its input gave, if no entry of others between its calls changes what the path leads to.
+pub fn commands_put_their_input()
+    ensures { CommandsPutTheirInput }
 {}

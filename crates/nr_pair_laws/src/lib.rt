@@ -6,5 +6,6 @@
 mod laws;
 
 pub use laws::{
-    connections_have_a_run, pairs_are_served, put_then_get, results_are_read, roots_are_sane,
+    commands_put_their_input, connections_have_a_run, pairs_are_served, put_then_get,
+    results_are_read, roots_are_sane,
 };
