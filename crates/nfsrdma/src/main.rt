@@ -1,6 +1,6 @@
 //! The program: it opens the streams of its process, a dialer and an acceptor over TCP, the system's clock and a spawner of threads,
-//! and hands them to [`nr_top::run`], or to [`nr_top::refuse`] if it can't have its arguments. The input of the command `serve` is the
-//! file of its configuration.
+//! and hands them to [`nr_top::run`], or to [`nr_top::refuse`] if it can't have its arguments. The input of the commands `serve` and
+//! `gate` is the file of their configuration.
 #![tactic(auto)]
 
 use nr_jobs::ThreadSpawner;
@@ -37,6 +37,14 @@ impl<S: Read, F: Read> Read for Input<S, F> {
     }
 }
 
+/// The input that is this file, if it was opened.
+fn file_input<S, F>(opened: io::Result<F>) -> Input<S, F> {
+    match opened {
+        Ok(file) => Input::File(file),
+        Err(_) => Input::Missing,
+    }
+}
+
 /// The arguments that the program was started with, its name first.
 fn arguments(rt: &HostRuntime) -> io::Result<Vec<String>> {
     let mut arguments = Vec::new(rt.alloc());
@@ -53,10 +61,8 @@ fn run_with<R: Threads + Wait + Copy + Drop + Send + Sync + 'static>(
     arguments: &[String],
 ) -> u8 {
     let input = match read_words(rt.alloc(), arguments) {
-        Ok(Command::Serve { config }) => match File::open(&rt, config) {
-            Ok(file) => Input::File(file),
-            Err(_) => Input::Missing,
-        },
+        Ok(Command::Serve { config }) => file_input(File::open(&rt, config)),
+        Ok(Command::Gate { config }) => file_input(File::open(&rt, config)),
         // Out of memory: the command may be one that reads a file, so nothing is read.
         Err(WordsFault::Memory) => Input::Missing,
         _ => Input::Stream(rt.stdin()),
@@ -70,6 +76,9 @@ fn run_with<R: Threads + Wait + Copy + Drop + Send + Sync + 'static>(
     let Ok(mut spawn) = ThreadSpawner::new(rt.alloc(), THREADS) else {
         return refuse(&mut err, true);
     };
+    let Ok(mut gates) = ThreadSpawner::new(rt.alloc(), THREADS) else {
+        return refuse(&mut err, true);
+    };
     run(
         threads,
         rt.alloc(),
@@ -81,6 +90,7 @@ fn run_with<R: Threads + Wait + Copy + Drop + Send + Sync + 'static>(
         &mut accept,
         &mut clock,
         &mut spawn,
+        &mut gates,
     )
 }
 

@@ -183,6 +183,7 @@ fn run_over<R: Threads + Wait + Copy + Drop + Send + Sync + 'static>(
     let mut accept = MemAcceptor::new(alloc, Vec::new(alloc), Vec::new(alloc));
     let mut clock = MemClock::new(&MOMENTS);
     let mut spawn = HandBack::new();
+    let mut gates = HandBack::new();
     run(
         rt,
         alloc,
@@ -194,6 +195,7 @@ fn run_over<R: Threads + Wait + Copy + Drop + Send + Sync + 'static>(
         &mut accept,
         &mut clock,
         &mut spawn,
+        &mut gates,
     )
 }
 

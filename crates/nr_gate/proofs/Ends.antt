@@ -1,6 +1,6 @@
 -- The end of a connection, by that of the loop over its records.
 use Rattle.std.specs.Prelude.{⊤}
-use Rattle.std.proofs.Common.{◌≡◌, ◌⊎◌, ℕ, List, ◌++◌, Option, None, Some, refl, sym, subst, ⊎_elim}
+use Rattle.std.proofs.Common.{◌≡◌, ℕ, List, ◌++◌, Option, None, Some, refl, sym, subst, ⊎_elim}
 use Rattle.nr_turnstile.specs.declared.turnstile.Pass.{Pass}
 use Rattle.nr_record_loop.specs.Connections.{Exchange, IsNext, IsNoCall, IsServedBy, IsTooLong, Unanswered, calls, loop_at}
 use Rattle.nr_record_loop.specs.declared.answering.NoReply.{NoReply}

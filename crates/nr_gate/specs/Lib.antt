@@ -1,4 +1,5 @@
 pub mod Forwarding
 pub mod Gating
 pub mod CallerParts
+pub mod GateLinks
 pub mod private

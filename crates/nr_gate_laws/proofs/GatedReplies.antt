@@ -53,7 +53,7 @@ use Rattle.nr_gate.specs.declared.gate_end.GateEnd.TheVariants as ends
 use Rattle.nr_gate.specs.Forwarding.{Asks, forwarded, forwarded_by, with_xid}
 use Rattle.nr_gate.specs.Gating.{EndsRemotely, Forwards, ForwardsAll, Gates, HasOutcome, IsForwarded, IsMismatch, IsUnfit, Makes, Unforwarded}
 use Rattle.nr_gate.proofs.Steps.{remote_made}
-use Rattle.nr_gate_laws.specs.GatedReplies.{ArePlain, GatedRepliesArePlain, IsRemoteLink}
+use Rattle.nr_gate_laws.specs.GatedReplies.{ArePlain, GatedLinksArePlain, GatedRepliesArePlain, IsRemoteLink}
 use Rattle.nr_gate_laws.proofs.Forwarding.{reply_comes_back}
 use Rattle.nr_gate_laws.proofs.Remote.{Between, Kept, between, kept, run_at, shorter_begins}
 
@@ -302,3 +302,7 @@ gated_replies_are_plain {O} {C} s J opened link both before after end g bytes r 
       by_more : (more : Option Unanswered) → Gates end before.state after.state g.exchanges more → ArePlain s J 0 g.exchanges
       by_more None all = all_plain s J opened link history both r before.state after.state g.exchanges 0 all (begins_same history history refl) own (inl refl)
       by_more (Some x) (m, (all, last)) = all_plain s J opened link history both r before.state m g.exchanges 0 all (last_grows end x.reason m after.state x.call last) own (inl refl)
+
+pub gated_links_are_plain : {O C : Type 0} → GatedLinksArePlain O C
+gated_links_are_plain {O} {C} s J opened link both p q accepted hung_up source_faults sink_faults end g bytes r =
+    gated_replies_are_plain s J opened link both (loop_at accepted.left accepted.given accepted.taken g.first) (loop_at hung_up.left hung_up.given hung_up.taken g.own) end g.gated bytes r

@@ -23,7 +23,9 @@ use Rattle.nr_shared.specs.declared.entry.Entry.{Entry}
 use Rattle.nr_shared.specs.declared.requester_with_sink.RequesterWithSink.{RequesterWithSink}
 use Rattle.nr_shared.specs.Histories.{run_of}
 use Rattle.nr_gate.specs.declared.gate_end.GateEnd.{GateEnd}
+use Rattle.nr_links.specs.Links.{EndedLink}
 use Rattle.nr_gate.specs.Gating.{IsGated}
+use Rattle.nr_gate.specs.GateLinks.{GatesByPass}
 
 -- A run has both sides of the link over which a gateway forwards: its client's marks are those of this history, after the marks `before`.
 -- The link is matched so far, the journal is what all calls of the run add, and each call of the link is answered as the plain server answers at
@@ -46,3 +48,9 @@ ArePlain s J least (x ∷ xs) = (place : ℕ) × ((moment : Moment) × ((least �
 abbrev pub GatedRepliesArePlain : (O C : Type 0) → Type 0
 GatedRepliesArePlain O C = (s : Setup) (J : List JournalEntry) (opened : LinkParameters) (link : ℕ) (both : List Mark) (before after : Loop (Pass (RequesterWithSink O C) Entry)) (end : GateEnd)
     (g : IsGated before after end) → AllByRecursion IsBytes g.records → IsRemoteLink s J opened link (seen_by after.state) both → ArePlain s J 0 g.exchanges
+
+-- So has each record of each link that a gateway served itself, over all that the pass of that link has seen.
+abbrev pub GatedLinksArePlain : (O C : Type 0) → Type 0
+GatedLinksArePlain O C = (s : Setup) (J : List JournalEntry) (opened : LinkParameters) (link : ℕ) (both : List Mark) (p q : Pass (RequesterWithSink O C) Entry) (accepted hung_up : EndedLink)
+    (source_faults sink_faults : ℕ) (end : GateEnd) (g : GatesByPass p accepted hung_up source_faults sink_faults end q) → AllByRecursion IsBytes g.gated.records → IsRemoteLink s J opened link (seen_by g.own) both →
+    ArePlain s J 0 g.gated.exchanges

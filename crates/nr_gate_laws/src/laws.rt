@@ -1,6 +1,6 @@
 //! Laws of calls that are forwarded with another xid.
 
-ghost use Rattle.nr_gate_laws.specs.GatedReplies.{GatedRepliesArePlain};
+ghost use Rattle.nr_gate_laws.specs.GatedReplies.{GatedLinksArePlain, GatedRepliesArePlain};
 ghost use Rattle.nr_gate_laws.specs.Forwarded.{ForwardedAnswersAreAlike, ForwardedCallsAreNoLonger, ForwardedCallsHavePlans, ForwardedRepliesAreAlike, RepliesComeBack};
 
 /// Over every state the plain server answers a forwarded call of RPC version 2 (RFC 5531 section 9) as the call itself: both
@@ -23,4 +23,9 @@ pub fn forwarded_calls_are_no_longer()
 /// the record's own call, with its own xid, at a place of the server's one journal; the places don't fall within the connection.
 pub fn gated_replies_are_plain<O, C>()
     ensures { GatedRepliesArePlain O C }
+{}
+
+/// The same of each link that a gateway served itself, by a pass of its own.
+pub fn gated_links_are_plain<O, C>()
+    ensures { GatedLinksArePlain O C }
 {}

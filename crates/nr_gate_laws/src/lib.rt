@@ -6,5 +6,6 @@
 mod laws;
 
 pub use laws::{
-    forwarded_calls_are_answered_alike, forwarded_calls_are_no_longer, gated_replies_are_plain,
+    forwarded_calls_are_answered_alike, forwarded_calls_are_no_longer, gated_links_are_plain,
+    gated_replies_are_plain,
 };

@@ -13,9 +13,10 @@ use Rattle.nr_reduce.specs.AtEachMark.{AtEachMark}
 use Rattle.nr_reduce.specs.EndRules.{EndState}
 use Rattle.nr_reduce.specs.Opening.{IsOpened}
 use Rattle.nr_reduce.specs.Run.{end_of_side, server}
-use Rattle.nr_reduce.specs.Served.{ServedMark}
+use Rattle.nr_reduce.specs.Served.{Served, ServedMark}
 use Rattle.nr_reduce.specs.ServerState.{ServerState}
 use Rattle.nr_laws.specs.EndCauses.{KeepLaws}
+use Rattle.nr_laws.specs.MatchedSoFar.{MatchedSoFar}
 use Rattle.nr_laws.specs.PlainLinks.{AtPlacesOn, HasPlainReplies}
 use Rattle.nr_laws.specs.Stays.{ConveyedMark, NotRevokedMark}
 use Rattle.nr_laws.specs.Typed.{IsTyped}
@@ -28,7 +29,6 @@ use Rattle.nr_plain.specs.Replies.{plain_reply}
 use Rattle.nr_plain.specs.ReplyLaws.{plain_server}
 use Rattle.nr_plain.specs.Setup.{Setup}
 use Rattle.nr_plain.proofs.PlainServers.{server_is_plain}
-use Rattle.nr_byte_laws.specs.InBytes.{EntriesInBytes}
 use Rattle.nr_client.specs.declared.call_end.CallEnd.TheVariants as calls
 use Rattle.nr_client.specs.declared.client_end.ClientEnd.{ClientEnd}
 use Rattle.nr_client.specs.declared.client_end.ClientEnd.TheVariants as client
@@ -46,11 +46,11 @@ use Rattle.nr_service_laws.specs.ServedCommands.{client_marks}
 use Rattle.nr_service_laws.proofs.ByteCommands.{command_calls}
 use Rattle.nr_service_laws.proofs.OpenLinks.{conveyed, not_revoked, own_each}
 use Rattle.nr_service_laws.proofs.ServedLaws.{ServerKeeps, matched_by, served_keep_laws_lem}
-use Rattle.nr_pair_laws.specs.Pairs.{AreSidesOf, ConnectionsHaveARun, PairsAreServed}
+use Rattle.nr_pair_laws.specs.Pairs.{AreSidesOf, ConnectionsHaveARun, PairsAreServed, PairsAreTyped}
 use Rattle.nr_pair_laws.proofs.AnsweredCalls.{exchanged_in, exchanges_answered, is_exchanged}
 use Rattle.nr_pair_laws.proofs.PlacedCalls.{each_placed, served_calls}
 use Rattle.nr_pair_laws.proofs.ServerSide.{placed_in_both, served_in_both, server_same}
-use Rattle.nr_pair_laws.proofs.TypedPairs.{entries_typed, pair_is_typed}
+use Rattle.nr_pair_laws.proofs.TypedPairs.{entries_typed, of_calls_bytes, pair_is_typed}
 
 pub connections_have_a_run_lem : ConnectionsHaveARun
 connections_have_a_run_lem limits first J opened link before after end served other same history =
@@ -80,36 +80,63 @@ placed_of : (s : Setup) (J : List Entry) (n : ℕ) (link : ℕ) (own both : List
 unfolding answers_of
 placed_of s J n link own both same placed = subst (λ (r : List Mark). AllPlaced s J n (flat_map answer_of r)) (sym same) placed
 
+-- what is known of both sides, whatever the types of the marks
+record BothSides (s : Setup) (J : List Entry) (n : ℕ) (opened : LinkParameters) (link : ℕ) (run both : List Mark) : Type 0 where
+  placed : AllPlaced s J n (served_calls link both)
+  at_places : AtPlacesOn (plain_server s) J link both
+  plain : HasPlainReplies (plain_server s) link both
+  keeps : ServerKeeps opened link run both
+  far : MatchedSoFar opened link both
+  owns : AllByRecursion (IsOwn link) (client_marks link both)
+
+both_sides : (s : Setup) (J : List Entry) (n : ℕ) (opened : LinkParameters) (link : ℕ) (run own both : List Mark) → AllByRecursion (IsOwn link) run → AskedSoFar opened link run
+    → AreSidesOf link run own both → Served opened link own → AllPlaced s J n (answers_of own) → BothSides s J n opened link run both
+both_sides s J n opened link run own both owns asked sides law placed =
+    let served : AtEachMark (ServedMark IsAll opened link) [] both =
+    served_in_both IsAll opened link both (subst (λ (r : List Mark). AtEachMark (ServedMark IsAll opened link) [] r) (sym sides.server_side) law.each) in
+    let places = placed_of s J n link own both sides.server_side placed in
+    let at_places : AtPlacesOn (plain_server s) J link both = placed_in_both (plain_server s) J link both (each_placed s J link n [] (own_marks link both) places) in
+    let keeps : ServerKeeps opened link run both = record { client_side = sides.client_side; served = served; matched = sides.matched } in
+    record {
+      placed = places;
+      at_places = at_places;
+      plain = placed_links_have_plain_replies (plain_replies s) entries_of_call J link both at_places;
+      keeps = keeps;
+      far = matched_by opened link run both owns asked keeps;
+      owns = subst (λ (r : List Mark). AllByRecursion (IsOwn link) r) (sym sides.client_side) owns;
+    }
+
 pub pairs_are_served_lem : PairsAreServed
-pairs_are_served_lem limits first J opened link outside outside' end connection c before after input input' out out' result (NotOpened why is fails same_input same_out) session same of sane tree entries = tt
-pairs_are_served_lem limits first J opened link outside outside' end connection c before after input input' out out' result (Opened dialed s s' opens prints closes) session same of sane tree entries = λ ran both sides.
+pairs_are_served_lem limits first J opened link outside outside' end connection c before after input input' out out' result (NotOpened why is fails same_input same_out) session same sane = tt
+pairs_are_served_lem limits first J opened link outside outside' end connection c before after input input' out out' result (Opened dialed s s' opens prints closes) session same sane = λ ran both sides typed.
     let setup = setup_in first in
     let journal : List Entry = J ++ connection.over.more in
     let own = connection.ended.run in
     let made = (tells_text c.uid c.gid c.export c.action input input' out prints.written s s' prints.text prints.made).made in
-    let served : AtEachMark (ServedMark IsAll opened link) [] both =
-    served_in_both IsAll opened link both (subst (λ (r : List Mark). AtEachMark (ServedMark IsAll opened link) [] r) (sym sides.server_side) connection.served.each) in
-    let placed = placed_of setup journal (length J) link own both sides.server_side connection.over.placed in
-    let at_places : AtPlacesOn (plain_server setup) journal link both = placed_in_both (plain_server setup) journal link both (each_placed setup journal link (length J) [] (own_marks link both) placed) in
-    let plain : HasPlainReplies (plain_server setup) link both = placed_links_have_plain_replies (plain_replies setup) entries_of_call journal link both at_places in
-    let keeps : ServerKeeps opened link ran.run both = record { client_side = sides.client_side; served = served; matched = sides.matched } in
-    let far = matched_by opened link ran.run both ran.own ran.asked keeps in
-    let owns = subst (λ (r : List Mark). AllByRecursion (IsOwn link) r) (sym sides.client_side) ran.own in
+    let b = both_sides setup journal (length J) opened link ran.run own both ran.own ran.asked sides connection.served connection.over.placed in
     let are = subst (λ (r : List Mark). AreMarksOf link made (without_bytes r)) (sym sides.client_side) ran.marks_are in
-    let all_entries : EntriesInBytes journal = entries_typed setup J connection.over.more entries connection.over.of_calls in
-    let words = command_calls c.uid c.gid c.export c.action input input' out prints.written s s' prints.text prints.made (of.uid, of.gid) of.export of.names in
-    let typed : IsTyped both =
-    pair_is_typed setup journal opened link both made tree all_entries far at_places owns (subst (λ (r : List Mark). AreMarksOf link made r) (exchanged_in link both) are) words sides.no_others in
     record {
-      served = record { client_side = sides.client_side; typed = typed; served = served; matched = sides.matched; plain = plain };
-      at_places = at_places;
-      answered = exchanges_answered setup sane journal (length J) opened link both typed far plain placed made are;
-      stays = λ why is. by (λ laws. ended_server opened link both own why sides.server_side (never_ends setup sane opened link both session.fine typed laws plain owns)
+      served = record { client_side = sides.client_side; typed = typed; served = b.keeps.served; matched = sides.matched; plain = b.plain };
+      at_places = b.at_places;
+      answered = exchanges_answered setup sane journal (length J) opened link both typed b.far b.plain b.placed made are;
+      stays = λ why is. by (λ laws. ended_server opened link both own why sides.server_side (never_ends setup sane opened link both session.fine typed laws b.plain b.owns)
           (subst (λ (e : ConnEnd). IsCause opened link own outside'.left e) is (connection.ended.cause opened same)).0)
           (served_keep_laws_lem opened link c before after input input' out out' result (Opened dialed s s' opens prints closes) ran (plain_replies setup) entries_of_call both session.fine
-          (record { client_side = sides.client_side; typed = typed; served = served; matched = sides.matched; limits = server_is_plain setup sane; plain = plain })).1;
+          (record { client_side = sides.client_side; typed = typed; served = b.keeps.served; matched = sides.matched; limits = server_is_plain setup sane; plain = b.plain })).1;
     }
   where
     by : {K : Type 0} → (K → ⊥) → (result ≡ Err (client.Link calls.LinkWrite)) ⊎ K → result ≡ Err (client.Link calls.LinkWrite)
     by clash (inl failed) = failed
     by clash (inr laws) = absurd (clash laws)
+
+pub pairs_are_typed_lem : PairsAreTyped
+pairs_are_typed_lem limits first J opened link outside outside' end connection c before after input input' out out' result (NotOpened why is fails same_input same_out) of tree entries = tt
+pairs_are_typed_lem limits first J opened link outside outside' end connection c before after input input' out out' result (Opened dialed s s' opens prints closes) of tree entries = λ ran both sides.
+    let setup = setup_in first in
+    let journal : List Entry = J ++ connection.over.more in
+    let made = (tells_text c.uid c.gid c.export c.action input input' out prints.written s s' prints.text prints.made).made in
+    let b = both_sides setup journal (length J) opened link ran.run connection.ended.run both ran.own ran.asked sides connection.served connection.over.placed in
+    let are = subst (λ (r : List Mark). AreMarksOf link made (without_bytes r)) (sym sides.client_side) ran.marks_are in
+    let words = command_calls c.uid c.gid c.export c.action input input' out prints.written s s' prints.text prints.made (of.uid, of.gid) of.export of.names in
+    pair_is_typed setup journal opened link both made tree (entries_typed setup J connection.over.more (of_calls_bytes setup [] J entries) connection.over.of_calls) b.far b.at_places b.owns
+    (subst (λ (r : List Mark). AreMarksOf link made r) (exchanged_in link both) are) words sides.no_others

@@ -1,5 +1,5 @@
 -- Where the calls of a connection stand in the journal, in the order of its marks.
-use Rattle.std.proofs.Common.{◌≡◌, ℕ, zero, suc, ◌+◌, ◌≤◌, true, cond, eqb, List, [], ◌∷◌, ◌++◌, length, take, drop, Some, refl, sym, ap, subst, ◌∙◌, arith}
+use Rattle.std.proofs.Common.{◌≡◌, ℕ, zero, suc, ◌+◌, ◌≤◌, true, cond, eqb, List, [], ◌∷◌, ◌++◌, length, take, drop, Some, refl, sym, ap, subst, ◌∙◌, arith, length-drop}
 use Rattle.std.specs.List.{flat_map}
 use Rattle.std.specs.Option.{option_map}
 use Rattle.std.proofs.lemmas.Grind.{flat_map-append}
@@ -8,6 +8,7 @@ use Rattle.nr_reduce.specs.declared.mark.Entry.{Entry}
 use Rattle.nr_reduce.specs.declared.mark.Mark.{Mark}
 use Rattle.nr_reduce.specs.declared.mark.Mark.TheVariants as marks
 use Rattle.nr_reduce.specs.AtEachMark.{AtEachMark}
+use Rattle.nr_reduce.specs.ClientState.{call_payload}
 use Rattle.nr_reduce.specs.Journal.{AtPlace}
 use Rattle.nr_reduce.proofs.Standing.{itself}
 use Rattle.nr_laws.specs.PlainLinks.{AtPlaceOnMark}
@@ -16,9 +17,10 @@ use Rattle.nr_plain.specs.Journal.{state_of}
 use Rattle.nr_plain.specs.Replies.{Answer, plain_answer, plain_reply}
 use Rattle.nr_plain.specs.ReplyLaws.{plain_server}
 use Rattle.nr_plain.specs.Setup.{Setup}
-use Rattle.nr_plain.proofs.PassCalls.{low}
+use Rattle.nr_plain.proofs.PassCalls.{grow, low}
 use Rattle.nr_host.specs.Connections.{answer_of}
 use Rattle.nr_host_laws.specs.OwnMarks.{own_marks}
+use Rattle.nr_pair_laws.specs.Pairs.{AnsweredInLongerJournals}
 use Rattle.nr_pair_laws.proofs.ServerSide.{own_more}
 
 -- ---- Calls at their places
@@ -55,7 +57,7 @@ reply_at_end : (s : Setup) (J : List Entry) (place : ℕ) (moment : Moment) (pay
 reply_at_end s J place moment payload reply is =
     ap (λ (K : List Entry). option_map (λ (a : Answer). a.reply) (plain_answer s.parameters (state_of s K) moment payload)) (take_all (take place J)) ∙ is
 
-at_place_of : (s : Setup) (J : List Entry) (n : ℕ) (a : Answered) (calls : List Answered) → AllPlaced s J n (a ∷ calls) → AtPlace (plain_server s) J a.moment a.payload a.place a.reply
+pub at_place_of : (s : Setup) (J : List Entry) (n : ℕ) (a : Answered) (calls : List Answered) → AllPlaced s J n (a ∷ calls) → AtPlace (plain_server s) J a.moment a.payload a.place a.reply
 at_place_of s J n a calls (from, (replied, (there, rest))) =
     let end = low s J (a.place + length (entries_in a)) calls rest in
     let within : a.place ≤ length J = omega (arith, end) in
@@ -75,6 +77,28 @@ each_placed s J link n front (marks.Forget l xid ∷ run) h = (tt, each_placed s
 each_placed s J link n front (marks.Revoke l xid bytes ∷ run) h = (tt, each_placed s J link n (front ++ marks.Revoke l xid bytes ∷ []) run h)
 each_placed s J link n front (marks.Drop l ∷ run) h = (tt, each_placed s J link n (front ++ marks.Drop l ∷ []) run h)
 each_placed s J link n front (marks.Told l what ∷ run) h = (tt, each_placed s J link n (front ++ marks.Told l what ∷ []) run h)
+
+-- ---- In a longer journal
+
+reply_in : (s : Setup) (J : List Entry) (place : ℕ) (moment : Moment) (payload reply : List ℕ) → plain_reply s (take place J) (length (take place J)) moment payload ≡ Some reply
+    → plain_reply s J place moment payload ≡ Some reply
+reply_in s J place moment payload reply is =
+    ap (λ (K : List Entry). option_map (λ (a : Answer). a.reply) (plain_answer s.parameters (state_of s K) moment payload)) (sym (take_all (take place J))) ∙ is
+
+enough : {X : Type 0} (n : ℕ) (xs : List X) → length (take n xs) ≡ n → n ≤ length xs
+enough zero xs is = omega arith
+enough (suc n) [] is = omega (arith, is)
+enough (suc n) (x ∷ xs) is = let rest = enough n xs (omega (arith, is)) in omega (arith, rest)
+
+pub at_place_later : (s : Setup) (J more : List Entry) (moment : Moment) (payload : List ℕ) (place : ℕ) (reply : List ℕ) → AtPlace (plain_server s) J moment payload place reply
+    → AtPlace (plain_server s) (J ++ more) moment payload place reply
+at_place_later s J more moment payload place reply at =
+    let a : Answered = record { moment = moment; payload = payload; place = place; reply = reply } in
+    let room = enough (length (entries_in a)) (drop place J) (ap (λ (es : List Entry). length es) at.entry) in
+    let left = length-drop place J in
+    let within = at.within in
+    let placed : AllPlaced s J place (a ∷ []) = ((omega arith), (reply_in s J place moment payload reply at.replied, (at.entry, (let m : place + length (entries_in a) ≤ length J = omega (arith, room, left, within) in m)))) in
+    at_place_of s (J ++ more) place a [] (grow s J more place (a ∷ []) placed)
 
 -- ---- In a run of both sides
 
@@ -134,3 +158,7 @@ module _ (s : Setup) (J : List Entry) (link n : ℕ) (both : List Mark) (placed 
         from = at.0;
         until = subst (λ (k : ℕ). next ≤ k) (sym sum) later;
       }
+
+pub answered_in_longer_journals_lem : AnsweredInLongerJournals
+answered_in_longer_journals_lem s J more call o place a =
+    (record { xid = a.xid; fits = a.fits; moment = a.moment; reply = a.reply; is = a.is; at = at_place_later s J more a.moment (call_payload a.xid call) place a.reply a.at }, refl)

@@ -90,7 +90,7 @@ module _ (s : Setup) (J : List Entry) (names : List (List ℕ)) where
   mount_answered : (uid gid : ℕ) (export root : List ℕ) (before after : SessionAt) (least : ℕ) (rest : List Exchange) (b : Bool)
       (is : MatchBool b (Fails {A = List ℕ} (client.Budget mount_path_max) before after (Ok root)) (Request mnt_result (mnt_call uid gid export) before after (Ok root)))
       → IsKept least ((within_exchanges b (Fails {A = List ℕ} (client.Budget mount_path_max) before after (Ok root)) (Request mnt_result (mnt_call uid gid export) before after (Ok root))
-          (tells_request mnt_result (mnt_call uid gid export) before after (Ok root)) is).made ++ rest)
+      (tells_request mnt_result (mnt_call uid gid export) before after (Ok root)) is).made ++ rest)
       → HasMounted uid gid export root least rest
   mount_answered uid gid export root before after least rest true (same, wrong) k = absurd cc
   mount_answered uid gid export root before after least rest false (inl (outcome, (answers, gives)), counts) k =

@@ -230,7 +230,7 @@ module _ (s : Setup) (J : List Entry) (opened : LinkParameters) (link : ℕ) (tr
 
 -- ---- The entries of a journal
 
-of_calls_bytes : (s : Setup) (J more : List Entry) → AreOfCalls s J more → EntriesInBytes more
+pub of_calls_bytes : (s : Setup) (J more : List Entry) → AreOfCalls s J more → EntriesInBytes more
 of_calls_bytes s J [] h = tt
 of_calls_bytes s J (e ∷ more) (one, rest) =
     let here : EntriesInBytes (e ∷ []) = subst EntriesInBytes one.adds (entries_bytes one.moment one.payload one.reply one.bytes) in

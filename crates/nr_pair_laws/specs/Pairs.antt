@@ -15,12 +15,13 @@ use Rattle.nr_reduce.specs.Journal.{AtPlace}
 use Rattle.nr_reduce.specs.Matched.{Matched}
 use Rattle.nr_reduce.specs.Served.{Served}
 use Rattle.nr_laws.specs.PlainLinks.{AtPlacesOn}
+use Rattle.nr_laws.specs.Typed.{IsTyped}
 use Rattle.nr_tree.specs.Sane.{IsSane}
 use Rattle.nr_plain.specs.Added.{entries_of_call}
-use Rattle.nr_plain.specs.History.{IsHistory, Opening, OverHistory, setup_in}
+use Rattle.nr_plain.specs.History.{AreOfCalls, IsHistory, Opening, OverHistory, setup_in}
 use Rattle.nr_plain.specs.ReplyLaws.{plain_server}
 use Rattle.nr_plain.specs.Setup.{Setup}
-use Rattle.nr_byte_laws.specs.InBytes.{EntriesInBytes, IsInBytes}
+use Rattle.nr_byte_laws.specs.InBytes.{IsInBytes}
 use Rattle.nr_words.specs.Lines.{Text}
 use Rattle.nr_words.specs.declared.commands.Client.{Client}
 use Rattle.nr_client.specs.declared.call_end.CallEnd.TheVariants as calls
@@ -57,8 +58,8 @@ pub record AreSidesOf (link : ℕ) (client_run server_run both : List Mark) : Ty
   pub no_others : AllByRecursion (IsOfSide link) both
   pub matched : Matched link both
 
--- One run of a link has all that a connection did. Its server was opened so, and had this journal when the connection
--- began. Each Wrote writes all output that is due. Each call was answered at its place in a journal that goes on from J
+-- One run of a link has all that a connection did. Its server was opened so, and its pass had seen this journal when the
+-- connection began. Each Wrote writes all output that is due. Each call was answered at its place in a journal that goes on from J
 -- with the entries of this connection and of others.
 pub record IsConnectionRun (limits : ConnectionLimits) (first : Opening) (J : List Entry) (opened : LinkParameters) (link : ℕ) (before after : Outside) (end : ConnEnd) : Type 0 where
   pub read : ℕ
@@ -102,7 +103,7 @@ pub record OpenCall : Type 0 where
 
 -- Each outcome that these exchanges hand over is the plain server's reply to its call at a place of this journal. That
 -- place is at least `least`, and it comes after the entry of each call whose outcome was handed over before this call
--- was submitted.
+-- was submitted. An outcome that is handed over by its xid is one of the calls that wait.
 abbrev pub AreAnsweredFrom : Setup → List Entry → (least : ℕ) → List OpenCall → List Exchange → Type 0
 AreAnsweredFrom s J least waiting [] = least ≤ length J
 AreAnsweredFrom s J least waiting (Answered call outcome ∷ made) =
@@ -118,8 +119,8 @@ AreAnsweredFrom s J least waiting (GivenUp xid ∷ made) = AreAnsweredFrom s J l
 
 -- ===== a command that a connection serves
 
--- What follows for a command and a connection that are the sides of this list. The first four fields are the premises
--- of the laws of nr_service_laws, of nr_top_laws and of nr_laws on served commands.
+-- What follows for a command and a connection that are the sides of this list. The first two fields are the premises of
+-- the laws of nr_service_laws, of nr_top_laws and of nr_laws on served commands.
 pub record IsServedPair (s : Setup) (J more : List Entry) (opened : LinkParameters) (link : ℕ) (run : List Mark) (made : List Exchange) (result : Result (Unit {0}) ClientEnd) (end : ConnEnd) (both : List Mark) : Type 0 where
   pub served : IsServedPlainly s opened link run both
   pub at_places : AtPlacesOn (plain_server s) (J ++ more) link both
@@ -127,21 +128,41 @@ pub record IsServedPair (s : Setup) (J more : List Entry) (opened : LinkParamete
   -- the server's side ends for nothing that such a client sends, unless a write of it failed
   pub stays : (why : End) → end ≡ ends.Protocol why → result ≡ Err (client.Link calls.LinkWrite)
 
--- of a command that opened a session
-abbrev pub CommandIsServed : (limits : ConnectionLimits) (first : Opening) (J : List Entry) (opened : LinkParameters) (link : ℕ) (outside outside' : Outside) (end : ConnEnd) (connection : IsConnectionRun limits first J opened link outside outside' end)
+-- What is said of a command that opened a session, if its run and that of the connection are the sides of a list.
+abbrev pub SaysOfPair : (limits : ConnectionLimits) (first : Opening) (J : List Entry) (opened : LinkParameters) (link : ℕ) (outside outside' : Outside) (end : ConnEnd) (connection : IsConnectionRun limits first J opened link outside outside' end)
+    (Says : (run both : List Mark) → List Exchange → Type 0)
     (c : Client Text) (before after : DialerAt) (input input' : SourceAt) (out out' : SinkAt) (result : Result (Unit {0}) ClientEnd) → Runs c before after input input' out out' result → Type 0
-CommandIsServed limits first J opened link outside outside' end connection c before after input input' out out' result (NotOpened why is fails same_input same_out) = ⊤
-CommandIsServed limits first J opened link outside outside' end connection c before after input input' out out' result (Opened dialed s s' opens prints closes) =
+SaysOfPair limits first J opened link outside outside' end connection Says c before after input input' out out' result (NotOpened why is fails same_input same_out) = ⊤
+SaysOfPair limits first J opened link outside outside' end connection Says c before after input input' out out' result (Opened dialed s s' opens prints closes) =
     (ran : IsCommandRun opened link s s' dialed.ended after.ended result (tells_text c.uid c.gid c.export c.action input input' out prints.written s s' prints.text prints.made)) →
     (both : List Mark) → AreSidesOf link ran.run connection.ended.run both →
-    IsServedPair (setup_in first) J connection.over.more opened link ran.run (tells_text c.uid c.gid c.export c.action input input' out prints.written s s' prints.text prints.made).made result end both
+    Says ran.run both (tells_text c.uid c.gid c.export c.action input input' out prints.written s s' prints.text prints.made).made
 
--- A command and a connection that are the sides of one list: the command names bytes, and the server has a sane first
--- tree that holds bytes, and entries in bytes.
+-- A command and a connection that are the sides of a list of marks of their types (`IsTyped`), over a server with a sane
+-- first tree.
 abbrev pub PairsAreServed : Type 0
 PairsAreServed =
     (limits : ConnectionLimits) (first : Opening) (J : List Entry) (opened : LinkParameters) (link : ℕ) (outside outside' : Outside) (end : ConnEnd) (connection : IsConnectionRun limits first J opened link outside outside' end)
     (c : Client Text) (before after : DialerAt) (input input' : SourceAt) (out out' : SinkAt) (result : Result (Unit {0}) ClientEnd) (runs : Runs c before after input input' out out' result) →
-    IsSession opened (terms_of c) → IsOpenedWith limits opened → IsOfBytes c input →
-    IsSane (setup_in first).tree → IsInBytes (setup_in first).tree → EntriesInBytes J →
-    CommandIsServed limits first J opened link outside outside' end connection c before after input input' out out' result runs
+    IsSession opened (terms_of c) → IsOpenedWith limits opened → IsSane (setup_in first).tree →
+    SaysOfPair limits first J opened link outside outside' end connection
+    (λ run both made. IsTyped both → IsServedPair (setup_in first) J connection.over.more opened link run made result end both) c before after input input' out out' result runs
+
+-- The marks are of their types if what the command names are bytes, with what a `put` reads, the first tree holds bytes,
+-- and each entry of the journal is that of a call. Nothing is asked of the bytes of the link: what a side is fed the
+-- other has sent.
+abbrev pub PairsAreTyped : Type 0
+PairsAreTyped =
+    (limits : ConnectionLimits) (first : Opening) (J : List Entry) (opened : LinkParameters) (link : ℕ) (outside outside' : Outside) (end : ConnEnd) (connection : IsConnectionRun limits first J opened link outside outside' end)
+    (c : Client Text) (before after : DialerAt) (input input' : SourceAt) (out out' : SinkAt) (result : Result (Unit {0}) ClientEnd) (runs : Runs c before after input input' out out' result) →
+    IsOfBytes c input → IsInBytes (setup_in first).tree → AreOfCalls (setup_in first) [] J →
+    SaysOfPair limits first J opened link outside outside' end connection (λ run both made. IsTyped both) c before after input input' out out' result runs
+
+-- ===== one journal of several connections
+
+-- What was answered at a place of a journal was answered at that place of each journal that goes on from it: so the calls
+-- of two connections of a server, each over the journal that its pass has seen, are answered at places of the longer one.
+abbrev pub AnsweredInLongerJournals : Type 0
+AnsweredInLongerJournals =
+    (s : Setup) (J more : List Entry) (call : Call) (o : Outcome) (place : ℕ) (a : IsAnsweredAt s J call o place) →
+    (b : IsAnsweredAt s (J ++ more) call o place) × (place_after s (J ++ more) call o place b ≡ place_after s J call o place a)

@@ -1,7 +1,7 @@
 //! Laws of a command and a connection on one link.
 
 ghost use Rattle.nr_pair_laws.specs.FirstTrees.{RootsAreSane};
-ghost use Rattle.nr_pair_laws.specs.Pairs.{ConnectionsHaveARun, PairsAreServed};
+ghost use Rattle.nr_pair_laws.specs.Pairs.{AnsweredInLongerJournals, ConnectionsHaveARun, PairsAreServed, PairsAreTyped};
 ghost use Rattle.nr_pair_laws.specs.PutCommands.{CommandsPutTheirInput};
 ghost use Rattle.nr_pair_laws.specs.PutThenGet.{GetsGiveTheFile, GetsGiveWhatWasPut, OtherEntriesKeepTheFile, PutsLeaveTheFile, ReadsGiveTheFile};
 ghost use Rattle.nr_pair_laws.specs.ReadResults.{ResultsAreRead};
@@ -12,16 +12,24 @@ pub fn connections_have_a_run()
     ensures { ConnectionsHaveARun }
 {}
 
-/// A command's run and a connection's run that are the sides of one matched list meet all premises of the laws on served commands: the marks are of
-/// their types, the server keeps its law with each Wrote in full, and each call is answered by the plain server that was opened so, at its place in the
-/// server's journal. Each outcome of the command is the reply at such a place, and the places follow the order of its calls. The connection doesn't end
-/// with `Protocol`, unless a write of the command failed.
+/// A command's run and a connection's run that are the sides of one matched list meet all premises of the laws on served commands, if the marks are of
+/// their types: the server keeps its law with each Wrote in full, and each call is answered by the plain server that was opened so, at its place in the
+/// server's journal. Each outcome of the command is the reply at such a place, which is after the entry of each call whose outcome the command had when
+/// it made this call. The connection doesn't end with `Protocol`, unless a write of the command failed (`served`). The marks are of their types if what
+/// the command names are bytes, the first tree holds bytes, and the entries of the journal are those of calls (`typed`).
 pub fn pairs_are_served()
-    ensures { PairsAreServed }
+    ensures served { PairsAreServed }
+    ensures typed { PairsAreTyped }
+{}
+
+/// What was answered at a place of a journal was answered at that place of each journal that goes on from it.
+pub fn answered_in_longer_journals()
+    ensures { AnsweredInLongerJournals }
 {}
 
 /// What a client reads of the reply to a call of NFS that was answered at a place of a journal is exactly what the procedure answers over the tree at
-/// that place: all parts of a value, or the status and what comes with it (RFC 1813 section 3.3). The arguments and the results fit their fields.
+/// that place: all parts of a value, or the status and what comes with it (RFC 1813 section 3.3), if the arguments and the results
+/// fit their fields.
 pub fn results_are_read()
     ensures { ResultsAreRead }
 {}

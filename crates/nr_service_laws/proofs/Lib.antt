@@ -23,9 +23,9 @@ pub mod PeerEnds
 pub mod NotClosed
 pub mod ServedAnswers
 pub mod CompleteCommands
-mod ByteCalls
+pub mod ByteCalls
 mod ByteResults
 mod ByteRequests
-mod ByteExchanges
-mod ByteCommands
+pub mod ByteExchanges
+pub mod ByteCommands
 pub mod TypedCommands

@@ -15,6 +15,8 @@ mod ends;
 #[cfg(test)]
 mod gates;
 #[cfg(test)]
+mod gateways;
+#[cfg(test)]
 mod host;
 #[cfg(test)]
 mod jobs;

@@ -193,8 +193,8 @@ pub(crate) fn source(
 
 /// Runs a client, and gives its status.
 pub(crate) fn run_client<
-    P: LinkSource + Drop + Send,
-    Q: LinkSink + Drop + Send,
+    P: LinkSource + Drop + Send + 'static,
+    Q: LinkSink + Drop + Send + 'static,
     D: Dialer<Source = P, Sink = Q>,
 >(
     rt: &impl Host,
@@ -208,6 +208,7 @@ pub(crate) fn run_client<
     let mut accept = MemAcceptor::new(alloc, Vec::new(alloc), Vec::new(alloc));
     let mut clock = MemClock::new(&MOMENTS);
     let mut spawn = HandBack::new();
+    let mut gates = HandBack::new();
     run(
         *rt,
         alloc,
@@ -219,6 +220,7 @@ pub(crate) fn run_client<
         &mut accept,
         &mut clock,
         &mut spawn,
+        &mut gates,
     )
 }
 
@@ -261,8 +263,8 @@ fn same_texts(rt: &impl Abort, alloc: Global, row: usize, case: Case, out: &[u8]
 
 /// Runs a client that dials this address, with this input, and compares its status and what it prints and reports.
 pub(crate) fn same_run<
-    P: LinkSource + Drop + Send,
-    Q: LinkSink + Drop + Send,
+    P: LinkSource + Drop + Send + 'static,
+    Q: LinkSink + Drop + Send + 'static,
     D: Dialer<Source = P, Sink = Q>,
 >(rt: &impl Host, alloc: Global, row: usize, case: Case, input: &[u8], addr: &str, dial: &mut D) {
     let words = words(rt, alloc, case.line, addr);

@@ -35,8 +35,9 @@ where
 {
     let mut dial = MemDialer::new(alloc, Vec::new(alloc), Vec::new(alloc));
     let mut clock = MemClock::new(&MOMENTS);
+    let mut gates = HandBack::new();
     run(
-        *rt, alloc, words, input, out, err, &mut dial, accept, &mut clock, spawn,
+        *rt, alloc, words, input, out, err, &mut dial, accept, &mut clock, spawn, &mut gates,
     )
 }
 

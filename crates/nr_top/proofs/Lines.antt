@@ -11,35 +11,43 @@ use Rattle.nr_words.specs.declared.commands.Client.{Client}
 use Rattle.nr_words.specs.declared.commands.Command.{Command}
 use Rattle.nr_words.specs.declared.commands.GetByJobs.{GetByJobs}
 use Rattle.nr_words.specs.declared.commands.Command.TheVariants as commands
+use Rattle.nr_gateway.specs.Gateways.{around}
 use Rattle.nr_top.specs.Clients.{ClientEnds, GetEnds}
+use Rattle.nr_top.specs.Gating.{GatewayEnds}
 use Rattle.nr_top.specs.RunEnds.{AcceptsNone, CommandEnds, DrillEnds, Outside}
 use Rattle.nr_top.specs.Serving.{ServeEnds}
 use Rattle.nr_top.specs.Sources.{HasRanges}
 use Rattle.nr_top.specs.declared.drill.ScriptSource.TheVariants as sources
 
-pub client_ends : (command : Command (Bor Text)) (c : Client (Bor Text)) (status : ℕ) (before after : Outside) → command ≡ commands.Client c
-    → ClientEnds (plain_client c) status before.dialer after.dialer before.input after.input before.out after.out before.err after.err → AcceptsNone before after
-    → CommandEnds (plain_command command) status before after
-client_ends command c status before after is ends none = subst (λ (k : Command (Bor Text)). CommandEnds (plain_command k) status before after) (sym is) (ends, none)
+module _ {O C : Type 0} where
+  pub client_ends : (command : Command (Bor Text)) (c : Client (Bor Text)) (status : ℕ) (before after : Outside) → command ≡ commands.Client c
+      → ClientEnds (plain_client c) status before.dialer after.dialer before.input after.input before.out after.out before.err after.err → AcceptsNone before after
+      → CommandEnds O C (plain_command command) status before after
+  client_ends command c status before after is ends none = subst (λ (k : Command (Bor Text)). CommandEnds O C (plain_command k) status before after) (sym is) (ends, none)
 
-pub get_ends : (command : Command (Bor Text)) (get : GetByJobs (Bor Text)) (status : ℕ) (before after : Outside) → command ≡ commands.GetByJobs get
-    → GetEnds (plain_get get) status before.dialer after.dialer before.out after.out before.err after.err → after.input ≡ before.input → AcceptsNone before after
-    → CommandEnds (plain_command command) status before after
-get_ends command get status before after is ends same none = subst (λ (k : Command (Bor Text)). CommandEnds (plain_command k) status before after) (sym is) (ends, (same, none))
+  pub get_ends : (command : Command (Bor Text)) (get : GetByJobs (Bor Text)) (status : ℕ) (before after : Outside) → command ≡ commands.GetByJobs get
+      → GetEnds (plain_get get) status before.dialer after.dialer before.out after.out before.err after.err → after.input ≡ before.input → AcceptsNone before after
+      → CommandEnds O C (plain_command command) status before after
+  get_ends command get status before after is ends same none = subst (λ (k : Command (Bor Text)). CommandEnds O C (plain_command k) status before after) (sym is) (ends, (same, none))
 
-pub serve_ends : (command : Command (Bor Text)) (config : Bor Text) (status : ℕ) (before after : Outside) → command ≡ commands.Serve config
-    → ServeEnds status before.input after.input before.out after.out before.err after.err before.acceptor after.acceptor before.spawner after.spawner before.gave after.gave → after.dialer ≡ before.dialer
-    → CommandEnds (plain_command command) status before after
-serve_ends command config status before after is ends dialer = subst (λ (k : Command (Bor Text)). CommandEnds (plain_command k) status before after) (sym is) (ends, dialer)
+  pub serve_ends : (command : Command (Bor Text)) (config : Bor Text) (status : ℕ) (before after : Outside) → command ≡ commands.Serve config
+      → ServeEnds status before.input after.input before.out after.out before.err after.err before.acceptor after.acceptor before.spawner after.spawner before.gave after.gave → after.dialer ≡ before.dialer → after.gates ≡ before.gates
+      → CommandEnds O C (plain_command command) status before after
+  serve_ends command config status before after is ends dialer gates = subst (λ (k : Command (Bor Text)). CommandEnds O C (plain_command k) status before after) (sym is) (ends, (dialer, gates))
 
-pub drill_ends : (command : Command (Bor Text)) (status : ℕ) (before after : Outside) → command ≡ commands.Drill → DrillEnds sources.Input status before after
-    → CommandEnds (plain_command command) status before after
-drill_ends command status before after is ends = subst (λ (k : Command (Bor Text)). CommandEnds (plain_command k) status before after) (sym is) ends
+  pub gate_ends : (command : Command (Bor Text)) (config : Bor Text) (status : ℕ) (before after : Outside) → command ≡ commands.Gate config
+      → GatewayEnds O C status before.input after.input before.out after.out before.err after.err (around before.acceptor before.dialer before.gates) (around after.acceptor after.dialer after.gates)
+      → after.spawner ≡ before.spawner → after.gave ≡ before.gave → CommandEnds O C (plain_command command) status before after
+  gate_ends command config status before after is ends spawner gave = subst (λ (k : Command (Bor Text)). CommandEnds O C (plain_command k) status before after) (sym is) (ends, (spawner, gave))
 
-pub generated_ends : (command : Command (Bor Text)) (seed clients calls status : ℕ) (before after : Outside) → command ≡ commands.GeneratedDrill seed clients calls
-    → DrillEnds (sources.Seed seed clients calls) status before after → CommandEnds (plain_command command) status before after
-generated_ends command seed clients calls status before after is ends =
-    subst (λ (k : Command (Bor Text)). CommandEnds (plain_command k) status before after) (sym is) ends
+  pub drill_ends : (command : Command (Bor Text)) (status : ℕ) (before after : Outside) → command ≡ commands.Drill → DrillEnds sources.Input status before after
+      → CommandEnds O C (plain_command command) status before after
+  drill_ends command status before after is ends = subst (λ (k : Command (Bor Text)). CommandEnds O C (plain_command k) status before after) (sym is) ends
+
+  pub generated_ends : (command : Command (Bor Text)) (seed clients calls status : ℕ) (before after : Outside) → command ≡ commands.GeneratedDrill seed clients calls
+      → DrillEnds (sources.Seed seed clients calls) status before after → CommandEnds O C (plain_command command) status before after
+  generated_ends command seed clients calls status before after is ends =
+      subst (λ (k : Command (Bor Text)). CommandEnds O C (plain_command k) status before after) (sym is) ends
 
 ranges : (seed clients calls : ℕ) → is_command (commands.GeneratedDrill seed clients calls) ≡ true → HasRanges (sources.Seed seed clients calls)
 ranges seed clients calls possible = grind (arith, possible)

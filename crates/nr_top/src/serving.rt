@@ -16,8 +16,8 @@ use std::alloc::Global;
 use std::sync::Wait;
 use std::thread::Threads;
 
-/// Reports on `err` why a server stopped, and gives the status.
-fn report_stop<E: Sink>(stop: ServeStop, err: &mut E) -> u8
+/// Reports on `err` why a server or a gateway stopped, and gives the status.
+pub(crate) fn report_stop<E: Sink>(stop: ServeStop, err: &mut E) -> u8
     ensures { ReportsStop stop result (sink_at (E.taken err.old) (E.faults err.old)) (sink_at (E.taken err.new) (E.faults err.new)) }
 {
     match stop {

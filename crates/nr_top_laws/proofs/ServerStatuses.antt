@@ -12,7 +12,7 @@ use Rattle.nr_top.specs.Statuses as statuses
 use Rattle.nr_top_laws.specs.ServerStatuses.{ServersHaveStatuses}
 use Rattle.nr_top_laws.proofs.CommandStatuses.{reported_is}
 
-memory_reported : (stop : ServeStop) (status : ℕ) (err err' : SinkAt) → stop ≡ stops.Memory → (Rises err.faults err'.faults → ⊥) → ReportsStop stop status err err' → status ≡ statuses.no_memory
+pub memory_reported : (stop : ServeStop) (status : ℕ) (err err' : SinkAt) → stop ≡ stops.Memory → (Rises err.faults err'.faults → ⊥) → ReportsStop stop status err err' → status ≡ statuses.no_memory
 memory_reported stop status err err' is calm reports =
     reported_is statuses.no_memory status memory_text err err' calm (subst (λ (s : ServeStop). ReportsStop s status err err') is reports)
 

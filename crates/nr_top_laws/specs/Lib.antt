@@ -1,3 +1,4 @@
 pub mod CommandStatuses
 pub mod ServerStatuses
+pub mod GatewayStatuses
 pub mod StatusCauses

@@ -1,6 +1,7 @@
 //! Laws of runs of the program.
 
 ghost use Rattle.nr_top_laws.specs.CommandStatuses.{ServedCommandsHaveStatuses};
+ghost use Rattle.nr_top_laws.specs.GatewayStatuses.{GatewayLinkFaults, GatewaysHaveStatuses};
 ghost use Rattle.nr_top_laws.specs.ServerStatuses.{ServersHaveStatuses};
 ghost use Rattle.nr_top_laws.specs.StatusCauses.{LinesAreRead, StatusesHaveCauses};
 
@@ -15,6 +16,14 @@ pub fn served_commands_have_statuses()
 /// standard error, of the acceptor.
 pub fn servers_have_statuses()
     ensures { ServersHaveStatuses }
+{}
+
+/// A gateway whose complete input is a configuration of a gateway of at most 16777216 bytes has status 0 or 2, if no fault count rises: of the input, of
+/// the output, of standard error, of the acceptor, of the dialer (`statuses`). It has status 3 only if the count of the acceptor or of the dialer rose
+/// (`faults`).
+pub fn gateways_have_statuses<O, C>()
+    ensures statuses { GatewaysHaveStatuses O C }
+    ensures faults { GatewayLinkFaults O C }
 {}
 
 /// Whatever the server of a command of a client does, the status has its cause (`causes`): 3 only if the dialer's count of faults or of lost links rose;

@@ -5,4 +5,7 @@
 
 mod laws;
 
-pub use laws::{served_commands_have_statuses, servers_have_statuses, statuses_have_causes};
+pub use laws::{
+    gateways_have_statuses, served_commands_have_statuses, servers_have_statuses,
+    statuses_have_causes,
+};

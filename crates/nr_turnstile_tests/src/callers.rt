@@ -24,6 +24,27 @@ pub fn called(rt: &impl Wait, alloc: Global, shared: &Shared, mut pass: Caller, 
     answer_of(&shared.wait(rt, &mut pass, ticket), prog, xid)
 }
 
+/// The same of a call that is submitted without waiting, while another caller reads.
+pub fn called_beside_a_read(
+    rt: &impl Wait,
+    alloc: Global,
+    shared: &Shared,
+    mut pass: Caller,
+    peer: &Peer,
+    prog: u32,
+) -> Answer
+    requires { SharedRests shared.now pass }
+{
+    peer.wait_for_read();
+    let ticket = match shared.try_submit(&mut pass, null(alloc, prog), Form::Auto) {
+        TrySubmit::Submitted(ticket) => ticket,
+        TrySubmit::Refused(..) => return Answer::Other,
+        TrySubmit::Busy(..) => return Answer::Busy,
+    };
+    let xid = ticket.xid();
+    answer_of(&shared.wait(rt, &mut pass, ticket), prog, xid)
+}
+
 fn is_of(call: &Call, prog: u32) -> bool {
     call.prog == prog
 }

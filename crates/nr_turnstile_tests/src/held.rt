@@ -9,11 +9,14 @@ use std::thread;
 /// How often a source looks whether it may go on, before it goes on anyway.
 const TURNS: u32 = 20_000_000;
 
-/// How many bytes a peer was sent, and whether another caller looked while they were written.
+/// How many bytes a peer was sent, whether another caller looked while they were written, whether a read waits for what is sent, and whether a wait
+/// was given up.
 #[derive(Drop)]
 pub struct Peer {
     sent: AtomicU64,
     looked: AtomicU64,
+    reading: AtomicU64,
+    late: AtomicU64,
 }
 
 impl Peer {
@@ -21,26 +24,39 @@ impl Peer {
         Peer {
             sent: AtomicU64::new(0),
             looked: AtomicU64::new(0),
+            reading: AtomicU64::new(0),
+            late: AtomicU64::new(0),
         }
     }
 
     /// Waits until so many bytes were sent, or the turns are used up.
     pub fn wait(&self, until: u64) {
-        wait_for(&self.sent, until)
+        self.wait_for(&self.sent, until);
+    }
+
+    /// Waits until a read waits for what is sent, or the turns are used up.
+    pub fn wait_for_read(&self) {
+        self.wait_for(&self.reading, 1);
+    }
+
+    /// Whether the turns were used up of a wait.
+    pub fn is_late(&self) -> bool {
+        self.late.load(Ordering::SeqCst) != 0
+    }
+
+    fn wait_for(&self, count: &AtomicU64, until: u64) {
+        for _ in 0..TURNS {
+            if count.load(Ordering::SeqCst) >= until {
+                return;
+            }
+            thread::yield_now();
+        }
+        self.late.store(1, Ordering::SeqCst);
     }
 
     /// Says that a caller has looked.
     pub fn look(&self) {
         self.looked.store(1, Ordering::SeqCst);
-    }
-}
-
-fn wait_for(count: &AtomicU64, until: u64) {
-    for _ in 0..TURNS {
-        if count.load(Ordering::SeqCst) >= until {
-            return;
-        }
-        thread::yield_now();
     }
 }
 
@@ -63,6 +79,7 @@ impl<S: Source> Source for HeldSource<S> {
 
     fn read(&mut self, buf: &mut [u8]) -> Result<usize, Failed> {
         if self.reads >= self.from {
+            self.peer.reading.store(1, Ordering::SeqCst);
             self.peer.wait(self.until);
         }
         self.reads = self.reads.saturating_add(1);
@@ -90,7 +107,7 @@ impl<K: Sink> Sink for HeldSink<K> {
                 self.sent = self.sent.saturating_add(n as u64);
                 self.peer.sent.store(self.sent, Ordering::SeqCst);
                 if self.is_held {
-                    wait_for(&self.peer.looked, 1);
+                    self.peer.wait_for(&self.peer.looked, 1);
                 }
                 Ok(n)
             }

@@ -3,7 +3,7 @@
 ghost use Rattle.nr_shared.specs.Callers.{HasOpenCall};
 ghost use Rattle.nr_shared.specs.Sharing.{SharedRests};
 
-use crate::callers::{called, looked, revoked};
+use crate::callers::{called, called_beside_a_read, looked, revoked};
 use crate::compare::same;
 use crate::held::Peer;
 use crate::sharing::{
@@ -395,4 +395,46 @@ fn a_turn_that_is_taken(rt: HostRuntime) {
     let (shared, mut pass) = share_beside(&rt, rt.alloc(), &link, lent);
     let got = beside_a_look(&rt, rt.alloc(), &shared, &mut pass, &peer);
     same(&rt, 0, got, (Answer::Reply, Answer::Busy));
+}
+
+/// What a caller is answered beside one who submits while the first one reads, in a thread each.
+fn beside_a_read<R: Threads + Wait + Sync>(
+    rt: &R,
+    alloc: Global,
+    shared: &Shared,
+    pass: &mut Caller,
+    peer: &Peer,
+) -> (Answer, Answer)
+    requires { SharedRests shared.now pass.old }
+{
+    let first = shared.split(pass);
+    let second = shared.split(pass);
+    thread::join(
+        rt,
+        move ||
+            requires { SharedRests shared.now first }
+        { called(rt, alloc, shared, first, NFS) },
+        move ||
+            requires { SharedRests shared.now second }
+        { called_beside_a_read(rt, alloc, shared, second, peer, MOUNT) },
+    )
+}
+
+/// The replies to two calls are held until both were sent. The second one is submitted without waiting, while the caller of the first one reads:
+/// its `wait` sends it.
+#[test]
+fn a_call_beside_a_read(rt: HostRuntime) {
+    let link = Link {
+        from: 2,
+        until: 296,
+        ..good(&[1, 3, 2])
+    };
+    let peer = Arc::new(rt.alloc(), Peer::new()).expect(&rt, "memory");
+    let lent = Arc::try_clone(&peer).expect(&rt, "memory");
+    let (shared, mut pass) = share_beside(&rt, rt.alloc(), &link, lent);
+    let got = shared.call(&rt, &mut pass, null(rt.alloc(), NFS), Form::Auto);
+    same(&rt, 0, answer_of(&got, NFS, 1), Answer::Reply);
+    let told = beside_a_read(&rt, rt.alloc(), &shared, &mut pass, &peer);
+    same(&rt, 1, told, (Answer::Reply, Answer::Reply));
+    same(&rt, 2, peer.is_late(), false);
 }

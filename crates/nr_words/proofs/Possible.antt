@@ -219,6 +219,7 @@ get_possible o p jobs c opt fits n within e = by (eqb jobs 1) refl e
 
 complete_possible : (subcommand : Subcommand) (o : Options) (p : Positionals Text) (c : Command Text) → OptionsFit o → PositionalsFit p → p.count ≡ arity subcommand → complete subcommand o p ≡ Some c → is_command c ≡ true
 complete_possible subcommands.Serve o p c opt fits n e = subst (λ (x : Command Text). is_command x ≡ true) (same_Some _ c e) (fits.first (omega (arith, n)))
+complete_possible subcommands.Gate o p c opt fits n e = subst (λ (x : Command Text). is_command x ≡ true) (same_Some _ c e) (fits.first (omega (arith, n)))
 complete_possible subcommands.Mount o p c opt fits n e = client_possible o p _ c opt fits (omega (arith, n)) refl e
 complete_possible subcommands.List o p c opt fits n e = client_possible o p _ c opt fits (omega (arith, n)) (fits.third (omega (arith, n))) e
 complete_possible subcommands.Stat o p c opt fits n e = client_possible o p _ c opt fits (omega (arith, n)) (fits.third (omega (arith, n))) e

@@ -25,6 +25,7 @@ Text = List ℕ
 abbrev pub subcommand_named : Text → Option Subcommand
 subcommand_named word =
     if bytes_eq word (codes "serve") then Some subcommands.Serve
+    else if bytes_eq word (codes "gate") then Some subcommands.Gate
     else if bytes_eq word (codes "mount") then Some subcommands.Mount
     else if bytes_eq word (codes "ls") then Some subcommands.List
     else if bytes_eq word (codes "stat") then Some subcommands.Stat
@@ -69,6 +70,7 @@ is_of_drill _ = false
 
 abbrev pub takes : Subcommand → OptionName → Bool
 takes subcommands.Serve name = false
+takes subcommands.Gate name = false
 takes subcommands.Drill name = is_of_drill name
 takes subcommands.Get name = is_of_get name
 takes _ name = is_of_client name
@@ -76,6 +78,7 @@ takes _ name = is_of_client name
 -- CONFIG; ADDR EXPORT; ADDR EXPORT PATH; ADDR EXPORT PATH TARGET
 abbrev pub arity : Subcommand → ℕ
 arity subcommands.Serve = 1
+arity subcommands.Gate = 1
 arity subcommands.Mount = 2
 arity subcommands.Link = 4
 arity subcommands.Drill = 0
@@ -154,6 +157,7 @@ get_of o p jobs = if jobs == 1 then client o p (actions.Get p.third) else Some (
 
 abbrev pub complete : Subcommand → Options → Positionals Text → Option (Command Text)
 complete subcommands.Serve o p = Some (commands.Serve p.first)
+complete subcommands.Gate o p = Some (commands.Gate p.first)
 complete subcommands.Mount o p = client o p actions.Mount
 complete subcommands.List o p = client o p (actions.List p.third)
 complete subcommands.Stat o p = client o p (actions.Stat p.third)
@@ -210,6 +214,7 @@ plain_get g = record { addr = g.addr.now; export = g.export.now; path = g.path.n
 
 abbrev pub plain_command : Command (Bor Text) → Command Text
 plain_command (commands.Serve config) = commands.Serve config.now
+plain_command (commands.Gate config) = commands.Gate config.now
 plain_command (commands.Client client) = commands.Client (plain_client client)
 plain_command (commands.GetByJobs get) = commands.GetByJobs (plain_get get)
 plain_command commands.Drill = commands.Drill

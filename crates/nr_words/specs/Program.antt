@@ -42,6 +42,9 @@ link_app = with_rule (path_app (codes "ln")) (positional_rule (codes "TARGET"))
 abbrev pub serve_app : App
 serve_app = with_rule (new_app (codes "serve")) (positional_rule (codes "CONFIG"))
 
+abbrev pub gate_app : App
+gate_app = with_rule (new_app (codes "gate")) (positional_rule (codes "CONFIG"))
+
 abbrev pub drill_app : App
 drill_app =
     with_rule (with_rule (with_rule (new_app (codes "drill")) (number_rule (codes "seed") (parsers.Unsigned 0 seed_max)))
@@ -68,8 +71,9 @@ with_paths app =
 
 unfoldable pub program_app : App
 program_app =
-    with_command (with_command (with_command (with_paths (with_command (with_command plain_app
+    with_command (with_command (with_command (with_paths (with_command (with_command (with_command plain_app
     serve_app)
+    gate_app)
     (client_app (codes "mount"))))
     get_app)
     link_app)

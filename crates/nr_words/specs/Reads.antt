@@ -37,6 +37,7 @@ are_jobs jobs = nat_le 2 jobs && nat_le jobs jobs_max
 
 abbrev pub is_command : Command Text → Bool
 is_command (commands.Serve config) = is_positional config
+is_command (commands.Gate config) = is_positional config
 is_command (commands.Client c) = is_positional c.addr && is_positional c.export && are_units c.units && is_action c.action
 is_command (commands.GetByJobs g) = is_positional g.addr && is_positional g.export && is_positional g.path && are_units g.units && are_jobs g.jobs
 is_command commands.Drill = true

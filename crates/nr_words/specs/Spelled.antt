@@ -50,6 +50,7 @@ options_of rows = record {
 
 abbrev pub first_text : Subcommand → List Row → Text
 first_text subcommands.Serve rows = text_of (codes "CONFIG") rows
+first_text subcommands.Gate rows = text_of (codes "CONFIG") rows
 first_text _ rows = text_of (codes "ADDR") rows
 
 abbrev pub positionals_of : Subcommand → List Row → Positionals Text

@@ -105,6 +105,8 @@ impl<T: Copy> Copy for GetByJobs<T> {}
 pub enum Command<T> {
     /// Serve by the configuration in this file.
     Serve { config: T },
+    /// Run a gateway by the configuration in this file.
+    Gate { config: T },
     /// Run a client.
     Client { client: Client<T> },
     /// Run a client that writes a file to standard output, which several jobs read.

@@ -1,14 +1,16 @@
-//! The words of a run, and the configuration of a server.
+//! The words of a run, and the configurations of a server and of a gateway.
 //!
 //! A *line* is the program's name, a command, its positionals in order and, anywhere after the command, its options, each
 //! at most once, as `--name value`. [`read_words`] gives the command of each line, whatever memory there is. Other words go
 //! to clap: what it takes is done as the line of the same values, what it refuses is answered by its text, and `--help` and
-//! `--version` by theirs. [`read_config`] reads the TOML document of a server.
+//! `--version` by theirs. [`read_config`] reads the TOML document of a server,
+//! [`read_gate_config`] that of a gateway.
 //!
 //! The crate opens and prints nothing.
 #![tactic(auto)]
 
 mod commands;
+mod gate_settings;
 mod laws;
 mod limits;
 mod lines;
@@ -18,6 +20,7 @@ mod settings;
 mod words;
 
 pub use commands::{Action, Client, Command, GetByJobs};
+pub use gate_settings::{GateConfig, GateSettings, read_gate_config};
 pub use laws::{lines_are_possible, options_that_ask};
 pub use limits::{
     CALLS_MAX, CAPACITY_MAX, CLIENTS_MAX, CONNECTIONS_MAX, CREDITS_MAX, DEFAULT_JOBS,

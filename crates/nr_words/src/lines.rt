@@ -14,6 +14,7 @@ use std::alloc::AllocError;
 #[derive(Clone, Copy)]
 pub(crate) enum Subcommand {
     Serve,
+    Gate,
     Mount,
     List,
     Stat,
@@ -98,6 +99,7 @@ pub(crate) fn subcommand_named(word: &str) -> Option<Subcommand>
 {
     match word {
         "serve" => Some(Subcommand::Serve),
+        "gate" => Some(Subcommand::Gate),
         "mount" => Some(Subcommand::Mount),
         "ls" => Some(Subcommand::List),
         "stat" => Some(Subcommand::Stat),
@@ -134,7 +136,7 @@ fn takes(subcommand: Subcommand, name: OptionName) -> bool
     ensures { result ≡ takes subcommand name }
 {
     match subcommand {
-        Subcommand::Serve => false,
+        Subcommand::Serve | Subcommand::Gate => false,
         Subcommand::Drill => matches!(
             name,
             OptionName::Seed | OptionName::Clients | OptionName::Calls
@@ -159,7 +161,7 @@ pub(crate) fn arity(subcommand: Subcommand) -> usize
     ensures { result ≡ arity subcommand }
 {
     match subcommand {
-        Subcommand::Serve => 1,
+        Subcommand::Serve | Subcommand::Gate => 1,
         Subcommand::Mount => 2,
         Subcommand::Link => 4,
         Subcommand::Drill => 0,
@@ -393,6 +395,11 @@ pub(crate) fn command_of<'a>(
     let action = match subcommand {
         Subcommand::Serve => {
             return Some(Command::Serve {
+                config: positionals.first,
+            });
+        }
+        Subcommand::Gate => {
+            return Some(Command::Gate {
                 config: positionals.first,
             });
         }

@@ -2,7 +2,7 @@
 
 ghost use Rattle.std.specs.Prelude.{◌≡◌, IfOk, false};
 ghost use Rattle.clap.specs.Words.{new_app, rule_of};
-ghost use Rattle.nr_words.specs.Program.{Adds, AddsClientOptions, AddsPaths, AddsRule, AddsTo, Builds, client_app, flag_rule, number_rule, path_app, positional_rule, plain_app, program_app, drill_app, get_app, link_app, serve_app};
+ghost use Rattle.nr_words.specs.Program.{Adds, AddsClientOptions, AddsPaths, AddsRule, AddsTo, Builds, client_app, flag_rule, number_rule, path_app, positional_rule, plain_app, program_app, drill_app, gate_app, get_app, link_app, serve_app};
 
 use crate::limits::{CALLS_MAX, CLIENTS_MAX, ID_MAX, JOBS_MAX, SEED_MAX, UNITS_MAX};
 use clap::builder::ValueParser;
@@ -19,6 +19,8 @@ const TARGET_HELP: &str = "The path that the symbolic link holds; it is not look
 
 const CONFIG_HELP: &str =
     "A TOML file: listen, export, credits, capacity, connections, write_verifier, and maybe record, inline, low_credits and invalidate";
+
+const GATE_CONFIG_HELP: &str = "A TOML file: listen, remote, connections";
 
 const UID_HELP: &str = "The user ID of the calls; 0 if it is left out";
 
@@ -164,6 +166,17 @@ fn serve<'a>(alloc: Global) -> Result<Command<'a>, AllocError>
     add_positional(alloc, command, "CONFIG", CONFIG_HELP)
 }
 
+fn gate<'a>(alloc: Global) -> Result<Command<'a>, AllocError>
+    ensures { IfOk result (Builds gate_app) }
+{
+    let command = named(
+        alloc,
+        "gate",
+        "Forwards calls over TCP to a server over RDMA",
+    );
+    add_positional(alloc, command, "CONFIG", GATE_CONFIG_HELP)
+}
+
 fn drill<'a>(alloc: Global) -> Result<Command<'a>, AllocError>
     ensures { IfOk result (Builds drill_app) }
 {
@@ -232,6 +245,7 @@ pub(crate) fn program<'a>(alloc: Global) -> Result<Command<'a>, AllocError>
     ensures { IfOk result (Builds program_app) }
 {
     let program = add(plain(alloc), serve(alloc))?;
+    let program = add(program, gate(alloc))?;
     let mount = client(alloc, "mount", "Prints the handle of an export");
     let program = add(program, mount)?;
     let program = add_paths(alloc, program)?;

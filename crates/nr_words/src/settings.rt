@@ -96,7 +96,7 @@ impl From<AllocError> for ConfigFault {
 }
 
 /// The text at a key.
-fn text_at<'a>(table: &'a Table, key: &str) -> Option<&'a str>
+pub(crate) fn text_at<'a>(table: &'a Table, key: &str) -> Option<&'a str>
     ensures { option_map (λ s. s.now) result ≡ text_at key.now (table_view table.now) }
 {
     match table.get(key) {
@@ -133,7 +133,7 @@ fn in_range(low: u64, high: u64, value: i64) -> Option<u64>
 }
 
 /// The number at a key, if it is in the range.
-fn number_at(table: &Table, key: &str, low: u64, high: u64) -> Option<u64>
+pub(crate) fn number_at(table: &Table, key: &str, low: u64, high: u64) -> Option<u64>
     ensures { result ≡ number_at low high key.now (table_view table.now) }
 {
     let value = integer_at(table, key)?;
@@ -155,7 +155,7 @@ fn path_at<'a>(table: &'a Table, key: &str) -> Option<&'a str>
 }
 
 /// Whether the table has this many keys.
-fn has_keys(table: &Table, keys: usize) -> bool
+pub(crate) fn has_keys(table: &Table, keys: usize) -> bool
     ensures { result ≡ (count (table_view table.now) == keys) }
 {
     table.len() == keys

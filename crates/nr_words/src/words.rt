@@ -124,6 +124,7 @@ fn is_command(command: &Command<&str>) -> bool
 {
     match command {
         Command::Serve { config } => is_positional(config),
+        Command::Gate { config } => is_positional(config),
         Command::Client { client } => {
             is_positional(client.addr)
                 && is_positional(client.export)
@@ -237,7 +238,7 @@ fn positionals_of<'a>(subcommand: Subcommand, given: &ArgMatches<'a>) -> Positio
     ensures { plain_positionals result ≡ positionals_of subcommand (rows_of (found_of given.now)) }
 {
     let first = match subcommand {
-        Subcommand::Serve => text_of(given, "CONFIG"),
+        Subcommand::Serve | Subcommand::Gate => text_of(given, "CONFIG"),
         _ => text_of(given, "ADDR"),
     };
     Positionals {

@@ -1,0 +1,3 @@
+pub mod Completing
+pub mod Configs
+pub mod Openings
