@@ -1,6 +1,7 @@
 -- The calls of a `put` command, in order.
 use Rattle.std.proofs.Common.{◌≡◌, ℕ, ◌+◌, ◌<◌, ◌≤◌, Bool, true, false, List, [], ◌∷◌, ◌++◌, length, Option, Result, Ok, Err, inl, inr, refl, ap, sym, ◌∙◌, subst, arith, append-nil, append_assoc}
-use Rattle.std.specs.Prelude.{◌⊎◌, ⊤, MatchBool, nat_lt}
+use Rattle.std.specs.Prelude.{◌⊎◌, ⊤, IfSome, MatchBool, None, Some, nat_lt}
+use Rattle.std.specs.Io.KnownBytes.{IsAtEnd}
 use Rattle.nr_outside.specs.Streams.{SourceAt}
 use Rattle.nr_outside.specs.Content.{HandsOut}
 use Rattle.nr_words.specs.Limits.{mount_path_max}
@@ -25,14 +26,19 @@ use Rattle.nr_service_laws.specs.Exchanges.Exchange.{Answered}
 use Rattle.nr_pair_laws.specs.PutCommands.{CommandsPutTheirInput, OthersKeep, PutsInput}
 use Rattle.nr_pair_laws.specs.FilesAt.{KeepPath}
 use Rattle.nr_pair_laws.specs.Pairs.{AreAnsweredFrom, IsAnsweredAt, place_after}
-use Rattle.nr_pair_laws.specs.PutThenGet.{AnsweredInOrder, OnCall, PutsFile, mounting, root_handle}
+use Rattle.nr_pair_laws.specs.PutThenGet.{AnsweredInOrder, HoldsFile, OnCall, PutsFile, mounting, root_handle}
 use Rattle.nr_pair_laws.proofs.PutThenGet.{put_leaves}
 
-module _ (s : Setup) (J : List Entry) (names : List (List ℕ)) where
+-- an input whose rest is nothing gave all that it had
+at_end : (left : Option (List ℕ)) (rest : List ℕ) → IfSome left (λ known. rest ≡ known) → rest ≡ [] → IsAtEnd left
+at_end None rest is none = tt
+at_end (Some known) rest is none = sym is ∙ none
+
+module _ (s : Setup) (J : List Entry) (names : List (List ℕ)) (last : ℕ) where
   -- these exchanges were answered from a place on, and the entries of others keep the path
   pub record IsKept (least : ℕ) (made : List Exchange) : Type 0 where
     pub answered : AreAnsweredFrom s J least [] made
-    pub kept : OthersKeep s J names least [] made answered
+    pub kept : OthersKeep s J names last least [] made answered
 
   -- calls made one at a time were answered in order, up to the place from which the rest is
   pub record Part {A : Type 0} (request : List Outcome → Next A) (os : List Outcome) (least : ℕ) (rest : List Exchange) : Type 0 where
@@ -135,6 +141,7 @@ module _ (s : Setup) (J : List Entry) (names : List (List ℕ)) where
   pub record HasPut (uid gid : ℕ) (dir name : List ℕ) (input input' : SourceAt) (least : ℕ) : Type 0 where
     pub bytes : List ℕ
     pub hands_out : HandsOut input.left input.given input'.left input'.given bytes
+    pub all : IsAtEnd input'.left
     pub writes : Done (writing uid gid dir name bytes) tt least []
 
   file_written : (uid gid : ℕ) (dir name : List ℕ) (before after : SessionAt) (input input' : SourceAt) (least : ℕ)
@@ -148,7 +155,7 @@ module _ (s : Setup) (J : List Entry) (names : List (List ℕ)) where
       by (FollowsInput follows count ahead) k =
           let whole : w.handed ++ w.rest ≡ w.handed = ap (λ (l : List ℕ). w.handed ++ l) w.is_read ∙ append-nil w.handed in
           let d = followed (writing uid gid dir name (w.handed ++ w.rest)) before.bytes after.bytes before.requester after.requester tt follows least [] k in
-          record { bytes = w.handed; hands_out = w.hands_out; writes = subst (λ (l : List ℕ). Done (writing uid gid dir name l) tt least []) whole d }
+          record { bytes = w.handed; hands_out = w.hands_out; all = at_end input'.left w.rest w.is_rest w.is_read; writes = subst (λ (l : List ℕ). Done (writing uid gid dir name l) tt least []) whole d }
       by (InputFails outcomes wrong made ahead) k = absurd cc
 
   written : (uid gid : ℕ) (dir name : List ℕ) (before after : SessionAt) (input input' : SourceAt) (text : List ℕ) (least : ℕ) (is : WritesIn uid gid dir name input input' before after (Ok text))
@@ -157,12 +164,12 @@ module _ (s : Setup) (J : List Entry) (names : List (List ℕ)) where
   written uid gid dir name before after input input' text least (Err end, ((writes, counts), silent)) k = absurd silent
 
 pub puts_input : CommandsPutTheirInput
-puts_input s J uid gid export path names input input' before after text (inl (place, (mid, (finds, writes)))) least answered sane fit ids names_are keeps =
+puts_input s J uid gid export path names input input' before after text (inl (place, (mid, (finds, writes)))) least to answered sane fit ids names_are keeps =
     let first = (tells_finds_parent uid gid export path before mid (Ok place) finds).made in
     let second = (tells_writes_in uid gid place.0 place.1 input input' mid after (Ok text) writes).made in
-    let k : IsKept s J names least (first ++ second) = record { answered = answered; kept = keeps } in
-    let f = found s J names uid gid export path place.0 place.1 before mid finds least (second ++ []) (subst (λ (l : List Exchange). IsKept s J names least (first ++ l)) (sym (append-nil second)) k) in
-    let w = written s J names uid gid place.0 place.1 mid after input input' text f.finds.part.to writes f.finds.part.later in
+    let k : IsKept s J names to least (first ++ second) = record { answered = answered; kept = keeps } in
+    let f = found s J names to uid gid export path place.0 place.1 before mid finds least (second ++ []) (subst (λ (l : List Exchange). IsKept s J names to least (first ++ l)) (sym (append-nil second)) k) in
+    let w = written s J names to uid gid place.0 place.1 mid after input input' text f.finds.part.to writes f.finds.part.later in
     let p : PutsFile s J uid gid export path names w.bytes least w.writes.part.to = record {
       names_are = names_are;
       root = f.root;
@@ -183,8 +190,8 @@ puts_input s J uid gid export path names input input' before after text (inl (pl
     record {
       bytes = w.bytes;
       hands_out = w.hands_out;
-      place = w.writes.part.to;
-      within = w.writes.part.later.answered;
-      holds = put_leaves s J uid gid export path names w.bytes least w.writes.part.to sane fit ids p;
+      all = w.all;
+      within = subst (λ (k : ℕ). k ≤ length J) (sym w.writes.part.later.kept) w.writes.part.later.answered;
+      holds = subst (λ (k : ℕ). HoldsFile s J names w.bytes k) (sym w.writes.part.later.kept) (put_leaves s J uid gid export path names w.bytes least w.writes.part.to sane fit ids p);
     }
-puts_input s J uid gid export path names input input' before after text (inr (end, (finds, (wrong, same)))) least answered sane fit ids names_are keeps = absurd cc
+puts_input s J uid gid export path names input input' before after text (inr (end, (finds, (wrong, same)))) least to answered sane fit ids names_are keeps = absurd cc

@@ -50,8 +50,9 @@ pub fn put_then_get()
     ensures read { ReadsGiveTheFile }
 {}
 
-/// After a `put` command that was done, and whose calls are answered as `pairs_are_served` says, its path leads to a file
-/// with exactly the bytes that its input gave, if no entry of others between its calls changes what the path leads to.
+/// After the last call of a `put` command that was done, and whose calls are answered as `pairs_are_served` says, its
+/// path leads to a file with exactly the bytes that its input gave, which had no more, if no entry of others between its
+/// calls changes what the path leads to.
 pub fn commands_put_their_input()
     ensures { CommandsPutTheirInput }
 {}
