@@ -7,6 +7,7 @@ pub mod Created
 pub mod FileReads
 pub mod FileWrites
 pub mod FirstTrees
+pub mod Getting
 pub mod Kept
 pub mod Mounts
 pub mod Pairs

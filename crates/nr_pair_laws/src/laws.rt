@@ -1,6 +1,7 @@
 //! Laws of a command and a connection on one link.
 
 ghost use Rattle.nr_pair_laws.specs.FirstTrees.{RootsAreSane};
+ghost use Rattle.nr_pair_laws.specs.Getting.{GetsReadTheFile};
 ghost use Rattle.nr_pair_laws.specs.Pairs.{AnsweredInLongerJournals, ConnectionsHaveARun, PairsAreServed, PairsAreTyped};
 ghost use Rattle.nr_pair_laws.specs.PutThenGet.{GetsGiveTheFile, GetsGiveWhatWasPut, OtherEntriesKeepTheFile, PutsLeaveTheFile};
 ghost use Rattle.nr_pair_laws.specs.ReadResults.{ResultsAreRead};
@@ -46,4 +47,10 @@ pub fn put_then_get()
     ensures kept { OtherEntriesKeepTheFile }
     ensures given { GetsGiveTheFile }
     ensures both { GetsGiveWhatWasPut }
+{}
+
+/// A `get` of a command that is done, whose outcomes are replies at places of a journal as `pairs_are_served` gives them, read the file of its path, if no
+/// entry from there on changes what the path leads to; and its output took the bytes of the replies.
+pub fn commands_get_the_file()
+    ensures { GetsReadTheFile }
 {}
