@@ -1,11 +1,12 @@
-/* Records over TCP (RFC 5531 section 11), for bench/records.sh.
+/* Records over TCP (RFC 5531 section 11), for bench/records.sh and bench/gate.sh.
 
    records serve PORT REPLY        answers each record of one connection by one of REPLY bytes; no RPC, no tree
    records call PORT KIND N OUT    N calls with OUT outstanding: getattr, read, write (of 32,768 bytes of file f), or make: CREATE of f and
                                    64 WRITEs, one at a time; prints the microseconds of a call
    records call .. EXPORT MOUNT    the same at a server that gives other handles: MNT of EXPORT at port MOUNT and a LOOKUP of f get them.
                                    Without these words the root has handle 1, f has handle 2, and replies come in order
-   records raw PORT KIND N OUT     the same records to `serve`, whose replies are not read as RPC */
+   records raw PORT KIND N OUT     the same records to `serve`, whose replies are not read as RPC
+   records relay PORT TO           hands each record of one connection on to port TO, and each reply back: the second hop of two */
 #include <arpa/inet.h>
 #include <netinet/in.h>
 #include <netinet/tcp.h>
@@ -183,8 +184,27 @@ static int listen_at(int port) {
     return s;
 }
 
+static void hand_on(int s, size_t n) {
+    unsigned char *at = out;
+    put(&at, 0x80000000u | n);
+    memcpy(at, in, n);
+    send_all(s, out, n + 4);
+}
+
+static int relay(int listening, int port) {
+    int one = 1, near = accept(listening, 0, 0), far = dial(port);
+    setsockopt(near, IPPROTO_TCP, TCP_NODELAY, &one, sizeof one);
+    for (long n; (n = read_record(near)) >= 0;) {
+        hand_on(far, n);
+        if ((n = read_record(far)) < 0) return 4;
+        hand_on(near, n);
+    }
+    return 0;
+}
+
 int main(int count, char **words) {
     if (count == 4 && !strcmp(words[1], "serve")) return serve(listen_at(atoi(words[2])), atol(words[3]));
+    if (count == 4 && !strcmp(words[1], "relay")) return relay(listen_at(atoi(words[2])), atoi(words[3]));
     if (count != 6 && count != 8) return 1;
     int s = dial(atoi(words[2]));
     if (count == 8) {

@@ -1,9 +1,10 @@
 """Runs the built `nfsrdma serve` with `record = true`, and libnfs against it: each call of NFS and MOUNT that it makes, compared.
 
-    python3 conformance/check_libnfs.py [--program PROGRAM] [--capture]
+    python3 conformance/check_libnfs.py [--program PROGRAM] [--capture] [--gate]
 
 It needs Debian's packages libnfs-utils and libnfs13 (libnfs 4.0); with --capture also tshark, and the right to capture on the loopback
-device: then tshark reads each record of the session, and none may be malformed. Exit status: 0 all as expected, 1 something differs,
+device: then tshark reads each record of the session, and none may be malformed. With --gate the server speaks RPC over RDMA alone, and
+libnfs talks to `nfsrdma gate` in front of it: the same is expected. Exit status: 0 all as expected, 1 something differs,
 2 no program or no library."""
 import argparse
 import ctypes
@@ -27,6 +28,12 @@ capacity = %d
 connections = %d
 write_verifier = "0000000000000001"
 record = true
+'''
+
+
+GATE = '''listen = "127.0.0.1:%d"
+remote = "127.0.0.1:%d"
+connections = %d
 '''
 
 
@@ -403,10 +410,25 @@ def wait(port: int) -> None:
     raise TimeoutError('the server does not listen')
 
 
+def free_port() -> int:
+    with socket.socket() as s:
+        s.bind(('127.0.0.1', 0))
+        return int(s.getsockname()[1])
+
+
+def start_gate(program: str, folder: str, port: int, remote: int) -> 'subprocess.Popen[bytes]':
+    """A gateway that listens at a port, in front of the server at another one."""
+    path = os.path.join(folder, 'gate.toml')
+    with open(path, 'w', encoding='utf-8') as f:
+        f.write(GATE % (port, remote, 1000))
+    return subprocess.Popen([program, 'gate', path])
+
+
 def main() -> int:
     parser = argparse.ArgumentParser(description=__doc__, formatter_class=argparse.RawDescriptionHelpFormatter)
     parser.add_argument('--program', default=os.path.join(ROOT, 'crates', 'nfsrdma', 'out', 'nfsrdma'))
     parser.add_argument('--capture', action='store_true')
+    parser.add_argument('--gate', action='store_true')
     given = parser.parse_args()
     try:
         lib = load()
@@ -416,23 +438,29 @@ def main() -> int:
     if not os.access(given.program, os.X_OK):
         print('no program at %s' % given.program, file=sys.stderr)
         return 2
-    with socket.socket() as s:
-        s.bind(('127.0.0.1', 0))
-        port = int(s.getsockname()[1])
+    port = free_port()
+    behind = free_port() if given.gate else port
     c = Checks()
     with tempfile.TemporaryDirectory() as folder:
         config, captured = os.path.join(folder, 'config.toml'), os.path.join(folder, 'captured.pcap')
         with open(config, 'w', encoding='utf-8') as f:
-            f.write(CONFIG % (port, CAPACITY, 1000))
+            f.write((CONFIG % (behind, CAPACITY, 1000)).replace('record = true\n', '' if given.gate else 'record = true\n'))
         watcher = capture(port, captured) if given.capture else None
         time.sleep(2 if watcher else 0)
         with subprocess.Popen([given.program, 'serve', config]) as server:
+            gate = None
             try:
-                wait(port)
+                wait(behind)
+                if given.gate:
+                    gate = start_gate(given.program, folder, port, behind)
+                    wait(port)
                 session(c, lib, port)
                 programs(c, port, folder)
-                c.same('the server goes on', server.poll(), None)
+                c.same('the server goes on', (server.poll(), gate.poll() if gate else None), (None, None))
             finally:
+                if gate:
+                    gate.kill()
+                    gate.wait()
                 server.kill()
         if watcher:
             time.sleep(2)

@@ -5,6 +5,8 @@
 The N-th call of malloc and realloc is answered with nothing, for N from 1 on, until a run makes fewer. Each drill, of several scripts, has
 to end with status 2, print nothing and write `memory`. So has `stat` over TCP; or it can't make a link, and ends with status 3. A server of
 one connection, or of two at once, ends so, or serves them: then each client has received the answer, or a part of it before its link ended.
+A `get` by two jobs ends so after it printed a first part of the file, or can't make a link, or prints the file: what a job has no memory to
+read is read again.
 It needs a C compiler (`cc`) for the library that it preloads. Exit status: 0 all did, 1 some run did otherwise, 2 nothing could be run."""
 import argparse
 import os
@@ -111,17 +113,27 @@ def served(count: int, g: tuple[object, ...]) -> bool:
     return g[:3] == (0, b'served %d journal 0\n' % count, b'') and all(ANSWERED.startswith(it) for it in g[3])
 
 
+def got_by_jobs(file: bytes, g: tuple[object, ...]) -> bool:
+    """Whether it ended as it may: with the file; or by memory, after a first part of the file; or by the link, before any of it."""
+    assert isinstance(g[1], bytes)
+    return g == (0, file, b'') or (g[0] == 2 and g[2] == b'memory\n' and file.startswith(g[1])) or g == (3, b'', b'link fault\n')
+
+
 def refuse_over_links(program: str, library: str, folder: str) -> int:
-    """Refuses the requests of `stat` and of a server of one connection. Gives how many runs did otherwise than they may."""
+    """Refuses the requests of `stat`, of `get` by two jobs, and of servers of one and two connections. Gives how many runs did otherwise than they may."""
     wrong = 0
     port, path = free_port(), os.path.join(folder, 'config.toml')
     with open(path, 'w', encoding='utf-8') as f:
-        f.write(CONFIG % (port, 1000000))
+        f.write(CONFIG.replace('capacity = 1000000', 'capacity = 4000000') % (port, 1000000))
     server = subprocess.Popen([program, 'serve', path])
     connect(port).close()
+    address = '127.0.0.1:%d' % port
+    file = bytes(i % 251 for i in range(3 << 20))
+    subprocess.run([program, 'put', address, '/', '/a'], input=file, check=True)
     ends: dict[str, tuple[Callable[[int], tuple[object, ...]], Callable[[tuple[object, ...]], bool]]] = {
-        'stat': (lambda at: run(program, library, ['stat', '127.0.0.1:%d' % port, '/', '/'], b'', at),
+        'stat': (lambda at: run(program, library, ['stat', address, '/', '/'], b'', at),
                  lambda g: g in ((2, b'', b'memory\n'), (3, b'', b'link fault\n'))),
+        'get, two jobs': (lambda at: run(program, library, ['get', '--jobs', '2', address, '/', '/a'], b'', at), lambda g: got_by_jobs(file, g)),
         'serve, one connection': (lambda at: serve_some(program, library, folder, 1, at), lambda g: served(1, g)),
         'serve, two connections at once': (lambda at: serve_some(program, library, folder, 2, at), lambda g: served(2, g)),
     }
@@ -135,7 +147,7 @@ def refuse_over_links(program: str, library: str, folder: str) -> int:
             seen[str(g[0])] = seen.get(str(g[0]), 0) + 1
             if not may_be(g):
                 wrong += 1
-                print('%s, request %d: %r' % (name, at, g))
+                print(('%s, request %d: %r' % (name, at, g))[:300])
         print('%s: status %d without refusals; %d requests refused, statuses %s' % (name, good[0], at - 1, seen))
     server.kill()
     server.wait()

@@ -6,7 +6,6 @@ use Rattle.std.proofs.KnownBytes.{Appends-nil, Appends-trans}
 use mathlib.Core.Option.{some-injective}
 use lib.ListN.{get_elem?}
 use Rattle.nr_outside.specs.Streams.{SinkAt, SourceAt, sink_at, source_at}
-use Rattle.nr_link.specs.declared.end.End.TheVariants as ends
 use Rattle.nr_nfs_base.specs.declared.attributes.Attributes.{Attributes}
 use Rattle.nr_reduce.specs.declared.call.Call.{Call}
 use Rattle.nr_reduce.specs.declared.call.Form.{Form}
@@ -23,13 +22,12 @@ use Rattle.nr_shared.specs.declared.shared.SharedRequester.{SharedRequester}
 use Rattle.nr_shared.specs.Histories.{initial_of}
 use Rattle.nr_shared.specs.Opening.{GivesBack}
 use Rattle.nr_shared.proofs.Histories.{initial_more}
-use Rattle.nr_client.specs.declared.call_end.CallEnd.TheVariants as calls
 use Rattle.nr_client.specs.declared.client_end.ClientEnd.{ClientEnd}
 use Rattle.nr_client.specs.declared.client_end.ClientEnd.TheVariants as client
 use Rattle.nr_client.specs.declared.jobs.ReadJob.{ReadJob}
 use Rattle.nr_client.specs.Following.Next.{Calls, Returns}
 use Rattle.nr_client.specs.Jobs.{AreExchanges, GetsAttributes, IsExchange, IsPiece, LinkAt, ReadsByJobs, ReadsFileByJobs, ReadsShared, bytes_at, link_at}
-use Rattle.nr_client.specs.Jobs.ReadsFileByJobs.{NoAttributes, OutOfMemory, Shared}
+use Rattle.nr_client.specs.Jobs.ReadsFileByJobs.{NoAttributes, Shared}
 use Rattle.nr_client.specs.LinkParts.{LinkParts}
 use Rattle.nr_client.specs.Reading.{file_read, next_read, piece_left, read_call, reading, with_size}
 use Rattle.nr_client.specs.Reading.FileRead.{SizeKnown}
@@ -176,16 +174,6 @@ module _ {I O : Type 0} (left given : I → Option (List ℕ)) (source_faults : 
       NoAttributes (known m) end (record { asks = asks; source_count = sources; sink_count = sinks }) refl
       (ap (λ (x : I). source_at (left x) (given x) (source_faults x)) same_source, ap (λ (x : O). sink_at (taken x) (sink_faults x)) same_sink) refl
 
-  pub out_of_memory : (uid gid : ℕ) (file : List ℕ) (l m : LinkParts I O) (attributes : Attributes) (r : RequesterSide) (source : I) (sink : O) (out : Option (List ℕ))
-      → Asks getattr_result (getattr_call uid gid file) (bytes_at (known l)) (bytes_at (known m)) l.requester m.requester (Ok attributes)
-      → source_faults m.source ≡ source_faults l.source → sink_faults m.sink ≡ sink_faults l.sink
-      → r ≡ m.requester → source ≡ m.source → sink ≡ m.sink → r.state.side.ended ≡ Some ends.Memory
-      → ReadsFileByJobs uid gid file (known l) (source_at (left source) (given source) (source_faults source)) (sink_at (taken sink) (sink_faults sink)) out out (Err (client.Link (calls.Ended ends.Memory)))
-  out_of_memory uid gid file l m attributes r source sink out asks sources sinks same_requester same_source same_sink ended =
-      let (outcome, got) = gets uid gid file (known l) (known m) attributes asks sources sinks in
-      OutOfMemory (known m) outcome attributes got (subst (λ (x : RequesterSide). x.state.side.ended ≡ Some ends.Memory) same_requester ended) refl
-      (ap (λ (x : I). source_at (left x) (given x) (source_faults x)) same_source, ap (λ (x : O). sink_at (taken x) (sink_faults x)) same_sink) refl
-
   pub shared_after : (uid gid : ℕ) (file : List ℕ) (l m : LinkParts I O) (attributes : Attributes) (r : RequesterSide) (source : I) (sink : O) (read : ℕ) (source' : SourceAt) (sink' : SinkAt) (t t' : Option (List ℕ)) (result : Result (Unit {0}) ClientEnd)
       → Asks getattr_result (getattr_call uid gid file) (bytes_at (known l)) (bytes_at (known m)) l.requester m.requester (Ok attributes)
       → source_faults m.source ≡ source_faults l.source → sink_faults m.sink ≡ sink_faults l.sink
@@ -233,15 +221,19 @@ back_known left given source_faults taken sink_faults allows seen mine first rea
   calls = b.calls;
   took = b.took;
   sink_count = b.sink_count;
+  sink_counted = b.sink_counted;
   sink_failed = b.sink_failed;
   in_order = b.in_order;
   allowed = b.allowed;
   closes_calls = b.closes_calls;
   output = b.output;
+  in_full = b.in_full;
+  may_follow = b.may_follow;
   fed = b.fed;
   gave = b.gave;
   read = b.read;
   source_count = b.source_count;
+  source_counted = b.source_counted;
   stop = b.stop;
 }
 

@@ -3,7 +3,6 @@ use Rattle.std.specs.Prelude.{◌≡◌, ⊤, ℕ, ◌<◌, ◌⊎◌, List, [],
 use mathlib.Core.Option.{some}
 use lib.ListN.{get_elem?}
 use Rattle.nr_outside.specs.Streams.{SinkAt, SourceAt}
-use Rattle.nr_link.specs.declared.end.End.TheVariants as ends
 use Rattle.nr_nfs_base.specs.declared.attributes.Attributes.{Attributes}
 use Rattle.nr_reduce.specs.declared.call.Call.{Call}
 use Rattle.nr_reduce.specs.declared.call.Form.{Form}
@@ -18,7 +17,6 @@ use Rattle.nr_shared.specs.declared.entry.InitialState.{InitialState}
 use Rattle.nr_shared.specs.Ending.{IsCause}
 use Rattle.nr_shared.specs.Histories.{initial_of}
 use Rattle.nr_shared.specs.Opening.{GivesBack}
-use Rattle.nr_client.specs.declared.call_end.CallEnd.TheVariants as calls
 use Rattle.nr_client.specs.declared.client_end.ClientEnd.{ClientEnd}
 use Rattle.nr_client.specs.declared.client_end.ClientEnd.TheVariants as client
 use Rattle.nr_client.specs.Calls.{Answers}
@@ -127,13 +125,10 @@ pub record ReadsShared (uid gid : ℕ) (file : List ℕ) (first : Outcome) (size
   pub reads : ReadsByJobs uid gid file first seen mine taken taken' result
 
 -- A file was read into an output by jobs over a link, whose source and sink came back so. GETATTR was made first. It gave no size, and nothing else was
--- done; or memory had run out for a frame by then; or callers that shared the requester read the file.
+-- done; or callers that shared the requester read the file.
 pub data ReadsFileByJobs (uid gid : ℕ) (file : List ℕ) (link : LinkAt) (source : SourceAt) (sink : SinkAt) (taken taken' : Option (List ℕ))
     (result : Result (Unit {0}) ClientEnd) : Type 0 where
   NoAttributes : (link' : LinkAt) (end : ClientEnd) → GetsNoAttributes uid gid file end link link' → result ≡ Err end
-      → (source ≡ link'.source) × (sink ≡ link'.sink) → taken' ≡ taken → ReadsFileByJobs uid gid file link source sink taken taken' result
-  OutOfMemory : (link' : LinkAt) (outcome : Outcome) (attributes : Attributes) → GetsAttributes uid gid file outcome attributes link link'
-      → link'.requester.state.side.ended ≡ Some ends.Memory → result ≡ Err (client.Link (calls.Ended ends.Memory))
       → (source ≡ link'.source) × (sink ≡ link'.sink) → taken' ≡ taken → ReadsFileByJobs uid gid file link source sink taken taken' result
   Shared : (link' : LinkAt) (outcome : Outcome) (attributes : Attributes) → GetsAttributes uid gid file outcome attributes link link'
       → ReadsShared uid gid file outcome attributes.size link' source sink taken taken' result

@@ -166,7 +166,7 @@ IsMadeAlone uid gid file s call = (reading uid gid file s.outcomes ≡ Calls cal
 
 -- the most READs of a file that are outstanding
 abbrev pub reads_max : ℕ
-reads_max = 4
+reads_max = 2
 
 -- The READ of a piece is submitted while fewer than the maximum are outstanding, if a credit is left. If none is outstanding, it waits for a credit.
 abbrev pub IsMadeAhead : (uid gid : ℕ) → (file : List ℕ) → ReadingAt → Call → Type 0

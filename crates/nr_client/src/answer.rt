@@ -1,6 +1,7 @@
 //! A call, and its outcome.
 
-ghost use Rattle.std.specs.Prelude.{◌≡◌, IfOk, IfErr};
+ghost use Rattle.std.specs.Prelude.{◌≡◌, ◌≢◌, Some, IfOk, IfErr, OnOk};
+ghost use Rattle.nr_link.specs.declared.end.End.TheVariants as ends;
 ghost use Rattle.nr_reduce.specs.declared.call.Call.{Call};
 ghost use Rattle.nr_rpc.specs.Credential.{CanWriteCred};
 ghost use Rattle.nr_requester.specs.OpenCalls.{KeepsTickets};
@@ -30,6 +31,7 @@ pub(crate) fn outcome_of<I: Source, O: Sink>(
         (link_bytes (I.left link.old.source) (I.given link.old.source) (O.taken link.old.sink) link.old.read)
         (link_bytes (I.left link.new.source) (I.given link.new.source) (O.taken link.new.sink) link.new.read)
         link.old.requester link.new.requester end) }
+    ensures memory { OnOk result (link.new.requester.state.side.ended ≢ Some ends.Memory) }
     ensures of_call { IfErr result IsOfCall }
     ensures tickets { KeepsTickets link.old.requester.state link.new.requester.state }
     ensures source_faults { SourceFaults result (I.faults link.old.source) (I.faults link.new.source) }

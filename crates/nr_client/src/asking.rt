@@ -1,8 +1,9 @@
 //! Requests over a link: a call, and what its answer is read as.
 
-ghost use Rattle.std.specs.Prelude.{◌≡◌, IfOk, IfErr};
+ghost use Rattle.std.specs.Prelude.{◌≡◌, ◌≢◌, Some, IfOk, IfErr, OnOk};
 ghost use Rattle.nr_client.specs.Results.{IsOfCall};
 ghost use Rattle.nr_client.specs.Requests.{Asks, SinkFaults, SourceFaults, mnt_call, mnt_result, nfs_reads};
+ghost use Rattle.nr_link.specs.declared.end.End.TheVariants as ends;
 ghost use Rattle.nr_reduce.specs.declared.call.Call.{Call};
 ghost use Rattle.nr_rpc.specs.Credential.{CanWriteCred};
 ghost use Rattle.nr_client.specs.Transfers.{link_bytes};
@@ -51,6 +52,7 @@ pub(crate) fn ask_nfs<I: Source, O: Sink, D: Xdr, F: Xdr>(
         (link_bytes (I.left link.old.source) (I.given link.old.source) (O.taken link.old.sink) link.old.read)
         (link_bytes (I.left link.new.source) (I.given link.new.source) (O.taken link.new.sink) link.new.read)
         link.old.requester link.new.requester result }
+    ensures memory { OnOk result (link.new.requester.state.side.ended ≢ Some ends.Memory) }
     ensures of_call { IfErr result IsOfCall }
     ensures source_faults { SourceFaults result (I.faults link.old.source) (I.faults link.new.source) }
     ensures sink_faults { SinkFaults result (O.faults link.old.sink) (O.faults link.new.sink) }

@@ -1,7 +1,8 @@
 //! A call over a link.
 
-ghost use Rattle.std.specs.Prelude.{◌≡◌, ◌<◌, ◌≤◌, true, false, is_some, [], length, Option, List, ℕ, IfOk, IfErr, OnOk, OnErr};
+ghost use Rattle.std.specs.Prelude.{◌≡◌, ◌≢◌, ◌<◌, ◌≤◌, true, false, Some, None, is_some, [], length, Option, List, ℕ, IfOk, IfErr, OnOk, OnErr};
 ghost use Rattle.nr_rpc.specs.Credential.{CanWriteCred};
+ghost use Rattle.nr_link.specs.declared.end.End.TheVariants as ends;
 ghost use Rattle.nr_requester.specs.Fed.{fed_bytes};
 ghost use Rattle.nr_requester.specs.OpenCalls.{ClosesTicket, KeepsTickets, OpensTicket, found_answer, open_call};
 ghost use Rattle.nr_requester.specs.RequesterState.{queue_of};
@@ -39,6 +40,7 @@ fn wait_for_credit<I: Source, O: Sink>(
     ensures fits { Fits requester.new read.new (length buf.new) }
     ensures credit { OnOk result (length requester.new.state.outstanding < requester.new.state.grant) }
     ensures started { OnOk result (requester.old.state.side.ended ≡ None) }
+    ensures live { OnOk result (requester.new.state.side.ended ≡ None) }
     ensures drained { OnOk result (queue_of requester.new.state ≡ []) }
     ensures at_once { HasCreditLeft requester.old → ReadsNone (link_bytes (I.left source.old) (I.given source.old) (O.taken sink.old) read.old)
         (link_bytes (I.left source.new) (I.given source.new) (O.taken sink.new) read.new) }
@@ -76,6 +78,7 @@ fn wait_for_answer<I: Source, O: Sink>(
     requires open { is_some (open_call ticket.now requester.old.state) ≡ true }
     ensures fits { Fits requester.new read.new (length buf.new) }
     ensures there { OnOk result (is_some (found_answer ticket.now requester.new.state) ≡ true) }
+    ensures memory { OnOk result (requester.old.state.side.ended ≢ Some ends.Memory → requester.new.state.side.ended ≢ Some ends.Memory) }
     ensures ok { OnOk result (GoesOn (link_bytes (I.left source.old) (I.given source.old) (O.taken sink.old) read.old)
         (link_bytes (I.left source.new) (I.given source.new) (O.taken sink.new) read.new) requester.old requester.new) }
     ensures err { IfErr result (λ end. GoesTo end (link_bytes (I.left source.old) (I.given source.old) (O.taken sink.old) read.old)
@@ -114,6 +117,7 @@ fn submit(requester: &mut Requester, call: Call) -> Result<Ticket, CallEnd>
     requires writable { CanWriteCred call.cred }
     requires credit { length requester.old.state.outstanding < requester.old.state.grant }
     ensures sent { IfOk result (λ xid. IsSent xid call requester.old requester.new) }
+    ensures live { OnOk result (requester.new.state.side.ended ≡ None) }
     ensures tickets { IfOk result (λ xid. OpensTicket xid call requester.old.state requester.new.state) }
     ensures err { OnErr result (requester.new ≡ requester.old) }
     ensures fed { fed_bytes requester.new ≡ fed_bytes requester.old }
@@ -135,6 +139,7 @@ fn take_outcome(requester: &mut Requester, ticket: Ticket) -> Outcome
     requires there { is_some (found_answer ticket requester.old.state) ≡ true }
     requires open { is_some (open_call ticket requester.old.state) ≡ true }
     ensures completes { HandsOver ticket result requester.old requester.new }
+    ensures ended { requester.new.state.side.ended ≡ requester.old.state.side.ended }
     ensures tickets { ClosesTicket ticket requester.old.state requester.new.state }
     ensures fed { fed_bytes requester.new ≡ fed_bytes requester.old }
 {
@@ -165,6 +170,7 @@ pub(crate) fn complete<I: Source, O: Sink>(
     requires fits { Fits requester.old read.old (length buf.old) }
     requires open { is_some (open_call ticket requester.old.state) ≡ true }
     ensures fits { Fits requester.new read.new (length buf.new) }
+    ensures memory { OnOk result (requester.old.state.side.ended ≢ Some ends.Memory → requester.new.state.side.ended ≢ Some ends.Memory) }
     ensures ok { IfOk result (λ outcome. Completes ticket outcome (link_bytes (I.left source.old) (I.given source.old) (O.taken sink.old) read.old)
         (link_bytes (I.left source.new) (I.given source.new) (O.taken sink.new) read.new) requester.old requester.new) }
     ensures err { IfErr result (λ end. Forgets ticket end (link_bytes (I.left source.old) (I.given source.old) (O.taken sink.old) read.old)
@@ -195,6 +201,7 @@ pub(crate) fn submit_over<I: Source, O: Sink>(
     requires writable { CanWriteCred call.cred }
     requires fits { Fits requester.old read.old (length buf.old) }
     ensures fits { Fits requester.new read.new (length buf.new) }
+    ensures live { OnOk result (requester.new.state.side.ended ≡ None) }
     ensures ok { IfOk result (λ xid. Submits (link_bytes (I.left source.old) (I.given source.old) (O.taken sink.old) read.old)
         (link_bytes (I.left source.new) (I.given source.new) (O.taken sink.new) read.new) requester.old requester.new call xid) }
     ensures err { IfErr result (λ end. RefusesToSubmit (link_bytes (I.left source.old) (I.given source.old) (O.taken sink.old) read.old)
@@ -230,6 +237,7 @@ pub(crate) fn call_over<I: Source, O: Sink>(
     requires writable { CanWriteCred call.cred }
     requires fits { Fits requester.old read.old (length buf.old) }
     ensures fits { Fits requester.new read.new (length buf.new) }
+    ensures memory { OnOk result (requester.new.state.side.ended ≢ Some ends.Memory) }
     ensures ok { IfOk result (λ outcome. Answers (link_bytes (I.left source.old) (I.given source.old) (O.taken sink.old) read.old)
         (link_bytes (I.left source.new) (I.given source.new) (O.taken sink.new) read.new) requester.old requester.new call outcome) }
     ensures err { IfErr result (λ end. GivesUp (link_bytes (I.left source.old) (I.given source.old) (O.taken sink.old) read.old)

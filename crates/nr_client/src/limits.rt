@@ -10,7 +10,7 @@ pub(crate) const CREDITS: u32 = 16;
 
 /// The maximum number of READs of a file that are outstanding: with more, their data don't stay in a processor's caches
 /// until they are written.
-pub(crate) const READS_MAX: usize = 4;
+pub(crate) const READS_MAX: usize = 2;
 
 /// The maximum number of entries of a list.
 pub(crate) const ENTRIES_MAX: usize = 1_048_576;

@@ -1,7 +1,8 @@
 //! A link over which calls are made.
 
-ghost use Rattle.std.specs.Prelude.{◌≡◌, ◌≤◌, ℕ, true, is_some, nat_lt, length, [], IfOk, IfErr, OnErr};
+ghost use Rattle.std.specs.Prelude.{◌≡◌, ◌≢◌, ◌≤◌, ℕ, true, is_some, nat_lt, length, [], Some, IfOk, IfErr, OnOk, OnErr};
 ghost use Rattle.nr_rpc.specs.Credential.{CanWriteCred};
+ghost use Rattle.nr_link.specs.declared.end.End.TheVariants as ends;
 ghost use Rattle.nr_link.specs.Agreement.{terms_with};
 ghost use Rattle.nr_reduce.specs.Opening.{ClientOpened};
 ghost use Rattle.nr_reduce.specs.declared.mark.LinkParameters.{LinkParameters};
@@ -97,6 +98,7 @@ impl<I: Source, O: Sink> Link<I, O> {
             (link_bytes (I.left self.new.source) (I.given self.new.source) (O.taken self.new.sink) self.new.read) self.old.requester self.new.requester call outcome) }
         ensures err { IfErr result (λ end. GivesUp (link_bytes (I.left self.old.source) (I.given self.old.source) (O.taken self.old.sink) self.old.read)
             (link_bytes (I.left self.new.source) (I.given self.new.source) (O.taken self.new.sink) self.new.read) self.old.requester self.new.requester call end) }
+        ensures memory { OnOk result (self.new.requester.state.side.ended ≢ Some ends.Memory) }
         ensures cause { IfErr result (λ end. IsCause end (I.left self.new.source) self.new.read self.new.requester call) }
         ensures tickets { KeepsTickets self.old.requester.state self.new.requester.state }
         ensures source_count { SourceCount result (I.faults self.old.source) (I.faults self.new.source) }

@@ -1,8 +1,7 @@
 //! A session of a client: requests of a user over one link.
 
-ghost use Rattle.std.specs.Prelude.{◌≡◌, ◌≢◌, ◌<◌, ◌≤◌, ℕ, true, false, Some, [], OnOk, IfOk, IfErr, IfSome};
+ghost use Rattle.std.specs.Prelude.{◌≡◌, ◌<◌, ◌≤◌, ℕ, [], OnOk, IfOk, IfErr, IfSome};
 ghost use Rattle.nr_outside.specs.Streams.{sink_at, source_at};
-ghost use Rattle.nr_link.specs.declared.end.End.TheVariants as ends;
 ghost use Rattle.nr_nfs_base.specs.declared.attributes.Attributes.{Attributes};
 ghost use Rattle.nr_links.specs.Asked.{Asks as AsksFor};
 ghost use Rattle.nr_links.specs.Links.{CountsLost, EndsLink, HasOpenLink, IsNewLink, IsTold, MakesLink, ended_link};
@@ -22,11 +21,10 @@ ghost use Rattle.nr_client.specs.Writing.{StopsAtFault, WritesFile};
 ghost use Rattle.nr_client.specs.Walking.{parent_next, walk_next};
 
 use crate::asking::{ask_nfs, mount_over};
-use crate::call_end::CallEnd;
 use crate::client_end::ClientEnd;
 use crate::jobs::{FileToRead, read_shared};
 use crate::limits::CREDITS;
-use crate::link::{Link, LinkEnds};
+use crate::link::Link;
 use crate::listing::list_over;
 use crate::names::Names;
 use crate::read_file::read_file_over;
@@ -35,30 +33,14 @@ use crate::requests::{
 };
 use crate::walking::{walk_over, walk_to_parent_over};
 use crate::write_file::write_file_over;
-use nr_link::End;
 use nr_links::{Dialer, LinkNumber, LinkSink, LinkSource, NumberedSink, NumberedSource};
 use nr_nfs_base::{Attributes, Handle, MountPath, Name, Path, WccData};
 use nr_nfs_res::{CreateOk, LookupOk, ReadlinkOk};
 use nr_outside::{Sink, Source};
-use nr_requester::Requester;
 use std::alloc::Global;
 use std::marker::{Brand, Model};
 use std::sync::Wait;
 use std::thread::Threads;
-
-/// Whether a requester hasn't run out of memory for a frame.
-fn has_memory(requester: &Requester) -> bool
-    ensures yes { result ≡ true → requester.now.state.side.ended ≢ Some ends.Memory }
-    ensures no { result ≡ false → requester.now.state.side.ended ≡ Some ends.Memory }
-{
-    match requester.end() {
-        None => true,
-        Some(end) => match end {
-            End::Memory => false,
-            _ => true,
-        },
-    }
-}
 
 /// Requests of a user over one link. Each call has an AUTH_SYS credential with the user and the group, the machine `nfsrdma` and no
 /// further groups.
@@ -310,7 +292,7 @@ impl<I: Source, O: Sink> Session<I, O> {
     }
 
     /// Writes the bytes of a file to an output: those up to the size that GETATTR reports, in order (GETATTR and READ, RFC 1813 sections 3.3.1
-    /// and 3.3.6). Several READs are outstanding: at most the grant, and at most 4. `OutputFault` if the output failed, after it took only some of
+    /// and 3.3.6). Two READs are outstanding, if the grant is 2 or more. `OutputFault` if the output failed, after it took only some of
     /// the bytes that came.
     pub fn read_file<K: Sink>(&mut self, file: &Handle, out: &mut K) -> Result<(), ClientEnd>
         ensures reads { ReadsFile self.old.uid self.old.gid file.now
@@ -390,17 +372,6 @@ impl<I: Source, O: Sink> Session<I, O> {
             }
         };
         let link = link.into_ends();
-        if !has_memory(&link.requester) {
-            let LinkEnds {
-                requester,
-                source,
-                sink,
-                read: _read,
-            } = link;
-            drop(requester);
-            let end = CallEnd::Ended(End::Memory);
-            return (Err(ClientEnd::Link(end)), source, sink);
-        }
         let file = FileToRead {
             alloc,
             uid,

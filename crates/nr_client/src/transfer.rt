@@ -1,6 +1,6 @@
 //! Bytes are written to a link and read of it.
 
-ghost use Rattle.std.specs.Prelude.{◌≡◌, ℕ, ◌<◌, ◌≤◌, ◌+◌, ◌^◌, None, Some, Option, List, [], length, take, IfOk, IfErr, OnOk, OnErr, MatchResult};
+ghost use Rattle.std.specs.Prelude.{◌≡◌, ◌≢◌, ℕ, ◌<◌, ◌≤◌, ◌+◌, ◌^◌, None, Some, Option, List, [], length, take, IfOk, IfErr, OnOk, OnErr, MatchResult};
 ghost use Rattle.std.specs.Io.KnownBytes.{IsAtEnd};
 ghost use Rattle.nr_outside.specs.Content.{HandsOut};
 ghost use Rattle.nr_outside.specs.Faults.{Rises};
@@ -68,6 +68,7 @@ fn feed_piece(requester: &mut Requester, piece: &[u8]) -> Result<(), CallEnd>
     requires live { requester.old.state.side.ended ≡ None }
     requires room { fed_bytes requester.old + length piece.now ≤ 2 ^ 62 }
     ensures ok { OnOk result (StandsOn requester.old (λ link. marks.Fed link Initiator piece.now) requester.new) }
+    ensures memory { OnOk result (requester.new.state.side.ended ≢ Some ends.Memory) }
     ensures err { IfErr result (λ end. (end ≡ calls.Ended ends.Memory) × (FeedsOut piece.now requester.old requester.new × (requester.new.state.side.ended ≡ Some ends.Memory))) }
     ensures tickets { KeepsTickets requester.old.state requester.new.state }
     ensures fed { fed_bytes requester.new ≤ fed_bytes requester.old + length piece.now }
@@ -94,6 +95,7 @@ fn read_piece<I: Source>(
     requires fits { Fits requester.old read.old (length buf.old) }
     ensures fits { Fits requester.new read.new (length buf.new) }
     ensures more { OnOk result (read.old < read.new) }
+    ensures memory { OnOk result (requester.new.state.side.ended ≢ Some ends.Memory) }
     ensures ok { OnOk result (Reads (I.left source.old) (I.given source.old) (I.left source.new) (I.given source.new) read.old read.new requester.old requester.new) }
     ensures err { IfErr result (λ end. ReadsTo end (I.left source.old) (I.given source.old) (I.left source.new) (I.given source.new) read.old read.new requester.old requester.new) }
     ensures cause { IfErr result (λ end. LinkCause end (I.left source.new) read.new requester.new) }
@@ -134,6 +136,7 @@ pub(crate) fn transfer<I: Source, O: Sink>(
     ensures fits { Fits requester.new read.new (length buf.new) }
     ensures more { OnOk result (read.old < read.new) }
     ensures started { OnOk result (requester.old.state.side.ended ≡ None) }
+    ensures memory { OnOk result (requester.new.state.side.ended ≢ Some ends.Memory) }
     ensures ok { OnOk result (GoesOn (link_bytes (I.left source.old) (I.given source.old) (O.taken sink.old) read.old)
         (link_bytes (I.left source.new) (I.given source.new) (O.taken sink.new) read.new) requester.old requester.new) }
     ensures err { IfErr result (λ end. GoesTo end (link_bytes (I.left source.old) (I.given source.old) (O.taken sink.old) read.old)

@@ -1,53 +1,17 @@
--- How a command of a line ends, and its ranges.
-use Rattle.std.proofs.Common.{◌≡◌, ℕ, ◌<◌, ◌≤◌, Bool, true, false, arith, refl, sym, subst}
+-- The ranges of a command of a line.
+use Rattle.std.proofs.Common.{◌≡◌, ℕ, ◌<◌, ◌≤◌, Bool, true, false, arith, subst}
 use Rattle.std.specs.Prelude.{◌&&◌}
 use Rattle.std.proofs.lemmas.Bool.{false≢true}
 use Rattle.std.proofs.lemmas.Bool.Decides.{nat_tests}
 use Rattle.std.specs.Borrow.{Bor}
 use Rattle.nr_client.specs.Jobs.{jobs_max}
-use Rattle.nr_words.specs.Lines.{Text, is_positional, plain_client, plain_command, plain_get}
+use Rattle.nr_words.specs.Lines.{Text, is_positional, plain_command}
 use Rattle.nr_words.specs.Reads.{are_jobs, are_units, is_command}
-use Rattle.nr_words.specs.declared.commands.Client.{Client}
 use Rattle.nr_words.specs.declared.commands.Command.{Command}
 use Rattle.nr_words.specs.declared.commands.GetByJobs.{GetByJobs}
 use Rattle.nr_words.specs.declared.commands.Command.TheVariants as commands
-use Rattle.nr_gateway.specs.Gateways.{around}
-use Rattle.nr_top.specs.Clients.{ClientEnds, GetEnds}
-use Rattle.nr_top.specs.Gating.{GatewayEnds}
-use Rattle.nr_top.specs.RunEnds.{AcceptsNone, CommandEnds, DrillEnds, Outside}
-use Rattle.nr_top.specs.Serving.{ServeEnds}
 use Rattle.nr_top.specs.Sources.{HasRanges}
 use Rattle.nr_top.specs.declared.drill.ScriptSource.TheVariants as sources
-
-module _ {O C : Type 0} where
-  pub client_ends : (command : Command (Bor Text)) (c : Client (Bor Text)) (status : ℕ) (before after : Outside) → command ≡ commands.Client c
-      → ClientEnds (plain_client c) status before.dialer after.dialer before.input after.input before.out after.out before.err after.err → AcceptsNone before after
-      → CommandEnds O C (plain_command command) status before after
-  client_ends command c status before after is ends none = subst (λ (k : Command (Bor Text)). CommandEnds O C (plain_command k) status before after) (sym is) (ends, none)
-
-  pub get_ends : (command : Command (Bor Text)) (get : GetByJobs (Bor Text)) (status : ℕ) (before after : Outside) → command ≡ commands.GetByJobs get
-      → GetEnds (plain_get get) status before.dialer after.dialer before.out after.out before.err after.err → after.input ≡ before.input → AcceptsNone before after
-      → CommandEnds O C (plain_command command) status before after
-  get_ends command get status before after is ends same none = subst (λ (k : Command (Bor Text)). CommandEnds O C (plain_command k) status before after) (sym is) (ends, (same, none))
-
-  pub serve_ends : (command : Command (Bor Text)) (config : Bor Text) (status : ℕ) (before after : Outside) → command ≡ commands.Serve config
-      → ServeEnds status before.input after.input before.out after.out before.err after.err before.acceptor after.acceptor before.spawner after.spawner before.gave after.gave → after.dialer ≡ before.dialer → after.gates ≡ before.gates
-      → CommandEnds O C (plain_command command) status before after
-  serve_ends command config status before after is ends dialer gates = subst (λ (k : Command (Bor Text)). CommandEnds O C (plain_command k) status before after) (sym is) (ends, (dialer, gates))
-
-  pub gate_ends : (command : Command (Bor Text)) (config : Bor Text) (status : ℕ) (before after : Outside) → command ≡ commands.Gate config
-      → GatewayEnds O C status before.input after.input before.out after.out before.err after.err (around before.acceptor before.dialer before.gates) (around after.acceptor after.dialer after.gates)
-      → after.spawner ≡ before.spawner → after.gave ≡ before.gave → CommandEnds O C (plain_command command) status before after
-  gate_ends command config status before after is ends spawner gave = subst (λ (k : Command (Bor Text)). CommandEnds O C (plain_command k) status before after) (sym is) (ends, (spawner, gave))
-
-  pub drill_ends : (command : Command (Bor Text)) (status : ℕ) (before after : Outside) → command ≡ commands.Drill → DrillEnds sources.Input status before after
-      → CommandEnds O C (plain_command command) status before after
-  drill_ends command status before after is ends = subst (λ (k : Command (Bor Text)). CommandEnds O C (plain_command k) status before after) (sym is) ends
-
-  pub generated_ends : (command : Command (Bor Text)) (seed clients calls status : ℕ) (before after : Outside) → command ≡ commands.GeneratedDrill seed clients calls
-      → DrillEnds (sources.Seed seed clients calls) status before after → CommandEnds O C (plain_command command) status before after
-  generated_ends command seed clients calls status before after is ends =
-      subst (λ (k : Command (Bor Text)). CommandEnds O C (plain_command k) status before after) (sym is) ends
 
 ranges : (seed clients calls : ℕ) → is_command (commands.GeneratedDrill seed clients calls) ≡ true → HasRanges (sources.Seed seed clients calls)
 ranges seed clients calls possible = grind (arith, possible)

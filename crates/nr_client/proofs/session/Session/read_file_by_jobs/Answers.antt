@@ -1,7 +1,7 @@
 use Rattle.std.proofs.Common.{refl, sym}
 use Rattle.nr_outside.specs.Streams.{sink_at, source_at}
 use Rattle.nr_nfs_base.specs.Procedures.{nfs_program, nfs_version}
-use Rattle.nr_client.proofs.JobReading.{no_attributes, out_of_memory, shared_after}
+use Rattle.nr_client.proofs.JobReading.{no_attributes, shared_after}
 use Rattle.nr_client.proofs.Outcomes.{writable}
 use Rattle.nr_client.proofs.session.Session.read_file_by_jobs.Goals as goal
 
@@ -19,14 +19,6 @@ returns-in-Err-clause-reads g c =
     rw (sym c.self.view_is) (no_attributes g.I.Source.left g.I.Source.given g.I.Source.faults g.O.Sink.taken g.O.Sink.faults c.self.inside.uid c.self.inside.gid c.args.file.now c.self.inside.link c.ask_nfs.new.link
     c.in-Err.end c.into_link-source.result.0 c.into_link-source.result.1 (g.K.Sink.taken c.args.out.now)
     (c.in-Err.ensures.asks _ c.getattr_call-call.ensures) c.in-Err.ensures.source_faults c.in-Err.ensures.sink_faults c.into_link-source.ensures.0 c.into_link-source.ensures.1)
-
-pub returns-then-not-has_memory-clause-reads : goal.returns-then-not-has_memory-clause-reads
-returns-then-not-has_memory-clause-reads g c =
-    let rest = c.into_ends-link.ensures.rest in
-    rw (sym c.self.view_is) (out_of_memory g.I.Source.left g.I.Source.given g.I.Source.faults g.O.Sink.taken g.O.Sink.faults c.self.inside.uid c.self.inside.gid c.args.file.now c.self.inside.link c.ask_nfs.new.link
-    c.in-Ok.attributes c.into_ends-link.result.requester c.into_ends-link.result.source c.into_ends-link.result.sink (g.K.Sink.taken c.args.out.now)
-    (c.in-Ok.ensures.asks _ c.getattr_call-call.ensures) c.in-Ok.ensures.source_faults c.in-Ok.ensures.sink_faults c.into_ends-link.ensures.requester rest.0 rest.1.0
-    (c.has_memory.ensures.no c.if-not-has_memory.true))
 
 pub returns-clause-reads : goal.returns-clause-reads
 returns-clause-reads g c =
