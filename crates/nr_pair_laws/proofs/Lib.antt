@@ -9,6 +9,7 @@ pub mod FileWrites
 pub mod FirstTrees
 pub mod Getting
 pub mod Kept
+pub mod LongerJournals
 pub mod Mounts
 pub mod Pairs
 pub mod Paths
