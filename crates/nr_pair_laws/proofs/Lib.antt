@@ -8,7 +8,9 @@ pub mod Created
 pub mod FileReads
 pub mod FileWrites
 pub mod FirstTrees
+pub mod Getting
 pub mod Kept
+pub mod LongerJournals
 pub mod Mounts
 pub mod Pairs
 pub mod Paths

@@ -1,5 +1,5 @@
 -- A file that `put` wrote is read by `get`: the calls of both, each answered at its place in one journal, and what is read.
-use Rattle.std.specs.Prelude.{◌≡◌, ⊤, ℕ, ◌+◌, ◌≤◌, List, [], ◌∷◌, length, drop, nat_le, Option, None, Some, Ok}
+use Rattle.std.specs.Prelude.{◌≡◌, ⊤, ℕ, ◌+◌, ◌≤◌, List, [], ◌∷◌, ◌++◌, length, drop, nat_le, Option, None, Some, Ok}
 use Rattle.nr_outside.specs.declared.moment.Moment.{Moment}
 use Rattle.nr_rpc.specs.Reading.{call_of}
 use Rattle.nr_rpc.specs.declared.cred.Cred.{Cred}
@@ -162,3 +162,8 @@ GetsGiveWhatWasPut =
     (s : Setup) (J : List Entry) (uid gid other_uid other_gid : ℕ) (export other_export path other_path : List ℕ) (names : List (List ℕ)) (input : List ℕ) (from to : ℕ) (outcomes : List Outcome)
     → IsSane s.tree → NumbersFit s J → AreIds uid gid → AreIds other_uid other_gid
     → PutsFile s J uid gid export path names input from to → GetsFile s J other_uid other_gid other_export other_path names to outcomes → bytes_read outcomes ≡ input
+
+-- A file to which a path leads at a place of a journal is there in each journal that goes on from it.
+abbrev pub FilesInLongerJournals : Type 0
+FilesInLongerJournals =
+    (s : Setup) (J more : List Entry) (names : List (List ℕ)) (bytes : List ℕ) (place : ℕ) → place ≤ length J → HoldsFile s J names bytes place → HoldsFile s (J ++ more) names bytes place

@@ -1,9 +1,10 @@
 //! Laws of a command and a connection on one link.
 
 ghost use Rattle.nr_pair_laws.specs.FirstTrees.{RootsAreSane};
+ghost use Rattle.nr_pair_laws.specs.Getting.{GetsReadTheFile};
 ghost use Rattle.nr_pair_laws.specs.Pairs.{AnsweredInLongerJournals, ConnectionsHaveARun, PairsAreServed, PairsAreTyped};
 ghost use Rattle.nr_pair_laws.specs.PutCommands.{CommandsPutTheirInput};
-ghost use Rattle.nr_pair_laws.specs.PutThenGet.{GetsGiveTheFile, GetsGiveWhatWasPut, OtherEntriesKeepTheFile, PutsLeaveTheFile, ReadsGiveTheFile};
+ghost use Rattle.nr_pair_laws.specs.PutThenGet.{FilesInLongerJournals, GetsGiveTheFile, GetsGiveWhatWasPut, OtherEntriesKeepTheFile, PutsLeaveTheFile, ReadsGiveTheFile};
 ghost use Rattle.nr_pair_laws.specs.ReadResults.{ResultsAreRead};
 
 /// A connection that doesn't run out of memory has one run of its link, which keeps the law of a link's server with each Wrote in full, and whose calls
@@ -22,9 +23,11 @@ pub fn pairs_are_served()
     ensures typed { PairsAreTyped }
 {}
 
-/// What was answered at a place of a journal was answered at that place of each journal that goes on from it.
+/// What was answered at a place of a journal was answered at that place of each journal that goes on from it (`answered`), and a file to which a path
+/// leads at that place is there too (`files`).
 pub fn answered_in_longer_journals()
-    ensures { AnsweredInLongerJournals }
+    ensures answered { AnsweredInLongerJournals }
+    ensures files { FilesInLongerJournals }
 {}
 
 /// What a client reads of the reply to a call of NFS that was answered at a place of a journal is exactly what the procedure answers over the tree at
@@ -55,4 +58,10 @@ pub fn put_then_get()
 /// calls changes what the path leads to.
 pub fn commands_put_their_input()
     ensures { CommandsPutTheirInput }
+{}
+
+/// A `get` of a command that is done, whose outcomes are replies at places of a journal as `pairs_are_served` gives them, read the file of its path, if no
+/// entry from there on changes what the path leads to; and its output took the bytes of the replies.
+pub fn commands_get_the_file()
+    ensures { GetsReadTheFile }
 {}
