@@ -43,8 +43,9 @@ pub fn roots_are_sane()
     ensures { RootsAreSane }
 {}
 
-/// A `get` after a `put` of the same path gives the input of the `put`, if both are answered by one server and no other
-/// entry of its journal between the calls changes what the path leads to.
+/// A `get` after a `put` of the same path reads the input of the `put`, if both were done, both are answered by one server
+/// at places of its journal, those of the `get` after those of the `put`, and no other entry of the journal between the
+/// calls changes what the path leads to.
 pub fn put_then_get()
     ensures left { PutsLeaveTheFile }
     ensures kept { OtherEntriesKeepTheFile }
