@@ -1,4 +1,5 @@
 pub mod AnsweredCalls
+pub mod AnyReads
 pub mod AtPlace
 pub mod Bytes
 pub mod Calls
@@ -7,12 +8,15 @@ pub mod Created
 pub mod FileReads
 pub mod FileWrites
 pub mod FirstTrees
+pub mod Getting
 pub mod Kept
+pub mod LongerJournals
 pub mod Mounts
 pub mod Pairs
 pub mod Paths
 pub mod PlacedCalls
 pub mod PutThenGet
+pub mod Putting
 pub mod ReadBack
 pub mod ReadResults
 pub mod Results

@@ -1,12 +1,29 @@
 -- A file that `put` wrote is read by `get`: the calls of both, each answered at its place in one journal, and what is read.
-use Rattle.std.specs.Prelude.{◌≡◌, ⊤, ℕ, ◌≤◌, List, [], ◌∷◌, Some, Ok}
+use Rattle.std.specs.Prelude.{◌≡◌, ⊤, ℕ, ◌+◌, ◌≤◌, List, [], ◌∷◌, ◌++◌, length, drop, nat_le, Option, None, Some, Ok}
+use Rattle.nr_outside.specs.declared.moment.Moment.{Moment}
+use Rattle.nr_rpc.specs.Reading.{call_of}
+use Rattle.nr_rpc.specs.declared.cred.Cred.{Cred}
+use Rattle.nr_rpc.specs.declared.head.CallHead.TheVariants as heads
+use Rattle.nr_nfs_base.specs.Codec.{read_all}
+use Rattle.nr_nfs_base.specs.Procedures.{nfs_procedure_number, nfs_program, nfs_version}
+use Rattle.nr_nfs_base.specs.declared.attributes.Attributes.{Attributes}
+use Rattle.nr_nfs_base.specs.declared.procedure.NfsProcedure.TheVariants as nfs
+use Rattle.nr_nfs_base.specs.declared.status.Status.{Status}
+use Rattle.nr_nfs_base.specs.declared.status_union.StatusUnion.{StatusUnion}
+use Rattle.nr_nfs_base.specs.declared.status_union.StatusUnion.TheVariants.{Done}
+use Rattle.nr_nfs_args.specs.Bytes.{read_args_codec}
+use Rattle.nr_nfs_args.specs.declared.bytes.ReadArgs.{ReadArgs}
+use Rattle.nr_nfs_res.specs.Results.{read_res_codec}
+use Rattle.nr_nfs_res.specs.declared.bytes.ReadOk.{ReadOk}
 use Rattle.nr_reduce.specs.declared.call.Call.{Call}
 use Rattle.nr_reduce.specs.declared.call.Outcome.{Outcome}
 use Rattle.nr_reduce.specs.declared.mark.Entry.{Entry}
 use Rattle.nr_tree.specs.Rules.{handle_of}
 use Rattle.nr_tree.specs.Sane.{IsSane}
 use Rattle.nr_tree.specs.declared.node.Content.TheVariants.{Regular}
+use Rattle.nr_ops_file.specs.Bytes.{piece_read}
 use Rattle.nr_plain.specs.Journal.{tree_at}
+use Rattle.nr_plain.specs.Replies.{cred_refusal, plain_reply, results_reply}
 use Rattle.nr_plain.specs.Setup.{Setup}
 use Rattle.nr_client.specs.Following.{Next, asking}
 use Rattle.nr_client.specs.Following.Next.{Calls, Returns}
@@ -115,9 +132,38 @@ GetsGiveTheFile =
     (s : Setup) (J : List Entry) (uid gid : ℕ) (export path : List ℕ) (names : List (List ℕ)) (bytes : List ℕ) (from : ℕ) (outcomes : List Outcome) → IsSane s.tree → AreIds uid gid
     → HoldsFile s J names bytes from → GetsFile s J uid gid export path names from outcomes → bytes_read outcomes ≡ bytes
 
+-- ===== any READ of the file
+
+-- A call is a READ of NFS version 3 with these arguments, under an accepted credential: whoever made it, over whichever link (RFC 5531 section 9, RFC
+-- 1813 section 3.3.6).
+pub record IsReadCall (payload : List ℕ) (xid : ℕ) (a : ReadArgs) : Type 0 where
+  pub cred : Cred
+  pub args_at : ℕ
+  pub head : call_of payload ≡ Ok (heads.Version2 xid nfs_program nfs_version (nfs_procedure_number nfs.Read) cred args_at)
+  pub accepted : cred_refusal cred ≡ None
+  pub args : read_all read_args_codec (drop args_at payload) ≡ Ok a
+
+-- These are the results in the reply. If their status is 0, the data are the bytes asked for, as many as one READ moves and the file has, and eof says
+-- whether they reach the end of the file.
+pub record ReadsOf (bytes : List ℕ) (xid : ℕ) (a : ReadArgs) (reply : List ℕ) : Type 0 where
+  pub results : StatusUnion ReadOk (Option Attributes) Status
+  pub is : reply ≡ results_reply xid read_res_codec results
+  pub given : (ok : ReadOk) → results ≡ Done ok → (ok.bytes ≡ piece_read bytes a.offset a.count) × (ok.eof ≡ nat_le (length bytes) (a.offset + length ok.bytes))
+
+-- Each READ of the file reads its bytes, also one that came over a record-marked connection.
+abbrev pub ReadsGiveTheFile : Type 0
+ReadsGiveTheFile =
+    (s : Setup) (J : List Entry) (names : List (List ℕ)) (bytes : List ℕ) (from place : ℕ) (h : HoldsFile s J names bytes from) → from ≤ place → KeepPath s J root_handle names from place →
+    (m : Moment) (payload reply : List ℕ) (xid : ℕ) (a : ReadArgs) → IsReadCall payload xid a → a.file ≡ h.file → plain_reply s J place m payload ≡ Some reply → ReadsOf bytes xid a reply
+
 -- So a `get` after a `put` of the same path gives the input, whoever makes either.
 abbrev pub GetsGiveWhatWasPut : Type 0
 GetsGiveWhatWasPut =
     (s : Setup) (J : List Entry) (uid gid other_uid other_gid : ℕ) (export other_export path other_path : List ℕ) (names : List (List ℕ)) (input : List ℕ) (from to : ℕ) (outcomes : List Outcome)
     → IsSane s.tree → NumbersFit s J → AreIds uid gid → AreIds other_uid other_gid
     → PutsFile s J uid gid export path names input from to → GetsFile s J other_uid other_gid other_export other_path names to outcomes → bytes_read outcomes ≡ input
+
+-- A file to which a path leads at a place of a journal is there in each journal that goes on from it.
+abbrev pub FilesInLongerJournals : Type 0
+FilesInLongerJournals =
+    (s : Setup) (J more : List Entry) (names : List (List ℕ)) (bytes : List ℕ) (place : ℕ) → place ≤ length J → HoldsFile s J names bytes place → HoldsFile s (J ++ more) names bytes place

@@ -1,8 +1,10 @@
 //! Laws of a command and a connection on one link.
 
 ghost use Rattle.nr_pair_laws.specs.FirstTrees.{RootsAreSane};
+ghost use Rattle.nr_pair_laws.specs.Getting.{GetsReadTheFile};
 ghost use Rattle.nr_pair_laws.specs.Pairs.{AnsweredInLongerJournals, ConnectionsHaveARun, PairsAreServed, PairsAreTyped};
-ghost use Rattle.nr_pair_laws.specs.PutThenGet.{GetsGiveTheFile, GetsGiveWhatWasPut, OtherEntriesKeepTheFile, PutsLeaveTheFile};
+ghost use Rattle.nr_pair_laws.specs.PutCommands.{CommandsPutTheirInput};
+ghost use Rattle.nr_pair_laws.specs.PutThenGet.{FilesInLongerJournals, GetsGiveTheFile, GetsGiveWhatWasPut, OtherEntriesKeepTheFile, PutsLeaveTheFile, ReadsGiveTheFile};
 ghost use Rattle.nr_pair_laws.specs.ReadResults.{ResultsAreRead};
 
 /// A connection that doesn't run out of memory has one run of its link, which keeps the law of a link's server with each Wrote in full, and whose calls
@@ -21,9 +23,11 @@ pub fn pairs_are_served()
     ensures typed { PairsAreTyped }
 {}
 
-/// What was answered at a place of a journal was answered at that place of each journal that goes on from it.
+/// What was answered at a place of a journal was answered at that place of each journal that goes on from it (`answered`), and a file to which a path
+/// leads at that place is there too (`files`).
 pub fn answered_in_longer_journals()
-    ensures { AnsweredInLongerJournals }
+    ensures answered { AnsweredInLongerJournals }
+    ensures files { FilesInLongerJournals }
 {}
 
 /// What a client reads of the reply to a call of NFS that was answered at a place of a journal is exactly what the procedure answers over the tree at
@@ -39,11 +43,26 @@ pub fn roots_are_sane()
     ensures { RootsAreSane }
 {}
 
-/// A `get` after a `put` of the same path gives the input of the `put`, if both are answered by one server and no other
-/// entry of its journal between the calls changes what the path leads to.
+/// A `get` after a `put` of the same path reads the input of the `put`, if both were done, both are answered by one server
+/// at places of its journal, those of the `get` after those of the `put`, and no other entry of the journal between the
+/// calls changes what the path leads to.
 pub fn put_then_get()
     ensures left { PutsLeaveTheFile }
     ensures kept { OtherEntriesKeepTheFile }
     ensures given { GetsGiveTheFile }
     ensures both { GetsGiveWhatWasPut }
+    ensures read { ReadsGiveTheFile }
+{}
+
+/// After the last call of a `put` command that was done, and whose calls are answered as `pairs_are_served` says, its
+/// path leads to a file with exactly the bytes that its input gave, which had no more, if no entry of others between its
+/// calls changes what the path leads to.
+pub fn commands_put_their_input()
+    ensures { CommandsPutTheirInput }
+{}
+
+/// A `get` of a command that is done, whose outcomes are replies at places of a journal as `pairs_are_served` gives them, read the file of its path, if no
+/// entry from there on changes what the path leads to; and its output took the bytes of the replies.
+pub fn commands_get_the_file()
+    ensures { GetsReadTheFile }
 {}

@@ -1,3 +1,4 @@
+use Rattle.nr_pair_laws.proofs.AnyReads.{any_read}
 use Rattle.nr_pair_laws.proofs.PutThenGet.{get_gives, others_keep, put_leaves, put_then_get}
 use Rattle.nr_pair_laws.proofs.laws.put_then_get.Goals as goal
 
@@ -12,3 +13,6 @@ returns-clause-given c = get_gives
 
 pub returns-clause-both : goal.returns-clause-both
 returns-clause-both c = put_then_get
+
+pub returns-clause-read : goal.returns-clause-read
+returns-clause-read c = any_read

@@ -1,0 +1,230 @@
+-- The calls of a `get` by its exchanges, each answered at a place of a journal.
+use Rattle.std.proofs.Common.{◌≡◌, ◌⊎◌, ℕ, ◌+◌, ◌≤◌, ◌<◌, Bool, true, false, List, [], ◌∷◌, ◌++◌, length, map, Option, Result, Ok, Err, inl, inr, refl, sym, ap, subst, ◌∙◌, arith}
+use Rattle.std.specs.Prelude.{MatchBool, nat_lt}
+use Rattle.std.specs.List.{AllByRecursion}
+use Rattle.std.specs.Io.KnownBytes.{Appends}
+use Rattle.nr_outside.specs.Streams.{SinkAt}
+use Rattle.nr_words.specs.Limits.{mount_path_max}
+use Rattle.nr_reduce.specs.declared.call.Call.{Call}
+use Rattle.nr_reduce.specs.declared.call.Outcome.{Outcome}
+use Rattle.nr_reduce.specs.declared.mark.Entry.{Entry}
+use Rattle.nr_requester.specs.RequesterState.{RequesterSide}
+use Rattle.nr_plain.specs.Setup.{Setup}
+use Rattle.nr_client.specs.declared.client_end.ClientEnd.{ClientEnd}
+use Rattle.nr_client.specs.declared.client_end.ClientEnd.TheVariants as client
+use Rattle.nr_client.specs.Following.{EndsWith, Follows, MakesCalls, Next}
+use Rattle.nr_client.specs.Following.Next.{Calls, Returns}
+use Rattle.nr_client.specs.Reading.{EndsReading, LeadsBy, OpenRead, ReadStep, ReadingAt, ReadsFile, TakesRead, bytes_read, reading, starts_at}
+use Rattle.nr_client.specs.Reading.EndsReading.{EndsByReplies, NotAnswered, NotSubmitted, OldestForgotten, OutputFails}
+use Rattle.nr_client.specs.Reading.ReadStep.{AsksAhead, MakesAlone, TakesOldest}
+use Rattle.nr_client.specs.Requests.{Asks, mnt_call, mnt_result}
+use Rattle.nr_client.specs.Transfers.{LinkBytes}
+use Rattle.nr_client.specs.Walking.{walk_next}
+use Rattle.nr_commands.specs.Commands.{Finds, Gets, Mounts, ReadsOut}
+use Rattle.nr_commands.specs.Sessions.{Fails, Request, Requests, SessionAt, Then}
+use Rattle.nr_service_laws.specs.Exchanges.{Exchange, asked_exchanges, followed_exchanges, made_exchanges, read_exchanges, reading_end_exchanges, step_exchanges, steps_exchanges, tells_finds, tells_mounts, tells_reads_out, tells_request, within_exchanges}
+use Rattle.nr_service_laws.specs.Exchanges.Exchange.{Answered, Forgotten, GivenUp, HandedOver, Submitted}
+use Rattle.nr_service_laws.specs.ReplyEnds.{AreAnswers}
+use Rattle.nr_service_laws.proofs.Judged.{answers_more}
+use Rattle.nr_service_laws.proofs.JudgedParts.{AreJudged, IsOf, judged_both, reads_after}
+use Rattle.nr_pair_laws.specs.FilesAt.{KeepPath}
+use Rattle.nr_pair_laws.specs.Getting.{GetsReadTheFile}
+use Rattle.nr_pair_laws.specs.Pairs.{AreAnsweredFrom, IsAnsweredAt, IsAnsweredBetween, OpenCall, place_after}
+use Rattle.nr_pair_laws.specs.PutThenGet.{AnsweredSince, GetsFile, OnCall, mounting, root_handle}
+
+-- ---- Each outcome at a place
+
+module _ (s : Setup) (J : List Entry) (from : ℕ) where
+  abbrev pub AnsweredAfter : Call → Outcome → Type 0
+  AnsweredAfter call o = (place : ℕ) × ((answered : IsAnsweredAt s J call o place) × (from ≤ place))
+
+  abbrev open_read : OpenCall → OpenRead
+  open_read c = record { xid = c.xid; call = c.call }
+
+  found : (next : ℕ) (xid : ℕ) (outcome : Outcome) (waiting : List OpenCall) → AllByRecursion (λ (c : OpenCall). from ≤ c.least) waiting
+      → AllByRecursion (λ (c : OpenCall). c.xid ≡ xid → IsAnsweredBetween s J c.call outcome c.least next) waiting → (call : Call) → IsOf (map open_read waiting) xid call → AnsweredAfter call outcome
+  found next xid outcome [] low each call of = absurd of
+  found next xid outcome (c ∷ waiting) low each call (inl (same, is)) =
+      let a = each.0 same in
+      let first = low.0 in
+      let least = a.1.1.0 in
+      subst (λ (k : Call). AnsweredAfter k outcome) is (a.0, (a.1.0, (let m : from ≤ a.0 = omega (arith, first, least) in m)))
+  found next xid outcome (c ∷ waiting) low each call (inr of) = found next xid outcome waiting low.1 each.1 call of
+
+  pub judged : (made : List Exchange) (waiting : List OpenCall) (least : ℕ) → from ≤ least → AllByRecursion (λ (c : OpenCall). from ≤ c.least) waiting → AreAnsweredFrom s J least waiting made
+      → AreJudged AnsweredAfter (map open_read waiting) made
+  judged [] waiting least first low are = tt
+  judged (Answered call outcome ∷ made) waiting least first low (place, (a, (above, rest))) =
+      let here : from ≤ place = omega (arith, first, above) in
+      ((place, (a, here)), judged made waiting (place_after s J call outcome place a) (omega (arith, here)) low rest)
+  judged (Submitted xid call ∷ made) waiting least first low are = judged made (record { xid = xid; call = call; least = least } ∷ waiting) least first (first, low) are
+  judged (HandedOver xid outcome ∷ made) waiting least first low (next, (above, (each, rest))) =
+      ((λ call of. found next xid outcome waiting low each call of), judged made waiting next (omega (arith, first, above)) low rest)
+  judged (Forgotten call ∷ made) waiting least first low are = judged made waiting least first low are
+  judged (GivenUp xid ∷ made) waiting least first low are = judged made waiting least first low are
+
+  -- ---- Requests
+
+  since : {A : Type 0} (dir : List ℕ) (names : List (List ℕ)) → KeepPath s J dir names from (length J) → (request : List Outcome → Next A) (outcomes : List Outcome) → AreAnswers AnsweredAfter request outcomes
+      → AnsweredSince s J (KeepPath s J dir names) request outcomes from
+  since dir names keep request [] are = tt
+  since {A} dir names keep request (o ∷ later) ((call, (is, (place, (a, low)))), rest) =
+      let within = a.at.within in
+      let others : KeepPath s J dir names from place = (λ k lo hi. keep k lo (omega (arith, hi, within))) in
+      let then = since dir names keep (λ more. request (o ∷ more)) later rest in
+      subst (λ (n : Next A). OnCall n (λ c. (p : ℕ) × (answered : IsAnsweredAt s J c o p) × ((from ≤ p) × (KeepPath s J dir names from p
+      × AnsweredSince s J (KeepPath s J dir names) (λ more. request (o ∷ more)) later from)))) (sym is) (place, a, (low, (others, then)))
+
+answers_of : {A : Type 0} (R : Call → Outcome → Type 0) (request : List Outcome → Next A) (outcomes : List Outcome) (b c : LinkBytes) (h i : RequesterSide) (made : MakesCalls request outcomes b c h i) (before : List OpenRead)
+    → AreJudged R before (made_exchanges request outcomes b c h i made).made → AreAnswers R request outcomes
+answers_of R request [] b c h i made before are = tt
+answers_of R request (outcome ∷ outcomes) b c h i (call, d, j, (is, (answers, rest))) before (one, are) =
+    ((call, (is, one)), answers_of R (λ later. request (outcome ∷ later)) outcomes d c j i rest before are)
+
+-- a request that has its value by these outcomes
+record HasValue {A : Type 0} (R : Call → Outcome → Type 0) (request : List Outcome → Next A) (value : A) : Type 0 where
+  outcomes : List Outcome
+  answers : AreAnswers R request outcomes
+  is : request outcomes ≡ Returns (Ok value)
+
+followed : {A : Type 0} (R : Call → Outcome → Type 0) (request : List Outcome → Next A) (b c : LinkBytes) (h i : RequesterSide) (value : A) (f : Follows request b c h i (Ok value)) (before : List OpenRead)
+    → AreJudged R before (followed_exchanges request b c h i (Ok value) f).made → HasValue R request value
+followed {A} R request b c h i value f before are =
+    let made = (made_exchanges request f.outcomes b f.between h f.side f.made).made in
+    record { outcomes = f.outcomes; answers = answers_of R request f.outcomes b f.between h f.side f.made before (judged_both R before made _ are).0; is = ends (request f.outcomes) f.ends }
+  where
+    ends : (next : Next A) → EndsWith next f.between c f.side i (Ok value) → next ≡ Returns (Ok value)
+    ends (Returns result) (gives, same) = ap (λ (r : Result A ClientEnd). Returns r) gives
+    ends (Calls call) (end, (same, gone)) = absurd (let wrong = same in cc)
+
+-- MNT
+mounted : (R : Call → Outcome → Type 0) (uid gid : ℕ) (export : List ℕ) (s m : SessionAt) (root : List ℕ) (b : Bool) → (is : MatchBool b (Fails (client.Budget mount_path_max) s m (Ok root)) (Request mnt_result (mnt_call uid gid export) s m (Ok root)))
+    → AreJudged R [] (within_exchanges b (Fails (client.Budget mount_path_max) s m (Ok root)) (Request mnt_result (mnt_call uid gid export) s m (Ok root)) (tells_request mnt_result (mnt_call uid gid export) s m (Ok root)) is).made
+    → (o : Outcome) × ((mnt_result o ≡ Ok root) × R (mnt_call uid gid export) o)
+mounted R uid gid export s m root true (same, wrong) are = absurd (let w = wrong in cc)
+mounted R uid gid export s m root false ((inl (o, (answers, gives))), counts) are = (o, (gives, are.0))
+mounted R uid gid export s m root false ((inr (inl (cause, (wrong, rest)))), counts) are = absurd (let w = wrong in cc)
+mounted R uid gid export s m root false ((inr (inr (wrong, same))), counts) are = absurd (let w = wrong in cc)
+
+-- ---- A file that is read
+
+AllOf : List OpenRead → List OpenRead → Type 0
+AllOf reads [] = Unit {0}
+AllOf reads (read ∷ waiting) = IsOf reads read.xid read.call × AllOf reads waiting
+
+all_more : (read : OpenRead) (reads waiting : List OpenRead) → AllOf reads waiting → AllOf (read ∷ reads) waiting
+unfolding AllOf
+all_more read reads [] all = tt
+all_more read reads (x ∷ waiting) (is, all) = (inr is, all_more read reads waiting all)
+
+all_last : (read : OpenRead) (reads waiting : List OpenRead) → AllOf reads waiting → IsOf reads read.xid read.call → AllOf reads (waiting ++ read ∷ [])
+unfolding AllOf
+all_last read reads [] all is = (is, tt)
+all_last read reads (x ∷ waiting) (one, all) is = (one, all_last read reads waiting all is)
+
+record IsReadSoFar (R : Call → Outcome → Type 0) (uid gid : ℕ) (file : List ℕ) (reads : List OpenRead) (s : ReadingAt) : Type 0 where
+  answers : AreAnswers R (reading uid gid file) s.outcomes
+  waiting : AllOf reads s.waiting
+
+step_judged : (R : Call → Outcome → Type 0) (uid gid : ℕ) (file : List ℕ) (reads : List OpenRead) (s t : ReadingAt) (step : ReadStep uid gid file s t) → IsReadSoFar R uid gid file reads s
+    → AreJudged R reads (step_exchanges uid gid file s t step).made → IsReadSoFar R uid gid file (reads_after reads (step_exchanges uid gid file s t step).made) t
+unfolding AllOf
+step_judged R uid gid file reads s t (MakesAlone call outcome alone answers replies waits) so_far (one, are) = record {
+  answers = subst (λ (os : List Outcome). AreAnswers R (reading uid gid file) os) (sym replies) (answers_more R (reading uid gid file) s.outcomes call outcome so_far.answers alone.0 one);
+  waiting = subst (λ (w : List OpenRead). AllOf reads w) (sym waits) so_far.waiting;
+}
+step_judged R uid gid file reads s t (AsksAhead read ahead submits replies waits) so_far are = record {
+  answers = subst (λ (os : List Outcome). AreAnswers R (reading uid gid file) os) (sym replies) so_far.answers;
+  waiting = subst (λ (w : List OpenRead). AllOf (record { xid = read.xid; call = read.call } ∷ reads) w) (sym waits)
+      (all_last read (record { xid = read.xid; call = read.call } ∷ reads) s.waiting (all_more (record { xid = read.xid; call = read.call }) reads s.waiting so_far.waiting) (inl (refl, refl)));
+}
+step_judged R uid gid file reads s t (TakesOldest read outcome full is completes replies waits) so_far (one, are) =
+    let all = subst (λ (w : List OpenRead). AllOf reads w) waits so_far.waiting in
+    record {
+      answers = subst (λ (os : List Outcome). AreAnswers R (reading uid gid file) os) (sym replies)
+          (answers_more R (reading uid gid file) s.outcomes read.call outcome so_far.answers is (one read.call all.0));
+      waiting = all.1;
+    }
+
+after_both : (rs : List OpenRead) (made later : List Exchange) → reads_after rs (made ++ later) ≡ reads_after (reads_after rs made) later
+after_both rs [] later = refl
+after_both rs (Answered call outcome ∷ rest) later = after_both rs rest later
+after_both rs (Forgotten call ∷ rest) later = after_both rs rest later
+after_both rs (Submitted xid call ∷ rest) later = after_both (record { xid = xid; call = call } ∷ rs) rest later
+after_both rs (HandedOver xid outcome ∷ rest) later = after_both rs rest later
+after_both rs (GivenUp xid ∷ rest) later = after_both rs rest later
+
+steps_judged : (R : Call → Outcome → Type 0) (uid gid : ℕ) (file : List ℕ) (reads : List OpenRead) (b : LinkBytes) (h : RequesterSide) (states : List ReadingAt) (last : ReadingAt) (leads : LeadsBy uid gid file (starts_at b h) states last)
+    → AreJudged R reads (steps_exchanges uid gid file (starts_at b h) states last leads).made → IsReadSoFar R uid gid file (reads_after reads (steps_exchanges uid gid file (starts_at b h) states last leads).made) last
+unfolding AllOf
+steps_judged R uid gid file reads b h [] last same are = subst (λ (s : ReadingAt). IsReadSoFar R uid gid file reads s) (sym same) (record { answers = tt; waiting = tt })
+steps_judged R uid gid file reads b h (s ∷ states) last (step, leads) are =
+    let before = (steps_exchanges uid gid file (starts_at b h) states s leads).made in
+    let one = (step_exchanges uid gid file s last step).made in
+    let both = judged_both R reads before one are in
+    subst (λ (r : List OpenRead). IsReadSoFar R uid gid file r last) (sym (after_both reads before one))
+    (step_judged R uid gid file (reads_after reads before) s last step (steps_judged R uid gid file reads b h states s leads both.0) both.1)
+
+-- a file that was read to its end
+record IsReadWhole (R : Call → Outcome → Type 0) (uid gid : ℕ) (file : List ℕ) (taken taken' : Option (List ℕ)) : Type 0 where
+  outcomes : List Outcome
+  answers : AreAnswers R (reading uid gid file) outcomes
+  is : reading uid gid file outcomes ≡ Returns (Ok tt)
+  takes : Appends taken taken' (bytes_read outcomes)
+
+read_whole : (R : Call → Outcome → Type 0) (uid gid : ℕ) (file : List ℕ) (b c : LinkBytes) (h i : RequesterSide) (taken taken' : Option (List ℕ)) (f : ReadsFile uid gid file b c h i taken taken' (Ok tt)) (before : List OpenRead)
+    → AreJudged R before (read_exchanges uid gid file b c h i taken taken' (Ok tt) f).made → IsReadWhole R uid gid file taken taken'
+read_whole R uid gid file b c h i taken taken' f before are =
+    by f.ends (steps_judged R uid gid file before b h f.between f.last f.made (judged_both R before (steps_exchanges uid gid file (starts_at b h) f.between f.last f.made).made _ are).0).answers
+  where
+    takes_all : TakesRead (Ok tt) f.last.outcomes taken taken' → Appends taken taken' (bytes_read f.last.outcomes)
+    takes_all (inl takes) = takes
+    takes_all (inr (wrong, rest)) = absurd (let w = wrong in cc)
+
+    returned : (◌≡◌ {A = Result (Unit {0}) ClientEnd} (Ok tt) (Err client.Memory)) ⊎ (reading uid gid file f.last.outcomes ≡ Returns (Ok tt)) → reading uid gid file f.last.outcomes ≡ Returns (Ok tt)
+    returned (inl wrong) = absurd (let w = wrong in cc)
+    returned (inr is) = is
+
+    by : EndsReading uid gid file f.last f.left c f.side taken taken' (Ok tt) → AreAnswers R (reading uid gid file) f.last.outcomes → IsReadWhole R uid gid file taken taken'
+    by (EndsByReplies same is waits takes) answers = record { outcomes = f.last.outcomes; answers = answers; is = returned is; takes = takes_all takes }
+    by (OutputFails wrong same waits takes) answers = absurd (let w = wrong in cc)
+    by (NotAnswered call end alone wrong unanswered waits takes) answers = absurd (let w = wrong in cc)
+    by (NotSubmitted call end ahead wrong refused waits takes) answers = absurd (let w = wrong in cc)
+    by (OldestForgotten read end full is wrong forgets waits takes) answers = absurd (let w = wrong in cc)
+
+-- ---- The command
+
+pub gets_read_the_file_lem : GetsReadTheFile
+gets_read_the_file_lem s J uid gid export path names out out' before after text from (inr (end, (finds, (wrong, same)))) are_names keep are = absurd (let w = wrong in cc)
+gets_read_the_file_lem s J uid gid export path names out out' before after text from (inl (file, (mid, (inr (end, (is, wrong)), reads)))) are_names keep are = absurd (let w = wrong in cc)
+gets_read_the_file_lem s J uid gid export path names out out' before after text from (inl (file, (mid, (inl (root, (m, (mounts, walks))), (Err end, ((reads, counts), silent)))))) are_names keep are = absurd silent
+gets_read_the_file_lem s J uid gid export path names out out' before after text from (inl (file, (mid, (inl (root, (m, (mounts, walks))), (Ok done, ((reads, counts), silent)))))) are_names keep are =
+    let R = AnsweredAfter s J from in
+    let finds_made = (tells_finds uid gid export path before mid (Ok file) (inl (root, (m, (mounts, walks))))).made in
+    let reads_made = (tells_reads_out uid gid file out out' mid after (Ok text) (Ok done, ((reads, counts), silent))).made in
+    let all = judged s J from (finds_made ++ reads_made) [] from (omega arith) tt are in
+    let parts = judged_both R [] finds_made reads_made all in
+    let mounts_made = (tells_mounts uid gid export before m (Ok root) mounts).made in
+    let walks_made = (followed_exchanges (walk_next uid gid root path) m.bytes mid.bytes m.requester mid.requester (Ok file) walks.0).made in
+    let found_parts = judged_both R [] mounts_made walks_made parts.0 in
+    let mount = mounted R uid gid export before m root (nat_lt mount_path_max (length export)) mounts found_parts.0 in
+    let walk = followed R (walk_next uid gid root path) m.bytes mid.bytes m.requester mid.requester file walks.0 (reads_after [] mounts_made) found_parts.1 in
+    let read = read_whole R uid gid file mid.bytes after.bytes mid.requester after.requester out.taken out'.taken reads (reads_after [] finds_made) parts.1 in (
+      read.outcomes,
+      (
+        record {
+          names_are = are_names;
+          root = root;
+          mounted = mount.0;
+          mounts = since s J from root_handle names keep (mounting uid gid export) (mount.0 ∷ []) ((mnt_call uid gid export, (refl, mount.1.1)), tt);
+          root_is = mount.1.0;
+          file = file;
+          found = walk.outcomes;
+          finds = since s J from root_handle names keep (walk_next uid gid root path) walk.outcomes walk.answers;
+          file_is = walk.is;
+          reads = since s J from root_handle names keep (reading uid gid file) read.outcomes read.answers;
+          done = read.is;
+        },
+        read.takes,
+      ),
+    )
