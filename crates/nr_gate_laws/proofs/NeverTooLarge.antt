@@ -1,5 +1,6 @@
 -- A gateway's call isn't refused as too large: it has at most the bytes of its record, and each Send of the remote link has room for its header.
-use Rattle.std.proofs.Common.{◌≡◌, ◌⊎◌, ⊎_elim, ℕ, ◌≤◌, Bool, true, false, cond, List, [], ◌∷◌, ◌++◌, length, Option, None, Some, Result, Ok, Err, sym, subst, ap, ◌∙◌, arith}
+use Rattle.std.proofs.Common.{◌≡◌, ◌⊎◌, ⊎_elim, ℕ, ◌≤◌, Bool, true, false, cond, List, [], ◌∷◌, ◌++◌, length, Option, None, Some, Result, Ok, Err, sym, subst, ap, arith}
+use Rattle.std.specs.Prelude.{◌-◌, nat_le, nat_lt}
 use Rattle.std.specs.List.{AllByRecursion}
 use Rattle.nr_xdr.specs.Item.{IsBytes}
 use Rattle.nr_header.specs.Constants.{PAYLOAD_MAX}
@@ -13,6 +14,7 @@ use Rattle.nr_link.proofs.Agreements.{agreements_bounded}
 use Rattle.nr_record.specs.RecordsState.{IsInLimit}
 use Rattle.nr_reduce.specs.declared.call.Call.{Call}
 use Rattle.nr_reduce.specs.declared.call.Form.TheVariants as forms
+use Rattle.nr_reduce.specs.declared.call.Refused.{Refused}
 use Rattle.nr_reduce.specs.declared.call.Refused.TheVariants as refusals
 use Rattle.nr_reduce.specs.declared.call.Submission.{Submission}
 use Rattle.nr_reduce.specs.declared.call.Submission.TheVariants as submissions
@@ -25,7 +27,8 @@ use Rattle.nr_reduce.specs.EndRules.{EndState, end_state_after, next_end_state, 
 use Rattle.nr_reduce.specs.Events.{RunEvent, events}
 use Rattle.nr_reduce.specs.Events.RunEvent.{FrameReceived, CallSubmitted, MemoryRevoked, CallExecuted, QueueWritten, ServerTold}
 use Rattle.nr_reduce.specs.Hellos.{client_agreement, client_private, private_of}
-use Rattle.nr_reduce.specs.Plans.{TooLarge, plan_in_form}
+use Rattle.nr_reduce.specs.Limits.{numbers_end}
+use Rattle.nr_reduce.specs.Plans.{TooLarge, plan_in_form, regions_needed}
 use Rattle.nr_reduce.specs.Run.{client}
 use Rattle.nr_reduce.specs.SubmitAnswer.{answer_by, by_plan, submit_answer}
 use Rattle.nr_turnstile.specs.declared.turnstile.Pass.{Pass}
@@ -38,7 +41,7 @@ use Rattle.nr_shared.specs.Histories.{FitsHistory, run_of}
 use Rattle.nr_shared.specs.Waiting.{NoAnswer, SendsNone}
 use Rattle.nr_gate.specs.declared.gate_end.GateEnd.{GateEnd}
 use Rattle.nr_gate.specs.declared.gate_end.GateEnd.TheVariants as ends
-use Rattle.nr_gate.specs.Forwarding.{Asks, forwarded}
+use Rattle.nr_gate.specs.Forwarding.{Asks}
 use Rattle.nr_gate.specs.Gating.{Gates, Makes}
 use Rattle.nr_gate_laws.specs.NeverTooLarge.{ConnectionsNeverEndTooLarge, LinksNeverEndTooLarge}
 use Rattle.nr_gate_laws.proofs.AutoFits.{auto_fits}
@@ -101,12 +104,16 @@ IsTooLarge (submissions.Refused (refusals.TooLarge need room)) = Unit {0}
 IsTooLarge answer = ⊥
 
 planned : (k : ClientState) (plan : Plan) → IsTooLarge (by_plan k (Ok plan)) → ⊥
-planned k plan = by _ _ _ where
-  by : (b c d : Bool) {out grant left need left' need' xid : ℕ} → IsTooLarge (cond b (submissions.Refused (refusals.NoCredit out grant)) (cond c (submissions.Refused (refusals.Spent left need)) (cond d (submissions.Refused (refusals.Spent left' need')) (submissions.Accepted xid)))) → ⊥
-  by true c d h = h
-  by false true d h = h
-  by false false true h = h
-  by false false false h = h
+planned k plan =
+    by (nat_le k.grant (length k.outstanding)) (nat_lt (numbers_end - k.next_xid) 1) (nat_lt (numbers_end - k.stag) (regions_needed plan))
+    (refusals.NoCredit (length k.outstanding) k.grant) (refusals.Spent (numbers_end - k.next_xid) 1) (refusals.Spent (numbers_end - k.stag) (regions_needed plan))
+    (λ h. h) (λ h. h) (λ h. h) where
+      by : (b c d : Bool) (credit xids stags : Refused) → (IsTooLarge (submissions.Refused credit) → ⊥) → (IsTooLarge (submissions.Refused xids) → ⊥) → (IsTooLarge (submissions.Refused stags) → ⊥)
+          → IsTooLarge (cond b (submissions.Refused credit) (cond c (submissions.Refused xids) (cond d (submissions.Refused stags) (submissions.Accepted k.next_xid)))) → ⊥
+      by true c d credit xids stags x y z h = x h
+      by false true d credit xids stags x y z h = y h
+      by false false true credit xids stags x y z h = z h
+      by false false false credit xids stags x y z h = h
 
 answered : (k : ClientState) (call : Call) (ended : Option End) → HasUnit k → length (call_payload k.next_xid call) ≤ PAYLOAD_MAX → IsTooLarge (answer_by k call forms.Auto ended) → ⊥
 unfolding plan_for
