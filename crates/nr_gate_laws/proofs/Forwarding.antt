@@ -17,12 +17,14 @@ use Rattle.nr_rpc.specs.declared.head.CallHead.{CallHead}
 use Rattle.nr_rpc.specs.declared.head.CallHead.TheVariants as calls
 use Rattle.nr_rpc.proofs.Calls.{call_begins, call_written}
 use Rattle.nr_outside.specs.declared.moment.Moment.{Moment}
+use Rattle.nr_reduce.specs.ClientState.{call_payload}
+use Rattle.nr_reduce.specs.declared.call.Call.{Call}
 use Rattle.nr_reduce.specs.declared.mark.Entry.{Entry as JournalEntry}
 use Rattle.nr_plain.specs.Journal.{state_of}
 use Rattle.nr_plain.specs.Setup.{Parameters, Setup, State}
 use Rattle.nr_plain.specs.Replies.{Answer, answer_by, call_by_cred, cred_refusal, plain_answer, plain_reply, program_call}
 use Rattle.nr_gate.proofs.Asked.{can_write}
-use Rattle.nr_gate.specs.Forwarding.{forwarded, forwarded_by, with_xid}
+use Rattle.nr_gate.specs.Forwarding.{Asks, forwarded, forwarded_by, with_xid}
 use Rattle.nr_gate_laws.specs.Forwarded.{answer_with_xid}
 use Rattle.nr_gate_laws.proofs.Worded.{IsWorded, alike, call_worded}
 
@@ -146,6 +148,12 @@ no_longer x q bytes = by_head (call_of q) refl where
       omega (arith, short, at_is, ap length is, length-append front rest, length-append head (drop at q), length-drop at q)
   by_head (Ok (calls.Other xid rpcvers)) e = le_refl (length q)
   by_head (Err at) e = le_refl (length q)
+
+-- it is the payload of the call that the record asks for
+pub forwarded_payload : (xid x : ℕ) (asked : Call) (q : List ℕ) → Asks q xid asked → forwarded x q ≡ call_payload x asked
+unfolding call_payload
+forwarded_payload xid x asked q asks =
+    ap (forwarded_by x q) asks.head ∙ ap (λ (l : List ℕ). call_payload x (record asked { args = l })) (sym asks.args)
 
 -- ---- how it is answered
 

@@ -3,7 +3,7 @@ use Rattle.std.proofs.Common.{◌≡◌, ◌⊎◌, ⊎_elim, inl, inr, ℕ, ◌
 use Rattle.std.specs.Prelude.{is_some}
 use Rattle.std.specs.Option.{option_map}
 use Rattle.std.specs.List.{AllByRecursion, flat_map}
-use Rattle.std.proofs.lemmas.List.{take_all}
+use Rattle.std.proofs.lemmas.List.{length-append, take-append-le, take_all}
 use Rattle.nr_xdr.specs.Item.{IsBytes}
 use Rattle.nr_outside.specs.declared.moment.Moment.{Moment}
 use Rattle.nr_rpc.specs.Reading.{target_of}
@@ -50,11 +50,11 @@ use Rattle.nr_shared.specs.Histories.{mark_at, run_of}
 use Rattle.nr_shared.specs.Waiting.{Calls, NoAnswer, SendsNone}
 use Rattle.nr_gate.specs.declared.gate_end.GateEnd.{GateEnd}
 use Rattle.nr_gate.specs.declared.gate_end.GateEnd.TheVariants as ends
-use Rattle.nr_gate.specs.Forwarding.{Asks, forwarded, forwarded_by, with_xid}
+use Rattle.nr_gate.specs.Forwarding.{Asks, forwarded, with_xid}
 use Rattle.nr_gate.specs.Gating.{EndsRemotely, Forwards, ForwardsAll, Gates, HasOutcome, IsForwarded, IsMismatch, IsUnfit, Makes, Unforwarded}
 use Rattle.nr_gate.proofs.Steps.{remote_made}
-use Rattle.nr_gate_laws.specs.GatedReplies.{ArePlain, GatedLinksArePlain, GatedRepliesArePlain, IsRemoteLink}
-use Rattle.nr_gate_laws.proofs.Forwarding.{reply_comes_back}
+use Rattle.nr_gate_laws.specs.GatedReplies.{ArePlain, GatedLinksArePlain, GatedRepliesArePlain, IsPlain, IsRemoteLink, PlainInLongerJournals}
+use Rattle.nr_gate_laws.proofs.Forwarding.{forwarded_payload, reply_comes_back}
 use Rattle.nr_gate_laws.proofs.Remote.{Between, Kept, between, kept, run_at, shorter_begins}
 
 begins_then : {E : Type 0} (xs ys zs : List E) → Begins xs ys → Begins ys zs → Begins xs zs
@@ -122,11 +122,9 @@ module _ (s : Setup) (J : List JournalEntry) (place : ℕ) (moment : Moment) whe
   -- the reply to the forwarded call, with the record's own xid
   forwarded_plain : (xid x : ℕ) (asked : Call) (bytes payload reply : List ℕ) → IsBytes bytes → x < 2 ^ 32 → Asks bytes xid asked
       → plain_reply s J place moment (call_payload x asked) ≡ Some payload → reply ≡ with_xid xid payload → plain_reply s J place moment bytes ≡ Some reply
-  unfolding call_payload
   forwarded_plain xid x asked bytes payload reply is_bytes fits asks is reply_is =
       let head : CallHead = calls.Version2 xid asked.prog asked.vers asked.proc asked.cred asks.args_at in
-      let sent : forwarded x bytes ≡ call_payload x asked =
-      ap (forwarded_by x bytes) asks.head ∙ ap (λ (l : List ℕ). call_payload x (record asked { args = l })) (sym asks.args) in
+      let sent : forwarded x bytes ≡ call_payload x asked = forwarded_payload xid x asked bytes asks in
       sym (reply_comes_back s J place moment x bytes head is_bytes fits (ap (λ (r : Result CallHead ℕ). is_some (target_of r)) asks.head) asks.head)
       ∙ ap (λ (l : List ℕ). option_map (with_xid xid) (plain_reply s J place moment l)) sent
       ∙ ap (option_map (with_xid xid)) is ∙ ap Some (sym reply_is)
@@ -164,6 +162,7 @@ module _ (s : Setup) (J : List JournalEntry) (opened : LinkParameters) (link : �
     place : ℕ
     moment : Moment
     rises : least ≤ place
+    within : place ≤ length J
     plain : plain_reply s J place moment bytes ≡ Some reply
     next : IsLeast seen place
 
@@ -220,6 +219,7 @@ module _ (s : Setup) (J : List JournalEntry) (opened : LinkParameters) (link : �
           place = own.place;
           moment = own.moment;
           rises = rises own.place own.moment own.payload own.before there;
+          within = h.plain_replies.within;
           plain = forwarded_plain s J own.place own.moment f.xid xid f.asked bytes f.payload reply is_bytes accepted.xids f.asks
               (subst (λ (l : List ℕ). plain_reply s J own.place own.moment l ≡ Some f.payload) (sym sent) replied) f.reply_is;
           next = inr (record {
@@ -264,26 +264,18 @@ module _ (s : Setup) (J : List JournalEntry) (opened : LinkParameters) (link : �
   no_moment = record { seconds = 0; nanos = 0 }
 
   all_plain : {O C : Type 0} (p q : Pass (RequesterWithSink O C) Entry) (xs : List Exchange) (least : ℕ) → ForwardsAll p q xs → Begins (seen_by q) history → AllByRecursion IsBytes (exchanged_calls xs)
-      → IsLeast (seen_by p) least → ArePlain s J least xs
-  all_plain {O} {C} p q [] least all begins bytes prior = tt
-  all_plain {O} {C} p q (x ∷ xs) least (m, (one, later)) begins bytes prior = ⊎_elim
+      → IsLeast (seen_by p) least → least ≤ length J → ArePlain s J least xs
+  all_plain {O} {C} p q [] least all begins bytes prior within = tt
+  all_plain {O} {C} p q (x ∷ xs) least (m, (one, later)) begins bytes prior within = ⊎_elim
       (λ (f : IsForwarded p m x.call x.reply).
       let to_here = begins_then (seen_by m) (seen_by q) history (all_grow m q xs later) begins in
       let e = executed p m x.call x.reply f bytes.0 to_here.0 to_here.1 least prior in
-      (e.place, (e.moment, (e.rises, (e.plain, all_plain m q xs e.place later begins bytes.1 e.next)))))
-      (λ (at_once : IsMismatch p m x.call x.reply). (
-        least,
-        (
-          no_moment,
-          (
-            le_refl least,
-            (
-              mismatch_plain s J least no_moment p m x.call x.reply at_once,
-              all_plain m q xs least later begins bytes.1 (subst (λ (t : Pass (RequesterWithSink O C) Entry). IsLeast (seen_by t) least) (sym at_once.unchanged) prior),
-            ),
-          ),
-        ),
-      ))
+      let plain : IsPlain s J e.place x = record { within = e.within; moment = e.moment; replied = e.plain } in
+      (e.place, (e.rises, (plain, all_plain m q xs e.place later begins bytes.1 e.next e.within))))
+      (λ (at_once : IsMismatch p m x.call x.reply).
+      let plain : IsPlain s J least x = record { within = within; moment = no_moment; replied = mismatch_plain s J least no_moment p m x.call x.reply at_once } in
+      let next : IsLeast (seen_by m) least = subst (λ (t : Pass (RequesterWithSink O C) Entry). IsLeast (seen_by t) least) (sym at_once.unchanged) prior in
+      (least, (le_refl least, (plain, all_plain m q xs least later begins bytes.1 next within))))
       one
 
 all_front : {A : Type 0} (P : A → Type 0) (xs ys : List A) → AllByRecursion P (xs ++ ys) → AllByRecursion P xs
@@ -291,18 +283,36 @@ all_front P [] ys all = tt
 all_front P (x ∷ xs) ys all = (all.0, all_front P xs ys all.1)
 
 pub gated_replies_are_plain : {O C : Type 0} → GatedRepliesArePlain O C
-gated_replies_are_plain {O} {C} s J opened link both before after end g bytes r =
+gated_replies_are_plain {O} {C} s J opened link history both before after end g bytes begins r =
     by_more g.more g.serves.did where
-      history : List Entry
-      history = seen_by after.state
-
       own : AllByRecursion IsBytes (exchanged_calls g.exchanges)
       own = all_front IsBytes (exchanged_calls g.exchanges) g.others (subst (AllByRecursion IsBytes) g.order bytes)
 
+      first : 0 ≤ length J
+      first = omega arith
+
       by_more : (more : Option Unanswered) → Gates end before.state after.state g.exchanges more → ArePlain s J 0 g.exchanges
-      by_more None all = all_plain s J opened link history both r before.state after.state g.exchanges 0 all (begins_same history history refl) own (inl refl)
-      by_more (Some x) (m, (all, last)) = all_plain s J opened link history both r before.state m g.exchanges 0 all (last_grows end x.reason m after.state x.call last) own (inl refl)
+      by_more None all = all_plain s J opened link history both r before.state after.state g.exchanges 0 all begins own (inl refl) first
+      by_more (Some x) (m, (all, last)) =
+          let to_end = begins_then (seen_by m) (seen_by after.state) history (last_grows end x.reason m after.state x.call last) begins in
+          all_plain s J opened link history both r before.state m g.exchanges 0 all to_end own (inl refl) first
 
 pub gated_links_are_plain : {O C : Type 0} → GatedLinksArePlain O C
-gated_links_are_plain {O} {C} s J opened link both p q accepted hung_up source_faults sink_faults end g bytes r =
-    gated_replies_are_plain s J opened link both (loop_at accepted.left accepted.given accepted.taken g.first) (loop_at hung_up.left hung_up.given hung_up.taken g.own) end g.gated bytes r
+gated_links_are_plain {O} {C} s J opened link history both p q accepted hung_up source_faults sink_faults end g bytes begins r =
+    gated_replies_are_plain s J opened link history both (loop_at accepted.left accepted.given accepted.taken g.first) (loop_at hung_up.left hung_up.given hung_up.taken g.own) end g.gated bytes begins r
+
+-- ---- in a longer journal
+
+longer : (s : Setup) (J more : List JournalEntry) (place : ℕ) (x : Exchange) → IsPlain s J place x → IsPlain s (J ++ more) place x
+longer s J more place x one = record {
+  within = omega (arith, one.within, length-append J more);
+  moment = one.moment;
+  replied = ap (λ (l : List JournalEntry). option_map (λ (a : Answer). a.reply) (plain_answer s.parameters (state_of s l) one.moment x.call)) (take-append-le place J more one.within)
+      ∙ one.replied;
+}
+
+pub plain_in_longer_journals : PlainInLongerJournals
+plain_in_longer_journals s J more least [] are = (tt, refl)
+plain_in_longer_journals s J more least (x ∷ xs) (place, (rises, (one, others))) =
+    let (later, same) = plain_in_longer_journals s J more place xs others in
+    ((place, (rises, (longer s J more place x one, later))), ap (λ (l : List ℕ). place ∷ l) same)

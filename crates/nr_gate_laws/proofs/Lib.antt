@@ -3,3 +3,4 @@ pub mod Forwarding
 pub mod AutoFits
 pub mod Remote
 pub mod GatedReplies
+pub mod NeverTooLarge

@@ -1,2 +1,3 @@
 pub mod Forwarded
 pub mod GatedReplies
+pub mod NeverTooLarge
