@@ -9,6 +9,7 @@ pub mod FileReads
 pub mod FileWrites
 pub mod FirstTrees
 pub mod Getting
+pub mod Interleaving
 pub mod Kept
 pub mod LongerJournals
 pub mod Mounts

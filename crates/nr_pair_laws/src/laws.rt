@@ -2,6 +2,7 @@
 
 ghost use Rattle.nr_pair_laws.specs.FirstTrees.{RootsAreSane};
 ghost use Rattle.nr_pair_laws.specs.Getting.{GetsReadTheFile};
+ghost use Rattle.nr_pair_laws.specs.Interleaving.{SidesAreInterleaved};
 ghost use Rattle.nr_pair_laws.specs.Pairs.{AnsweredInLongerJournals, ConnectionsHaveARun, PairsAreServed, PairsAreTyped};
 ghost use Rattle.nr_pair_laws.specs.PutCommands.{CommandsPutTheirInput};
 ghost use Rattle.nr_pair_laws.specs.PutThenGet.{FilesInLongerJournals, GetsGiveTheFile, GetsGiveWhatWasPut, OtherEntriesKeepTheFile, PutsLeaveTheFile, ReadsGiveTheFile};
@@ -21,6 +22,12 @@ pub fn connections_have_a_run()
 pub fn pairs_are_served()
     ensures served { PairsAreServed }
     ensures typed { PairsAreTyped }
+{}
+
+/// Of a client's marks and a server's, each of which received a beginning of what the other sent, either there is a list that has both as its sides, in
+/// which each receives only what the other has sent before, or there are two marks, one of each, that wait for each other.
+pub fn sides_are_interleaved()
+    ensures { SidesAreInterleaved }
 {}
 
 /// What was answered at a place of a journal was answered at that place of each journal that goes on from it (`answered`), and a file to which a path
