@@ -1,7 +1,7 @@
 //! Tests of nr_nfs_args: each type with rows of words, as [`same_rows`] reads them. In each row `8 0 1` is the handle of eight bytes of
 //! the file number 1, and `1 61000000` the name `a`. Which argument is which shows in the calls of nr_cases.
 
-use crate::compare::{numbered_as, same_rows};
+use crate::values::{numbered_as, same_rows};
 use nr_nfs_args::*;
 
 // RFC 1813 section 3.3.0
@@ -221,6 +221,5 @@ static CREATE_MODES: [(CreateMode, u32); 3] = [
 
 #[test]
 fn each_value_has_its_number(rt: HostRuntime) {
-    arguments();
     numbered_as(&rt, &CREATE_MODES);
 }

@@ -1,7 +1,11 @@
 //! Tests of nr_nfs_base: each type with rows of words, as [`same_rows`] reads them, and the offset of each field that is skipped to. Which
 //! field of a value is which shows in the calls of nr_cases.
 
-use crate::compare::{bytes_of, same, same_rows};
+use crate::answers::shown;
+use crate::compare::same;
+use crate::script::{Line, run};
+use crate::values::same_rows;
+use crate::words::bytes_of;
 use nr_nfs_base::*;
 use nr_xdr::{Memory, Octets, Reader, RoomWriter};
 use std::alloc::Global;
@@ -226,8 +230,6 @@ fn list_lengths(rt: &impl Abort, alloc: Global) -> [usize; 3] {
 
 #[test]
 fn values_are_made_and_taken_apart(rt: HostRuntime) {
-    opaque_limits();
-    one_value::<u32>();
     same(&rt, 0, name_length(&rt, rt.alloc()), 5);
     same(&rt, 1, list_lengths(&rt, rt.alloc()), [2, 2, 2]);
     let empty = LinkedList::<u32>::new(rt.alloc());
@@ -252,98 +254,62 @@ fn numbered_front(alloc: Global, bytes: &[u8]) -> Option<(u32, usize)> {
 fn an_enumeration_stands_among_others(rt: HostRuntime) {
     let bytes = five_values(rt.alloc()).expect(&rt, "memory").into_vec();
     same(&rt, 0, numbered_front(rt.alloc(), &bytes), Some((5, 4)));
-    let want = bytes_of(&rt, rt.alloc(), &[5, 1, 0, 1, 0, 2]);
+    let want = bytes_of(&rt, rt.alloc(), "5 1 0 1 0 2");
     same(&rt, 1, bytes, want);
 }
 
-/// A field to skip to.
-#[derive(Clone, Copy)]
-enum Field {
-    WriteData,
-    SymlinkPath,
-    ReadCount,
-    ReaddirCount,
-    ReaddirplusMaxcount,
-    ReadData,
-    ReadlinkPath,
-}
-
-/// The offset of the field, if it can be skipped to.
-fn place_of(field: Field, bytes: &[u8]) -> Option<usize> {
-    let reader = Reader::new(bytes);
-    let reader = match field {
-        Field::WriteData => skip_to_write_data(reader),
-        Field::SymlinkPath => skip_to_symlink_path(reader),
-        Field::ReadCount => skip_to_read_count(reader),
-        Field::ReaddirCount => skip_to_readdir_count(reader),
-        Field::ReaddirplusMaxcount => skip_to_readdirplus_maxcount(reader),
-        Field::ReadData => skip_to_read_data(reader),
-        Field::ReadlinkPath => skip_to_readlink_path(reader),
+/// `skips FIELD`: the offset of the field, if it can be skipped to.
+pub fn skips(rt: &impl Abort, alloc: Global, line: &Line<'_>) -> String {
+    let reader = Reader::new(line.bytes);
+    let reader = match line.numbers {
+        "write-data" => skip_to_write_data(reader),
+        "symlink-path" => skip_to_symlink_path(reader),
+        "read-count" => skip_to_read_count(reader),
+        "readdir-count" => skip_to_readdir_count(reader),
+        "readdirplus-maxcount" => skip_to_readdirplus_maxcount(reader),
+        "read-data" => skip_to_read_data(reader),
+        _ => skip_to_readlink_path(reader),
     };
-    match reader {
+    let at = match reader {
         Some(reader) => Some(reader.at()),
         None => None,
-    }
+    };
+    shown(rt, alloc, &at)
 }
 
-struct Skipped(Field, &'static [u32], Option<usize>);
-
-// What follows the fields that are skipped isn't looked at.
-static SKIPPED: [Skipped; 23] = [
-    // RFC 1813 section 3.3.7: file, offset, count and stable
-    Skipped(Field::WriteData, &[8, 0, 1, 0, 0, 5, 2, 5], Some(28)),
-    Skipped(Field::WriteData, &[0, 0, 0, 5, 0], Some(20)),
-    Skipped(Field::WriteData, &[8, 0, 1, 0, 0, 5, 3, 5], None),
-    Skipped(Field::WriteData, &[8, 0, 1, 0, 0, 5], None),
-    Skipped(Field::WriteData, &[65; 25], None),
-    // section 3.3.10: directory, name and attributes
-    Skipped(
-        Field::SymlinkPath,
-        &[8, 0, 1, 1, 0x6100_0000, 0, 0, 0, 0, 0, 0, 9],
-        Some(44),
-    ),
-    Skipped(
-        Field::SymlinkPath,
-        &[0, 0, 1, 0o777, 1, 2, 1, 3, 1, 4, 5, 1, 2, 6, 7],
-        Some(60),
-    ),
-    Skipped(Field::SymlinkPath, &[0, 0, 0, 0, 0, 0, 3, 0], None),
-    Skipped(Field::SymlinkPath, &[0, 0, 2, 0, 0, 0, 0, 0], None),
-    // section 3.3.6: file and offset
-    Skipped(Field::ReadCount, &[8, 0, 1, 0, 4096, 100], Some(20)),
-    Skipped(Field::ReadCount, &[8, 0, 1, 0], None),
-    // sections 3.3.16 and 3.3.17: directory, cookie and verifier, and dircount
-    Skipped(Field::ReaddirCount, &[8, 0, 1, 0, 3, 0, 0], Some(28)),
-    Skipped(Field::ReaddirCount, &[8, 0, 1, 0, 3, 0], None),
-    Skipped(
-        Field::ReaddirplusMaxcount,
-        &[8, 0, 1, 0, 3, 0, 0, 512],
-        Some(32),
-    ),
-    Skipped(Field::ReaddirplusMaxcount, &[8, 0, 1, 0, 3, 0, 0], None),
-    // section 3.3.6: status, attributes, count and eof
-    Skipped(Field::ReadData, &[0, 0, 5, 1, 5], Some(16)),
-    Skipped(
-        Field::ReadData,
-        &[
-            0, 1, 2, 0o755, 3, 1, 2, 0, 4096, 0, 8192, 5, 6, 0, 1, 0, 9, 10, 11, 12, 13, 14, 15, 5,
-            0,
-        ],
-        Some(100),
-    ),
-    Skipped(Field::ReadData, &[70, 0, 5, 1, 5], None),
-    Skipped(Field::ReadData, &[0, 0, 5, 2, 5], None),
-    Skipped(Field::ReadData, &[0, 1, 8], None),
-    // section 3.3.5: status and attributes
-    Skipped(Field::ReadlinkPath, &[0, 0, 5], Some(8)),
-    Skipped(Field::ReadlinkPath, &[0, 2, 5], None),
-    Skipped(Field::ReadlinkPath, &[22, 0], None),
-];
+static SKIPPED: &str = "\
+# What follows the fields that are skipped isn't looked at.\n\
+# RFC 1813 section 3.3.7: file, offset, count and stable\n\
+skips write-data : 8 0 1 0 0 5 2 5 = Some(28)\n\
+skips write-data : 0*3 5 0 = Some(20)\n\
+skips write-data : 8 0 1 0 0 5 3 5 = None\n\
+skips write-data : 8 0 1 0 0 5 = None\n\
+skips write-data : 41*25 = None\n\
+# section 3.3.10: directory, name and attributes\n\
+skips symlink-path : 8 0 1 1 61000000 0*6 9 = Some(44)\n\
+skips symlink-path : 0 0 1 1ff 1 2 1 3 1 4 5 1 2 6 7 = Some(60)\n\
+skips symlink-path : 0*6 3 0 = None\n\
+skips symlink-path : 0 0 2 0*5 = None\n\
+# section 3.3.6: file and offset\n\
+skips read-count : 8 0 1 0 1000 64 = Some(20)\n\
+skips read-count : 8 0 1 0 = None\n\
+# sections 3.3.16 and 3.3.17: directory, cookie and verifier, and dircount\n\
+skips readdir-count : 8 0 1 0 3 0 0 = Some(28)\n\
+skips readdir-count : 8 0 1 0 3 0 = None\n\
+skips readdirplus-maxcount : 8 0 1 0 3 0 0 200 = Some(32)\n\
+skips readdirplus-maxcount : 8 0 1 0 3 0 0 = None\n\
+# section 3.3.6: status, attributes, count and eof\n\
+skips read-data : 0 0 5 1 5 = Some(16)\n\
+skips read-data : 0 1 2 1ed 3 1 2 0 1000 0 2000 5 6 0 1 0 9 a b c d e f 5 0 = Some(100)\n\
+skips read-data : 46 0 5 1 5 = None\n\
+skips read-data : 0 0 5 2 5 = None\n\
+skips read-data : 0 1 8 = None\n\
+# section 3.3.5: status and attributes\n\
+skips readlink-path : 0 0 5 = Some(8)\n\
+skips readlink-path : 0 2 5 = None\n\
+skips readlink-path : 16 0 = None\n";
 
 #[test]
 fn fields_are_found_without_memory(rt: HostRuntime) {
-    for (row, Skipped(field, words, want)) in SKIPPED.iter().enumerate() {
-        let bytes = bytes_of(&rt, rt.alloc(), words);
-        same(&rt, row, place_of(*field, &bytes), *want);
-    }
+    run(&rt, rt.alloc(), SKIPPED);
 }

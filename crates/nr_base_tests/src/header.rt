@@ -1,212 +1,91 @@
-//! Tests of nr_header. Rows are words, worked out by hand from RFC 8166 (sections 3.4 and 4), and the limits of this project.
+//! Calls of nr_header. Rows are words, worked out by hand from RFC 8166 (sections 3.4 and 4), and the limits of this project.
 
 ghost use Rattle.std.specs.Prelude.{IfOk};
-ghost use Rattle.nr_header.specs.Header.{CanWriteHeader};
+ghost use Rattle.nr_header.specs.Header.{CanWriteHeader, ChunksFit};
 ghost use Rattle.nr_header.specs.WithinLimits.{IsMessage};
 
-use crate::compare::{bytes_of, joined, put_words, same};
+use crate::answers::{answer_at, answer_of, shown};
+use crate::compare::same;
+use crate::script::{Line, run};
 use nr_header::*;
 use nr_xdr::Octets;
 use std::alloc::Global;
 use std::process::Abort;
 
-/// What is read: a header, or a fault and its version, its kind or the offset of its first bad item.
-type Read = (u8, usize);
-
-const HEADER: Read = (0, 0);
-
-const SHORT: Read = (1, 0);
-
-const VERSION: u8 = 2;
-
-const KIND: u8 = 3;
-
-const BAD_CHUNKS: u8 = 4;
-
-fn read_as(bytes: &[u8]) -> Read {
+/// `header`: `header` if one is read, or why none is.
+pub fn header(rt: &impl Abort, alloc: Global, bytes: &[u8]) -> String {
     match read_header(bytes).err() {
-        None => HEADER,
-        Some(HeaderFault::Short) => SHORT,
-        Some(HeaderFault::Version { version }) => (VERSION, version as usize),
-        Some(HeaderFault::Kind { kind }) => (KIND, kind as usize),
-        Some(HeaderFault::BadChunks { at }) => (BAD_CHUNKS, at),
+        None => answer_of(rt, alloc, "header", &[]),
+        Some(fault) => shown(rt, alloc, &fault),
     }
 }
 
-const MOST: u32 = 0xffff_ffff;
-
-static MESSAGES: [(&[u32], Read); 46] = [
-    (&[], SHORT),
-    (&[1, 1, 16], SHORT),
-    (&[1, 1, 16, 0, 0, 0, 0], HEADER),
-    // Versions.
-    (&[1, 0, 16, 0, 0, 0, 0], (VERSION, 0)),
-    (&[1, 2, 16, 0], (VERSION, 2)),
-    (&[1, 2, 16, 0, 0, 0, 0], (VERSION, 2)),
-    (&[1, MOST, 16, 3], (VERSION, MOST as usize)),
-    // Complete error messages of any version, and others: another code, or other bytes than those of the code.
-    (&[1, 2, 16, 4, 1, 1, 3], HEADER),
-    (&[1, 1, 16, 4, 2], HEADER),
-    (&[1, 7, 16, 4, 2], HEADER),
-    (&[1, 1, 16, 4], (KIND, 4)),
-    (&[1, 1, 16, 4, 1], (KIND, 4)),
-    (&[1, 1, 16, 4, 1, 1], (KIND, 4)),
-    (&[1, 1, 16, 4, 1, 1, 1, 7], (KIND, 4)),
-    (&[1, 2, 16, 4, 1, 1, 1, 7], (VERSION, 2)),
-    (&[1, 1, 16, 4, 2, 0], (KIND, 4)),
-    (&[1, 1, 16, 4, 2, 0, 0], (KIND, 4)),
-    (&[1, 1, 16, 4, 3], (KIND, 4)),
-    (&[1, 2, 16, 4, 3], (VERSION, 2)),
-    // Other kinds.
-    (&[1, 1, 16, 2, 0, 0, 0], (KIND, 2)),
-    (&[1, 1, 16, 3, 0, 0, 0], (KIND, 3)),
-    (&[1, 1, 16, 5], (KIND, 5)),
-    (&[1, 1, 16, MOST, 0, 0, 0], (KIND, MOST as usize)),
-    // Lists that run past the message, and a list word that is neither 0 nor 1.
-    (&[1, 1, 16, 0, 0, 0], (BAD_CHUNKS, 24)),
-    (&[1, 1, 16, 0, 1, 4, 1, 1, 0], (BAD_CHUNKS, 32)),
-    (&[1, 1, 16, 0, 2, 0, 0], (BAD_CHUNKS, 16)),
-    (&[1, 1, 16, 0, 0, 0, 2], (BAD_CHUNKS, 24)),
-    // Positions.
-    (&[1, 1, 16, 0, 1, 0, 1, 1, 0, 0, 0, 0, 0], (BAD_CHUNKS, 16)),
-    (&[1, 1, 16, 1, 1, 0, 1, 1, 0, 0, 0, 0, 0], HEADER),
-    (
-        &[1, 1, 16, 0, 1, 4, 1, 1, 0, 0, 1, 8, 1, 1, 0, 0, 0, 0, 0],
-        (BAD_CHUNKS, 40),
-    ),
-    (
-        &[
-            1, 1, 16, 1, 1, 4, 1, 1, 0, 0, 1, 0, 1, 1, 0, 0, 1, 8, 1, 1, 0, 0, 0, 0, 0,
-        ],
-        (BAD_CHUNKS, 64),
-    ),
-    // Segments that end at 2^64, and past it.
-    (&[1, 1, 16, 0, 1, 4, 1, 1, MOST, MOST, 0, 0, 0], HEADER),
-    (
-        &[1, 1, 16, 0, 1, 4, 1, 2, MOST, MOST, 0, 0, 0],
-        (BAD_CHUNKS, 16),
-    ),
-    (&[1, 1, 16, 0, 0, 1, 1, 9, 1, MOST, MOST, 0, 0], HEADER),
-    (
-        &[1, 1, 16, 0, 0, 1, 1, 9, 2, MOST, MOST, 0, 0],
-        (BAD_CHUNKS, 28),
-    ),
-    (
-        &[1, 1, 16, 0, 0, 0, 1, 1, 9, 2, MOST, MOST],
-        (BAD_CHUNKS, 32),
-    ),
-    // Counts.
-    (&[1, 1, 16, 0, 0, 1, 17], (BAD_CHUNKS, 24)),
-    (&[1, 1, 16, 0, 0, 0, 1, 17], (BAD_CHUNKS, 28)),
-    (&[1, 1, 16, 0, 0, 1, 0, 1, 0, 1, 0, 1, 0, 0, 0], HEADER),
-    (
-        &[1, 1, 16, 0, 0, 1, 0, 1, 0, 1, 0, 1, 0, 1, 0, 0, 0],
-        (BAD_CHUNKS, 52),
-    ),
-    // Bytes after the lists, and the lengths of the read list.
-    (&[1, 1, 16, 1, 0, 0, 0, 7], (BAD_CHUNKS, 28)),
-    (
-        &[1, 1, 16, 0, 1, 4, 1, 1056765, 0, 0, 0, 0, 0, 7],
-        (BAD_CHUNKS, 52),
-    ),
-    (&[1, 1, 16, 0, 1, 4, 1, 1056764, 0, 0, 0, 0, 0, 7], HEADER),
-    (
-        &[1, 1, 16, 1, 1, 0, 1, 1056769, 0, 0, 0, 0, 0],
-        (BAD_CHUNKS, 52),
-    ),
-    (&[1, 1, 16, 1, 1, 0, 1, 1056768, 0, 0, 0, 0, 0], HEADER),
-    (
-        &[1, 1, 16, 1, 1, 4, 1, MOST, 0, 0, 0, 0, 0],
-        (BAD_CHUNKS, 52),
-    ),
-];
-
-#[test]
-fn messages(rt: HostRuntime) {
-    header_round_trip();
-    bad_messages();
-    kinds_of_messages();
-    for (row, (words, want)) in MESSAGES.iter().enumerate() {
-        let bytes = bytes_of(&rt, rt.alloc(), words);
-        same(&rt, row, read_as(&bytes), *want);
-    }
-    same(&rt, 46, read_as(&[0; 15]), SHORT);
-}
-
-fn put_times(rt: &impl Abort, bytes: &mut Vec<u8>, words: &[u32], times: u32) {
-    for _ in 0..times {
-        put_words(rt, bytes, words);
-    }
-}
-
-/// A list of `count` segments after a word that says that it is there.
-fn put_chunk(rt: &impl Abort, bytes: &mut Vec<u8>, count: u32) {
-    put_words(rt, bytes, &[1, count]);
-    put_times(rt, bytes, &[1, 1, 0, 0], count);
-}
-
-/// RDMA_MSG by five counts: of read entries, of segments in the first write chunk, in the second, and in the reply chunk, and
-/// of words of a stream.
-fn message(rt: &impl Abort, alloc: Global, counts: [u32; 5]) -> Vec<u8> {
-    let [entries, first, second, reply, stream] = counts;
-    let mut bytes = bytes_of(rt, alloc, &[1, 1, 16, 0]);
-    put_times(rt, &mut bytes, &[1, 4, 1, 1, 0, 0], entries);
-    put_words(rt, &mut bytes, &[0]);
-    put_chunk(rt, &mut bytes, first);
-    put_chunk(rt, &mut bytes, second);
-    put_words(rt, &mut bytes, &[0]);
-    put_chunk(rt, &mut bytes, reply);
-    put_times(rt, &mut bytes, &[7], stream);
-    bytes
-}
-
-/// The counts of `message`.
-static LIMITS: [([u32; 5], Read); 9] = [
-    ([16, 0, 0, 16, 0], HEADER),
-    ([17, 0, 0, 0, 0], (BAD_CHUNKS, 400)),
-    ([0, 0, 0, 17, 0], (BAD_CHUNKS, 44)),
-    ([0, 16, 0, 0, 0], HEADER),
-    ([0, 17, 0, 0, 0], (BAD_CHUNKS, 24)),
-    ([0, 8, 8, 0, 0], HEADER),
-    ([0, 8, 9, 0, 0], (BAD_CHUNKS, 320)),
-    ([0, 0, 0, 0, 264192], HEADER),
-    ([0, 0, 0, 0, 264193], (BAD_CHUNKS, 48)),
-];
-
-#[test]
-fn limits(rt: HostRuntime) {
-    for (row, (counts, want)) in LIMITS.iter().enumerate() {
-        let bytes = message(&rt, rt.alloc(), *counts);
-        same(&rt, row, read_as(&bytes), *want);
-    }
-}
-
-fn entry(position: u32, handle: u32) -> ReadSegment {
-    ReadSegment {
-        position,
-        handle,
-        length: 12,
-        offset: 0x0000_000d_0000_000e,
-    }
-}
-
-/// A write list of two chunks and a reply chunk.
-const WRITE_AND_REPLY: [u32; 23] = [
-    1, 2, 21, 22, 23, 24, 25, 26, MOST, 28, 1, 1, 25, 26, MOST, 28, 0, 1, 1, 21, 22, 23, 24,
-];
-
-const MSG_WORDS: [&[u32]; 4] = [
-    &[0x0102_0304, 1, 32, 0],
-    &[1, 8, 11, 12, 13, 14, 1, 8, 31, 12, 13, 14, 0],
-    &WRITE_AND_REPLY,
-    &[0x6869_686f],
-];
-
-const NOMSG_WORDS: [&[u32]; 3] = [
-    &[0x0102_0304, 1, 32, 1],
-    &[1, 0, 11, 12, 13, 14, 1, 0, 31, 12, 13, 14, 0],
-    &WRITE_AND_REPLY,
-];
+static MESSAGES: &str = "\
+header : = Short\n\
+header : 1 1 10 = Short\n\
+header : 1 1 10 0*4 = header\n\
+# Versions.\n\
+header : 1 0 10 0*4 = Version { version: 0 }\n\
+header : 1 2 10 0 = Version { version: 2 }\n\
+header : 1 2 10 0*4 = Version { version: 2 }\n\
+header : 1 ffffffff 10 3 = Version { version: 4294967295 }\n\
+# Complete error messages of any version, and others: another code, or other bytes than those of the code.\n\
+header : 1 2 10 4 1 1 3 = header\n\
+header : 1 1 10 4 2 = header\n\
+header : 1 7 10 4 2 = header\n\
+header : 1 1 10 4 = Kind { kind: 4 }\n\
+header : 1 1 10 4 1 = Kind { kind: 4 }\n\
+header : 1 1 10 4 1 1 = Kind { kind: 4 }\n\
+header : 1 1 10 4 1*3 7 = Kind { kind: 4 }\n\
+header : 1 2 10 4 1*3 7 = Version { version: 2 }\n\
+header : 1 1 10 4 2 0 = Kind { kind: 4 }\n\
+header : 1 1 10 4 2 0 0 = Kind { kind: 4 }\n\
+header : 1 1 10 4 3 = Kind { kind: 4 }\n\
+header : 1 2 10 4 3 = Version { version: 2 }\n\
+# Other kinds.\n\
+header : 1 1 10 2 0*3 = Kind { kind: 2 }\n\
+header : 1 1 10 3 0*3 = Kind { kind: 3 }\n\
+header : 1 1 10 5 = Kind { kind: 5 }\n\
+header : 1 1 10 ffffffff 0*3 = Kind { kind: 4294967295 }\n\
+# Lists that run past the message, and a list word that is neither 0 nor 1.\n\
+header : 1 1 10 0*3 = BadChunks { at: 24 }\n\
+header : 1 1 10 0 1 4 1 1 0 = BadChunks { at: 32 }\n\
+header : 1 1 10 0 2 0 0 = BadChunks { at: 16 }\n\
+header : 1 1 10 0*3 2 = BadChunks { at: 24 }\n\
+# Positions.\n\
+header : 1 1 10 0 1 0 1 1 0*5 = BadChunks { at: 16 }\n\
+header : 1 1 10 1 1 0 1 1 0*5 = header\n\
+header : 1 1 10 0 1 4 1 1 0 0 1 8 1 1 0*5 = BadChunks { at: 40 }\n\
+header : 1 1 10 1 1 4 1 1 0 0 1 0 1 1 0 0 1 8 1 1 0*5 = BadChunks { at: 64 }\n\
+# Segments that end at 2^64, and past it.\n\
+header : 1 1 10 0 1 4 1 1 ffffffff ffffffff 0*3 = header\n\
+header : 1 1 10 0 1 4 1 2 ffffffff ffffffff 0*3 = BadChunks { at: 16 }\n\
+header : 1 1 10 0 0 1 1 9 1 ffffffff ffffffff 0 0 = header\n\
+header : 1 1 10 0 0 1 1 9 2 ffffffff ffffffff 0 0 = BadChunks { at: 28 }\n\
+header : 1 1 10 0*3 1 1 9 2 ffffffff ffffffff = BadChunks { at: 32 }\n\
+# Counts.\n\
+header : 1 1 10 0 0 1 11 = BadChunks { at: 24 }\n\
+header : 1 1 10 0*3 1 11 = BadChunks { at: 28 }\n\
+header : 1 1 10 0 0 1 0 1 0 1 0 1 0*3 = header\n\
+header : 1 1 10 0 0 1 0 1 0 1 0 1 0 1 0*3 = BadChunks { at: 52 }\n\
+# Bytes after the lists, and the lengths of the read list.\n\
+header : 1 1 10 1 0*3 7 = BadChunks { at: 28 }\n\
+header : 1 1 10 0 1 4 1 101ffd 0*5 7 = BadChunks { at: 52 }\n\
+header : 1 1 10 0 1 4 1 101ffc 0*5 7 = header\n\
+header : 1 1 10 1 1 0 1 102001 0*5 = BadChunks { at: 52 }\n\
+header : 1 1 10 1 1 0 1 102000 0*5 = header\n\
+header : 1 1 10 1 1 4 1 ffffffff 0*5 = BadChunks { at: 52 }\n\
+header : .0*15 = Short\n\
+# The most entries, segments and bytes of a stream, and one more.\n\
+header : 1 1 10 0 1,4,1,1,0,0*16 0 1 0 1 0 0 1 10 1,1,0,0*16 = header\n\
+header : 1 1 10 0 1,4,1,1,0,0*17 0 1 0 1 0 0 1 0 = BadChunks { at: 400 }\n\
+header : 1 1 10 0 0 1 0 1 0 0 1 11 1,1,0,0*17 = BadChunks { at: 44 }\n\
+header : 1 1 10 0 0 1 10 1,1,0,0*16 1 0 0 1 0 = header\n\
+header : 1 1 10 0 0 1 11 1,1,0,0*17 1 0 0 1 0 = BadChunks { at: 24 }\n\
+header : 1 1 10 0 0 1 8 1,1,0,0*8 1 8 1,1,0,0*8 0 1 0 = header\n\
+header : 1 1 10 0 0 1 8 1,1,0,0*8 1 9 1,1,0,0*9 0 1 0 = BadChunks { at: 320 }\n\
+header : 1 1 10 0 0 1 0 1 0 0 1 0 7*264192 = header\n\
+header : 1 1 10 0 0 1 0 1 0 0 1 0 7*264193 = BadChunks { at: 48 }\n";
 
 /// The handle and the length of the second segment of the first write chunk, and the handle of the reply chunk's one.
 fn chunk_numbers(lists: &ChunkLists) -> [u32; 3] {
@@ -219,141 +98,181 @@ fn chunk_numbers(lists: &ChunkLists) -> [u32; 3] {
     }
 }
 
-/// The kind; of lists the numbers of their chunks, of ERR_VERS the version word, the lowest and the highest version, of
-/// ERR_CHUNK the version word; and the offset of the stream.
-fn body_numbers(body: &Body) -> ([u32; 4], usize) {
+/// What is read of a body: `msg` or `nomsg` and the numbers of its chunks, `msg` also the offset of the stream; `err-vers`, the version word, the
+/// lowest and the highest version; `err-chunk` and the version word.
+fn body_text(rt: &impl Abort, alloc: Global, body: &Body) -> String {
     match body {
         Body::Msg { lists, stream_at } => {
-            let [handle, length, reply] = chunk_numbers(lists);
-            ([0, handle, length, reply], *stream_at)
+            answer_at(rt, alloc, "msg", &chunk_numbers(lists), *stream_at)
         }
-        Body::Nomsg { lists } => {
-            let [handle, length, reply] = chunk_numbers(lists);
-            ([1, handle, length, reply], 0)
+        Body::Nomsg { lists } => answer_of(rt, alloc, "nomsg", &chunk_numbers(lists)),
+        Body::ErrVers { version, low, high } => {
+            answer_of(rt, alloc, "err-vers", &[*version, *low, *high])
         }
-        Body::ErrVers { version, low, high } => ([2, *version, *low, *high], 0),
-        Body::ErrChunk { version } => ([3, *version, 0, 0], 0),
+        Body::ErrChunk { version } => answer_of(rt, alloc, "err-chunk", &[*version]),
     }
 }
 
-/// The xid and the credits of a header, and its body's numbers.
-fn header_numbers(header: &Header) -> ([u32; 2], ([u32; 4], usize)) {
-    ([header.xid, header.credit], body_numbers(&header.body))
-}
-
-fn written(rt: &impl Abort, alloc: Global, header: &Header) -> Octets
+/// What is read of a header with xid 0x01020304 and 32 credits. Ends the test if it isn't written as the front of the bytes.
+fn header_text(rt: &impl Abort, alloc: Global, line: &Line<'_>, header: &Header) -> String
     requires { CanWriteHeader header.now }
 {
-    write_header(alloc, header).expect(rt, "memory")
+    same(rt, line.row, (header.xid, header.credit), (0x0102_0304, 32));
+    let written = write_header(alloc, header).expect(rt, "memory");
+    let front = line.bytes.get(..written.len());
+    same(rt, line.row, Some(written.as_slice()), front);
+    body_text(rt, alloc, &header.body)
 }
 
-/// Ends the test if the header doesn't have these numbers, or isn't written as the front of the bytes.
-fn same_header(
+/// The same of what was read.
+fn read_text(
     rt: &impl Abort,
     alloc: Global,
-    row: usize,
-    header: &Header,
-    bytes: &[u8],
-    want: ([u32; 4], usize),
-)
-    requires { CanWriteHeader header.now }
-{
-    let fixed = [0x0102_0304, 32];
-    same(rt, row, header_numbers(header), (fixed, want));
-    let again = written(rt, alloc, header);
-    let front = bytes.get(..again.len());
-    same(rt, row, Some(again.as_slice()), front);
-}
-
-/// The same of what is read of the bytes.
-fn same_read(
-    rt: &impl Abort,
-    alloc: Global,
-    row: usize,
+    line: &Line<'_>,
     read: &Result<Header, HeaderFault>,
-    bytes: &[u8],
-    want: ([u32; 4], usize),
-)
-    requires { IfOk read.now (λ header. IsMessage header bytes.now) }
+) -> String
+    requires { IfOk read.now (λ header. IsMessage header line.now.bytes.now) }
 {
     match read {
-        Ok(header) => same_header(rt, alloc, row, header, bytes, want),
+        Ok(header) => header_text(rt, alloc, line, header),
         Err(_) => panic!(rt; "a header"),
     }
 }
 
-/// Reads the header of the bytes, and compares it.
-fn header_again(rt: &impl Abort, alloc: Global, row: usize, bytes: &[u8], want: ([u32; 4], usize)) {
-    let read = read_header(bytes);
-    same_read(rt, alloc, row, &read, bytes, want);
+/// `lists`: what is read of a header.
+pub fn lists(rt: &impl Abort, alloc: Global, line: &Line<'_>) -> String {
+    let read = read_header(line.bytes);
+    let answer = read_text(rt, alloc, line, &read);
     drop(read);
+    answer
 }
 
-static HEADERS: [(&[&[u32]], ([u32; 4], usize)); 4] = [
-    (&MSG_WORDS, ([0, 25, 26, 21], 160)),
-    (&NOMSG_WORDS, ([1, 25, 26, 21], 0)),
-    (&[&[0x0102_0304, 7, 32, 4, 1, 2, 5]], ([2, 7, 2, 5], 0)),
-    (&[&[0x0102_0304, 3, 32, 4, 2]], ([3, 3, 0, 0], 0)),
-];
+static HEADERS: &str = "\
+# Two read entries, two write chunks and a reply chunk, with a stream and without; both errors.\n\
+lists : 1020304 1 20 0 1 8 b c d e 1 8 1f c d e 0 1 2 15 16 17 18 19 1a ffffffff 1c 1 1 19 1a ffffffff 1c 0 1 1 15 16 17 18 6869686f = msg 25 26 21 160\n\
+lists : 1020304 1 20 1 1 0 b c d e 1 0 1f c d e 0 1 2 15 16 17 18 19 1a ffffffff 1c 1 1 19 1a ffffffff 1c 0 1 1 15 16 17 18 = nomsg 25 26 21\n\
+lists : 1020304 7 20 4 1 2 5 = err-vers 7 2 5\n\
+lists : 1020304 3 20 4 2 = err-chunk 3\n\
+# RFC 8166 section 4.3: a write chunk of one segment of five bytes; the stream begins after 52 bytes.\n\
+room : 9 1 10 0 0 1 1 7 5 0*4 = (0, 1, false) Ok(HeaderFields { xid: 9, credit: 16, kind: Msg { stream_at: 52 } })\n\
+fields : 9080706 1 102 0 = (151521030, 258)\n";
 
-#[test]
-fn headers_read(rt: HostRuntime) {
-    for (row, (parts, want)) in HEADERS.iter().enumerate() {
-        let bytes = joined(&rt, rt.alloc(), parts);
-        header_again(&rt, rt.alloc(), row, &bytes, *want);
+/// `room`: how many read entries and write chunks, and whether a reply chunk, are read into a room, and what is read beside them.
+pub fn room(rt: &impl Abort, alloc: Global, bytes: &[u8]) -> String {
+    let mut room = ListsRoom::new();
+    let fields = read_header_into(bytes, &mut room);
+    let slices = room.as_slices();
+    let counts = (
+        slices.read.len(),
+        slices.write.len(),
+        slices.reply.is_some(),
+    );
+    let answer = format!(in alloc; "{counts:?} {fields:?}").expect(rt, "memory");
+    drop(room);
+    answer
+}
+
+/// `fields`: the xid and the credits of a message.
+pub fn fields(rt: &impl Abort, alloc: Global, bytes: &[u8]) -> String {
+    if bytes.len() < 16 {
+        panic!(rt; "a message has 16 bytes");
+    }
+    shown(rt, alloc, &(xid_of(bytes), credit_of(bytes)))
+}
+
+const SEGMENT: ReadSegment = ReadSegment {
+    position: 8,
+    handle: 11,
+    length: 12,
+    offset: 0x0000_000d_0000_000e,
+};
+
+/// Lists with some read segments.
+fn read_lists(rt: &impl Abort, alloc: Global, count: usize) -> ChunkLists
+    ensures { ChunksFit result }
+{
+    ChunkLists {
+        read: InlineVec::from_vec(vec![in alloc; SEGMENT; count].expect(rt, "memory")),
+        write: InlineVec::new(),
+        reply: None,
     }
 }
 
-/// A read list of 17 entries.
-fn long_list(rt: &impl Abort, alloc: Global) -> ReadList {
-    InlineVec::from_vec(vec![in alloc; entry(4, 9); 17].expect(rt, "memory"))
-}
-
-/// RDMA_MSG with this read list.
-fn header_of(read: ReadList) -> Header
-    ensures { CanWriteHeader result }
-{
-    let lists = ChunkLists {
-        read,
-        write: InlineVec::new(),
-        reply: None,
-    };
-    Header {
-        xid: 0x0102_0304,
-        credit: 32,
+/// RDMA_MSG with a read list of 17 entries, as it is written.
+fn long_written(rt: &impl Abort, alloc: Global) -> Octets {
+    let lists = read_lists(rt, alloc, 17);
+    let header = Header {
+        xid: 9,
+        credit: 16,
         body: Body::Msg {
             lists,
             stream_at: 0,
         },
+    };
+    let written = write_header(alloc, &header).expect(rt, "memory");
+    drop(header);
+    written
+}
+
+/// A header with one read segment, as it is written.
+fn lists_written(rt: &impl Abort, alloc: Global, long: bool) -> Octets {
+    let lists = read_lists(rt, alloc, 1);
+    same(rt, 0, header_len(&lists), 52);
+    let written = write_with_lists(alloc, 9, 16, long, &lists).expect(rt, "memory");
+    drop(lists);
+    written
+}
+
+/// The same of lists that are borrowed.
+fn slices_written(rt: &impl Abort, alloc: Global, long: bool) -> Octets {
+    let slices = ListSlices::new(&[SEGMENT], &[], &None);
+    write_with_slices(alloc, 9, 16, long, slices).expect(rt, "memory")
+}
+
+/// ERR_VERS if the version word is 7, else ERR_CHUNK, as it is written (RFC 8166 sections 4.5.1 and 4.5.3).
+fn error_written(rt: &impl Abort, alloc: Global, version: u32) -> Octets {
+    let error = if version == 7 {
+        TransportError::Vers { low: 1, high: 2 }
+    } else {
+        TransportError::Chunk
+    };
+    write_error(alloc, 9, version, 16, error).expect(rt, "memory")
+}
+
+/// `writes-header HEADER`: a header with xid 9 and 16 credits, as it is written. If its stream is in a chunk it is RDMA_NOMSG.
+pub fn written_header(rt: &impl Abort, alloc: Global, line: &Line<'_>) -> Octets {
+    match line.numbers {
+        "plain" => write_plain(alloc, 9, 16).expect(rt, "memory"),
+        "lists" => lists_written(rt, alloc, false),
+        "long-lists" => lists_written(rt, alloc, true),
+        "slices" => slices_written(rt, alloc, false),
+        "long-slices" => slices_written(rt, alloc, true),
+        "entries" => long_written(rt, alloc),
+        _ => error_written(rt, alloc, line.number(rt, 0)),
     }
 }
 
-fn long_header_written(rt: &impl Abort, alloc: Global) -> Octets {
-    let header = header_of(long_list(rt, alloc));
-    let octets = written(rt, alloc, &header);
-    drop(header);
-    octets
-}
-
-/// The words of that header.
-fn long_header_words(rt: &impl Abort, alloc: Global) -> Vec<u8> {
-    let mut bytes = bytes_of(rt, alloc, &[0x0102_0304, 1, 32, 0]);
-    put_times(rt, &mut bytes, &[1, 4, 9, 12, 13, 14], 17);
-    put_words(rt, &mut bytes, &[0, 0, 0]);
-    bytes
-}
-
-/// A read list of 17 entries is written completely, and refused at its last one when it is read.
-#[test]
-fn written_above_the_limit(rt: HostRuntime) {
-    let written = long_header_written(&rt, rt.alloc()).into_vec();
-    same(&rt, 0, read_as(&written), (BAD_CHUNKS, 400));
-    same(&rt, 1, written, long_header_words(&rt, rt.alloc()));
-}
+static WRITTEN: &str = "\
+writes-header plain : 9 1 10 0*4\n\
+# Errors, by their version words.\n\
+writes-header 7 : 9 7 10 4 1 1 2\n\
+writes-header 1 : 9 1 10 4 2\n\
+writes-header 3 : 9 3 10 4 2\n\
+writes-header lists : 9 1 10 0 1 8 b c d e 0*3\n\
+writes-header slices : 9 1 10 0 1 8 b c d e 0*3\n\
+writes-header long-lists : 9 1 10 1 1 8 b c d e 0*3\n\
+writes-header long-slices : 9 1 10 1 1 8 b c d e 0*3\n\
+# A read list of 17 entries is written completely, and refused at its last one when it is read.\n\
+writes-header entries : 9 1 10 0 1,8,b,c,d,e*17 0*3\n\
+header : 9 1 10 0 1,8,b,c,d,e*17 0*3 = BadChunks { at: 400 }\n";
 
 #[test]
-fn fields_of_messages(rt: HostRuntime) {
-    let message = [9, 8, 7, 6, 0, 0, 0, 1, 0, 0, 1, 2, 0, 0, 0, 0];
-    let fields = (xid_of(&message), credit_of(&message));
-    same(&rt, 0, fields, (0x0908_0706, 0x0102));
+fn headers(rt: HostRuntime) {
+    run(&rt, rt.alloc(), MESSAGES);
+    run(&rt, rt.alloc(), HEADERS);
+    run(&rt, rt.alloc(), WRITTEN);
+    // What a read entry, a write chunk and a reply chunk of one segment add (RFC 8166 section 4.3).
+    same(&rt, 0, read_list_len(1), 24);
+    same(&rt, 1, write_chunk_len(1), 24);
+    same(&rt, 2, reply_chunk_len(1), 20);
 }

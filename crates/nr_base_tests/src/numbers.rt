@@ -1,6 +1,7 @@
 //! Tests of nr_nfs_base: the number of each value.
 
-use crate::compare::{numbered_as, same};
+use crate::compare::same;
+use crate::values::numbered_as;
 use nr_nfs_base::*;
 
 // RFC 1813 section 2.5, nfsstat3

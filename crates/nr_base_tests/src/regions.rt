@@ -154,11 +154,3 @@ fn fetched(rt: HostRuntime) {
         same(&rt, row, regions.fetch(*stag, *to, *len), *want);
     }
 }
-
-#[test]
-fn laws_hold(_rt: HostRuntime) {
-    held_until_release();
-    allowed_accesses();
-    contents_while_open();
-    contents_at_release();
-}

@@ -2,8 +2,14 @@
 //! file number 1, and `1 61000000` the name `a`; `2 1ed 3 1 2 0 1000 0 2000 5 6 0 1 0 9 a b c d e f` are the attributes of a directory.
 //! Which result is which shows in the calls of nr_cases.
 
-use crate::compare::same_rows;
+use crate::answers::shown;
+use crate::script::run;
+use crate::values::same_rows;
+use nr_nfs_base::StatusUnion;
 use nr_nfs_res::*;
+use nr_xdr::{Octets, RoomWriter};
+use std::alloc::Global;
+use std::process::Abort;
 
 // RFC 1813 section 3.3.0
 static NULL: &str = "\
@@ -90,8 +96,6 @@ static WRITE: &str = "\
 
 #[test]
 fn results_up_to_write(rt: HostRuntime) {
-    results();
-    fronts_of_results();
     let alloc = rt.alloc();
     same_rows::<NullRes>(&rt, alloc, NULL);
     same_rows::<GetattrRes>(&rt, alloc, GETATTR);
@@ -290,4 +294,32 @@ fn results_of_the_file_system_and_of_mount(rt: HostRuntime) {
     same_rows::<MntRes>(&rt, alloc, MNT);
     same_rows::<UmntRes>(&rt, alloc, UMNT);
     same_rows::<UmntallRes>(&rt, alloc, UMNTALL);
+}
+
+/// `writes-read-results`: the results of a READ with borrowed data, `hi`: no attributes, a count of 2, the end of the file.
+pub fn written_results(rt: &impl Abort, alloc: Global) -> Octets {
+    let results = StatusUnion::Done(ReadOkRef::new(None, 2, true, b"hi"));
+    let written = write_read_res(&results, RoomWriter::new(alloc)).expect(rt, "memory");
+    written.finish()
+}
+
+/// `read-results`: how many bytes of data the results of a READ have, if they are read.
+pub fn data_read(rt: &impl Abort, alloc: Global, bytes: &[u8]) -> String {
+    let len = match read_read_res(alloc, bytes) {
+        Ok(StatusUnion::Done(done)) => Some(done.bytes().len()),
+        _ => None,
+    };
+    shown(rt, alloc, &len)
+}
+
+// section 3.3.6: status 0, and the same without data
+static BORROWED: &str = "\
+writes-read-results : 0 0 2 1 2 68690000\n\
+read-results : 0 0 2 1 2 68690000 = Some(2)\n\
+read-results : 0 0 2 1 2 = None\n\
+";
+
+#[test]
+fn results_of_read_are_borrowed(rt: HostRuntime) {
+    run(&rt, rt.alloc(), BORROWED);
 }

@@ -1,42 +1,39 @@
-//! Tests of nr_wire. Rows are worked out by hand from the layouts of RFC 5044 (MPA), RFC 5041 (DDP) and RFC 5040 (RDMAP).
+//! Calls of nr_wire. Rows are worked out by hand from the layouts of RFC 5044 (MPA), RFC 5041 (DDP) and RFC 5040 (RDMAP).
 
+ghost use Rattle.nr_wire.specs.Constants.{PRIVATE_MAX};
+ghost use Rattle.std.specs.Prelude.{◌≤◌, length};
+
+use crate::answers::{answer_at, answer_of, put, put_number, put_words};
 use crate::compare::same;
+use crate::script::{Line, run};
 use nr_wire::*;
-use nr_xdr::{Memory, Octets};
 use std::alloc::Global;
 use std::process::Abort;
 
-/// What an answer is: 0 for a complete frame, `MORE`, or the reason for which it is refused.
-const MORE: u32 = 100;
-
-fn segment_answer(next: &NextSegment<'_>) -> u32 {
-    match next {
-        NextSegment::Whole { .. } => 0,
-        NextSegment::More => MORE,
-        NextSegment::Bad { reason } => *reason,
-    }
-}
-
-/// The form (1 for tagged), the last bit and the opcode; the STag and the offset, or the word, the queue, the message's
-/// number and the offset; the length of the payload.
-fn numbers_of(segment: &Segment<'_>) -> [u64; 8] {
-    match *segment {
+/// What is read of a segment, with the length of its frame: `tagged`, the last bit and the opcode, the STag and the offset; or `untagged`, the
+/// last bit and the opcode, the word, the queue, the number of the message and the offset. Then the length of the payload.
+fn segment_text(rt: &impl Abort, alloc: Global, segment: &Segment<'_>, len: usize) -> String {
+    let mut answer = String::new(alloc);
+    let payload = match *segment {
         Segment::Tagged {
             last,
             opcode,
             stag,
             to,
             payload,
-        } => [
-            1,
-            u64::from(last),
-            u64::from(opcode),
-            u64::from(stag),
-            to,
-            0,
-            0,
-            payload.len() as u64,
-        ],
+        } => {
+            put(rt, &mut answer, "tagged");
+            for number in [
+                len as u64,
+                u64::from(last),
+                u64::from(opcode),
+                u64::from(stag),
+                to,
+            ] {
+                put_number(rt, alloc, &mut answer, number);
+            }
+            payload
+        }
         Segment::Untagged {
             last,
             opcode,
@@ -45,376 +42,209 @@ fn numbers_of(segment: &Segment<'_>) -> [u64; 8] {
             msn,
             offset,
             payload,
-        } => [
-            0,
-            u64::from(last),
-            u64::from(opcode),
-            u64::from(word),
-            u64::from(queue),
-            u64::from(msn),
-            u64::from(offset),
-            payload.len() as u64,
-        ],
-    }
-}
-
-static SEGMENTS: [(&[u8], [u64; 8]); 16] = [
-    // A NULL call and its reply, and ERR_CHUNK, each in one Send.
-    (
-        b"\x00\x56\x41\x43\0\0\0\0\0\0\0\0\0\0\0\x01\0\0\0\0\
-\0\0\0\x01\0\0\0\x01\0\0\0\x10\0\0\0\0\0\0\0\0\0\0\0\0\0\0\0\0\
-\0\0\0\x01\0\0\0\0\0\0\0\x02\0\x01\x86\xa3\0\0\0\x03\0\0\0\0\0\0\0\0\0\0\0\0\0\0\0\0\0\0\0\0\0\0\0\0",
-        [0, 1, 3, 0, 0, 1, 0, 68],
-    ),
-    (
-        b"\x00\x46\x41\x43\0\0\0\0\0\0\0\0\0\0\0\x01\0\0\0\0\
-\0\0\0\x01\0\0\0\x01\0\0\0\x10\0\0\0\0\0\0\0\0\0\0\0\0\0\0\0\0\
-\0\0\0\x01\0\0\0\x01\0\0\0\0\0\0\0\0\0\0\0\0\0\0\0\0\0\0\0\0",
-        [0, 1, 3, 0, 0, 1, 0, 52],
-    ),
-    (
-        b"\x00\x26\x41\x43\0\0\0\0\0\0\0\0\0\0\0\x01\0\0\0\0\
-\0\0\0\x01\0\0\0\x01\0\0\0\x10\0\0\0\x04\0\0\0\x02\0\0\0\0",
-        [0, 1, 3, 0, 0, 1, 0, 20],
-    ),
-    // A Write of five bytes, and the shortest tagged ULPDU.
-    (
-        b"\x00\x13\xc1\x40\0\0\0\x01\0\0\0\0\0\0\0\0hello\0\0\0\0\0\0\0",
-        [1, 1, 0, 1, 0, 0, 0, 5],
-    ),
-    (
-        b"\x00\x0e\xc1\x40\0\0\0\x01\0\0\0\0\0\0\0\0\0\0\0\0",
-        [1, 1, 0, 1, 0, 0, 0, 0],
-    ),
-    // A Read Request, its response, a Terminate.
-    (
-        b"\x00\x2e\x41\x41\0\0\0\0\0\0\0\x01\0\0\0\x01\0\0\0\0\
-\0\0\0\x01\0\0\0\0\0\0\0\0\0\0\0\x05\0\0\0\x01\0\0\0\0\0\0\0\0\0\0\0\0",
-        [0, 1, 1, 0, 1, 1, 0, 28],
-    ),
-    (
-        b"\x00\x13\xc1\x42\0\0\0\x01\0\0\0\0\0\0\0\0HELLO\0\0\0\0\0\0\0",
-        [1, 1, 2, 1, 0, 0, 0, 5],
-    ),
-    (
-        b"\x00\x16\x41\x47\0\0\0\0\0\0\0\x02\0\0\0\x01\0\0\0\0\0\0\0\x05\0\0\0\0",
-        [0, 1, 7, 0, 2, 1, 0, 4],
-    ),
-    // Two segments of a Send with Invalidate (RFC 5040 section 4.7): the last one has the STag.
-    (
-        b"\x00\x13\x01\x44\0\0\0\0\0\0\0\0\0\0\0\x01\0\0\0\0A\0\0\0\0\0\0\0",
-        [0, 0, 4, 0, 0, 1, 0, 1],
-    ),
-    (
-        b"\x00\x12\x41\x44\0\0\0\x07\0\0\0\0\0\0\0\x01\0\0\0\x01\0\0\0\0",
-        [0, 1, 4, 7, 0, 1, 1, 0],
-    ),
-    // Not the last of its message: byte 4096 of message 7; bytes of a region from 0x0102030405060708 on.
-    (
-        b"\x00\x13\x01\x43\0\0\0\0\0\0\0\0\0\0\0\x07\0\0\x10\0A\0\0\0\0\0\0\0",
-        [0, 0, 3, 0, 0, 7, 4096, 1],
-    ),
-    (
-        b"\x00\x10\x81\x40\x01\x02\x03\x04\x01\x02\x03\x04\x05\x06\x07\x08ab\0\0\0\0\0\0",
-        [1, 0, 0, 0x0102_0304, 0x0102_0304_0506_0708, 0, 0, 2],
-    ),
-    (
-        b"\x00\x11\x81\x42\xff\xff\xff\xff\xff\xff\xff\xff\xff\xff\xff\xfcabc\0\0\0\0\0",
-        [1, 0, 2, 0xffff_ffff, 0xffff_ffff_ffff_fffc, 0, 0, 3],
-    ),
-    // The word, the number and the offset of a message at their largest.
-    (
-        b"\x00\x12\x41\x43\xff\xff\xff\xff\0\0\0\0\xff\xff\xff\xff\xff\xff\xff\xff\0\0\0\0",
-        [0, 1, 3, 0xffff_ffff, 0, 0xffff_ffff, 0xffff_ffff, 0],
-    ),
-    (
-        b"\x00\x12\x01\x41\xde\xad\xbe\xef\0\0\0\x01\x12\x34\x56\x78\0\0\x01\x02\0\0\0\0",
-        [0, 0, 1, 0xdead_beef, 1, 0x1234_5678, 0x0102, 0],
-    ),
-    (
-        b"\x00\x14\x01\x47\0\0\x01\0\0\0\0\x02\0\0\0\x02\0\x01\0\0yz\0\0\0\0\0\0",
-        [0, 0, 7, 256, 2, 2, 65536, 2],
-    ),
-];
-
-/// The length of the segment that the bytes begin with, and its numbers.
-fn segment_read(bytes: &[u8]) -> Option<(usize, [u64; 8])> {
-    match next_segment(bytes) {
-        NextSegment::Whole { segment, len } => Some((len, numbers_of(&segment))),
-        NextSegment::More | NextSegment::Bad { .. } => None,
-    }
-}
-
-/// The bytes of the segment that these begin with as they are written.
-fn segment_written(rt: &impl Abort, alloc: Global, bytes: &[u8]) -> Octets {
-    match next_segment(bytes) {
-        NextSegment::Whole { segment, .. } => write_segment(alloc, &segment).expect(rt, "memory"),
-        NextSegment::More | NextSegment::Bad { .. } => Octets::new(alloc),
-    }
-}
-
-/// Ends the test if the segment that the bytes begin with doesn't have this length and these numbers, or is written as other
-/// bytes.
-fn segment_again(
-    rt: &impl Abort,
-    alloc: Global,
-    row: usize,
-    bytes: &[u8],
-    want: (usize, [u64; 8]),
-    plain: &[u8],
-) {
-    same(rt, row, segment_read(bytes), Some(want));
-    let written = segment_written(rt, alloc, bytes);
-    same(rt, row, written.as_slice(), plain);
-}
-
-#[test]
-fn segments_both_ways(rt: HostRuntime) {
-    for (row, (bytes, numbers)) in SEGMENTS.iter().enumerate() {
-        let want = (bytes.len(), *numbers);
-        segment_again(&rt, rt.alloc(), row, bytes, want, bytes);
-    }
-}
-
-/// Each row without its last byte is less than a frame, which needs one byte more.
-#[test]
-fn partial_segments(rt: HostRuntime) {
-    round_trip();
-    judged_alone();
-    one_segment();
-    one_split();
-    longest_fpdu();
-    however_cut::<u64>();
-    for (row, (bytes, _)) in SEGMENTS.iter().enumerate() {
-        same(
-            &rt,
-            row,
-            whole_frame(Awaited::Fpdu, bytes),
-            Some(bytes.len()),
-        );
-        if let Some((_, front)) = bytes.split_last() {
-            let needed = bytes_needed(Awaited::Fpdu, front);
-            same(
-                &rt,
-                row,
-                (segment_answer(&next_segment(front)), needed),
-                (MORE, 1),
-            );
+        } => {
+            put(rt, &mut answer, "untagged");
+            put_number(rt, alloc, &mut answer, len as u64);
+            let words = [u32::from(last), u32::from(opcode), word, queue, msn, offset];
+            put_words(rt, alloc, &mut answer, &words);
+            payload
         }
-    }
+    };
+    put_number(rt, alloc, &mut answer, payload.len() as u64);
+    answer
 }
 
-/// The longest FPDU has an ULPDU of 65535 bytes.
-#[test]
-fn longest_segment(rt: HostRuntime) {
-    let mut frame = [0; 65544];
-    frame[..4].copy_from_slice(b"\xff\xff\x41\x43");
-    frame[15] = 1;
-    let want = (65544, [0, 1, 3, 0, 0, 1, 0, 65517]);
-    segment_again(&rt, rt.alloc(), 0, &frame, want, &frame);
-}
-
-/// Every reserved bit, the pad and the CRC are set: they are ignored, and written as zeros.
-#[test]
-fn ignored_bits(rt: HostRuntime) {
-    let full = b"\x00\x0f\xfd\x70\0\0\0\x01\0\0\0\0\0\0\0\0A\xff\xff\xff\xff\xff\xff\xff";
-    let plain: &[u8] = b"\x00\x0f\xc1\x40\0\0\0\x01\0\0\0\0\0\0\0\0A\0\0\0\0\0\0\0";
-    let want = (24, [1, 1, 0, 1, 0, 0, 0, 1]);
-    segment_again(&rt, rt.alloc(), 0, full, want, plain);
-}
-
-/// The length of the ULPDU, the two control bytes, the queue, and the reason.
-static REFUSED: [(u8, u8, u8, u8, u32); 55] = [
-    (0, 0x41, 0x43, 0, 5),
-    (1, 0x41, 0x43, 0, 5),
-    (17, 0x41, 0x43, 0, 5),
-    (13, 0xc1, 0x40, 0, 5),
-    // An untagged segment needs 18 bytes, also with an opcode of the tagged ones.
-    (14, 0x41, 0x40, 0, 5),
-    (15, 0x41, 0x40, 0, 5),
-    (16, 0x41, 0x42, 0, 5),
-    (17, 0x41, 0x40, 0, 5),
-    (18, 0x41, 0x40, 0, 9),
-    // A tagged one needs 14, also with an opcode of the untagged ones.
-    (13, 0xc1, 0x43, 0, 5),
-    (14, 0xc1, 0x43, 0, 9),
-    (17, 0xc1, 0x47, 2, 9),
-    // The length comes before each other reason, and these come in order.
-    (17, 0x40, 0x43, 0, 5),
-    (17, 0x41, 0x83, 0, 5),
-    (17, 0x41, 0x44, 0, 5),
-    (13, 0xc1, 0x41, 0, 5),
-    (17, 0x41, 0x43, 1, 5),
-    (17, 0x42, 0x84, 7, 5),
-    (18, 0x42, 0x84, 7, 6),
-    (18, 0x41, 0x84, 7, 7),
-    (18, 0x41, 0x45, 7, 8),
-    (18, 0xc2, 0x83, 0, 6),
-    (18, 0xc1, 0x83, 0, 7),
-    (18, 0xc1, 0x45, 0, 8),
-    (18, 0xc1, 0x43, 7, 9),
-    (18, 0x41, 0x42, 7, 9),
-    // Versions of DDP and of RDMAP.
-    (18, 0x40, 0x43, 0, 6),
-    (18, 0x42, 0x43, 0, 6),
-    (18, 0x43, 0x43, 0, 6),
-    (18, 0x41, 0x03, 0, 7),
-    (18, 0x41, 0x83, 0, 7),
-    (18, 0x41, 0xc3, 0, 7),
-    // Opcodes.
-    (18, 0x41, 0x45, 0, 8),
-    (18, 0x41, 0x46, 0, 8),
-    (18, 0x41, 0x48, 0, 8),
-    (18, 0x41, 0x49, 0, 8),
-    (18, 0x41, 0x4a, 0, 8),
-    (18, 0x41, 0x4b, 0, 8),
-    (18, 0x41, 0x4c, 0, 8),
-    (18, 0x41, 0x4d, 0, 8),
-    (18, 0x41, 0x4e, 0, 8),
-    (18, 0x41, 0x4f, 0, 8),
-    (18, 0xc1, 0x48, 0, 8),
-    (18, 0xc1, 0x4f, 0, 8),
-    // Forms and queues.
-    (18, 0xc1, 0x41, 1, 9),
-    (18, 0xc1, 0x47, 2, 9),
-    (18, 0xc1, 0x44, 0, 9),
-    (18, 0x41, 0x43, 1, 10),
-    (18, 0x41, 0x43, 3, 10),
-    (18, 0x41, 0x44, 1, 10),
-    (18, 0x41, 0x41, 0, 10),
-    (18, 0x41, 0x41, 2, 10),
-    (18, 0x41, 0x47, 0, 10),
-    (18, 0x41, 0x47, 1, 10),
-    (18, 0x41, 0x47, 3, 10),
-];
-
-#[test]
-fn refused_segments(rt: HostRuntime) {
-    for (row, (len, first, second, queue, reason)) in REFUSED.iter().enumerate() {
-        let frame = [
-            0, *len, *first, *second, 0, 0, 0, 0, 0, 0, 0, *queue, 0, 0, 0, 1, 0, 0, 0, 0, 0, 0, 0,
-            0,
-        ];
-        same(&rt, row, segment_answer(&next_segment(&frame)), *reason);
-    }
-}
-
-use Side::{Initiator, Responder};
-
-/// The side, a byte of the key, the flags, the revision, the length of the private data, and what comes of it: the length of
-/// the hello, or a reason.
-static HELLOS: [(Side, u8, u8, u8, u16, Result<usize, u32>); 20] = [
-    (Initiator, b'q', 0x00, 1, 0, Ok(20)),
-    (Initiator, b'p', 0x00, 1, 0, Err(1)),
-    (Responder, b'p', 0x00, 1, 0, Ok(20)),
-    (Responder, b'q', 0x80, 1, 0, Err(1)),
-    (Initiator, b'q', 0x80, 0, 0, Err(2)),
-    (Initiator, b'q', 0x40, 1, 0, Err(2)),
-    (Initiator, b'q', 0x3f, 1, 0, Ok(20)),
-    (Responder, b'p', 0x80, 1, 0, Err(2)),
-    (Responder, b'p', 0x40, 1, 0, Err(2)),
-    (Responder, b'p', 0x20, 1, 0, Err(2)),
-    (Responder, b'p', 0x1f, 1, 0, Ok(20)),
-    (Initiator, b'q', 0x00, 0, 513, Err(3)),
-    (Initiator, b'q', 0x00, 2, 0, Err(3)),
-    (Initiator, b'q', 0x00, 1, 513, Err(4)),
-    (Initiator, b'q', 0x00, 1, 65535, Err(4)),
-    // Private data of one byte, of eight, and of the most.
-    (Initiator, b'q', 0x00, 1, 1, Ok(21)),
-    (Responder, b'p', 0x00, 1, 8, Ok(28)),
-    (Initiator, b'q', 0x00, 1, 256, Ok(276)),
-    (Responder, b'p', 0x00, 1, 511, Ok(531)),
-    (Initiator, b'q', 0x00, 1, 512, Ok(532)),
-];
-
-fn hello_answer(next: &NextHello<'_>) -> Result<usize, u32> {
-    match next {
-        NextHello::Whole { len, .. } => Ok(*len),
-        NextHello::More => Err(MORE),
-        NextHello::Bad { reason } => Err(*reason),
-    }
-}
-
-/// The bytes of the hello that these begin with as they are written, if it isn't refused.
-fn hello_again(alloc: Global, side: Side, bytes: &[u8]) -> Result<Octets, Memory> {
-    match read_hello(side, bytes) {
-        NextHello::Whole { hello, .. } => write_hello(alloc, &hello),
-        NextHello::More | NextHello::Bad { .. } => Ok(Octets::new(alloc)),
-    }
-}
-
-/// The bytes of a hello with these fields.
-fn hello_bytes(key: u8, flags: u8, revision: u8, private: u16) -> [u8; 532] {
-    let mut bytes = [0x5a; 532];
-    bytes[..16].copy_from_slice(b"MPA ID Re_ Frame");
-    bytes[9] = key;
-    bytes[16] = flags;
-    bytes[17] = revision;
-    bytes[18..20].copy_from_slice(&u16::to_be_bytes(private));
-    bytes
-}
-
-/// Ends the test if one of these numbers of bytes more is not what the hello needs: of 19 bytes, and of 20.
-fn needs(rt: &impl Abort, row: usize, side: Side, bytes: &[u8; 532], rest: usize) {
-    let awaited = Awaited::Hello(side);
-    same(rt, row, bytes_needed(awaited, &bytes[..19]), 1);
-    same(rt, row, bytes_needed(awaited, &bytes[..20]), rest);
-}
-
-/// Ends the test if the hello of these bytes is not answered so, and its first 19 as a part of one.
-fn answers(rt: &impl Abort, row: usize, side: Side, bytes: &[u8; 532], want: Result<usize, u32>) {
+/// Ends the test unless the bytes are one frame, and without the last one less than a frame, which needs one byte more.
+fn one_frame(rt: &impl Abort, row: usize, bytes: &[u8]) {
     same(
         rt,
         row,
-        hello_answer(&read_hello(side, &bytes[..19])),
-        Err(MORE),
+        whole_frame(Awaited::Fpdu, bytes),
+        Some(bytes.len()),
     );
-    same(rt, row, hello_answer(&read_hello(side, bytes)), want);
-}
-
-#[test]
-fn hellos(rt: HostRuntime) {
-    for (row, (side, key, flags, revision, private, want)) in HELLOS.iter().enumerate() {
-        let bytes = hello_bytes(*key, *flags, *revision, *private);
-        answers(&rt, row, *side, &bytes, *want);
-        let rest = if want.is_ok() {
-            usize::from(*private)
-        } else {
-            0
-        };
-        needs(&rt, row, *side, &bytes, rest);
+    if let Some((_, front)) = bytes.split_last() {
+        let partial = matches!(next_segment(front), NextSegment::More);
+        let needed = bytes_needed(Awaited::Fpdu, front);
+        same(rt, row, (partial, needed), (true, 1));
     }
 }
 
-#[test]
-fn hello_fields(rt: HostRuntime) {
-    let mut bytes = hello_bytes(b'p', 0x1f, 1, 2);
-    bytes[20] = 1;
-    bytes[21] = 2;
-    match read_hello(Responder, &bytes) {
-        NextHello::Whole { hello, .. } => {
-            same(
-                &rt,
-                0,
-                (hello.flags, hello.private),
-                (0x1f, [1, 2].as_slice()),
-            );
+/// `segment`: what is read of the segment, which is written as the bytes of the line; or `bad` and the reason for which it is refused.
+pub fn segment(rt: &impl Abort, alloc: Global, line: &Line<'_>) -> String {
+    match next_segment(line.bytes) {
+        NextSegment::Whole { segment, len } => {
+            one_frame(rt, line.row, line.bytes);
+            let written = write_segment(alloc, &segment).expect(rt, "memory");
+            same(rt, line.row, written.as_slice(), line.written);
+            segment_text(rt, alloc, &segment, len)
         }
-        NextHello::More | NextHello::Bad { .. } => panic!(rt; "a hello stands there"),
+        NextSegment::More => answer_of(rt, alloc, "more", &[]),
+        NextSegment::Bad { reason } => answer_of(rt, alloc, "bad", &[reason]),
     }
 }
 
-/// Ends the test if the hello of these bytes is written as others.
-fn hello_written(rt: &impl Abort, alloc: Global, row: usize, side: Side, bytes: &[u8], len: usize) {
-    let written = hello_again(alloc, side, bytes).expect(rt, "memory");
-    same(rt, row, Some(written.as_slice()), bytes.get(..len));
+static SEGMENTS: &str = "\
+# A NULL call and its reply, and ERR_CHUNK, each in one Send.\n\
+segment : 564143 0 0 1 0 1 1 10 0*4 1 0 2 186a3 3 0*6 = untagged 92 1 3 0 0 1 0 68\n\
+segment : 464143 0 0 1 0 1 1 10 0*4 1 1 0*5 = untagged 76 1 3 0 0 1 0 52\n\
+segment : 264143 0 0 1 0 1 1 10 4 2 0 = untagged 44 1 3 0 0 1 0 20\n\
+# A Write of five bytes, and the shortest tagged ULPDU.\n\
+segment : 13c140 1 0 0 68656c6c 6f000000 0 = tagged 28 1 0 1 0 5\n\
+segment : ec140 1 0*3 = tagged 20 1 0 1 0 0\n\
+# A Read Request, its response, a Terminate.\n\
+segment : 2e4141 0 1 1 0 1 0 0 5 1 0*3 = untagged 52 1 1 0 1 1 0 28\n\
+segment : 13c142 1 0 0 48454c4c 4f000000 0 = tagged 28 1 2 1 0 5\n\
+segment : 164147 0 2 1 0 5 0 = untagged 28 1 7 0 2 1 0 4\n\
+# Two segments of a Send with Invalidate (RFC 5040 section 4.7): the last one has the STag.\n\
+segment : 130144 0 0 1 0 41000000 0 = untagged 28 0 4 0 0 1 0 1\n\
+segment : 124144 7 0 1 1 0 = untagged 24 1 4 7 0 1 1 0\n\
+# Not the last of its message: byte 4096 of message 7; bytes of a region from 0x0102030405060708 on.\n\
+segment : 130143 0 0 7 1000 41000000 0 = untagged 28 0 3 0 0 7 4096 1\n\
+segment : 108140 1020304 1020304 5060708 61620000 0 = tagged 24 0 0 16909060 72623859790382856 2\n\
+segment : 118142 ffffffff ffffffff fffffffc 61626300 0 = tagged 24 0 2 4294967295 18446744073709551612 3\n\
+# The word, the number and the offset of a message at their largest.\n\
+segment : 124143 ffffffff 0 ffffffff ffffffff 0 = untagged 24 1 3 4294967295 0 4294967295 4294967295 0\n\
+segment : 120141 deadbeef 1 12345678 102 0 = untagged 24 0 1 3735928559 1 305419896 258 0\n\
+segment : 140147 100 2 2 10000 797a0000 0 = untagged 28 0 7 256 2 2 65536 2\n\
+# The longest FPDU has an ULPDU of 65535 bytes.\n\
+segment : ffff4143 0 0 1 0*16382 = untagged 65544 1 3 0 0 1 0 65517\n\
+# Every reserved bit, the pad and the CRC are set: they are ignored, and written as zeros.\n\
+segment : ffd70 1 0 0 41ffffff ffffffff | fc140 1 0 0 41000000 0 = tagged 24 1 0 1 0 1\n";
+
+static REFUSED: &str = "\
+# Segments that are refused: by the length of the ULPDU, the two control bytes and the queue.\n\
+segment : 4143 0 0 1 0 0 = bad 5\n\
+segment : 14143 0 0 1 0 0 = bad 5\n\
+segment : 114143 0 0 1 0 0 = bad 5\n\
+segment : dc140 0 0 1 0 0 = bad 5\n\
+# An untagged segment needs 18 bytes, also with an opcode of the tagged ones.\n\
+segment : e4140 0 0 1 0 0 = bad 5\n\
+segment : f4140 0 0 1 0 0 = bad 5\n\
+segment : 104142 0 0 1 0 0 = bad 5\n\
+segment : 114140 0 0 1 0 0 = bad 5\n\
+segment : 124140 0 0 1 0 0 = bad 9\n\
+# A tagged one needs 14, also with an opcode of the untagged ones.\n\
+segment : dc143 0 0 1 0 0 = bad 5\n\
+segment : ec143 0 0 1 0 0 = bad 9\n\
+segment : 11c147 0 2 1 0 0 = bad 9\n\
+# The length comes before each other reason, and these come in order.\n\
+segment : 114043 0 0 1 0 0 = bad 5\n\
+segment : 114183 0 0 1 0 0 = bad 5\n\
+segment : 114144 0 0 1 0 0 = bad 5\n\
+segment : dc141 0 0 1 0 0 = bad 5\n\
+segment : 114143 0 1 1 0 0 = bad 5\n\
+segment : 114284 0 7 1 0 0 = bad 5\n\
+segment : 124284 0 7 1 0 0 = bad 6\n\
+segment : 124184 0 7 1 0 0 = bad 7\n\
+segment : 124145 0 7 1 0 0 = bad 8\n\
+segment : 12c283 0 0 1 0 0 = bad 6\n\
+segment : 12c183 0 0 1 0 0 = bad 7\n\
+segment : 12c145 0 0 1 0 0 = bad 8\n\
+segment : 12c143 0 7 1 0 0 = bad 9\n\
+segment : 124142 0 7 1 0 0 = bad 9\n\
+# Versions of DDP and of RDMAP.\n\
+segment : 124043 0 0 1 0 0 = bad 6\n\
+segment : 124243 0 0 1 0 0 = bad 6\n\
+segment : 124343 0 0 1 0 0 = bad 6\n\
+segment : 124103 0 0 1 0 0 = bad 7\n\
+segment : 124183 0 0 1 0 0 = bad 7\n\
+segment : 1241c3 0 0 1 0 0 = bad 7\n\
+# Opcodes.\n\
+segment : 124145 0 0 1 0 0 = bad 8\n\
+segment : 124146 0 0 1 0 0 = bad 8\n\
+segment : 124148 0 0 1 0 0 = bad 8\n\
+segment : 124149 0 0 1 0 0 = bad 8\n\
+segment : 12414a 0 0 1 0 0 = bad 8\n\
+segment : 12414b 0 0 1 0 0 = bad 8\n\
+segment : 12414c 0 0 1 0 0 = bad 8\n\
+segment : 12414d 0 0 1 0 0 = bad 8\n\
+segment : 12414e 0 0 1 0 0 = bad 8\n\
+segment : 12414f 0 0 1 0 0 = bad 8\n\
+segment : 12c148 0 0 1 0 0 = bad 8\n\
+segment : 12c14f 0 0 1 0 0 = bad 8\n\
+# Forms and queues.\n\
+segment : 12c141 0 1 1 0 0 = bad 9\n\
+segment : 12c147 0 2 1 0 0 = bad 9\n\
+segment : 12c144 0 0 1 0 0 = bad 9\n\
+segment : 124143 0 1 1 0 0 = bad 10\n\
+segment : 124143 0 3 1 0 0 = bad 10\n\
+segment : 124144 0 1 1 0 0 = bad 10\n\
+segment : 124141 0 0 1 0 0 = bad 10\n\
+segment : 124141 0 2 1 0 0 = bad 10\n\
+segment : 124147 0 0 1 0 0 = bad 10\n\
+segment : 124147 0 1 1 0 0 = bad 10\n\
+segment : 124147 0 3 1 0 0 = bad 10\n";
+
+/// Ends the test if the hello isn't written as the front of the bytes, or has other private data than they have after the first 20.
+fn same_hello(rt: &impl Abort, alloc: Global, line: &Line<'_>, hello: &Hello<'_>, len: usize)
+    requires { length hello.now.private.now ≤ PRIVATE_MAX }
+{
+    let written = write_hello(alloc, hello).expect(rt, "memory");
+    same(
+        rt,
+        line.row,
+        Some(written.as_slice()),
+        line.bytes.get(..len),
+    );
+    same(rt, line.row, Some(hello.private), line.bytes.get(20..len));
 }
+
+/// `initiator`, `responder`: what is read of the side's hello. `whole`, its length and its flags, or `bad` and the reason for which it is
+/// refused; then how many bytes it needs after the first 20. Of the first 19 one more is needed.
+pub fn hello(rt: &impl Abort, alloc: Global, line: &Line<'_>, side: Side) -> String {
+    let (Some(most), Some(front)) = (line.bytes.get(..19), line.bytes.get(..20)) else {
+        panic!(rt; "a hello has 20 bytes");
+    };
+    let awaited = Awaited::Hello(side);
+    let partial = matches!(read_hello(side, most), NextHello::More);
+    same(
+        rt,
+        line.row,
+        (partial, bytes_needed(awaited, most)),
+        (true, 1),
+    );
+    let mut answer = match read_hello(side, line.bytes) {
+        NextHello::Whole { hello, len } => {
+            same_hello(rt, alloc, line, &hello, len);
+            let mut answer = answer_at(rt, alloc, "whole", &[], len);
+            put_words(rt, alloc, &mut answer, &[u32::from(hello.flags)]);
+            answer
+        }
+        NextHello::More => answer_of(rt, alloc, "more", &[]),
+        NextHello::Bad { reason } => answer_of(rt, alloc, "bad", &[reason]),
+    };
+    put(rt, &mut answer, "needs");
+    put_number(rt, alloc, &mut answer, bytes_needed(awaited, front) as u64);
+    answer
+}
+
+static HELLOS: &str = "\
+initiator : 4d504120 49442052 65712046 72616d65 10000 5a5a5a5a*128 = whole 20 0 needs 0\n\
+initiator : 4d504120 49442052 65702046 72616d65 10000 5a5a5a5a*128 = bad 1 needs 0\n\
+responder : 4d504120 49442052 65702046 72616d65 10000 5a5a5a5a*128 = whole 20 0 needs 0\n\
+responder : 4d504120 49442052 65712046 72616d65 80010000 5a5a5a5a*128 = bad 1 needs 0\n\
+initiator : 4d504120 49442052 65712046 72616d65 80000000 5a5a5a5a*128 = bad 2 needs 0\n\
+initiator : 4d504120 49442052 65712046 72616d65 40010000 5a5a5a5a*128 = bad 2 needs 0\n\
+initiator : 4d504120 49442052 65712046 72616d65 3f010000 5a5a5a5a*128 = whole 20 63 needs 0\n\
+responder : 4d504120 49442052 65702046 72616d65 80010000 5a5a5a5a*128 = bad 2 needs 0\n\
+responder : 4d504120 49442052 65702046 72616d65 40010000 5a5a5a5a*128 = bad 2 needs 0\n\
+responder : 4d504120 49442052 65702046 72616d65 20010000 5a5a5a5a*128 = bad 2 needs 0\n\
+responder : 4d504120 49442052 65702046 72616d65 1f010000 5a5a5a5a*128 = whole 20 31 needs 0\n\
+initiator : 4d504120 49442052 65712046 72616d65 201 5a5a5a5a*128 = bad 3 needs 0\n\
+initiator : 4d504120 49442052 65712046 72616d65 20000 5a5a5a5a*128 = bad 3 needs 0\n\
+initiator : 4d504120 49442052 65712046 72616d65 10201 5a5a5a5a*128 = bad 4 needs 0\n\
+initiator : 4d504120 49442052 65712046 72616d65 1ffff 5a5a5a5a*128 = bad 4 needs 0\n\
+# Private data of one byte, of eight, and of the most.\n\
+initiator : 4d504120 49442052 65712046 72616d65 10001 5a5a5a5a*128 = whole 21 0 needs 1\n\
+responder : 4d504120 49442052 65702046 72616d65 10008 5a5a5a5a*128 = whole 28 0 needs 8\n\
+initiator : 4d504120 49442052 65712046 72616d65 10100 5a5a5a5a*128 = whole 276 0 needs 256\n\
+responder : 4d504120 49442052 65702046 72616d65 101ff 5a5a5a5a*128 = whole 531 0 needs 511\n\
+initiator : 4d504120 49442052 65712046 72616d65 10200 5a5a5a5a*128 = whole 532 0 needs 512\n\
+responder : 4d504120 49442052 65702046 72616d65 1f010002 1025a5a 5a5a5a5a*127 = whole 22 31 needs 2\n";
 
 #[test]
-fn hellos_written(rt: HostRuntime) {
-    for (row, (side, key, flags, revision, private, want)) in HELLOS.iter().enumerate() {
-        let bytes = hello_bytes(*key, *flags, *revision, *private);
-        let len = want.unwrap_or(0);
-        hello_written(&rt, rt.alloc(), row, *side, &bytes, len);
-    }
+fn frames(rt: HostRuntime) {
+    run(&rt, rt.alloc(), SEGMENTS);
+    run(&rt, rt.alloc(), REFUSED);
+    run(&rt, rt.alloc(), HELLOS);
 }
