@@ -11,6 +11,7 @@ mod links;
 mod links_client;
 mod links_work;
 mod sends;
+mod shared;
 mod tree;
 mod words;
 
@@ -38,6 +39,10 @@ fn run(rt: HostRuntime, name: &str, words: &mut Args) -> Option<()> {
     if name == "links" {
         let (total, micros) = links::measure(rt, words)?;
         return println!(rt; "{total} {micros}").ok();
+    }
+    if name == "shared" {
+        let (own, unanswered) = shared::measure(rt, words)?;
+        return println!(rt; "{own} {unanswered}").ok();
     }
     let total = measured(rt.alloc(), name, words)?;
     println!(rt; "{total}").ok()
