@@ -176,6 +176,10 @@ lacks_answer xid r there none = true_false (sym there ∙ ap is_some none)
     true_false : true ≡ false → ⊥
     true_false e = absurd cc
 
+pub forgotten_ended : (xid : ℕ) (h i : RequesterSide) → i ≡ after_forget h xid → i.state.side.ended ≡ h.state.side.ended
+unfolding after_forget
+forgotten_ended xid h i is = ap (λ (x : RequesterSide). x.state.side.ended) is
+
 -- a call that is forgotten leaves the cause of its end
 pub still_caused : (xid : ℕ) (end : CallEnd) (left : Option (List ℕ)) (read : ℕ) (h i : RequesterSide) → i ≡ after_forget h xid → LinkCause end left read h → LinkCause end left read i
 unfolding after_forget

@@ -221,15 +221,19 @@ back_known left given source_faults taken sink_faults allows seen mine first rea
   calls = b.calls;
   took = b.took;
   sink_count = b.sink_count;
+  sink_counted = b.sink_counted;
   sink_failed = b.sink_failed;
   in_order = b.in_order;
   allowed = b.allowed;
   closes_calls = b.closes_calls;
   output = b.output;
+  in_full = b.in_full;
+  may_follow = b.may_follow;
   fed = b.fed;
   gave = b.gave;
   read = b.read;
   source_count = b.source_count;
+  source_counted = b.source_counted;
   stop = b.stop;
 }
 

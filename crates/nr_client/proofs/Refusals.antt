@@ -132,6 +132,13 @@ failed end = Err end
 pub not_out : {A : Type 0} {end : End} → end ≢ ends.Memory → failed {A = A} end ≢ Err ends.Memory
 not_out {A = A} differs same = differs (ap (λ (r : Result A End). end_or_memory r) same)
 
+abbrev end_or : Option End → End
+end_or None = ends.Memory
+end_or (Some end) = end
+
+pub not_memory : {end : End} → end ≢ ends.Memory → Some end ≢ Some ends.Memory
+not_memory {end = end} differs same = differs (ap (λ (o : Option End). end_or o) same)
+
 -- ---- No fault count rises at a refusal
 
 pub link_refused_source : (why : Refused) (end : CallEnd) → IsEndOf why end → (count : ℕ) → SourceCountAt end count count

@@ -19,11 +19,13 @@ use Rattle.nr_shared.specs.Histories.{closes_of, is_feeding, last_feeding, Feeds
 use Rattle.nr_shared.specs.Standing.{Stands}
 use Rattle.nr_shared.specs.Callers.{IsFeeding, Writes}
 use Rattle.nr_shared.specs.Draining.{AreWrites}
+use Rattle.nr_shared.specs.Output.{IsCallOutstanding}
 use Rattle.nr_shared.proofs.Adding.{closes_own_on, got}
 use Rattle.nr_shared.proofs.Calls.{none_some}
 use Rattle.nr_shared.proofs.Lists.{at_after, at_either, in_more}
 use Rattle.nr_shared.proofs.Chains.{last_same, no_link_after}
 use Rattle.nr_shared.proofs.Histories.{initial_more}
+use Rattle.nr_shared.proofs.Outstanding.{outstanding_quiet}
 use Rattle.nr_reduce.specs.declared.call.Call.{Call}
 use Rattle.nr_reduce.specs.declared.call.Form.{Form}
 
@@ -92,6 +94,7 @@ pub record FeedsAlone {O C : Type 0} (p q : Pass (RequesterWithSink O C) Entry) 
   pub feeding : IsFeeding q
   pub bytes : bytes_fed (seen_by q) ≡ bytes_fed (seen_by p)
   pub stop : stop_of (seen_by q) ≡ stop_of (seen_by p)
+  pub outstanding : IsCallOutstanding (seen_by p) → IsCallOutstanding (seen_by q)
 
 pub alone : {O C : Type 0} (taken : O → Option (List ℕ)) (faults : O → ℕ) (allows : Call → Form → Type 0) (t : Turnstile (RequesterWithSink O C) Entry) (p q : Pass (RequesterWithSink O C) Entry) (y : RequesterWithSink O C) → Lies (seen_by p) (mine_of p) → Gets (Stands taken faults allows) closes_of t p q → Stands taken faults allows y (seen_by q)
     → IsFeeding p → FeedsAlone p q
@@ -113,6 +116,7 @@ alone taken faults allows t p q y lies g st fe =
       };
       bytes = ap (λ (l : List Entry). bytes_fed l) seen ∙ bytes_quiet xs ys quiet;
       stop = ap (λ (l : List Entry). stop_of l) seen ∙ stop_quiet xs ys quiet;
+      outstanding = λ out. subst IsCallOutstanding (sym seen) (outstanding_quiet xs ys fe.initial fe.is_initial quiet out);
     }
 
 -- ---- Writes leave all of this
@@ -172,4 +176,5 @@ alone_writes p q w lies fe =
       };
       bytes = ap (λ (l : List Entry). bytes_fed l) w.seen ∙ bytes_quiet xs w.es quiet;
       stop = ap (λ (l : List Entry). stop_of l) w.seen ∙ stop_quiet xs w.es quiet;
+      outstanding = λ out. subst IsCallOutstanding (sym w.seen) (outstanding_quiet xs w.es fe.initial fe.is_initial quiet out);
     }

@@ -11,7 +11,7 @@ use Rattle.nr_shared.specs.declared.entry.Entry.{Entry}
 use Rattle.nr_shared.specs.Histories.{closes_of, ClosesCall, ClosesCalls, IsUnclosed, submitted_call, submits_call, IsCallAt, place_of}
 use Rattle.nr_shared.specs.Standing.{KeepsCalls}
 use Rattle.nr_shared.proofs.Histories.{asked_end, asked_old, place_same, place_new}
-use Rattle.nr_shared.proofs.Lists.{none_left, split_end}
+use Rattle.nr_shared.proofs.Lists.{each_end, none_left}
 
 -- what is unclosed with one entry more was so before
 pub unclosed_old : (h : List Entry) (e : Entry) (k : ℕ) → IsUnclosed (h ++ e ∷ []) k → IsUnclosed h k
@@ -68,7 +68,4 @@ pub none_closes : ClosesCalls []
 none_closes before later e is = absurd (none_left before later e is)
 
 pub closes_end : (h : List Entry) (e : Entry) → ClosesCall h e → ClosesCalls h → ClosesCalls (h ++ e ∷ [])
-closes_end h e own all before later f is = ⊎_elim
-    (λ (last : (h ≡ before) × (e ≡ f)). subst (λ (l : List Entry). ClosesCall l f) last.0 (subst (ClosesCall h) last.1 own))
-    (λ (more : (rest : List Entry) × (h ≡ before ++ f ∷ rest)). all before more.0 f more.1)
-    (split_end h before later f e is)
+closes_end h e own all = each_end ClosesCall h e own all

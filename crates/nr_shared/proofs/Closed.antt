@@ -89,14 +89,18 @@ module _ {I O C : Type 0} (left given : I → Option (List ℕ)) (source_faults 
         took = st.took;
         sink_count = st.never_falls;
         sink_failed = λ is. st.sink_failed (st.write_failed ∙ is);
+        sink_counted = λ whole. st.counted (st.write_failed ∙ whole);
         in_order = st.in_order;
         allowed = st.allowed;
         closes_calls = st.closes_calls;
         output = st.output;
+        in_full = st.in_full;
+        may_follow = st.may_follow;
         fed = st.within.fed;
         gave = subst (λ (l : List ℕ). HandsOut (left b.source.value) (given b.source.value) (left s.source) (given s.source) l) (sym bytes) f.gave;
         read = (let w = f.within in omega (arith, w, read));
         source_count = f.never_falls;
+        source_counted = λ no. f.counted (λ bad. no (stop ∙ bad));
         stop = subst (λ (n : ℕ). StopHolds (stop_of h) (source_faults b.source.value) (source_faults s.source) (left s.source) n) read
             (subst (λ (o : Option Stop). StopHolds o (source_faults b.source.value) (source_faults s.source) (left s.source) s.read) (sym stop) f.stop);
       }
@@ -117,14 +121,18 @@ module _ {I O C : Type 0} (left given : I → Option (List ℕ)) (source_faults 
     took = st.took;
     sink_count = st.never_falls;
     sink_failed = λ is. st.sink_failed (st.write_failed ∙ is);
+    sink_counted = λ whole. st.counted (st.write_failed ∙ whole);
     in_order = st.in_order;
     allowed = st.allowed;
     closes_calls = st.closes_calls;
     output = st.output;
+    in_full = st.in_full;
+    may_follow = st.may_follow;
     fed = st.within.fed;
     gave = subst (λ (l : List ℕ). HandsOut (left source) (given source) (left source) (given source) l) (sym none) (HandsOut_nil (left source) (given source));
     read = (let len : length (bytes_fed h) ≡ 0 = ap length none in omega (arith, within, len));
     source_count = omega arith;
+    source_counted = λ no. refl;
     stop = subst (λ (o : Option Stop). StopHolds o (source_faults source) (source_faults source) (left source) (read_before + length (bytes_fed h))) (sym going) tt;
   }
 
@@ -145,13 +153,17 @@ back_by left given source_faults taken sink_faults allows allows' more seen mine
   took = b.took;
   sink_count = b.sink_count;
   sink_failed = b.sink_failed;
+  sink_counted = b.sink_counted;
   in_order = b.in_order;
   allowed = allowed_by allows allows' b.history more b.allowed;
   closes_calls = b.closes_calls;
   output = b.output;
+  in_full = b.in_full;
+  may_follow = b.may_follow;
   fed = b.fed;
   gave = b.gave;
   read = b.read;
   source_count = b.source_count;
+  source_counted = b.source_counted;
   stop = b.stop;
 }

@@ -36,6 +36,7 @@ use Rattle.nr_turnstile.specs.Turns.{pass_of}
 use Rattle.nr_shared.specs.Callers.{IsReady, KeepsLaw}
 use Rattle.nr_shared.specs.Sharing.{SaysCredit, SaysCreditOutOfMemory}
 use Rattle.nr_shared.specs.Marks.{IsOut}
+use Rattle.nr_shared.specs.Output.{IsCallOutstanding}
 use Rattle.nr_reduce.specs.declared.mark.Mark.{Mark}
 use Rattle.nr_shared.specs.Standing.{is_out_of_memory, RepresentsHistory, RepresentsHistoryIf, Stands}
 use Rattle.nr_reduce.specs.declared.mark.LinkParameters.{LinkParameters}
@@ -229,12 +230,19 @@ module _ {O C : Type 0} (taken : O → Option (List ℕ)) (faults : O → ℕ) (
             ap (λ (n : ℕ). nat_lt n m.requester.state.grant) counts.0 ∙ ap (λ (n : ℕ). nat_lt (calls_outstanding opened link (run_of before f.1.0 link h)) n) counts.1),
       )
 
+  -- whether a call is outstanding
+  pub outstanding_is : (m : RequesterWithSink O C) (h : List Entry) → m.stopped ≡ None → 0 < length m.requester.state.outstanding → Stands taken faults allows m h → IsCallOutstanding h
+  outstanding_is m h none some st opened link before fits =
+      let f : RepresentsHistoryIf false st.initial m.requester h = subst (λ (o : Option Stop). RepresentsHistory st.initial m.requester o h) none st.represents in
+      let l = f.1 opened link before (fits_initial h st.initial opened link before st.is_initial fits) in
+      subst (λ (n : ℕ). 0 < n) (counts_as_client opened link m.requester (run_of before 0 link h) l.stands).0 some
+
   -- the history keeps the law
   pub law_of : (m : RequesterWithSink O C) (h : List Entry) → Stands taken faults allows m h → KeepsLaw h
   law_of m h st = by_out (is_out_of_memory m.stopped) st.represents where
     by_out : (b : Bool) → RepresentsHistoryIf b st.initial m.requester h → KeepsLaw h
-    by_out false f = record { initial = st.initial; is_initial = st.is_initial; n = 0; law = λ opened link before fits. (let l = f.1 opened link before (fits_initial h st.initial opened link before st.is_initial fits) in (l.asked, l.granted)); output = st.output; in_order = st.in_order; closes_calls = st.closes_calls }
-    by_out true f = record { initial = st.initial; is_initial = st.is_initial; n = f.1.0; law = λ opened link before fits. (let l = f.1.1 opened link before (fits_initial h st.initial opened link before st.is_initial fits) in (l.asked, l.granted)); output = st.output; in_order = st.in_order; closes_calls = st.closes_calls }
+    by_out false f = record { initial = st.initial; is_initial = st.is_initial; n = 0; law = λ opened link before fits. (let l = f.1 opened link before (fits_initial h st.initial opened link before st.is_initial fits) in (l.asked, l.granted)); output = st.output; in_full = st.in_full; may_follow = st.may_follow; in_order = st.in_order; closes_calls = st.closes_calls }
+    by_out true f = record { initial = st.initial; is_initial = st.is_initial; n = f.1.0; law = λ opened link before fits. (let l = f.1.1 opened link before (fits_initial h st.initial opened link before st.is_initial fits) in (l.asked, l.granted)); output = st.output; in_full = st.in_full; may_follow = st.may_follow; in_order = st.in_order; closes_calls = st.closes_calls }
 
   -- told of the pass after its turn
   pub law_put_back : (t : Turn (RequesterWithSink O C) Entry) (s : Pass (RequesterWithSink O C) Entry) → IsReady taken faults allows t → seen_by s ≡ seen_by (pass_of t) → KeepsLaw (seen_by s)

@@ -31,6 +31,9 @@ pub stops_if : (out : Bool) (piece : List ℕ) (n : ℕ) (o : Option Stop) → o
 stops_if true piece n o is = is
 stops_if false piece n o is = is
 
+none_read : None ≡ Some causes.LinkRead → ⊥
+none_read e = absurd cc
+
 -- a cause that is met now holds of the source since it was shared
 holds_since : (cause : Stop) (before faults faults' : ℕ) (left : Option (List ℕ)) (read : ℕ) → before ≤ faults → StopHolds (Some cause) faults faults' left read → StopHolds (Some cause) before faults' left read
 holds_since causes.LinkRead before faults faults' left read le is = rises_from before faults faults' le is
@@ -52,6 +55,7 @@ module _ {I O C : Type 0} (left given : I → Option (List ℕ)) (faults : I →
     read = read ∙ (f.read ∙ ap (λ (l : List ℕ). b.read + length l) (sym bytes));
     within = (let w = f.within in omega (arith, w, read));
     never_falls = (let k = f.never_falls in let same : faults t.source ≡ faults s.source = ap faults source in omega (arith, k, same));
+    counted = λ no. ap faults source ∙ f.counted (λ bad. no (stop ∙ bad));
     stop = subst (λ (o : Option Stop). StopHolds o (faults b.source.value) (faults t.source) (left t.source) t.read) (sym stop)
         (subst (λ i. StopHolds (stop_of (seen_by s.pass)) (faults b.source.value) (faults i) (left i) t.read) (sym source)
         (subst (λ n. StopHolds (stop_of (seen_by s.pass)) (faults b.source.value) (faults s.source) (left s.source) n) (sym read) f.stop));
@@ -59,10 +63,10 @@ module _ {I O C : Type 0} (left given : I → Option (List ℕ)) (faults : I →
   }
 
   -- a piece was read and fed
-  pub feeds_more : (b : InitialSource I O C) (s t : SourceReader I O C) (piece : List ℕ) (out : Bool) → FeedsFor left given faults b s → HandsOut (left s.source) (given s.source) (left t.source) (given t.source) piece → faults s.source ≤ faults t.source
+  pub feeds_more : (b : InitialSource I O C) (s t : SourceReader I O C) (piece : List ℕ) (out : Bool) → FeedsFor left given faults b s → HandsOut (left s.source) (given s.source) (left t.source) (given t.source) piece → faults t.source ≡ faults s.source → stop_of (seen_by s.pass) ≡ None
       → t.read ≡ s.read + length piece → t.read ≤ read_max → length t.buf.items ≡ piece_max → home_of t.pass ≡ home_of s.pass → IsOutside t.pass → Lies (seen_by t.pass) (mine_of t.pass) → IsFeeding t.pass
       → bytes_fed (seen_by t.pass) ≡ bytes_fed (seen_by s.pass) ++ piece → MatchBool out (stop_of (seen_by t.pass) ≡ Some causes.Memory) (stop_of (seen_by t.pass) ≡ None) → FeedsFor left given faults b t
-  feeds_more b s t piece out f gave rises read within room home outside lies feeding bytes stop = record {
+  feeds_more b s t piece out f gave same goes read within room home outside lies feeding bytes stop = record {
     home = home ∙ f.home;
     outside = outside;
     lies = lies;
@@ -71,7 +75,8 @@ module _ {I O C : Type 0} (left given : I → Option (List ℕ)) (faults : I →
         (HandsOut_append (left b.source.value) (given b.source.value) (left s.source) (given s.source) (left t.source) (given t.source) (bytes_fed (seen_by s.pass)) piece f.gave gave);
     read = (let r = f.read in let len = ap length bytes ∙ length-append (bytes_fed (seen_by s.pass)) piece in omega (arith, r, read, len));
     within = within;
-    never_falls = (let k = f.never_falls in omega (arith, k, rises));
+    never_falls = (let k = f.never_falls in omega (arith, k, same));
+    counted = λ no. same ∙ f.counted (λ bad. none_read (sym goes ∙ bad));
     stop = by_out out stop;
     room = room;
   } where
@@ -81,9 +86,10 @@ module _ {I O C : Type 0} (left given : I → Option (List ℕ)) (faults : I →
 
   -- no more is fed
   pub feeds_stopped : (b : InitialSource I O C) (s t : SourceReader I O C) (cause : Stop) → FeedsFor left given faults b s → HandsOut (left s.source) (given s.source) (left t.source) (given t.source) [] → faults s.source ≤ faults t.source
+      → (cause ≢ causes.LinkRead → faults t.source ≡ faults s.source) → stop_of (seen_by s.pass) ≡ None
       → t.read ≡ s.read → length t.buf.items ≡ piece_max → home_of t.pass ≡ home_of s.pass → IsOutside t.pass → Lies (seen_by t.pass) (mine_of t.pass) → IsFeeding t.pass
       → bytes_fed (seen_by t.pass) ≡ bytes_fed (seen_by s.pass) → stop_of (seen_by t.pass) ≡ Some cause → StopHolds (Some cause) (faults s.source) (faults t.source) (left t.source) t.read → FeedsFor left given faults b t
-  feeds_stopped b s t cause f gave rises read room home outside lies feeding bytes stop holds = record {
+  feeds_stopped b s t cause f gave rises same goes read room home outside lies feeding bytes stop holds = record {
     home = home ∙ f.home;
     outside = outside;
     lies = lies;
@@ -93,6 +99,7 @@ module _ {I O C : Type 0} (left given : I → Option (List ℕ)) (faults : I →
     read = read ∙ (f.read ∙ ap (λ (l : List ℕ). b.read + length l) (sym bytes));
     within = (let w = f.within in omega (arith, w, read));
     never_falls = (let k = f.never_falls in omega (arith, k, rises));
+    counted = λ no. same (λ is. no (stop ∙ ap Some is)) ∙ f.counted (λ bad. none_read (sym goes ∙ bad));
     stop = subst (λ (o : Option Stop). StopHolds o (faults b.source.value) (faults t.source) (left t.source) t.read) (sym stop)
         (holds_since cause (faults b.source.value) (faults s.source) (faults t.source) (left t.source) t.read f.never_falls holds);
     room = room;

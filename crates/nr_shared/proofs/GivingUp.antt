@@ -25,8 +25,8 @@ use Rattle.nr_shared.specs.Ending.{ClientEnded, HasEnded, LinkEnded}
 use Rattle.nr_shared.specs.HandedBack.{IsUnanswered}
 use Rattle.nr_shared.specs.Histories.{FitsHistory, has_write_failed, initial_of, run_of, write_failed}
 use Rattle.nr_shared.proofs.Alone.{stop_quiet, writes_quiet}
-use Rattle.nr_shared.proofs.Ends.{fits_initial}
-use Rattle.nr_shared.proofs.Histories.{initial_more, run_end, run_same}
+use Rattle.nr_shared.proofs.Histories.{run_end, run_same}
+use Rattle.nr_shared.proofs.Outstanding.{fits_before}
 
 -- ---- The client of a run
 
@@ -75,9 +75,6 @@ module _ (opened : LinkParameters) (link : ℕ) (before : List Mark) (n : ℕ) w
   run_keeps h (entries.Revoke xid bytes submit ∷ es) are = absurd are
   run_keeps h (entries.Stopped cause previous ∷ es) are = absurd are
   run_keeps h (entries.OutOfMemory piece previous ∷ es) are = absurd are
-
-fits_before : (h es : List Entry) (c : InitialState) (opened : LinkParameters) (link : ℕ) (before : List Mark) → initial_of h ≡ Some c → FitsHistory (h ++ es) opened link before → FitsHistory h opened link before
-fits_before h es c opened link before is fits = (c, is, fits_initial (h ++ es) c opened link before (initial_more h es c is) fits)
 
 -- ---- Why the link has ended
 

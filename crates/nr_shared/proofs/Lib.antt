@@ -5,6 +5,7 @@ pub mod Histories
 pub mod Calls
 pub mod Ends
 pub mod Output
+pub mod Outstanding
 pub mod Steps
 pub mod Asking
 pub mod Moving

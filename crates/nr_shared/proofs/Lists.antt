@@ -160,14 +160,23 @@ pub none_left : {A : Type 0} (bs later : List A) (e : A) → [] ≡ bs ++ e ∷ 
 none_left [] later e is = absurd cc
 none_left (b ∷ bs) later e is = absurd cc
 
--- an element of a list with one more is that one, or it is among those before
-pub split_end : {A : Type 0} (h before later : List A) (e f : A) → h ++ f ∷ [] ≡ before ++ e ∷ later → ((h ≡ before) × (f ≡ e)) ⊎ ((rest : List A) × (h ≡ before ++ e ∷ rest))
-split_end [] [] later e f is = inl (refl, first_same f e [] later is)
+-- an element of a list with one more is that one, which is the last, or it is among those before
+pub split_end : {A : Type 0} (h before later : List A) (e f : A) → h ++ f ∷ [] ≡ before ++ e ∷ later
+    → ((h ≡ before) × (f ≡ e) × (later ≡ [])) ⊎ ((rest : List A) × (h ≡ before ++ e ∷ rest) × (later ≡ rest ++ f ∷ []))
+split_end [] [] later e f is = inl (refl, first_same f e [] later is, sym (rest_same f e [] later is))
 split_end [] (b ∷ bs) later e f is = absurd (none_left bs later e (rest_same f b [] (bs ++ e ∷ later) is))
-split_end {A} (x ∷ xs) [] later e f is = inr (xs, ap (λ (y : A). y ∷ xs) (first_same x e (xs ++ f ∷ []) later is))
+split_end {A} (x ∷ xs) [] later e f is = inr (xs, ap (λ (y : A). y ∷ xs) (first_same x e (xs ++ f ∷ []) later is), sym (rest_same x e (xs ++ f ∷ []) later is))
 split_end {A} (x ∷ xs) (b ∷ bs) later e f is =
     let head : x ≡ b = first_same x b (xs ++ f ∷ []) (bs ++ e ∷ later) is in
     ⊎_elim
-    (λ (last : (xs ≡ bs) × (f ≡ e)). inl ((λ i. head i ∷ last.0 i), last.1))
-    (λ (more : (rest : List A) × (xs ≡ bs ++ e ∷ rest)). inr (more.0, λ i. head i ∷ more.1 i))
+    (λ (last : (xs ≡ bs) × (f ≡ e) × (later ≡ [])). inl ((λ i. head i ∷ last.0 i), last.1, last.2))
+    (λ (more : (rest : List A) × (xs ≡ bs ++ e ∷ rest) × (later ≡ rest ++ f ∷ [])). inr (more.0, (λ i. head i ∷ more.1 i), more.2))
     (split_end xs bs later e f (rest_same x b (xs ++ f ∷ []) (bs ++ e ∷ later) is))
+
+-- what holds of each element, with those before it, holds so with one element more of which it holds
+pub each_end : {A : Type 0} (P : List A → A → Type 0) (h : List A) (e : A) → P h e → ((before later : List A) (f : A) → h ≡ before ++ f ∷ later → P before f)
+    → (before later : List A) (f : A) → h ++ e ∷ [] ≡ before ++ f ∷ later → P before f
+each_end {A} P h e own all before later f is = ⊎_elim
+    (λ (last : (h ≡ before) × (e ≡ f) × (later ≡ [])). subst (λ (l : List A). P l f) last.0 (subst (P h) last.1 own))
+    (λ (more : (rest : List A) × (h ≡ before ++ f ∷ rest) × (later ≡ rest ++ e ∷ [])). all before more.0 f more.1)
+    (split_end h before later f e is)

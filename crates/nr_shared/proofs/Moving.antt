@@ -19,7 +19,7 @@ use Rattle.nr_shared.specs.declared.entry.Stop.{Stop}
 use Rattle.nr_shared.specs.declared.entry.Entry.{Entry}
 use Rattle.nr_shared.specs.declared.entry.Entry.TheVariants as entries
 use Rattle.nr_shared.specs.declared.requester_with_sink.RequesterWithSink.{RequesterWithSink}
-use Rattle.nr_shared.specs.Histories.{mark_at, closes_of, is_feeding, bytes_fed, bytes_written, has_write_failed}
+use Rattle.nr_shared.specs.Histories.{mark_at, closes_of, is_feeding, bytes_fed, bytes_written, has_write_failed, stop_of}
 use Rattle.nr_shared.specs.Draining.{taken_between}
 use Rattle.nr_shared.specs.Standing.{is_out_of_memory, RepresentsHistory, RepresentsHistoryIf, one_if, IsWithin, Stands, Becomes}
 use Rattle.nr_shared.proofs.Chains.{chained_end}
@@ -29,7 +29,7 @@ use Rattle.nr_shared.specs.declared.entry.InitialState.{InitialState}
 use Rattle.nr_shared.specs.Marks.{IsLive, IsOut}
 use Rattle.nr_reduce.specs.declared.mark.Mark.{Mark}
 use Rattle.nr_reduce.specs.declared.mark.LinkParameters.{LinkParameters}
-use Rattle.nr_shared.proofs.Output.{output_same}
+use Rattle.nr_shared.proofs.Output.{follow_end, full_failed, full_wrote, output_same, queue_written}
 use Rattle.nr_shared.proofs.Steps.{follows_on, false_true}
 use Rattle.nr_reduce.specs.declared.call.Call.{Call}
 use Rattle.nr_reduce.specs.declared.call.Form.{Form}
@@ -87,6 +87,9 @@ follows_same o c r h e none represents = by_out (is_out_of_memory o) represents 
     (n, λ opened link before fits. subst (IsOut opened link r) (sym (run_same before n link h e (none n link))) (all opened link before fits)),
   )
 
+true_false : true ≡ false → ⊥
+true_false e = absurd cc
+
 or_true : (b : Bool) → b || true ≡ true
 or_true true = refl
 or_true false = refl
@@ -122,28 +125,34 @@ module _ {O C : Type 0} (taken : O → Option (List ℕ)) (faults : O → ℕ) (
       (λ opened link stop run out asked grant. (drain_out_keeps_law opened link m.requester stop run n out asked, drain_keeps_grant opened link run bytes grant)) represents)
 
   -- the sink took all that waited
-  wrote : (m m' : RequesterWithSink O C) (n : ℕ) (h : List Entry) → m.pending ≡ true → m.write_failed ≡ false → Drains m m' n → n ≡ length (queue_of m.requester.state) → m'.entries ≡ m.entries + 1 → m'.pending ≡ false → m'.write_failed ≡ false
+  wrote : (m m' : RequesterWithSink O C) (n : ℕ) (h : List Entry) → m.pending ≡ true → m.write_failed ≡ false → Drains m m' n → n ≡ length (queue_of m.requester.state) → faults m'.sink ≡ faults m.sink → m'.entries ≡ m.entries + 1 → m'.pending ≡ false → m'.write_failed ≡ false
       → Stands taken faults allows m h → Stands taken faults allows m' (h ++ entries.Wrote (take n (queue_of m.requester.state)) ∷ [])
-  wrote m m' n h was whole d all count pending sink_failed st =
+  wrote m m' n h was whole d all same count pending sink_failed st =
       let bytes = take n (queue_of m.requester.state) in
       let e : Entry = entries.Wrote bytes in
       let c = st.initial in
       let len = length-append h (e ∷ []) in
+      let initial_l = initial_end h e c st.is_initial in
+      let represents_l = follows_wrote m m' n c h d st.represents in
+      let stopped_l : m'.stopped ≡ stop_of (h ++ e ∷ []) = d.stopped ∙ (st.stopped ∙ sym (stop_same h e refl)) in
       record {
         initial = c;
-        is_initial = initial_end h e c st.is_initial;
+        is_initial = initial_l;
         entries = (let k = st.entries in omega (arith, k, len, count));
-        represents = follows_wrote m m' n c h d st.represents;
+        represents = represents_l;
         calls = calls_kept m.requester.state m'.requester.state h e (λ xid. refl) d.keeps st.calls;
         took = subst (Appends c.taken (taken m'.sink)) (sym (written_end h e)) (Appends-trans c.taken (taken m.sink) (taken m'.sink) (bytes_written h) bytes st.took d.takes);
         never_falls = (let f = st.never_falls in let g = d.never in omega (arith, f, g));
         write_failed = sink_failed ∙ (sym whole ∙ (st.write_failed ∙ sym (write_failed_same h e refl)));
         sink_failed = λ is. absurd (false_true (sym sink_failed ∙ is));
-        stopped = d.stopped ∙ (st.stopped ∙ sym (stop_same h e refl));
+        counted = λ is. same ∙ st.counted whole;
+        stopped = stopped_l;
         in_order = chained_end closes_of is_feeding 0 None h e st.in_order (λ is. absurd (false_true is));
         allowed = allowed_end allows h e st.allowed tt;
         closes_calls = closes_end h e tt st.closes_calls;
         output = output_same h e refl st.output;
+        in_full = full_wrote h bytes (queue_written c m'.requester m'.stopped (h ++ e ∷ []) initial_l stopped_l represents_l (drained_all m.requester m'.requester n d.after all)) st.in_full;
+        may_follow = follow_end h e (sym st.write_failed ∙ whole) st.may_follow;
         pending = λ is. drained_all m.requester m'.requester n d.after all;
         within = subst (λ b. IsWithin (fed_bytes c.requester) m'.requester m'.pending b m'.stopped (h ++ e ∷ [])) (sym sink_failed)
             (subst (λ b. IsWithin (fed_bytes c.requester) m'.requester b false m'.stopped (h ++ e ∷ [])) (sym pending)
@@ -174,11 +183,14 @@ module _ {O C : Type 0} (taken : O → Option (List ℕ)) (faults : O → ℕ) (
         never_falls = (let k = st.never_falls in let j = d.never in omega (arith, k, j));
         write_failed = sink_failed ∙ sym (write_failed_end l f ∙ or_true (has_write_failed l));
         sink_failed = λ is. rises_from c.faults (faults m.sink) (faults m'.sink) st.never_falls up;
+        counted = λ is. absurd (true_false (sym sink_failed ∙ is));
         stopped = d.stopped ∙ (st.stopped ∙ (sym (stop_same h e refl) ∙ sym (stop_same l f refl)));
         in_order = chained_end closes_of is_feeding 0 None l f (chained_end closes_of is_feeding 0 None h e st.in_order (λ is. absurd (false_true is))) (λ is. absurd (false_true is));
         allowed = allowed_end allows l f (allowed_end allows h e st.allowed tt) tt;
         closes_calls = closes_end l f tt (closes_end h e tt st.closes_calls);
         output = output_same l f refl (output_same h e refl st.output);
+        in_full = full_failed h bytes st.in_full;
+        may_follow = follow_end l f (write_failed_same h e refl ∙ (sym st.write_failed ∙ whole)) (follow_end h e (sym st.write_failed ∙ whole) st.may_follow);
         pending = λ is. absurd (false_true (sym is ∙ pending));
         within = subst (λ b. IsWithin (fed_bytes c.requester) m'.requester m'.pending b m'.stopped (l ++ f ∷ [])) (sym sink_failed)
             (subst (λ b. IsWithin (fed_bytes c.requester) m'.requester b true m'.stopped (l ++ f ∷ [])) (sym pending)
@@ -187,9 +199,9 @@ module _ {O C : Type 0} (taken : O → Option (List ℕ)) (faults : O → ℕ) (
             (subst (λ b. IsWithin (fed_bytes c.requester) m.requester b false m.stopped h) was (subst (λ b. IsWithin (fed_bytes c.requester) m.requester m.pending b m.stopped h) whole st.within)))));
       }
 
-  pub drains_all : (m m' : RequesterWithSink O C) (n : ℕ) → m.pending ≡ true → m.write_failed ≡ false → Drains m m' n → n ≡ length (queue_of m.requester.state) → m'.entries ≡ m.entries + 1 → m'.pending ≡ false → m'.write_failed ≡ false
+  pub drains_all : (m m' : RequesterWithSink O C) (n : ℕ) → m.pending ≡ true → m.write_failed ≡ false → Drains m m' n → n ≡ length (queue_of m.requester.state) → faults m'.sink ≡ faults m.sink → m'.entries ≡ m.entries + 1 → m'.pending ≡ false → m'.write_failed ≡ false
       → Becomes taken faults allows m m' (entries.Wrote (taken_between m.requester.state m'.requester.state) ∷ [])
-  drains_all m m' n was whole d all count pending sink_failed h st = subst (λ (b : List ℕ). Stands taken faults allows m' (h ++ entries.Wrote b ∷ [])) (took_them m.requester m'.requester n d.after d.some) (wrote m m' n h was whole d all count pending sink_failed st)
+  drains_all m m' n was whole d all same count pending sink_failed h st = subst (λ (b : List ℕ). Stands taken faults allows m' (h ++ entries.Wrote b ∷ [])) (took_them m.requester m'.requester n d.after d.some) (wrote m m' n h was whole d all same count pending sink_failed st)
 
   pub drains_some : (m m' : RequesterWithSink O C) (n : ℕ) → m.pending ≡ true → m.write_failed ≡ false → Drains m m' n → Rises (faults m.sink) (faults m'.sink) → m'.entries ≡ m.entries + 2 → m'.pending ≡ true → m'.write_failed ≡ true
       → Becomes taken faults allows m m' (entries.Wrote (taken_between m.requester.state m'.requester.state) ∷ entries.WriteFailed ∷ [])

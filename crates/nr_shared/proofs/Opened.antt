@@ -36,7 +36,7 @@ use Rattle.nr_shared.proofs.Asking.{none_closed}
 use Rattle.nr_shared.proofs.Calls.{closes_end, none_closes, none_some}
 use Rattle.nr_shared.proofs.Histories.{allowed_end}
 use Rattle.nr_shared.proofs.Lists.{at_below, at_end, in_places, place_in, places_len}
-use Rattle.nr_shared.proofs.Output.{output_none}
+use Rattle.nr_shared.proofs.Output.{follow_end, full_same, none_follow, none_wrote, output_none}
 use Rattle.nr_shared.proofs.Steps.{false_true}
 use Rattle.nr_reduce.specs.declared.call.Form.{Form}
 
@@ -93,11 +93,14 @@ module _ {O C : Type 0} (taken : O → Option (List ℕ)) (faults : O → ℕ) (
         never_falls = (let f = o.sink_faults in omega (arith, f));
         write_failed = whole;
         sink_failed = λ is. absurd (false_true (sym whole ∙ is));
+        counted = λ is. sym o.sink_faults;
         stopped = going;
         in_order = ((λ is. refl), tt);
         allowed = initial_allowed allows c;
         closes_calls = closes_end [] e tt none_closes;
         output = output_none (e ∷ []) (refl, tt);
+        in_full = full_same [] e refl none_wrote;
+        may_follow = follow_end [] e tt none_follow;
         pending = λ is. absurd (false_true (sym is ∙ pending));
         within = (let none : length (bytes_fed (e ∷ [])) ≡ 0 = refl in record {
           open_xids = places m.requester.state.next_xid;
@@ -167,6 +170,7 @@ first_reader left given faults b s home outside lies feeding source none going r
   read = (let len : length (bytes_fed (seen_by s.pass)) ≡ 0 = ap length none in omega (arith, read, len));
   within = omega (arith, read, small);
   never_falls = (let same : faults s.source ≡ faults b.source.value = ap faults source in omega (arith, same));
+  counted = λ no. ap faults source;
   stop = subst (λ (o : Option Stop). StopHolds o (faults b.source.value) (faults s.source) (left s.source) s.read) (sym going) tt;
   room = room;
 }

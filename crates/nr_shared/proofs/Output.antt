@@ -25,29 +25,31 @@ use Rattle.nr_turnstile.specs.Passes.{seen_by}
 use Rattle.nr_turnstile.specs.Turns.{pass_of}
 use Rattle.nr_shared.specs.declared.entry.Entry.{Entry}
 use Rattle.nr_shared.specs.declared.entry.Entry.TheVariants as entries
+use Rattle.nr_shared.specs.declared.entry.InitialState.{InitialState}
+use Rattle.nr_shared.specs.declared.entry.Stop.{Stop}
 use Rattle.nr_shared.specs.declared.requester_with_sink.RequesterWithSink.{RequesterWithSink}
 use Rattle.nr_shared.specs.Callers.{IsReady}
 use Rattle.nr_shared.specs.HandedBack.{HavePlaced, regions_placed}
-use Rattle.nr_shared.specs.Histories.{initial_of, has_write_failed, is_feeding, run_of, stop_of}
+use Rattle.nr_shared.specs.Histories.{initial_of, closes_of, has_write_failed, is_feeding, run_of, stop_of, write_failed}
 use Rattle.nr_shared.specs.Marks.{IsLive, IsOut}
-use Rattle.nr_shared.specs.Output.{HasWrittenOutput, OutputBeforeInput, is_piece}
+use Rattle.nr_shared.specs.Output.{EntriesMayFollow, HasWrittenOutput, MayFollow, OutputBeforeInput, WritesInFull, fails_next, is_piece}
 use Rattle.nr_shared.specs.private.Flushed.{HasFlushed, IsFlushed}
-use Rattle.nr_shared.specs.Standing.{RepresentsHistoryIf, Stands, is_out_of_memory}
+use Rattle.nr_shared.specs.Standing.{RepresentsHistory, RepresentsHistoryIf, Stands, is_out_of_memory}
 use Rattle.nr_shared.proofs.Ends.{fits_initial, out_is}
-use Rattle.nr_shared.proofs.Lists.{split_end}
+use Rattle.nr_shared.proofs.Lists.{each_end, none_left, split_end}
 use Rattle.nr_reduce.specs.declared.call.Call.{Call}
 use Rattle.nr_reduce.specs.declared.call.Form.{Form}
 
 true_false : true ≡ false → ⊥
 true_false e = absurd cc
 
+none_closes_any : (k : ℕ) → None ≡ Some k → ⊥
+none_closes_any k e = absurd cc
+
 -- ---- One entry more
 
 pub output_end : (h : List Entry) (e : Entry) → (is_piece e ≡ true → HasWrittenOutput h) → OutputBeforeInput h → OutputBeforeInput (h ++ e ∷ [])
-output_end h e own all before later f is piece = ⊎_elim
-    (λ (last : (h ≡ before) × (e ≡ f)). subst HasWrittenOutput last.0 (own (ap is_piece last.1 ∙ piece)))
-    (λ (more : (rest : List Entry) × (h ≡ before ++ f ∷ rest)). all before more.0 f more.1 piece)
-    (split_end h before later f e is)
+output_end h e own all = each_end (λ before f. is_piece f ≡ true → HasWrittenOutput before) h e own all
 
 false_true : false ≡ true → ⊥
 false_true e = absurd cc
@@ -77,21 +79,104 @@ at_middle (b ∷ bs) later e all = at_middle bs later e all.1
 pub output_none : (h : List Entry) → AllByRecursion (λ (x : Entry). is_piece x ≡ false) h → OutputBeforeInput h
 output_none h all before later e is piece = absurd (true_false (sym piece ∙ at_middle before later e (subst (λ (l : List Entry). AllByRecursion (λ (x : Entry). is_piece x ≡ false) l) is all)))
 
+-- ---- A Wrote is in full
+
+abbrev pub is_wrote : Entry → Bool
+is_wrote (entries.Wrote bytes) = true
+is_wrote entry = false
+
+fails_before : (rest : List Entry) (e : Entry) → fails_next (rest ++ e ∷ []) ≡ false → fails_next rest ≡ false
+fails_before [] e is = refl
+fails_before (x ∷ xs) e is = is
+
+fails_less : (later rest : List Entry) (e : Entry) → later ≡ rest ++ e ∷ [] → fails_next later ≡ false → fails_next rest ≡ false
+fails_less later rest e are is = fails_before rest e (ap (λ (l : List Entry). fails_next l) (sym are) ∙ is)
+
+-- an entry that is no Wrote
+pub full_same : (h : List Entry) (e : Entry) → is_wrote e ≡ false → WritesInFull h → WritesInFull (h ++ e ∷ [])
+full_same h e none all before later bytes is whole = ⊎_elim
+    (λ (last : (h ≡ before) × (e ≡ entries.Wrote bytes) × (later ≡ [])). absurd (false_true (sym none ∙ ap is_wrote last.1)))
+    (λ (more : (rest : List Entry) × (h ≡ before ++ entries.Wrote bytes ∷ rest) × (later ≡ rest ++ e ∷ [])). all before more.0 bytes more.1 (fails_less later more.0 e more.2 whole))
+    (split_end h before later (entries.Wrote bytes) e is)
+
+-- all that is due was written
+pub full_wrote : (h : List Entry) (own : List ℕ) → HasWrittenOutput (h ++ entries.Wrote own ∷ []) → WritesInFull h → WritesInFull (h ++ entries.Wrote own ∷ [])
+full_wrote h own written all before later bytes is whole = ⊎_elim
+    (λ (last : (h ≡ before) × (entries.Wrote own ≡ entries.Wrote bytes) × (later ≡ [])).
+    subst (λ (l : List Entry). HasWrittenOutput (l ++ entries.Wrote bytes ∷ [])) last.0 (subst (λ (x : Entry). HasWrittenOutput (h ++ x ∷ [])) last.1 written))
+    (λ (more : (rest : List Entry) × (h ≡ before ++ entries.Wrote bytes ∷ rest) × (later ≡ rest ++ entries.Wrote own ∷ [])). all before more.0 bytes more.1 (fails_less later more.0 (entries.Wrote own) more.2 whole))
+    (split_end h before later (entries.Wrote bytes) (entries.Wrote own) is)
+
+-- the write failed
+pub full_failed : (h : List Entry) (own : List ℕ) → WritesInFull h → WritesInFull ((h ++ entries.Wrote own ∷ []) ++ entries.WriteFailed ∷ [])
+full_failed h own all before later bytes is whole = ⊎_elim
+    (λ (last : (h ++ entries.Wrote own ∷ [] ≡ before) × (entries.WriteFailed ≡ entries.Wrote bytes) × (later ≡ [])). absurd (false_true (ap is_wrote last.1)))
+    (λ (more : (rest : List Entry) × (h ++ entries.Wrote own ∷ [] ≡ before ++ entries.Wrote bytes ∷ rest) × (later ≡ rest ++ entries.WriteFailed ∷ [])). ⊎_elim
+    (λ (last : (h ≡ before) × (entries.Wrote own ≡ entries.Wrote bytes) × (more.0 ≡ [])).
+    absurd (true_false (sym (ap (λ (l : List Entry). fails_next l) (more.2 ∙ ap (λ (l : List Entry). l ++ entries.WriteFailed ∷ []) last.2)) ∙ whole)))
+    (λ (first : (rest : List Entry) × (h ≡ before ++ entries.Wrote bytes ∷ rest) × (more.0 ≡ rest ++ entries.Wrote own ∷ [])).
+    all before first.0 bytes first.1 (fails_less more.0 first.0 (entries.Wrote own) first.2 (fails_less later more.0 entries.WriteFailed more.2 whole)))
+    (split_end h before more.0 (entries.Wrote bytes) (entries.Wrote own) more.1))
+    (split_end (h ++ entries.Wrote own ∷ []) before later (entries.Wrote bytes) entries.WriteFailed is)
+
+pub none_wrote : WritesInFull []
+none_wrote before later bytes is whole = absurd (none_left before later (entries.Wrote bytes) is)
+
+-- ---- What an entry may follow
+
+pub follow_end : (h : List Entry) (e : Entry) → MayFollow h e → EntriesMayFollow h → EntriesMayFollow (h ++ e ∷ [])
+follow_end h e own all = each_end MayFollow h e own all
+
+pub none_follow : EntriesMayFollow []
+none_follow before later e is = absurd (none_left before later e is)
+
+-- an entry of a call may follow any
+pub call_follows : (h : List Entry) (e : Entry) → is_feeding e ≡ false → is_wrote e ≡ false → write_failed e ≡ false → MayFollow h e
+call_follows h (entries.Initial initial) feeds wrote failed = tt
+call_follows h (entries.Submit call form xid) feeds wrote failed = tt
+call_follows h (entries.Wrote bytes) feeds wrote failed = absurd (true_false wrote)
+call_follows h (entries.Fed bytes previous) feeds wrote failed = absurd (true_false feeds)
+call_follows h (entries.Done xid outcome submit) feeds wrote failed = tt
+call_follows h (entries.Lost xid submit) feeds wrote failed = tt
+call_follows h (entries.Forget xid submit) feeds wrote failed = tt
+call_follows h (entries.Revoke xid bytes submit) feeds wrote failed = tt
+call_follows h entries.WriteFailed feeds wrote failed = absurd (true_false failed)
+call_follows h (entries.Stopped cause previous) feeds wrote failed = absurd (true_false feeds)
+call_follows h (entries.OutOfMemory piece previous) feeds wrote failed = absurd (true_false feeds)
+
+-- an entry that closes another is no Wrote
+pub closing_wrote : (e : Entry) (k : ℕ) → closes_of e ≡ Some k → is_wrote e ≡ false
+closing_wrote (entries.Initial initial) k closes = refl
+closing_wrote (entries.Submit call form xid) k closes = refl
+closing_wrote (entries.Wrote bytes) k closes = absurd (none_closes_any k closes)
+closing_wrote (entries.Fed bytes previous) k closes = refl
+closing_wrote (entries.Done xid outcome submit) k closes = refl
+closing_wrote (entries.Lost xid submit) k closes = refl
+closing_wrote (entries.Forget xid submit) k closes = refl
+closing_wrote (entries.Revoke xid bytes submit) k closes = refl
+closing_wrote entries.WriteFailed k closes = refl
+closing_wrote (entries.Stopped cause previous) k closes = refl
+closing_wrote (entries.OutOfMemory piece previous) k closes = refl
+
 -- ---- What is written
 
 written_now : (opened : LinkParameters) (link : ℕ) (run : List Mark) (r : RequesterSide) → queue_of r.state ≡ [] → IsLive opened link r run → HasWritten opened link Initiator run
 written_now opened link run r none live =
     sym (append-nil (bytes_sent link Initiator run)) ∙ ap (λ (l : List ℕ). bytes_sent link Initiator run ++ l) (sym none) ∙ live.stands.keeps.kept.output
 
+-- a requester whose queue is empty has written all that is due by the history that it stands for
+pub queue_written : (c : InitialState) (r : RequesterSide) (o : Option Stop) (h : List Entry) → initial_of h ≡ Some c → o ≡ stop_of h → RepresentsHistory c r o h → queue_of r.state ≡ [] → HasWrittenOutput h
+queue_written c r o h is stopped represents none whole going opened link before fits = by_out (is_out_of_memory o) refl where
+  by_out : (b : Bool) → is_out_of_memory o ≡ b → HasWritten opened link Initiator (run_of before 0 link h)
+  by_out true out = absurd (going (sym stopped ∙ out_is o out))
+  by_out false out =
+      let f = subst (λ b. RepresentsHistoryIf b c r h) out represents in
+      written_now opened link (run_of before 0 link h) r none (f.1 opened link before (fits_initial h c opened link before is fits))
+
 module _ {O C : Type 0} (taken : O → Option (List ℕ)) (faults : O → ℕ) (allows : Call → Form → Type 0) where
   pub output_written : (m : RequesterWithSink O C) (h : List Entry) → IsFlushed m → Stands taken faults allows m h → HasWrittenOutput h
-  output_written m h (inl sink_failed) st whole going opened link before fits = absurd (true_false (sym sink_failed ∙ (st.write_failed ∙ whole)))
-  output_written m h (inr none) st whole going opened link before fits = by_out (is_out_of_memory m.stopped) refl where
-    by_out : (b : Bool) → is_out_of_memory m.stopped ≡ b → HasWritten opened link Initiator (run_of before 0 link h)
-    by_out true out = absurd (going (sym st.stopped ∙ out_is m.stopped out))
-    by_out false out =
-        let f = subst (λ b. RepresentsHistoryIf b st.initial m.requester h) out st.represents in
-        written_now opened link (run_of before 0 link h) m.requester (st.pending none) (f.1 opened link before (fits_initial h st.initial opened link before st.is_initial fits))
+  output_written m h (inl sink_failed) st = λ whole going opened link before fits. absurd (true_false (sym sink_failed ∙ (st.write_failed ∙ whole)))
+  output_written m h (inr none) st = queue_written st.initial m.requester m.stopped h st.is_initial st.stopped st.represents (st.pending none)
 
   pub turn_written : (t : Turn (RequesterWithSink O C) Entry) → IsReady taken faults allows t → HasFlushed t → HasWrittenOutput (seen_by (pass_of t))
   turn_written t r flushed = output_written r.value (seen_by (pass_of t)) (flushed r.value r.has) r.stands

@@ -24,10 +24,10 @@ use Rattle.nr_shared.specs.Draining.{AreWrites}
 use Rattle.nr_shared.specs.Ending.{IsCause, LinkEnded}
 use Rattle.nr_shared.specs.Histories.{closes_of}
 use Rattle.nr_shared.specs.Output.{HasWrittenOutput}
-use Rattle.nr_shared.specs.Waiting.{IsSubmitTurn, Calls, GivesUp, LacksCredit, NoAnswer, OpensCall, OwnAnswer, Sends, SendsNone, Submits, TakesAnswer, Waits}
+use Rattle.nr_shared.specs.Waiting.{Awaits, IsSubmitTurn, Calls, GivesUp, LacksCredit, NoAnswer, OpensCall, OwnAnswer, Sends, SendsNone, Submits, Waits, WritesDue}
 use Rattle.nr_shared.proofs.Adding.{adds_both, adds_none, adds_same}
 use Rattle.nr_shared.proofs.Alone.{open_writes}
-use Rattle.nr_shared.proofs.Asking.{asked_just, none_closed}
+use Rattle.nr_shared.proofs.Asking.{asked_just, asked_on, none_closed}
 use Rattle.nr_shared.proofs.Lists.{in_more}
 use Rattle.nr_shared.proofs.Polling.{keeps_same}
 use Rattle.nr_shared.proofs.Resting.{caller_on, of_both, of_writes}
@@ -45,6 +45,10 @@ both_write (entries.Forget x asked ∷ xs) ys one two = absurd one
 both_write (entries.Revoke x bytes asked ∷ xs) ys one two = absurd one
 both_write (entries.Stopped cause previous ∷ xs) ys one two = absurd one
 both_write (entries.OutOfMemory piece previous ∷ xs) ys one two = absurd one
+
+-- what is written before a call is closed is written after its Submit
+one_more_written : (s t before : List Entry) (e f : Entry) → (before ++ e ∷ s) ++ (t ++ f ∷ []) ≡ (before ++ e ∷ (s ++ t)) ++ f ∷ []
+one_more_written s t before e f = sym (append_assoc (before ++ e ∷ s) t (f ∷ [])) ∙ ap (λ (l : List Entry). l ++ f ∷ []) (append_assoc before (e ∷ s) t)
 
 -- an end of the link is a cause
 pub link_cause : (end : CallEnd) (call : Call) (form : Form) (h : List Entry) → LinkEnded end h → IsCause end call form h
@@ -205,21 +209,22 @@ module _ {O C : Type 0} where
   pub sent_open_call : (p q : Pass (RequesterWithSink O C) Entry) (call : Call) (form : Form) (xid : ℕ) → Lies (seen_by q) (mine_of q) → Sends p q call form xid → HasOpenCall q xid
   sent_open_call p q call form xid lies s = record { at = s.at; call = call; is_call = (entries.Submit call form xid, s.stands, asked_just xid call form); stays = s.opened; lies = lies }
 
-  pub own_answer : (p q r : Pass (RequesterWithSink O C) Entry) (call : Call) (form : Form) (xid : ℕ) (done : Done) → Lies (seen_by p) (mine_of p) → Sends p q call form xid → TakesAnswer q r xid done → OwnAnswer p r call form done
-  own_answer p q r call form xid done lies s takes =
+  pub own_answer : (p q r : Pass (RequesterWithSink O C) Entry) (call : Call) (form : Form) (xid : ℕ) (done : Done) → Lies (seen_by p) (mine_of p) → Sends p q call form xid → Waits q r xid (Ok done) → OwnAnswer p r call form done
+  own_answer p q r call form xid done lies s waits =
       let e0 : Entry = entries.Submit call form xid in
-      let t = takes s.at call (e0, s.stands, asked_just xid call form) s.opened in
+      let t = waits s.at call (e0, s.stands, asked_just xid call form) s.opened in
+      let f : Entry = entries.Done xid done.outcome s.at in
       record {
         writes_before = s.writes_before;
         are_writes_before = s.are_writes_before;
-        writes_after = s.writes_after;
-        are_writes_after = s.are_writes_after;
+        writes_after = s.writes_after ++ t.writes;
+        are_writes_after = both_write s.writes_after t.writes s.are_writes_after t.are_writes;
         xid = xid;
         at = s.at;
         stands = stands_on q r e0 s.at t.adds.seen s.stands;
-        adds = adds_both p q r (s.writes_before ++ e0 ∷ s.writes_after) (entries.Done xid done.outcome s.at ∷ []) s.adds t.adds;
+        adds = subst (λ (l : List Entry). Adds p r l) (one_more_written s.writes_after t.writes s.writes_before e0 f) (adds_both p q r (s.writes_before ++ e0 ∷ s.writes_after) (t.writes ++ f ∷ []) s.adds t.adds);
         new = s.new;
-        own = own_on q r s.at (entries.Done xid done.outcome s.at ∷ []) t.adds s.opened.0;
+        own = own_on q r s.at (t.writes ++ f ∷ []) t.adds s.opened.0;
         keeps = λ k o. t.keeps k (not_new p s.at k lies s.new o.0) (s.keeps k o);
         call = t.own;
         before = t.before;
@@ -232,8 +237,6 @@ module _ {O C : Type 0} where
       let e0 : Entry = entries.Submit call form xid in
       let g = gives s.at call (e0, s.stands, asked_just xid call form) s.opened in
       let f : Entry = entries.Forget xid s.at in
-      let one : (s.writes_before ++ e0 ∷ s.writes_after) ++ (g.writes ++ f ∷ []) ≡ (s.writes_before ++ e0 ∷ (s.writes_after ++ g.writes)) ++ f ∷ [] =
-      sym (append_assoc (s.writes_before ++ e0 ∷ s.writes_after) g.writes (f ∷ [])) ∙ ap (λ (l : List Entry). l ++ f ∷ []) (append_assoc s.writes_before (e0 ∷ s.writes_after) g.writes) in
       record {
         writes_before = s.writes_before;
         are_writes_before = s.are_writes_before;
@@ -242,7 +245,7 @@ module _ {O C : Type 0} where
         xid = xid;
         at = s.at;
         stands = stands_on q r e0 s.at g.adds.seen s.stands;
-        adds = subst (λ (l : List Entry). Adds p r l) one (adds_both p q r (s.writes_before ++ e0 ∷ s.writes_after) (g.writes ++ f ∷ []) s.adds g.adds);
+        adds = subst (λ (l : List Entry). Adds p r l) (one_more_written s.writes_after g.writes s.writes_before e0 f) (adds_both p q r (s.writes_before ++ e0 ∷ s.writes_after) (g.writes ++ f ∷ []) s.adds g.adds);
         new = s.new;
         own = own_on q r s.at (g.writes ++ f ∷ []) g.adds s.opened.0;
         keeps = λ k o. g.keeps k (not_new p s.at k lies s.new o.0) (s.keeps k o);
@@ -252,3 +255,41 @@ module _ {O C : Type 0} where
         unanswered = g.unanswered;
         written = g.written;
       }
+
+  -- ---- A call that is waited for, after bytes were written
+
+  pub waits_after : (p q r : Pass (RequesterWithSink O C) Entry) (xid : ℕ) (result : Result Done CallEnd) → WritesDue p q → Awaits q r xid result → Waits p r xid result
+  waits_after p q r xid (Ok done) w awaits = λ k call asked o.
+      (let t = awaits k call (asked_on (seen_by p) (seen_by q) xid k call w.adds.seen asked) (w.keeps k o) in
+      let f : Entry = entries.Done xid done.outcome k in
+      record {
+        own = t.own;
+        writes = w.writes;
+        are_writes = w.are_writes;
+        adds = adds_both p q r w.writes (f ∷ []) w.adds t.adds;
+        keeps = λ j differs oj. t.keeps j differs (w.keeps j oj);
+        before = t.before;
+        seen = t.seen;
+        buffers = t.buffers;
+        at_turn = seen_by q;
+        begins = w.adds.seen;
+        goes_on = t.adds.seen;
+        written = w.written;
+      })
+  waits_after p q r xid (Err end) w awaits = λ k call asked o.
+      (let t = awaits k call (asked_on (seen_by p) (seen_by q) xid k call w.adds.seen asked) (w.keeps k o) in
+      let f : Entry = entries.Forget xid k in
+      record {
+        writes = w.writes ++ t.writes;
+        are_writes = both_write w.writes t.writes w.are_writes t.are_writes;
+        adds = subst (λ (l : List Entry). Adds p r l) (sym (append_assoc w.writes t.writes (f ∷ []))) (adds_both p q r w.writes (t.writes ++ f ∷ []) w.adds t.adds);
+        keeps = λ j differs oj. t.keeps j differs (w.keeps j oj);
+        before = t.before;
+        seen = t.seen;
+        ended = t.ended;
+        unanswered = t.unanswered;
+        written = t.written;
+      })
+
+  pub caller_writes : (p q : Pass (RequesterWithSink O C) Entry) → IsCaller p → WritesDue p q → IsCaller q
+  caller_writes p q c w = caller_on p q w.writes c w.adds (of_writes p w.writes w.are_writes)

@@ -77,7 +77,7 @@ none_came opened link r run xid k awaited none c there own = of_answer xid c r.s
     (ap (λ (x : ℕ). is_due link run x) own ∙ due_by link run xid awaited)))
     own none
 
-not_some : {A : Type 0} (o : Option A) → is_some o ≡ false → o ≡ None
+pub not_some : {A : Type 0} (o : Option A) → is_some o ≡ false → o ≡ None
 not_some None is = refl
 not_some (Some a) is = absurd cc
 
@@ -207,13 +207,13 @@ module _ {O C : Type 0} (taken : O → Option (List ℕ)) (faults : O → ℕ) (
   lost_live : (m m' : RequesterWithSink O C) (xid k : ℕ) (call : Call) (buffers : Buffers) (end : End) (h : List Entry) → Loses m m' xid buffers → (m.requester.state.side.ended ≡ Some ends.Memory → ⊥) → m.requester.state.side.ended ≡ Some end → IsCallAt h xid k call → IsUnclosed h k
       → Stands taken faults allows m h → Stands taken faults allows m' (h ++ entries.Lost xid k ∷ [])
   lost_live m m' xid k call buffers end h l other ended asked unclosed st =
-      lost_any m m' xid k call (entries.Lost xid k) h (record { written = refl; fed = refl; sink_failed = refl; stop = refl; feeding = refl }) tt (call, asked, unclosed) refl (λ x. refl) l.sink l.count l.pending l.sink_failed l.stopped l.after l.shuts l.fed asked unclosed st
+      lost_any m m' xid k call (entries.Lost xid k) h (record { written = refl; fed = refl; sink_failed = refl; stop = refl; feeding = refl; wrote = refl }) tt (call, asked, unclosed) refl (λ x. refl) l.sink l.count l.pending l.sink_failed l.stopped l.after l.shuts l.fed asked unclosed st
       (follows_lost st.initial m.requester m'.requester m.stopped h xid k end other ended (ap is_some (st.calls xid k call asked unclosed).1) l.none l.after l.on st.represents)
 
   lost_out : (m m' : RequesterWithSink O C) (xid k : ℕ) (call : Call) (buffers : Buffers) (h : List Entry) → Loses m m' xid buffers → m.requester.state.side.ended ≡ Some ends.Memory → IsCallAt h xid k call → IsUnclosed h k
       → Stands taken faults allows m h → Stands taken faults allows m' (h ++ entries.Revoke xid (bytes_of_buffers buffers) k ∷ [])
   lost_out m m' xid k call buffers h l memory asked unclosed st =
-      lost_any m m' xid k call (entries.Revoke xid (bytes_of_buffers buffers) k) h (record { written = refl; fed = refl; sink_failed = refl; stop = refl; feeding = refl }) tt (call, asked, unclosed) refl (λ x. refl) l.sink l.count l.pending l.sink_failed l.stopped l.after l.shuts l.fed asked unclosed st
+      lost_any m m' xid k call (entries.Revoke xid (bytes_of_buffers buffers) k) h (record { written = refl; fed = refl; sink_failed = refl; stop = refl; feeding = refl; wrote = refl }) tt (call, asked, unclosed) refl (λ x. refl) l.sink l.count l.pending l.sink_failed l.stopped l.after l.shuts l.fed asked unclosed st
       (follows_out st.initial m.requester m'.requester m.stopped h xid k (bytes_of_buffers buffers) memory (ap bytes_of_buffers l.are) (ap is_some (st.calls xid k call asked unclosed).1) l.after l.stops st.represents)
 
   -- a call is lost

@@ -3,6 +3,7 @@ use Rattle.std.specs.Prelude.{◌≡◌, ◌≢◌, ℕ, false, List, ◌++◌, 
 use mathlib.Core.Option.{some}
 use lib.ListN.{get_elem?}
 use Rattle.nr_reduce.specs.declared.call.Call.{Call}
+use Rattle.nr_reduce.specs.declared.call.Form.{Form}
 use Rattle.nr_reduce.specs.declared.mark.LinkParameters.{LinkParameters}
 use Rattle.nr_reduce.specs.declared.mark.Mark.{Mark}
 use Rattle.nr_reduce.specs.Asked.{AskedSoFar}
@@ -18,9 +19,8 @@ use Rattle.nr_shared.specs.declared.requester_with_sink.RequesterWithSink.{Reque
 use Rattle.nr_shared.specs.Histories.{ClosesCalls, FeedsInOrder, FitsHistory, IsCallAt, closes_of, initial_of, is_feeding, last_feeding, run_of}
 use Rattle.nr_shared.specs.Adding.{Adds}
 use Rattle.nr_shared.specs.Draining.{AreWrites}
-use Rattle.nr_shared.specs.Output.{OutputBeforeInput}
+use Rattle.nr_shared.specs.Output.{EntriesMayFollow, OutputBeforeInput, WritesInFull}
 use Rattle.nr_shared.specs.Standing.{Stands}
-use Rattle.nr_reduce.specs.declared.call.Form.{Form}
 
 -- The turn has the value, which stands for the history that its pass has seen. The pass's places lie in it, and an entry closes only an earlier place.
 pub record IsReady {O C : Type 0} (taken : O → Option (List ℕ)) (faults : O → ℕ) (allows : Call → Form → Type 0) (t : Turn (RequesterWithSink O C) Entry) : Type 0 where
@@ -50,7 +50,8 @@ pub record IsCaller {O C : Type 0} (p : Pass (RequesterWithSink O C) Entry) : Ty
   pub feeds_none : (k : ℕ) (e : Entry) → IsIn k (mine_of p) → get_elem? (seen_by p) k ≡ some e → is_feeding e ≡ false
 
 -- The marks of the history keep the law of the client's side, and the last grant; `n` is how many bytes were fed of the piece at which memory ran out.
--- Output is written before more is fed. Each entry that feeds closes the one before it: so they are all of the one pass that feeds.
+-- Output is written before more is fed, and in full. Bytes move until an end, and are fed only while a call is outstanding. Each entry that feeds
+-- closes the one before it: so they are all of the one pass that feeds.
 -- The history begins with the initial state. An entry by which a call ends closes the place of a call of that xid.
 pub record KeepsLaw (history : List Entry) : Type 0 where
   pub initial : InitialState
@@ -58,6 +59,8 @@ pub record KeepsLaw (history : List Entry) : Type 0 where
   pub n : ℕ
   pub law : (opened : LinkParameters) (link : ℕ) (before : List Mark) → FitsHistory history opened link before → AskedSoFar opened link (run_of before n link history) × KeepsGrant opened link (run_of before n link history)
   pub output : OutputBeforeInput history
+  pub in_full : WritesInFull history
+  pub may_follow : EntriesMayFollow history
   pub in_order : FeedsInOrder history
   pub closes_calls : ClosesCalls history
 

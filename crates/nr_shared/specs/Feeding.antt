@@ -1,5 +1,5 @@
 -- The source of a link, and the pass that feeds what it gives.
-use Rattle.std.specs.Prelude.{◌≡◌, ◌≢◌, ⊤, ℕ, ◌+◌, ◌≤◌, List, [], ◌∷◌, ◌++◌, length, Option, None, Some}
+use Rattle.std.specs.Prelude.{◌≡◌, ◌≢◌, ⊤, ℕ, ◌+◌, ◌≤◌, List, [], ◌∷◌, length, Option, None, Some}
 use Rattle.std.specs.Io.KnownBytes.{IsAtEnd}
 use Rattle.nr_outside.specs.Content.{HandsOut}
 use Rattle.nr_outside.specs.Faults.{Rises}
@@ -23,7 +23,8 @@ StopHolds (Some causes.Closed) faults faults' left read = IsAtEnd left
 StopHolds (Some causes.Budget) faults faults' left read = read ≡ read_max
 StopHolds stopped faults faults' left read = ⊤
 
--- What was fed is what the source gave since it was shared; what was read before counts for the maximum too. The last entry that feeds is the pass's own and open: so no other pass can feed.
+-- What was fed is what the source gave since it was shared; what was read before counts for the maximum too. Its fault count is as it was, unless a
+-- read failed. The last entry that feeds is the pass's own and open: so no other pass can feed.
 pub record FeedsFor {I O C : Type 0} (left given : I → Option (List ℕ)) (faults : I → ℕ) (b : InitialSource I O C) (s : SourceReader I O C) : Type 0 where
   pub home : home_of s.pass ≡ home_of b.pass.value
   pub outside : IsOutside s.pass
@@ -33,6 +34,7 @@ pub record FeedsFor {I O C : Type 0} (left given : I → Option (List ℕ)) (fau
   pub read : s.read ≡ b.read + length (bytes_fed (seen_by s.pass))
   pub within : s.read ≤ read_max
   pub never_falls : faults b.source.value ≤ faults s.source
+  pub counted : stop_of (seen_by s.pass) ≢ Some causes.LinkRead → faults s.source ≡ faults b.source.value
   pub stop : StopHolds (stop_of (seen_by s.pass)) (faults b.source.value) (faults s.source) (left s.source) s.read
   pub room : length s.buf.items ≡ piece_max
 

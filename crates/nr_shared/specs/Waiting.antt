@@ -10,7 +10,7 @@ use Rattle.nr_requester.specs.declared.taking.Done.{Done}
 use Rattle.nr_requester.specs.declared.taking.Take.{Take}
 use Rattle.nr_requester.specs.declared.taking.Take.TheVariants as takes
 use Rattle.nr_turnstile.specs.declared.turnstile.Pass.{Pass}
-use Rattle.nr_turnstile.specs.Rule.{IsIn, IsOpen}
+use Rattle.nr_turnstile.specs.Rule.{Begins, IsIn, IsOpen}
 use Rattle.nr_turnstile.specs.Passes.{mine_of, seen_by}
 use Rattle.nr_shared.specs.Histories.{IsCallAt, closes_of}
 use Rattle.nr_shared.specs.declared.call_end.CallEnd.{CallEnd}
@@ -91,8 +91,37 @@ module _ {O C : Type 0} where
   IsPollTurn p q xid (polls.Ended end) = GivesUp p q xid end
 
   -- the same, with all turns that it took
+  abbrev pub Awaits : Pass (RequesterWithSink O C) Entry → Pass (RequesterWithSink O C) Entry → ℕ → Result Done CallEnd → Type 0
+  Awaits p q xid (Ok done) = TakesAnswer p q xid done
+  Awaits p q xid (Err end) = GivesUp p q xid end
+
+  -- bytes are written: all that is due
+  pub record WritesDue (p q : Pass (RequesterWithSink O C) Entry) : Type 0 where
+    pub writes : List Entry
+    pub are_writes : AreWrites writes
+    pub adds : Adds p q writes
+    pub keeps : KeepsOpen p q
+    pub written : HasWrittenOutput (seen_by q)
+
+  -- The outcome of the call that stands at this place is delivered, with what its regions hold by the history before. Bytes are written first: by a history
+  -- between those that the pass has seen before and after, all that is due.
+  pub record WaitsAt (p q : Pass (RequesterWithSink O C) Entry) (xid k : ℕ) (call : Call) (done : Done) : Type 0 where
+    pub own : done.call ≡ call
+    pub writes : List Entry
+    pub are_writes : AreWrites writes
+    pub adds : Adds p q (writes ++ entries.Done xid done.outcome k ∷ [])
+    pub keeps : KeepsOthers k p q
+    pub before : List Entry
+    pub seen : seen_by q ≡ before ++ entries.Done xid done.outcome k ∷ []
+    pub buffers : HavePlaced xid done.buffers before
+    pub at_turn : List Entry
+    pub begins : Begins (seen_by p) at_turn
+    pub goes_on : Begins at_turn (seen_by q)
+    pub written : HasWrittenOutput at_turn
+
+  -- all output that is due is written, and the answer is delivered; or none comes, and the call is forgotten
   abbrev pub Waits : Pass (RequesterWithSink O C) Entry → Pass (RequesterWithSink O C) Entry → ℕ → Result Done CallEnd → Type 0
-  Waits p q xid (Ok done) = TakesAnswer p q xid done
+  Waits p q xid (Ok done) = AtCall p xid (λ k call. WaitsAt p q xid k call done)
   Waits p q xid (Err end) = GivesUp p q xid end
 
   -- The call is submitted: the Submit is added, and its place is open.
@@ -127,7 +156,7 @@ module _ {O C : Type 0} where
     pub cause : IsCause end call form (seen_by q)
     pub written : HasWrittenOutput (seen_by q)
 
-  -- no credit is left, and the call comes back; bytes are written
+  -- the call comes back; bytes are written
   pub record LacksCredit (p q : Pass (RequesterWithSink O C) Entry) (call c : Call) (form f : Form) : Type 0 where
     pub writes_before : List Entry
     pub are_writes_before : AreWrites writes_before

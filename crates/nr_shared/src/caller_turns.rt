@@ -9,6 +9,7 @@ ghost use Rattle.nr_shared.specs.Callers.{HasOpenCall, IsReady};
 ghost use Rattle.nr_shared.specs.Ending.{LinkEnded};
 ghost use Rattle.nr_shared.specs.private.CreditState.{IsCreditState};
 ghost use Rattle.nr_shared.specs.Histories.{stop_of};
+ghost use Rattle.nr_shared.specs.Output.{IsCallOutstanding};
 ghost use Rattle.nr_shared.specs.Sharing.{SaysCredit, SaysCreditOutOfMemory};
 ghost use Rattle.nr_shared.specs.Waiting.{IsSubmitTurn, IsPollTurn};
 
@@ -135,7 +136,7 @@ pub(crate) fn submit_if_credit_under<O: Sink, C: CallRule>(
     }
 }
 
-/// Whether more of the stream is needed: nothing has ended, and the answer of the call isn't there, or no credit is left.
+/// Whether more of the stream is needed: nothing has ended, a call is outstanding, and the answer of the call isn't there, or no credit is left.
 pub(crate) fn needs_input_under<O: Sink, C: CallRule>(
     turn: &mut MainTurn<'_, O, C>,
     ticket: Option<&Ticket>,
@@ -146,9 +147,13 @@ pub(crate) fn needs_input_under<O: Sink, C: CallRule>(
     ensures seen { seen_by (pass_of turn.new) ≡ seen_by (pass_of turn.old) }
     ensures mine { mine_of (pass_of turn.new) ≡ mine_of (pass_of turn.old) }
     ensures needs_input { result ≡ true → stop_of (seen_by (pass_of turn.old)) ≡ None }
+    ensures outstanding { result ≡ true → IsCallOutstanding (seen_by (pass_of turn.old)) }
 {
     let with_sink = turn.value();
     if with_sink.end().is_some() {
+        return false;
+    }
+    if with_sink.requester.outstanding() == 0 {
         return false;
     }
     match ticket {

@@ -7,23 +7,22 @@ ghost use Rattle.nr_turnstile.specs.Rule.{Lies};
 ghost use Rattle.nr_shared.specs.Adding.{Adds};
 ghost use Rattle.nr_shared.specs.Callers.{HasOpenCall, KeepsLaw, KeepsOpen};
 ghost use Rattle.nr_shared.specs.Sharing.{SaysCredit, SaysCreditOutOfMemory, SharedRests};
-ghost use Rattle.nr_shared.specs.Waiting.{IsSubmitTurn, Calls, ForgetsCall, IsPollTurn, Submits, Waits};
+ghost use Rattle.nr_shared.specs.Waiting.{Awaits, Calls, ForgetsCall, IsPollTurn, IsSubmitTurn, Submits, Waits, WritesDue};
 
 use crate::call_end::CallEnd;
 use crate::call_rule::CallRule;
 use crate::caller_turns::{PollTurn, SubmitTurn, credit_under, poll_under, submit_if_credit_under};
 use crate::requester_with_sink::MainPass;
 use crate::shared::{Pass, SharedRequester};
-use crate::turns::forget_under;
+use crate::turns::{drain_under, forget_under};
 use nr_outside::{Sink, Source};
 use nr_reduce::{Call, Form};
 use nr_requester::{Done, Ticket};
 use std::sync::Wait;
 
 impl<I: Source, O: Sink, C: CallRule> SharedRequester<I, O, C> {
-    /// Makes a call that the rule allows, and waits for its outcome. It is submitted once a credit is left. If there is no outcome, a call that was
-    /// submitted is
-    /// forgotten.
+    /// Makes a call that the rule allows, and waits for its outcome. It is submitted once a credit is left. If there is no outcome, a call that
+    /// was submitted is forgotten.
     pub fn call<R: Wait>(
         &self,
         rt: &R,
@@ -79,7 +78,8 @@ impl<I: Source, O: Sink, C: CallRule> SharedRequester<I, O, C> {
         unreachable!()
     }
 
-    /// Waits for the outcome of a call of the pass's own. If there is none, the call is forgotten.
+    /// Writes the output that is due, also what `try_submit` left, and waits for the outcome of a call of the pass's own. If there is none, the
+    /// call is forgotten.
     pub fn wait<R: Wait>(
         &self,
         rt: &R,
@@ -91,6 +91,23 @@ impl<I: Source, O: Sink, C: CallRule> SharedRequester<I, O, C> {
         ensures rests { SharedRests self.now pass.new }
         ensures source { seen_by pass.new.source ≡ seen_by pass.old.source }
         ensures waited { Waits pass.old.main pass.new.main ticket result }
+    {
+        self.drain_turn(rt, &mut pass.main);
+        self.await_outcome(rt, pass, ticket)
+    }
+
+    // Waits for the outcome, turn after turn.
+    fn await_outcome<R: Wait>(
+        &self,
+        rt: &R,
+        pass: &mut Pass<I, O, C>,
+        ticket: Ticket,
+    ) -> Result<Done, CallEnd>
+        requires rests { SharedRests self.now pass.old }
+        requires has_call { HasOpenCall pass.old.main ticket }
+        ensures rests { SharedRests self.now pass.new }
+        ensures source { seen_by pass.new.source ≡ seen_by pass.old.source }
+        ensures waited { Awaits pass.old.main pass.new.main ticket result }
     {
         let mut waiting = ticket;
         for _ in rt.forever() {
@@ -126,6 +143,19 @@ impl<I: Source, O: Sink, C: CallRule> SharedRequester<I, O, C> {
         ensures credit_out_of_memory { SaysCreditOutOfMemory result (seen_by pass.new.main) }
     {
         self.credit_turn(rt, &mut pass.main)
+    }
+
+    // One turn in which the output that is due is written.
+    fn drain_turn<R: Wait>(&self, rt: &R, main: &mut MainPass<O, C>)
+        requires rests { Rests self.now.main main.old }
+        requires lies { Lies (seen_by main.old) (mine_of main.old) }
+        ensures rests { Rests self.now.main main.new }
+        ensures law { KeepsLaw (seen_by main.new) }
+        ensures wrote { WritesDue main.old main.new }
+    {
+        let mut turn = self.main.take_turn(rt, main);
+        drain_under(&mut turn);
+        turn.put_back();
     }
 
     // One turn of a caller that submits.

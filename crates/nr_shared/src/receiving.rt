@@ -9,6 +9,7 @@ ghost use Rattle.nr_shared.specs.declared.source_reader.InitialSource.{InitialSo
 ghost use Rattle.nr_shared.specs.Callers.{IsFeeding};
 ghost use Rattle.nr_shared.specs.Feeding.{FeedsFor};
 ghost use Rattle.nr_shared.specs.Histories.{bytes_fed, stop_of};
+ghost use Rattle.nr_shared.specs.Output.{IsCallOutstanding};
 
 use crate::call_rule::CallRule;
 use crate::caller_turns::needs_input_under;
@@ -62,7 +63,7 @@ impl<I: Source, O: Sink, C: CallRule> SharedRequester<I, O, C> {
         }
     }
 
-    // Writes the output that is due. Whether more of the stream is needed, by the pass that feeds.
+    // Writes the output that is due. Whether more of the stream is needed, by the pass that feeds: then a call is outstanding.
     fn needs_input<R: Wait>(
         &self,
         rt: &R,
@@ -78,6 +79,7 @@ impl<I: Source, O: Sink, C: CallRule> SharedRequester<I, O, C> {
         ensures fed { bytes_fed (seen_by feeding.new) ≡ bytes_fed (seen_by feeding.old) }
         ensures stop { stop_of (seen_by feeding.new) ≡ stop_of (seen_by feeding.old) }
         ensures needs_input { result ≡ true → stop_of (seen_by feeding.new) ≡ None }
+        ensures outstanding { result ≡ true → IsCallOutstanding (seen_by feeding.new) }
     {
         let mut turn = self.main.take_turn(rt, feeding);
         drain_under(&mut turn);
@@ -92,6 +94,7 @@ impl<I: Source, O: Sink, C: CallRule> SharedRequester<I, O, C> {
         requires feeding { IsFeeding feeding.old }
         requires lies { Lies (seen_by feeding.old) (mine_of feeding.old) }
         requires goes { stop_of (seen_by feeding.old) ≡ None }
+        requires outstanding { IsCallOutstanding (seen_by feeding.old) }
         requires some { 0 < length piece.now }
         requires room { length (bytes_fed (seen_by feeding.old)) + length piece.now ≤ read_max }
         ensures rests { Rests self.now.main feeding.new }
@@ -114,6 +117,7 @@ impl<I: Source, O: Sink, C: CallRule> SharedRequester<I, O, C> {
         requires feeding { IsFeeding feeding.old }
         requires lies { Lies (seen_by feeding.old) (mine_of feeding.old) }
         requires goes { stop_of (seen_by feeding.old) ≡ None }
+        requires outstanding { IsCallOutstanding (seen_by feeding.old) }
         requires cause { cause ≢ causes.Memory }
         ensures rests { Rests self.now.main feeding.new }
         ensures feeding { IsFeeding feeding.new }

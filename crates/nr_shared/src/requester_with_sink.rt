@@ -80,6 +80,7 @@ impl<O: Sink, C: CallRule> RequesterWithSink<O, C> {
     ghost use Rattle.nr_requester.specs.OpenCalls.{KeepsTickets};
     ghost use Rattle.nr_shared.specs.Ending.{LinkEnded};
     ghost use Rattle.nr_shared.specs.Opening.{IsInitialHistory};
+    ghost use Rattle.nr_shared.specs.Output.{IsCallOutstanding};
 
     /// A requester that is shared, with its sink. Output may be pending.
     pub(crate) fn of_parts(requester: Requester, sink: O) -> RequesterWithSink<O, C>
@@ -172,13 +173,13 @@ impl<O: Sink, C: CallRule> RequesterWithSink<O, C> {
         }
     }
 
-    /// Feeds a piece that was read, after a drain. Answers whether memory ran out for a frame of it.
+    /// Feeds a piece that was read, after a drain, while a call is outstanding. Answers whether memory ran out for a frame of it.
     pub(crate) fn feed(&mut self, piece: &[u8]) -> bool
         requires some { 0 < length piece.now }
         requires goes { self.old.stopped ≡ None }
         requires flushed { IsFlushed self.old }
         requires stands { (history : List Entry) × (Stands O.taken O.faults C.allows self.old history × (length (bytes_fed history) + length piece.now ≤ read_max)) }
-        ensures fed { (history : List Entry) (last : ℕ) → Stands O.taken O.faults C.allows self.old history → last_feeding history ≡ Some last → length (bytes_fed history) + length piece.now ≤ read_max →
+        ensures fed { (history : List Entry) (last : ℕ) → Stands O.taken O.faults C.allows self.old history → last_feeding history ≡ Some last → length (bytes_fed history) + length piece.now ≤ read_max → IsCallOutstanding history →
             Stands O.taken O.faults C.allows self.new (history ++ fed_entry result piece.now last ∷ []) }
         ensures tickets { KeepsTickets self.old.requester.state self.new.requester.state }
     {
@@ -196,12 +197,12 @@ impl<O: Sink, C: CallRule> RequesterWithSink<O, C> {
         }
     }
 
-    /// No more is fed.
+    /// No more is fed, though a call is outstanding.
     pub(crate) fn stop(&mut self, cause: Stop)
         requires cause { cause ≢ causes.Memory }
         requires goes { self.old.stopped ≡ None }
         requires stands { (history : List Entry) × Stands O.taken O.faults C.allows self.old history }
-        ensures stopped { (history : List Entry) (last : ℕ) → Stands O.taken O.faults C.allows self.old history → last_feeding history ≡ Some last →
+        ensures stopped { (history : List Entry) (last : ℕ) → Stands O.taken O.faults C.allows self.old history → last_feeding history ≡ Some last → IsCallOutstanding history →
             Stands O.taken O.faults C.allows self.new (history ++ entries.Stopped cause last ∷ []) }
     {
         self.stopped = Some(cause);

@@ -60,6 +60,8 @@ impl<I: Source, O: Sink, C: CallRule> SourceReader<I, O, C> {
         ensures pass { self.new.pass ≡ self.old.pass }
         ensures room { length self.new.buf.items ≡ piece_max }
         ensures never_falls { I.faults self.old.source ≤ I.faults self.new.source }
+        ensures counted { MatchResult result (λ _. I.faults self.new.source ≡ I.faults self.old.source)
+            (λ cause. cause ≢ causes.LinkRead → I.faults self.new.source ≡ I.faults self.old.source) }
         ensures piece { IfOk result (λ n. (0 < n) × ((n ≤ piece_max) × ((self.new.read ≡ self.old.read + n) × (self.new.read ≤ read_max)))) }
         ensures gave { IfOk result (λ n. HandsOut (I.left self.old.source) (I.given self.old.source) (I.left self.new.source) (I.given self.new.source) (take n self.new.buf.items)) }
         ensures none { IfErr result (λ cause. (cause ≢ causes.Memory) × ((self.new.read ≡ self.old.read) × HandsOut (I.left self.old.source) (I.given self.old.source) (I.left self.new.source) (I.given self.new.source) [])) }

@@ -18,6 +18,7 @@ ghost use Rattle.nr_shared.specs.Adding.{Adds};
 ghost use Rattle.nr_shared.specs.Callers.{Writes};
 ghost use Rattle.nr_shared.specs.Waiting.{AtCall, ForgetsCall, IsTakeTurn};
 ghost use Rattle.nr_shared.specs.Draining.{fed_after, stopped_after};
+ghost use Rattle.nr_shared.specs.Output.{IsCallOutstanding};
 ghost use Rattle.nr_shared.specs.declared.entry.Stop.TheVariants as causes;
 ghost use Rattle.nr_requester.specs.Buffers.{bytes_of_buffers};
 ghost use Rattle.nr_links.specs.Limits.{read_max};
@@ -159,6 +160,7 @@ pub(crate) fn feed_under<O: Sink, C: CallRule>(turn: &mut MainTurn<'_, O, C>, pi
     requires feeding { IsFeeding (pass_of turn.old) }
     requires goes { (y : RequesterWithSink O C) → Has turn.old y → y.stopped ≡ None }
     requires flushed { HasFlushed turn.old }
+    requires outstanding { IsCallOutstanding (seen_by (pass_of turn.old)) }
     requires some { 0 < length piece.now }
     requires room { length (bytes_fed (seen_by (pass_of turn.old))) + length piece.now ≤ read_max }
     ensures same { IsSameTurn turn.old turn.new }
@@ -179,6 +181,7 @@ pub(crate) fn stop_under<O: Sink, C: CallRule>(turn: &mut MainTurn<'_, O, C>, ca
     requires feeding { IsFeeding (pass_of turn.old) }
     requires goes { (y : RequesterWithSink O C) → Has turn.old y → y.stopped ≡ None }
     requires cause { cause ≢ causes.Memory }
+    requires outstanding { IsCallOutstanding (seen_by (pass_of turn.old)) }
     ensures same { IsSameTurn turn.old turn.new }
     ensures ready { IsReady O.taken O.faults C.allows turn.new }
     ensures feeding { IsFeeding (pass_of turn.new) }

@@ -1,7 +1,6 @@
 use Rattle.std.proofs.Common.{sym, ap, Some, Err, ◌∙◌}
-use mathlib.Core.Option.{some-injective}
 use Rattle.nr_client.specs.declared.call_end.CallEnd.TheVariants as calls
-use Rattle.nr_client.proofs.Refusals.{ok_not_out, not_out}
+use Rattle.nr_client.proofs.Refusals.{not_memory, ok_not_out, not_out}
 use Rattle.nr_client.proofs.transfer.feed_piece.Goals as goal
 
 pub returns-in-Ok-clause-ok : goal.returns-in-Ok-clause-ok
@@ -18,7 +17,7 @@ returns-in-Memory-clause-err c =
 pub returns-in_default : goal.returns-in_default
 returns-in_default c = record {
   ok = c.in-Err.ensures.stands (not_out c.in_default.not-Memory);
-  memory = λ same. c.in_default.not-Memory (some-injective _ _ (c.in-Err.ensures.ended ∙ same));
+  memory = λ same. not_memory c.in_default.not-Memory (c.in-Err.ensures.ended ∙ same);
   err = tt;
   tickets = c.in-Err.ensures.tickets;
   fed = c.in-Err.ensures.within;

@@ -44,7 +44,7 @@ returns-clause-ready g c =
     ready_on g.O.Sink.taken g.O.Sink.faults g.C.CallRule.allows c.args.turn.now c.append_fed.new.turn w (fed_after seen c.feed-out_of_memory.result c.args.piece.now) r (c.append_fed.ensures.held w (c.requires.ready.has.0, written _ _ w c.value-with_sink.ensures.value, c.requires.ready.has.2))
     c.append_fed.ensures.step (closes_last (pass_of c.args.turn.now) (fed_after seen c.feed-out_of_memory.result c.args.piece.now) fe (closes_fed c.feed-out_of_memory.result c.args.piece.now (place_or_none (last_feeding seen))))
     (subst (λ (n : ℕ). Stands g.O.Sink.taken g.O.Sink.faults g.C.CallRule.allows w (seen ++ fed_entry c.feed-out_of_memory.result c.args.piece.now n ∷ [])) (ap (λ (o : Option ℕ). place_or_none o) (sym fe.is_last))
-    (c.feed-out_of_memory.ensures.fed seen fe.last st fe.is_last c.requires.room))
+    (c.feed-out_of_memory.ensures.fed seen fe.last st fe.is_last c.requires.room c.requires.outstanding))
 
 pub returns-clause-feeding : goal.returns-clause-feeding
 returns-clause-feeding g c = let r = c.requires.ready in let seen = seen_by (pass_of c.args.turn.now) in

@@ -41,7 +41,7 @@ returns-clause-ready g c =
     ready_on g.O.Sink.taken g.O.Sink.faults g.C.CallRule.allows c.args.turn.now c.append_stopped.new.turn w (stopped_after seen c.args.cause) r (c.append_stopped.ensures.held w (c.requires.ready.has.0, written _ _ w c.value-with_sink.ensures.value, c.requires.ready.has.2))
     c.append_stopped.ensures.step (closes_last (pass_of c.args.turn.now) (stopped_after seen c.args.cause) fe refl)
     (subst (λ (n : ℕ). Stands g.O.Sink.taken g.O.Sink.faults g.C.CallRule.allows w (seen ++ entries.Stopped c.args.cause n ∷ [])) (ap (λ (o : Option ℕ). place_or_none o) (sym fe.is_last))
-    (c.stop.ensures.stopped seen fe.last st fe.is_last))
+    (c.stop.ensures.stopped seen fe.last st fe.is_last c.requires.outstanding))
 
 pub returns-clause-feeding : goal.returns-clause-feeding
 returns-clause-feeding g c = let r = c.requires.ready in let seen = seen_by (pass_of c.args.turn.now) in

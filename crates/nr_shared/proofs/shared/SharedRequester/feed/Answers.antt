@@ -36,6 +36,12 @@ feed_under-out_of_memory-requires-clause-room g c = let t = c.take_turn-turn.ens
     let be = alone_writes (pass_of c.take_turn-turn.result) (pass_of c.drain_under.new.turn) c.drain_under.ensures.wrote t.7 al.feeding in
     subst (λ (b : List ℕ). length b + length c.args.piece.now ≤ read_max) (sym (be.bytes ∙ al.bytes)) c.requires.room
 
+pub feed_under-out_of_memory-requires-clause-outstanding : goal.feed_under-out_of_memory-requires-clause-outstanding
+feed_under-out_of_memory-requires-clause-outstanding g c = let t = c.take_turn-turn.ensures.got.1 in
+    let al = alone g.O.Sink.taken g.O.Sink.faults g.C.CallRule.allows c.take_turn-turn.result.turnstile.now c.args.feeding.now (pass_of c.take_turn-turn.result) t.0 c.requires.lies t t.2 c.requires.feeding in
+    let be = alone_writes (pass_of c.take_turn-turn.result) (pass_of c.drain_under.new.turn) c.drain_under.ensures.wrote t.7 al.feeding in
+    be.outstanding (al.outstanding c.requires.outstanding)
+
 pub returns-clause-feeding : goal.returns-clause-feeding
 returns-clause-feeding g c =
     subst (λ (z : Pass (RequesterWithSink g.row.O.Denot g.row.C.Denot) Entry). IsFeeding {O = g.row.O.Denot} z) (sym (c.feeding-1.given.1 (sym (c.drain_under-2.ensures.same.1 ∙ (c.feed_under-out_of_memory.ensures.same.1 ∙ (c.drain_under.ensures.same.1 ∙ c.take_turn-turn.ensures.borrow))))))

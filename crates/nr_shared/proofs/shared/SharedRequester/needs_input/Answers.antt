@@ -7,6 +7,7 @@ use Rattle.nr_shared.specs.declared.entry.Entry.{Entry}
 use Rattle.nr_shared.specs.declared.requester_with_sink.RequesterWithSink.{RequesterWithSink}
 use Rattle.nr_shared.specs.Callers.{IsFeeding}
 use Rattle.nr_shared.specs.Histories.{bytes_fed, stop_of}
+use Rattle.nr_shared.specs.Output.{IsCallOutstanding}
 use Rattle.nr_shared.proofs.Alone.{alone, alone_writes}
 use Rattle.nr_shared.proofs.Asking.{feeding_same}
 use Rattle.nr_shared.proofs.FeedsOn.{lies_same}
@@ -56,3 +57,9 @@ returns-clause-needs_input g c = λ is.
     let seen : seen_by s ≡ seen_by d = c.put_back.ensures.1 ∙ c.needs_input_under-needs_input.ensures.seen in
     subst (λ (z : Pass (RequesterWithSink g.row.O.Denot g.row.C.Denot) Entry). stop_of (seen_by z) ≡ None) (sym (c.feeding-1.given.1 (sym (c.needs_input_under-needs_input.ensures.same.1 ∙ (c.drain_under.ensures.same.1 ∙ c.take_turn-turn.ensures.borrow)))))
     (ap (λ (l : List Entry). stop_of l) seen ∙ c.needs_input_under-needs_input.ensures.needs_input is))
+
+pub returns-clause-outstanding : goal.returns-clause-outstanding
+returns-clause-outstanding g c = λ is.
+    (let seen : seen_by c.put_back.new.self.1.0 ≡ seen_by (pass_of c.drain_under.new.turn) = c.put_back.ensures.1 ∙ c.needs_input_under-needs_input.ensures.seen in
+    subst (λ (z : Pass (RequesterWithSink g.row.O.Denot g.row.C.Denot) Entry). IsCallOutstanding (seen_by z)) (sym (c.feeding-1.given.1 (sym (c.needs_input_under-needs_input.ensures.same.1 ∙ (c.drain_under.ensures.same.1 ∙ c.take_turn-turn.ensures.borrow)))))
+    (subst IsCallOutstanding (sym seen) (c.needs_input_under-needs_input.ensures.outstanding is)))

@@ -1,9 +1,10 @@
-use Rattle.std.proofs.Common.{◌≡◌, sym, subst, ◌∙◌}
+use Rattle.std.proofs.Common.{◌≡◌, rules, sym, subst, ◌∙◌}
 use Rattle.nr_turnstile.specs.declared.turnstile.Pass.{Pass}
 use Rattle.nr_turnstile.specs.Rule.{Lies}
 use Rattle.nr_turnstile.specs.Passes.{mine_of, seen_by}
 use Rattle.nr_shared.specs.declared.entry.Entry.{Entry}
 use Rattle.nr_shared.specs.declared.requester_with_sink.RequesterWithSink.{RequesterWithSink}
+use Rattle.nr_shared.specs.Output.{IsCallOutstanding}
 use Rattle.nr_shared.proofs.FeedsOn.{feeds_more, feeds_stopped, feeds_turned}
 use Rattle.nr_shared.proofs.shared.SharedRequester.receive_piece.Goals as goal
 
@@ -27,3 +28,9 @@ feed-requires-clause-lies g c = subst (λ (z : Pass (RequesterWithSink g.row.O.D
 
 pub stop-requires-clause-lies : goal.stop-requires-clause-lies
 stop-requires-clause-lies g c = subst (λ (z : Pass (RequesterWithSink g.row.O.Denot g.row.C.Denot) Entry). Lies (seen_by z) (mine_of z)) (sym c.read_piece.ensures.pass) c.needs_input.ensures.lies
+
+pub feed-requires-clause-outstanding : goal.feed-requires-clause-outstanding
+feed-requires-clause-outstanding g c = subst (λ (z : Pass (RequesterWithSink g.row.O.Denot g.row.C.Denot) Entry). IsCallOutstanding (seen_by z)) (sym c.read_piece.ensures.pass) (c.needs_input.ensures.outstanding (search rules))
+
+pub stop-requires-clause-outstanding : goal.stop-requires-clause-outstanding
+stop-requires-clause-outstanding g c = subst (λ (z : Pass (RequesterWithSink g.row.O.Denot g.row.C.Denot) Entry). IsCallOutstanding (seen_by z)) (sym c.read_piece.ensures.pass) (c.needs_input.ensures.outstanding (search rules))

@@ -26,6 +26,11 @@ stop_under-requires-clause-goes g c = let t = c.take_turn-turn.ensures.got.1 in
     let al = alone g.O.Sink.taken g.O.Sink.faults g.C.CallRule.allows c.take_turn-turn.result.turnstile.now c.args.feeding.now (pass_of c.take_turn-turn.result) t.0 c.requires.lies t t.2 c.requires.feeding in
     λ y has. ap (λ (z : RequesterWithSink g.row.O.Denot g.row.C.Denot). z.stopped) (same_value _ y t.0 has.1 t.1.1) ∙ (t.2.stopped ∙ (al.stop ∙ c.requires.goes))
 
+pub stop_under-requires-clause-outstanding : goal.stop_under-requires-clause-outstanding
+stop_under-requires-clause-outstanding g c = let t = c.take_turn-turn.ensures.got.1 in
+    let al = alone g.O.Sink.taken g.O.Sink.faults g.C.CallRule.allows c.take_turn-turn.result.turnstile.now c.args.feeding.now (pass_of c.take_turn-turn.result) t.0 c.requires.lies t t.2 c.requires.feeding in
+    al.outstanding c.requires.outstanding
+
 pub returns-clause-feeding : goal.returns-clause-feeding
 returns-clause-feeding g c =
     subst (λ (z : Pass (RequesterWithSink g.row.O.Denot g.row.C.Denot) Entry). IsFeeding {O = g.row.O.Denot} z) (sym (c.feeding-1.given.1 (sym (c.stop_under.ensures.same.1 ∙ c.take_turn-turn.ensures.borrow))))
