@@ -233,8 +233,9 @@ where
 }
 
 /// Makes all READs over a link to an address.
-fn linked<P: LinkSource, Q: LinkSink, D: Dialer<Source = P, Sink = Q>>(
-    rt: HostRuntime,
+fn linked<R: Threads + Wait + Sync, P: LinkSource, Q: LinkSink, D: Dialer<Source = P, Sink = Q>>(
+    rt: &R,
+    alloc: Global,
     dialer: &mut D,
     addr: &str,
     threads: usize,
@@ -248,11 +249,15 @@ where
     let Ok((source, sink)) = dialer.dial(addr) else {
         return None;
     };
-    read_over(&rt, rt.alloc(), source, sink, threads, count)
+    read_over(rt, alloc, source, sink, threads, count)
 }
 
-/// Takes the words, and gives how many READs gave their own number, and how many had no answer.
-pub fn measure(rt: HostRuntime, words: &mut Args) -> Option<(u64, u64)> {
+/// Takes the words, and gives how many READs gave their own number, and how many had no answer. The threads are those of this runtime.
+pub fn measure<R: Threads + Wait + Sync>(
+    rt: HostRuntime,
+    runtime: &R,
+    words: &mut Args,
+) -> Option<(u64, u64)> {
     let addr = words.next()?;
     let threads = number(words)? as usize;
     let count = number(words)?;
@@ -260,5 +265,12 @@ pub fn measure(rt: HostRuntime, words: &mut Args) -> Option<(u64, u64)> {
         return None;
     }
     let mut dialer = TcpDialer::new(rt);
-    linked(rt, &mut dialer, addr.as_str(), threads, count)
+    linked(
+        runtime,
+        rt.alloc(),
+        &mut dialer,
+        addr.as_str(),
+        threads,
+        count,
+    )
 }
