@@ -5,7 +5,7 @@ use Rattle.std.proofs.Common.{◌≡◌, ℕ, ◌<◌, ◌≤◌, Bool, true, fa
 use Rattle.std.proofs.lemmas.Bool.{le-leb}
 use Rattle.std.proofs.lemmas.List.Elements.{All-contains, All-from_recursion}
 use Rattle.nr_xdr.specs.Item.{IsBytes}
-use Rattle.nr_xdr.proofs.WordBytes.{IsBytes_drop}
+use Rattle.nr_xdr.proofs.Chains.{IsBytes_right}
 use Rattle.nr_wire.specs.declared.hello.Side.{Side}
 use Rattle.nr_wire.specs.declared.hello.Side.TheVariants.{Initiator, Responder}
 use Rattle.nr_rpc.specs.declared.head.CallHead.{CallHead}
@@ -129,11 +129,6 @@ executed_word opened link before xid payload typed h =
 
 -- ===== pieces and outcomes
 
--- what comes after some bytes, of bytes
-rest_bytes : (first bytes : List ℕ) → IsBytes (first ++ bytes) → IsBytes bytes
-rest_bytes [] bytes h = h
-rest_bytes (x ∷ first) bytes h = rest_bytes first bytes (λ i. h (i + 1))
-
 writable_outcome : (outcome : Outcome) → OutcomeIsBytes outcome → OutcomeOfWords outcome → IsWritableOutcome outcome
 writable_outcome (outcomes.Reply payload) b w = b
 writable_outcome outcomes.Chunk b w = tt
@@ -187,10 +182,10 @@ module _ (server : SerialServer) (script : ScriptLines) (run : List Mark) (is : 
   wrote_right before link side [] a = tt
   wrote_right before link Initiator (b ∷ bytes) a =
       let due = client_due (parameters_of script.opening link) link before a.typed in
-      ((a.is_link_of, (omega arith, rest_bytes (bytes_sent link Initiator before) (b ∷ bytes) (subst IsBytes (sym (a.asked refl)) due))), tt)
+      ((a.is_link_of, (omega arith, IsBytes_right (bytes_sent link Initiator before) (b ∷ bytes) (subst IsBytes (sym (a.asked refl)) due))), tt)
   wrote_right before link Responder (b ∷ bytes) a =
       let due = server_due (parameters_of script.opening link) link before a.typed in
-      ((a.is_link_of, (omega arith, rest_bytes (bytes_sent link Responder before) (b ∷ bytes) (subst IsBytes (sym (a.served refl)) due))), tt)
+      ((a.is_link_of, (omega arith, IsBytes_right (bytes_sent link Responder before) (b ∷ bytes) (subst IsBytes (sym (a.served refl)) due))), tt)
 
   fed_right : (before : List Mark) (link : ℕ) (side : Side) (bytes : List ℕ) → AtMark before (runs.Fed link side bytes) link → AllByRecursion Right (captured_piece marks.In link side bytes)
   fed_right before link side [] a = tt
@@ -208,8 +203,8 @@ module _ (server : SerialServer) (script : ScriptLines) (run : List Mark) (is : 
 
   told_right : (before : List Mark) (link : ℕ) (what : Told) → AtMark before (runs.Told link what) link → Right (captured_told link what)
   told_right before link (Granted credits) a =
-      let most = (a.served refl).1 in
-      let few = is.few_credits in
+      let most : credits ≤ script.opening.credits = (a.served refl).1 in
+      let few : script.opening.credits ≤ credits_max = is.few_credits in
       (a.is_link_of, omega (arith, most, few))
 
   mark_right : (before : List Mark) (mark : Mark) (after : List Mark) → run ≡ before ++ mark ∷ after → IsSaidMark mark → AllByRecursion Right (captured_mark mark)

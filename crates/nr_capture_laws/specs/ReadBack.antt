@@ -18,7 +18,7 @@ IsRead script = (text : List ℕ) × (length text ≤ input_max) × (script_of t
 
 -- a script that is made from a seed, for numbers of clients and calls that are in range
 abbrev pub IsMade : ScriptLines → Type 0
-IsMade script = (seed clients calls : ℕ) × (1 ≤ clients) × (clients ≤ clients_max) × (calls ≤ calls_max) × (script ≡ made_script seed clients calls)
+IsMade script = (seed : ℕ) × (clients : ℕ) × (calls : ℕ) × (1 ≤ clients) × (clients ≤ clients_max) × (calls ≤ calls_max) × (script ≡ made_script seed clients calls)
 
 -- The capture can be written: its numbers are words, its bytes are bytes, its credentials are those of a drill, each mark is of a link of the
 -- first line.
