@@ -76,7 +76,7 @@ exchanged_in link both = filter_twice (is_client_mark link) (λ mark. not (moves
 
 -- ---- One call
 
-abbrev submit_of : ℕ → Call → ℕ → Mark
+abbrev pub submit_of : ℕ → Call → ℕ → Mark
 submit_of link call xid = marks.Submit link call forms.Auto (submissions.Accepted xid)
 
 front_is_short : (first : List Mark) (m : Mark) (rest : List Mark) → first ≡ first ++ m ∷ rest → ⊥
@@ -160,7 +160,7 @@ module _ (s : Setup) (sane : IsSane s.tree) (J : List Entry) (n : ℕ) (opened :
         ),
       )
 
-  one_outcome : (call : Call) (xid : ℕ) (outcome : Outcome) (u v w : List Mark) → both ≡ u ++ submit_of link call xid ∷ (v ++ marks.Done link xid outcome ∷ w)
+  pub one_outcome : (call : Call) (xid : ℕ) (outcome : Outcome) (u v w : List Mark) → both ≡ u ++ submit_of link call xid ∷ (v ++ marks.Done link xid outcome ∷ w)
       → IsAnsweredBetween s J call outcome (limit u) (limit (u ++ submit_of link call xid ∷ (v ++ marks.Done link xid outcome ∷ [])))
   unfolding replies_to
   one_outcome call xid outcome u v w is =

@@ -65,7 +65,7 @@ module _ (s : Setup) (J : List Entry) (from : ℕ) where
 
   -- ---- Requests
 
-  since : {A : Type 0} (dir : List ℕ) (names : List (List ℕ)) → KeepPath s J dir names from (length J) → (request : List Outcome → Next A) (outcomes : List Outcome) → AreAnswers AnsweredAfter request outcomes
+  pub since : {A : Type 0} (dir : List ℕ) (names : List (List ℕ)) → KeepPath s J dir names from (length J) → (request : List Outcome → Next A) (outcomes : List Outcome) → AreAnswers AnsweredAfter request outcomes
       → AnsweredSince s J (KeepPath s J dir names) request outcomes from
   since dir names keep request [] are = tt
   since {A} dir names keep request (o ∷ later) ((call, (is, (place, (a, low)))), rest) =
@@ -82,12 +82,12 @@ answers_of R request (outcome ∷ outcomes) b c h i (call, d, j, (is, (answers, 
     ((call, (is, one)), answers_of R (λ later. request (outcome ∷ later)) outcomes d c j i rest before are)
 
 -- a request that has its value by these outcomes
-record HasValue {A : Type 0} (R : Call → Outcome → Type 0) (request : List Outcome → Next A) (value : A) : Type 0 where
-  outcomes : List Outcome
-  answers : AreAnswers R request outcomes
-  is : request outcomes ≡ Returns (Ok value)
+pub record HasValue {A : Type 0} (R : Call → Outcome → Type 0) (request : List Outcome → Next A) (value : A) : Type 0 where
+  pub outcomes : List Outcome
+  pub answers : AreAnswers R request outcomes
+  pub is : request outcomes ≡ Returns (Ok value)
 
-followed : {A : Type 0} (R : Call → Outcome → Type 0) (request : List Outcome → Next A) (b c : LinkBytes) (h i : RequesterSide) (value : A) (f : Follows request b c h i (Ok value)) (before : List OpenRead)
+pub followed : {A : Type 0} (R : Call → Outcome → Type 0) (request : List Outcome → Next A) (b c : LinkBytes) (h i : RequesterSide) (value : A) (f : Follows request b c h i (Ok value)) (before : List OpenRead)
     → AreJudged R before (followed_exchanges request b c h i (Ok value) f).made → HasValue R request value
 followed {A} R request b c h i value f before are =
     let made = (made_exchanges request f.outcomes b f.between h f.side f.made).made in
@@ -98,7 +98,7 @@ followed {A} R request b c h i value f before are =
     ends (Calls call) (end, (same, gone)) = absurd (let wrong = same in cc)
 
 -- MNT
-mounted : (R : Call → Outcome → Type 0) (uid gid : ℕ) (export : List ℕ) (s m : SessionAt) (root : List ℕ) (b : Bool) → (is : MatchBool b (Fails (client.Budget mount_path_max) s m (Ok root)) (Request mnt_result (mnt_call uid gid export) s m (Ok root)))
+pub mounted : (R : Call → Outcome → Type 0) (uid gid : ℕ) (export : List ℕ) (s m : SessionAt) (root : List ℕ) (b : Bool) → (is : MatchBool b (Fails (client.Budget mount_path_max) s m (Ok root)) (Request mnt_result (mnt_call uid gid export) s m (Ok root)))
     → AreJudged R [] (within_exchanges b (Fails (client.Budget mount_path_max) s m (Ok root)) (Request mnt_result (mnt_call uid gid export) s m (Ok root)) (tells_request mnt_result (mnt_call uid gid export) s m (Ok root)) is).made
     → (o : Outcome) × ((mnt_result o ≡ Ok root) × R (mnt_call uid gid export) o)
 mounted R uid gid export s m root true (same, wrong) are = absurd (let w = wrong in cc)

@@ -59,7 +59,7 @@ connections_have_a_run_lem limits first J opened link before after end served ot
 
 -- ---- A link that stays
 
-abbrev plain_replies : Setup → List Entry → Moment → List ℕ → Option (List ℕ)
+abbrev pub plain_replies : Setup → List Entry → Moment → List ℕ → Option (List ℕ)
 plain_replies s entries moment payload = plain_reply s entries (length entries) moment payload
 
 ended_server : (opened : LinkParameters) (link : ℕ) (run own : List Mark) (why : End) → own_marks link run ≡ own → end_of_side opened link Responder run ≡ None → (server opened link own).ended ≡ Some why → ⊥
@@ -76,7 +76,7 @@ never_ends s sane opened link both fine typed laws plain owns =
 
 -- ---- The pair
 
-placed_of : (s : Setup) (J : List Entry) (n : ℕ) (link : ℕ) (own both : List Mark) → own_marks link both ≡ own → AllPlaced s J n (answers_of own) → AllPlaced s J n (served_calls link both)
+pub placed_of : (s : Setup) (J : List Entry) (n : ℕ) (link : ℕ) (own both : List Mark) → own_marks link both ≡ own → AllPlaced s J n (answers_of own) → AllPlaced s J n (served_calls link both)
 unfolding answers_of
 placed_of s J n link own both same placed = subst (λ (r : List Mark). AllPlaced s J n (flat_map answer_of r)) (sym same) placed
 

@@ -41,15 +41,17 @@ use Rattle.nr_service_laws.specs.Exchanges.Exchange.{Answered, Forgotten, GivenU
 use Rattle.nr_service_laws.specs.ServedCommands.{client_marks, is_client_mark}
 use Rattle.nr_service_laws.proofs.ByteCalls.{IsByteCall}
 use Rattle.nr_service_laws.proofs.ByteExchanges.{CallsAreBytes}
-use Rattle.nr_service_laws.proofs.OpenLinks.{own_each}
 use Rattle.nr_host_laws.specs.OwnMarks.{is_own}
+use Rattle.nr_pair_laws.specs.JobRuns.{IsJobMark}
 use Rattle.nr_pair_laws.specs.Pairs.{IsOfSide}
 use Rattle.nr_pair_laws.proofs.AnsweredCalls.{is_exchanged}
+use Rattle.nr_pair_laws.proofs.JobMarks.{client_each}
+use Rattle.nr_pair_laws.proofs.JobRuns.{job_marks}
 
 -- ---- The calls of a command
 
 -- each call that marks submit is of bytes, if the outcomes that they handed over before it are
-abbrev MarksOfBytes : List Mark → Type 0
+abbrev pub MarksOfBytes : List Mark → Type 0
 MarksOfBytes [] = Unit {0}
 MarksOfBytes (marks.Submit l call form answer ∷ run) = IsByteCall call × MarksOfBytes run
 MarksOfBytes (marks.Done l xid outcome ∷ run) = OutcomeIsBytes outcome → MarksOfBytes run
@@ -119,7 +121,7 @@ one_link link l of never is = by (eqb l link) refl is
     by false same is = absurd (let wrong : false ≡ true = sym never ∙ is in cc)
 
 module _ (s : Setup) (J : List Entry) (opened : LinkParameters) (link : ℕ) (tree : IsInBytes s.tree) (entries : EntriesInBytes J) (both : List Mark) (far : MatchedSoFar opened link both)
-    (placed : AtPlacesOn (plain_server s) J link both) (own : AllByRecursion (IsOwn link) (client_marks link both)) (calls : MarksOfBytes (filter (is_exchanged link) both)) where
+    (placed : AtPlacesOn (plain_server s) J link both) (submits : AllByRecursion (IsJobMark link) (client_marks link both)) (calls : MarksOfBytes (filter (is_exchanged link) both)) where
   module _ (front rest : List Mark) (m : Mark) (is : both ≡ front ++ m ∷ rest) (typed : IsTyped front) where
     up_is_bytes : IsBytes (bytes_sent link Initiator front)
     up_is_bytes =
@@ -139,8 +141,8 @@ module _ (s : Setup) (J : List Entry) (opened : LinkParameters) (link : ℕ) (tr
     matched_here : MatchedMark link front m
     matched_here = at_mark (MatchedMark link) both front m rest is far.matched
 
-    own_here : is_client_mark link m ≡ true → IsOwn link m
-    own_here = at_mark (λ earlier k. is_client_mark link k ≡ true → IsOwn link k) both front m rest is (own_each (λ earlier k. is_client_mark link k ≡ true → IsOwn link k) link [] both (λ earlier k h. h) own)
+    own_here : is_client_mark link m ≡ true → IsJobMark link m
+    own_here = at_mark (λ earlier k. is_client_mark link k ≡ true → IsJobMark link k) both front m rest is (client_each (IsJobMark link) link [] both submits)
 
   first_entries : (n : ℕ) (K : List Entry) → EntriesInBytes K → EntriesInBytes (take n K)
   first_entries zero K h = tt
@@ -165,11 +167,11 @@ module _ (s : Setup) (J : List Entry) (opened : LinkParameters) (link : ℕ) (tr
       let here : MarksOfBytes (cond (eqb l link && true) (submit ∷ filter (is_exchanged link) rest) (filter (is_exchanged link) rest)) = calls_here front (submit ∷ rest) is outs in
       (subst (λ (b : Bool). MarksOfBytes (cond (b && true) (submit ∷ filter (is_exchanged link) rest) (filter (is_exchanged link) rest))) (ap (λ (k : ℕ). eqb k link) same ∙ itself link) here).0
 
-  form_typed : (link l : ℕ) (call : Call) (form : Form) (xid : ℕ) → IsOwn link (marks.Submit l call form (submissions.Accepted xid)) → IsTypedForm form
+  form_typed : (link l : ℕ) (call : Call) (form : Form) (xid : ℕ) → IsJobMark link (marks.Submit l call form (submissions.Accepted xid)) → IsTypedForm form
   form_typed link l call forms.Auto xid h = tt
-  form_typed link l call forms.Inline xid h = tt
-  form_typed link l call forms.Chunk xid h = tt
-  form_typed link l call forms.Long xid h = tt
+  form_typed link l call forms.Inline xid h = absurd h
+  form_typed link l call forms.Chunk xid h = absurd h
+  form_typed link l call forms.Long xid h = absurd h
   form_typed link l call (forms.Given offer) xid h = absurd h
 
   mark_typed : (front rest : List Mark) (m : Mark) → both ≡ front ++ m ∷ rest → IsTyped front → OutcomesOfBytes (filter (is_exchanged link) front) → IsOfSide link m → TypedMark front m
@@ -242,9 +244,13 @@ entries_typed s J more entries calls = each_append EntryInBytes J more entries (
 
 -- ---- A pair
 
--- a list with both sides is of its types
+-- a list with both sides is of its types, if the calls that its client submits are
+pub typed_by : (s : Setup) (J : List Entry) (opened : LinkParameters) (link : ℕ) (both : List Mark) → IsInBytes s.tree → EntriesInBytes J → MatchedSoFar opened link both
+    → AtPlacesOn (plain_server s) J link both → AllByRecursion (IsJobMark link) (client_marks link both) → MarksOfBytes (filter (is_exchanged link) both) → AllByRecursion (IsOfSide link) both → IsTyped both
+typed_by s J opened link both tree entries far placed submits calls sides = typed_from s J opened link tree entries both far placed submits calls [] both refl tt tt sides
+
 pub pair_is_typed : (s : Setup) (J : List Entry) (opened : LinkParameters) (link : ℕ) (both : List Mark) (made : List Exchange) → IsInBytes s.tree → EntriesInBytes J → MatchedSoFar opened link both
     → AtPlacesOn (plain_server s) J link both → AllByRecursion (IsOwn link) (client_marks link both) → AreMarksOf link made (filter (is_exchanged link) both) → CallsAreBytes made
     → AllByRecursion (IsOfSide link) both → IsTyped both
 pair_is_typed s J opened link both made tree entries far placed own are calls sides =
-    typed_from s J opened link tree entries both far placed own (exchanged link made (filter (is_exchanged link) both) are calls) [] both refl tt tt sides
+    typed_by s J opened link both tree entries far placed (job_marks link (client_marks link both) own) (exchanged link made (filter (is_exchanged link) both) are calls) sides
