@@ -55,7 +55,7 @@ use Rattle.nr_service_laws.specs.ServedCommands.{client_marks, is_client_mark}
 use Rattle.nr_service_laws.proofs.Judged.{answers_more}
 use Rattle.nr_service_laws.proofs.JudgedParts.{AreJudged, judged_both, reads_after}
 use Rattle.nr_pair_laws.specs.FilesAt.{KeepPath}
-use Rattle.nr_pair_laws.specs.JobPairs.{AreJobsAnsweredFrom, JobsAreServed, JobsGiveTheFile, JobsReadTheFile}
+use Rattle.nr_pair_laws.specs.JobPairs.{AreJobsAnsweredFrom, IsServedJobs, JobsAreServed, JobsGiveTheFile, JobsReadTheFile}
 use Rattle.nr_pair_laws.specs.JobRuns.{IsJobMark, IsJobsRun, SaysOfShared}
 use Rattle.nr_pair_laws.specs.Pairs.{AreAnsweredFrom, AreSidesOf, IsAnsweredAt}
 use Rattle.nr_pair_laws.specs.PutThenGet.{GetsFile, mounting, root_handle}
@@ -74,6 +74,7 @@ pub record JobSides (s : Setup) (J : List Entry) (n : ℕ) (opened : LinkParamet
   pub placed : AllPlaced s J n (served_calls link both)
   pub at_places : AtPlacesOn (plain_server s) J link both
   pub plain : HasPlainReplies (plain_server s) link both
+  pub served : AtEachMark (ServedMark IsAll opened link) [] both
   pub far : MatchedSoFar opened link both
 
 pub job_sides : (s : Setup) (J : List Entry) (n : ℕ) (opened : LinkParameters) (link : ℕ) (run own both : List Mark) → AllByRecursion (IsJobMark link) run → AskedSoFar opened link run
@@ -88,6 +89,7 @@ job_sides s J n opened link run own both marks asked sides law placed =
       placed = places;
       at_places = at_places;
       plain = placed_links_have_plain_replies (plain_replies s) entries_of_call J link both at_places;
+      served = served;
       far = record {
         asked = job_asked_in_both IsPrefixOf opened link both (subst (λ (r : List Mark). AllByRecursion (IsJobMark link) r) back marks) (subst (λ (r : List Mark). AskedSoFar opened link r) back asked);
         served = AtEachMark_each (ServedMark IsAll opened link) (ServedMark IsPrefixOf opened link) [] both (served_mark opened link) served;
@@ -165,17 +167,21 @@ jobs_are_served_lem limits first J opened link outside outside' end connection g
 
     by : (reads : ReadsFileByJobs get.uid get.gid file (link_of s') hangs.source hangs.sink out.taken out'.taken result)
         → SaysOfShared (λ source sink made history. (ran : IsJobsRun opened link s source sink dialed.ended after.ended made history) → (both : List Mark) → AreSidesOf link ran.run connection.ended.run both →
-        IsTyped both → AreJobsAnsweredFrom setup journal (length J) made history) (tells_finds get.uid get.gid get.export get.path s s' (Ok file) finds).made
+        IsTyped both → IsServedJobs setup J connection.over.more opened link ran.run both made history) (tells_finds get.uid get.gid get.export get.path s s' (Ok file) finds).made
         get.uid get.gid file s' hangs.source hangs.sink out.taken out'.taken result reads
     by (NoAttributes mid why gets is same none) = tt
     by (Shared mid outcome attributes gets shared) = λ ran both sides typed.
         let b = job_sides setup journal (length J) opened link ran.run connection.ended.run both ran.own ran.asked sides connection.served connection.over.placed in
         let history = shared.back.history in
         let marks_are : client_marks link both ≡ run_of ran.alone ran.fed link history = sides.client_side ∙ ran.run_is in
+        let made = (tells_finds get.uid get.gid get.export get.path s s' (Ok file) finds).made ++ Answered (getattr_call get.uid get.gid file) outcome ∷ [] in
         record {
-          alone = alone_answered setup sane journal (length J) opened link both typed b ran.alone (flat_map (mark_at ran.fed link) history)
-              ((tells_finds get.uid get.gid get.export get.path s s' (Ok file) finds).made ++ Answered (getattr_call get.uid get.gid file) outcome ∷ []) (marks_are ∙ run_first ran.alone ran.fed link history) ran.marks_are;
-          shared = shared_answered setup sane journal (length J) opened link both typed b ran.alone ran.fed history marks_are shared.back.earlier;
+          served = record { client_side = sides.client_side; typed = typed; served = b.served; matched = sides.matched; plain = b.plain };
+          at_places = b.at_places;
+          answered = record {
+            alone = alone_answered setup sane journal (length J) opened link both typed b ran.alone (flat_map (mark_at ran.fed link) history) made (marks_are ∙ run_first ran.alone ran.fed link history) ran.marks_are;
+            shared = shared_answered setup sane journal (length J) opened link both typed b ran.alone ran.fed history marks_are shared.back.earlier;
+          };
         }
 
 -- ---- The file
