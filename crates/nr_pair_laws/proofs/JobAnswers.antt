@@ -54,12 +54,13 @@ use Rattle.nr_service_laws.specs.ReplyEnds.{AreAnswers}
 use Rattle.nr_service_laws.specs.ServedCommands.{client_marks, is_client_mark}
 use Rattle.nr_service_laws.proofs.Judged.{answers_more}
 use Rattle.nr_service_laws.proofs.JudgedParts.{AreJudged, judged_both, reads_after}
+use Rattle.nr_service_laws.proofs.ServedAnswers.{submit_of}
 use Rattle.nr_pair_laws.specs.FilesAt.{KeepPath}
 use Rattle.nr_pair_laws.specs.JobPairs.{AreJobsAnsweredFrom, IsServedJobs, JobsAreServed, JobsGiveTheFile, JobsReadTheFile}
 use Rattle.nr_pair_laws.specs.JobRuns.{IsJobMark, IsJobsRun, SaysOfShared}
 use Rattle.nr_pair_laws.specs.Pairs.{AreAnsweredFrom, AreSidesOf, IsAnsweredAt}
 use Rattle.nr_pair_laws.specs.PutThenGet.{GetsFile, mounting, root_handle}
-use Rattle.nr_pair_laws.proofs.AnsweredCalls.{exchanges_answered, one_outcome, submit_of}
+use Rattle.nr_pair_laws.proofs.AnsweredCalls.{exchanges_answered, one_outcome}
 use Rattle.nr_pair_laws.proofs.Getting.{AnsweredAfter, followed, judged, mounted, since}
 use Rattle.nr_pair_laws.proofs.JobMarks.{job_asked_in_both, kept_at, parts_at, two_at}
 use Rattle.nr_pair_laws.proofs.Pairs.{placed_of, plain_replies}

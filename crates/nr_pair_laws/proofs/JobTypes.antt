@@ -17,6 +17,7 @@ use Rattle.nr_client.specs.Reading.{piece_left}
 use Rattle.nr_client.specs.Requests.{getattr_call}
 use Rattle.nr_commands.specs.ByJobs.{link_of}
 use Rattle.nr_commands.specs.ByJobs.GetsByJobs.{Found, NotFound, NotOpened}
+use Rattle.nr_host_laws.proofs.TypedMarks.{all_bytes, of_calls_bytes}
 use Rattle.nr_service_laws.specs.ClientMarks.{AreMarksOf, moves_bytes, without_bytes}
 use Rattle.nr_service_laws.specs.Exchanges.{Exchange, tells_finds}
 use Rattle.nr_service_laws.specs.Exchanges.Exchange.{Answered, Forgotten, GivenUp, HandedOver, Submitted}
@@ -24,12 +25,13 @@ use Rattle.nr_service_laws.specs.ServedCommands.{client_marks}
 use Rattle.nr_service_laws.proofs.ByteCalls.{AreWords, IsByteCall, getattr_is, read_is}
 use Rattle.nr_service_laws.proofs.ByteCommands.{finds_bytes}
 use Rattle.nr_service_laws.proofs.ByteExchanges.{AreBytes, CallsAreBytes, both_calls, first_bytes}
+use Rattle.nr_service_laws.proofs.TypedCommands.{MarksOfBytes}
 use Rattle.nr_pair_laws.specs.JobPairs.{JobsAreTyped}
 use Rattle.nr_pair_laws.specs.JobRuns.{IsJobMark, IsJobsRun, SaysOfShared}
 use Rattle.nr_pair_laws.specs.Pairs.{AreSidesOf}
 use Rattle.nr_pair_laws.proofs.AnsweredCalls.{exchanged_in, is_exchanged}
 use Rattle.nr_pair_laws.proofs.JobAnswers.{job_sides, run_first}
-use Rattle.nr_pair_laws.proofs.TypedPairs.{MarksOfBytes, entries_typed, of_calls_bytes, typed_by}
+use Rattle.nr_pair_laws.proofs.TypedPairs.{typed_by}
 
 -- exchanges of calls of bytes, and then marks whose calls are of bytes if the outcomes of those are
 exchanged_then : (link : ℕ) (made : List Exchange) (run rest : List Mark) → AreMarksOf link made run → CallsAreBytes made → (AreBytes made → MarksOfBytes rest) → MarksOfBytes (run ++ rest)
@@ -93,5 +95,5 @@ jobs_are_typed_lem limits first J opened link outside outside' end connection ge
         let parts : client_marks link both ≡ ran.alone ++ flat_map (mark_at ran.fed link) history = sides.client_side ∙ ran.run_is ∙ run_first ran.alone ran.fed link history in
         let kept : filter (is_exchanged link) both ≡ without_bytes ran.alone ++ without_bytes (flat_map (mark_at ran.fed link) history) =
         sym (exchanged_in link both) ∙ ap (λ (r : List Mark). without_bytes r) parts ∙ filter-append (λ (m : Mark). not (moves_bytes m)) ran.alone (flat_map (mark_at ran.fed link) history) in
-        typed_by setup journal opened link both tree (entries_typed setup J connection.over.more (of_calls_bytes setup [] J entries) connection.over.of_calls) b.far b.at_places
+        typed_by setup journal opened link both tree (all_bytes setup J connection.over.more (of_calls_bytes setup [] J entries) connection.over.of_calls) b.far b.at_places
         (subst (λ (r : List Mark). AllByRecursion (IsJobMark link) r) (sym sides.client_side) ran.own) (subst (λ (r : List Mark). MarksOfBytes r) (sym kept) marks) sides.no_others
