@@ -13,8 +13,8 @@ ghost use Rattle.nr_drill.specs.Follows.{is_still as is_still_in};
 ghost use Rattle.nr_world.specs.private.Stands.{Steps, WorldStands, drill_setting};
 ghost use Rattle.nr_world.specs.private.Within.{IsClient, MayGrant};
 
+use crate::copying::{copy_cred, copy_form};
 use crate::world::World;
-use nr_drill_link::{copy_cred, copy_form};
 use nr_reduce::{Call, Form};
 use nr_wire::Side;
 use nr_xdr::{Memory, Octets};
