@@ -2,11 +2,10 @@
 use Rattle.std.specs.Prelude.{◌-◌, ◌||◌, if◌then◌else◌}
 use Rattle.std.specs.List.{AllByRecursion, list_any}
 use Rattle.std.proofs.Common.{◌≡◌, ◌≢◌, ℕ, ◌≤◌, arith, eqb, Bool, false, List, [], ◌∷◌, ◌++◌, length, refl, ap, sym, subst, ◌∙◌, append_assoc, append-nil}
-use Rattle.nr_wire.specs.declared.hello.Side.{Side}
 use Rattle.nr_wire.specs.declared.hello.Side.TheVariants.{Initiator, Responder}
 use Rattle.nr_reduce.specs.declared.mark.Mark.{Mark}
 use Rattle.nr_reduce.specs.declared.mark.Mark.TheVariants as marks
-use Rattle.nr_reduce.specs.History.{CompletedCall, fed_at, same_side, is_drop_of, is_dropped}
+use Rattle.nr_reduce.specs.History.{CompletedCall, is_dropped}
 use Rattle.nr_reduce.specs.Concerns.{is_judged}
 use Rattle.nr_reduce.proofs.Unconcerned.{not_judged, none_abandoned, none_completed}
 use Rattle.nr_requester.specs.Standing.{RequesterRepresents}

@@ -14,7 +14,7 @@ use Rattle.nr_drill.specs.Drill.{Setting, Drill, after_grant}
 use Rattle.nr_drill.specs.InBytes.{RepliedInBytes}
 use Rattle.nr_world.specs.DrillLinkState.{DrillLinkState}
 use Rattle.nr_world.specs.LinkStands.{LinkStands}
-use Rattle.nr_world.specs.Steps.{Goes, StandsAt}
+use Rattle.nr_world.specs.Steps.{Goes}
 use Rattle.nr_world.proofs.Ends.{represents_of}
 use Rattle.nr_world.proofs.Standing.{with_ends, IsPlain, EndsStand, plain_mark, replied_one, from_view}
 use Rattle.nr_world.proofs.Writes.{not_own, one_more_mark}

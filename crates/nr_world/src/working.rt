@@ -1,6 +1,6 @@
 //! Calls that are executed, and a round of a link.
 
-ghost use Rattle.std.specs.Prelude.{◌≡◌, ◌+◌, ◌≤◌, ◌^◌, ℕ, [], None, false, OnOk};
+ghost use Rattle.std.specs.Prelude.{◌≡◌, None, false, OnOk};
 ghost use Rattle.nr_xdr.specs.Item.{IsBytes};
 ghost use Rattle.nr_responder.specs.ResponderState.{end_of};
 ghost use Rattle.nr_responder.specs.Sound.{IsNext};

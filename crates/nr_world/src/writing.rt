@@ -1,6 +1,6 @@
 //! What is due is written.
 
-ghost use Rattle.std.specs.Prelude.{◌≡◌, ◌++◌, OnOk};
+ghost use Rattle.std.specs.Prelude.{OnOk};
 ghost use Rattle.nr_wire.specs.declared.hello.Side.TheVariants.{Initiator, Responder as ResponderSide};
 ghost use Rattle.nr_drill.specs.Drill.{after_all_output, settled};
 ghost use Rattle.nr_world.specs.Steps.{Goes};

@@ -1,5 +1,5 @@
 use Rattle.std.specs.Prelude.{◌-◌}
-use Rattle.std.proofs.Common.{◌∙◌, arith, ℕ, List, [], ◌∷◌, ◌++◌, map, refl, sym, ap}
+use Rattle.std.proofs.Common.{◌∙◌, arith, ℕ, List, [], ◌∷◌, ◌++◌, map, sym, ap}
 use Rattle.nr_reduce.specs.declared.mark.Mark.TheVariants as marks
 use Rattle.nr_world.specs.DrillLinkState.{AwaitedLine, DrillLinkState}
 use Rattle.nr_world.specs.Views.{line_view, link_view}
