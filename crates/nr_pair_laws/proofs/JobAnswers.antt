@@ -1,9 +1,11 @@
 -- Each outcome of a `get` by several jobs is the plain server's reply to its call at the call's place; and the file that it read.
-use Rattle.std.proofs.Common.{◌≡◌, ℕ, zero, suc, ◌<◌, ◌≤◌, List, [], ◌∷◌, ◌++◌, length, Option, Ok, inl, inr, refl, sym, ap, subst, ◌∙◌, arith, append_assoc, append-nil}
+use Rattle.std.proofs.Common.{◌≡◌, ℕ, zero, suc, ◌+◌, ◌<◌, ◌≤◌, Bool, cond, List, [], ◌∷◌, ◌++◌, length, take, Option, Ok, inl, inr, refl, sym, ap, subst, ◌∙◌, arith, append_assoc, append-nil, length-append}
 use Rattle.std.specs.Prelude.{nat_lt}
-use Rattle.std.specs.List.{AllByRecursion, flat_map}
+use Rattle.std.specs.List.{AllByRecursion, filter, flat_map}
 use Rattle.std.specs.Io.KnownBytes.{Appends}
 use Rattle.std.proofs.lemmas.Grind.{flat_map-append}
+use Rattle.std.proofs.lemmas.List.{take_at}
+use Rattle.std.proofs.lemmas.List.Elements.{filter-append}
 use mathlib.Core.Option.{some, some-ne-none}
 use lib.ListN.{get_elem?}
 use Rattle.nr_words.specs.Limits.{mount_path_max}
@@ -19,6 +21,7 @@ use Rattle.nr_reduce.specs.AtEachMark.{AtEachMark}
 use Rattle.nr_reduce.specs.Matched.{IsPrefixOf, MatchedMark}
 use Rattle.nr_reduce.specs.Served.{Served, ServedMark}
 use Rattle.nr_reduce.proofs.SoFarLaws.{AtEachMark_each, served_mark}
+use Rattle.nr_reduce.proofs.Standing.{itself}
 use Rattle.nr_reduce.proofs.Steps.{AtEachMark_first}
 use Rattle.nr_laws.specs.MatchedSoFar.{MatchedSoFar}
 use Rattle.nr_laws.specs.PlainLinks.{AtPlacesOn, HasPlainReplies, PlainReplyMark}
@@ -58,13 +61,14 @@ use Rattle.nr_service_laws.proofs.ServedAnswers.{submit_of}
 use Rattle.nr_pair_laws.specs.FilesAt.{KeepPath}
 use Rattle.nr_pair_laws.specs.JobPairs.{AreJobsAnsweredFrom, IsServedJobs, JobsAreServed, JobsGiveTheFile, JobsReadTheFile}
 use Rattle.nr_pair_laws.specs.JobRuns.{IsJobMark, IsJobsRun, SaysOfShared}
-use Rattle.nr_pair_laws.specs.Pairs.{AreAnsweredFrom, AreSidesOf, IsAnsweredAt}
+use Rattle.nr_pair_laws.specs.Pairs.{AreAnsweredFrom, AreSidesOf, IsAnsweredBetween, place_after}
 use Rattle.nr_pair_laws.specs.PutThenGet.{GetsFile, mounting, root_handle}
 use Rattle.nr_pair_laws.proofs.AnsweredCalls.{exchanges_answered, one_outcome}
 use Rattle.nr_pair_laws.proofs.Getting.{AnsweredAfter, followed, judged, mounted, since}
 use Rattle.nr_pair_laws.proofs.JobMarks.{job_asked_in_both, kept_at, parts_at, two_at}
+use Rattle.nr_pair_laws.proofs.JobOrder.{begins_after, begins_before, begins_run, begins_upto, bound_begins, marks_rise, upto}
 use Rattle.nr_pair_laws.proofs.Pairs.{placed_of, plain_replies}
-use Rattle.nr_pair_laws.proofs.PlacedCalls.{bound_rises, calls_more, each_placed, placed_first, served_calls}
+use Rattle.nr_pair_laws.proofs.PlacedCalls.{bound, calls_more, each_placed, placed_first, served_calls}
 use Rattle.nr_pair_laws.proofs.PutThenGet.{get_gives, others_keep}
 use Rattle.nr_pair_laws.proofs.ServerSide.{placed_in_both, served_in_both}
 
@@ -118,6 +122,26 @@ run_first alone n link history = refl
 each_first : (P : List Mark → Mark → Type 0) (both first last : List Mark) → both ≡ first ++ last → AtEachMark P [] both → AtEachMark P [] first
 each_first P both first last is h = AtEachMark_first P [] first last (subst (λ (r : List Mark). AtEachMark P [] r) is h)
 
+-- ---- Entries of a history, by their places
+
+taken_first : {E : Type 0} (all xs ys : List E) (k : ℕ) → all ≡ xs ++ ys → length xs ≡ k → take k all ≡ xs
+taken_first {E} all xs ys k is count = ap (λ (l : List E). take k l) is ∙ take_at xs ys k count
+
+two_parts : {E : Type 0} (x y z : List E) (a b : E) → x ++ a ∷ (y ++ b ∷ z) ≡ (x ++ a ∷ (y ++ b ∷ [])) ++ z
+two_parts {E} x y z a b = ap (λ (l : List E). x ++ a ∷ l) (sym (append_assoc y (b ∷ []) z)) ∙ sym (append_assoc x (a ∷ (y ++ b ∷ [])) z)
+
+two_length : {E : Type 0} (x y : List E) (a b : E) (k : ℕ) → length x + suc (length y) ≡ k → length (x ++ a ∷ (y ++ b ∷ [])) ≡ suc k
+two_length x y a b k is = let outer = length-append x (a ∷ (y ++ b ∷ [])) in let inner = length-append y (b ∷ []) in omega (arith, is, outer, inner)
+
+more_marks : (alone x y : List Mark) (a b : Mark) (kept : List Mark) (made : ℕ) → kept ≡ (alone ++ x) ++ a ∷ y → made ≡ length alone + length (x ++ a ∷ (y ++ b ∷ [])) → length kept < made
+more_marks alone x y a b kept made is count =
+    let kept_count = ap (λ (l : List Mark). length l) is in
+    let first = length-append (alone ++ x) (a ∷ y) in
+    let inner = length-append alone x in
+    let second = length-append x (a ∷ (y ++ b ∷ [])) in
+    let last = length-append y (b ∷ []) in
+    omega (arith, count, kept_count, first, inner, second, last)
+
 module _ (s : Setup) (sane : IsSane s.tree) (J : List Entry) (n : ℕ) (opened : LinkParameters) (link : ℕ) (both : List Mark) (typed : IsTyped both) (b : JobSides s J n opened link both) where
   -- the marks of the session alone are the first ones of its side
   alone_answered : (alone rest : List Mark) (made : List Exchange) → client_marks link both ≡ alone ++ rest → AreMarksOf link made (without_bytes alone) → AreAnsweredFrom s J n [] made
@@ -134,26 +158,78 @@ module _ (s : Setup) (sane : IsSane s.tree) (J : List Entry) (n : ℕ) (opened :
       })
       (each_first (PlainReplyMark (plain_server s) link) both first parts.last parts.is b.plain) placed made (subst (λ (r : List Mark). AreMarksOf link made (without_bytes r)) (sym parts.kept_first) are)
 
-  -- a call of the shared requester's history
-  shared_answered : (alone : List Mark) (fed : ℕ) (history : List SharedEntry) → client_marks link both ≡ run_of alone fed link history → Earlier closes_of history
-      → (mine : List ℕ) (call : Call) (outcome : Outcome) → IsExchange history mine call outcome → (place : ℕ) × (IsAnsweredAt s J call outcome place × (n ≤ place))
-  shared_answered alone fed history is earlier mine call outcome e =
-      let submit = submit_of link call e.xid in
-      let done = marks.Done link e.xid outcome in
-      let less : e.at < e.done = earlier e.at e.done (entries.Done e.xid outcome e.at) e.answered refl in
-      let two = two_at history e.at e.done (entries.Submit call forms.Auto e.xid) (entries.Done e.xid outcome e.at) less e.asked e.answered in
-      let x = flat_map (mark_at fed link) two.before in
-      let y = flat_map (mark_at fed link) two.between in
-      let z = flat_map (mark_at fed link) two.after in
-      let parts : client_marks link both ≡ (alone ++ x) ++ submit ∷ (y ++ done ∷ z) =
-      is ∙ ap (λ (h : List SharedEntry). run_of alone fed link h) two.is ∙ run_parts alone fed link two.before two.between two.after call e.xid e.at outcome in
-      let first = kept_at (is_client_mark link) both (alone ++ x) submit (y ++ done ∷ z) parts in
-      let second = kept_at (is_client_mark link) first.after y done z first.kept in
-      let whole : both ≡ first.before ++ submit ∷ (second.before ++ done ∷ second.after) = first.is ∙ ap (λ (l : List Mark). first.before ++ submit ∷ l) second.is in
-      let a = one_outcome s sane J n opened link both typed b.far b.plain b.placed call e.xid outcome first.before second.before second.after whole in
-      let low = bound_rises s J link n both b.placed [] first.before (submit ∷ (second.before ++ done ∷ second.after)) whole in
-      let from = a.1.1.0 in
-      (a.0, (a.1.0, (let m : n ≤ a.0 = omega (arith, low, from) in m)))
+  module _ (alone : List Mark) (fed : ℕ) (history : List SharedEntry) (is : client_marks link both ≡ run_of alone fed link history) where
+    -- how many marks the client made up to an entry of the shared requester's history, and how far the journal was used then
+    made_upto : ℕ → ℕ
+    made_upto k = length alone + length (flat_map (mark_at fed link) (take k history))
+
+    used_upto : ℕ → ℕ
+    used_upto k = bound s J link n both b.placed (upto (is_client_mark link) (made_upto k) both)
+
+    used_rises : (i j : ℕ) → i ≤ j → used_upto i ≤ used_upto j
+    unfolding made_upto used_upto
+    used_rises i j less =
+        let count = marks_rise (mark_at fed link) history i j less in
+        let rest = begins_run (is_client_mark link) (made_upto j) both in
+        bound_begins s J link n both b.placed (upto (is_client_mark link) (made_upto i) both) (upto (is_client_mark link) (made_upto j) both) rest.0 rest.1
+        (begins_upto (is_client_mark link) (made_upto i) (made_upto j) both (omega (arith, count)))
+
+    used_first : n ≤ used_upto 0
+    unfolding used_upto
+    used_first =
+        let rest = begins_run (is_client_mark link) (made_upto 0) both in
+        bound_begins s J link n both b.placed [] (upto (is_client_mark link) (made_upto 0) both) rest.0 rest.1 (upto (is_client_mark link) (made_upto 0) both, refl)
+
+    -- a call of the shared requester's history
+    shared_answered : Earlier closes_of history → (mine : List ℕ) (call : Call) (outcome : Outcome) (e : IsExchange history mine call outcome)
+        → IsAnsweredBetween s J call outcome (used_upto e.at) (used_upto (suc e.done))
+    unfolding made_upto used_upto
+    shared_answered earlier mine call outcome e =
+        let submit = submit_of link call e.xid in
+        let done = marks.Done link e.xid outcome in
+        let f = is_client_mark link in
+        let entry = entries.Submit call forms.Auto e.xid in
+        let close = entries.Done e.xid outcome e.at in
+        let less : e.at < e.done = earlier e.at e.done close e.answered refl in
+        let two = two_at history e.at e.done entry close less e.asked e.answered in
+        let x = flat_map (mark_at fed link) two.before in
+        let y = flat_map (mark_at fed link) two.between in
+        let z = flat_map (mark_at fed link) two.after in
+        let parts : client_marks link both ≡ (alone ++ x) ++ submit ∷ (y ++ done ∷ z) =
+        is ∙ ap (λ (h : List SharedEntry). run_of alone fed link h) two.is ∙ run_parts alone fed link two.before two.between two.after call e.xid e.at outcome in
+        let first = kept_at f both (alone ++ x) submit (y ++ done ∷ z) parts in
+        let second = kept_at f first.after y done z first.kept in
+        let u = first.before in
+        let v = second.before in
+        let w = second.after in
+        let whole : both ≡ u ++ submit ∷ (v ++ done ∷ w) = first.is ∙ ap (λ (l : List Mark). u ++ submit ∷ l) second.is in
+        let split : both ≡ (u ++ submit ∷ v) ++ done ∷ w = whole ∙ sym (append_assoc u (submit ∷ v) (done ∷ w)) in
+        let a = one_outcome s sane J n opened link both typed b.far b.plain b.placed call e.xid outcome u v w whole in
+        let made_first : made_upto e.at ≡ length (filter f u) =
+        ap (λ (l : List SharedEntry). length alone + length (flat_map (mark_at fed link) l)) (taken_first history two.before (entry ∷ (two.between ++ close ∷ two.after)) e.at two.is two.first)
+        ∙ sym (length-append alone x) ∙ sym (ap (λ (l : List Mark). length l) first.first) in
+        let low : Begins (upto f (made_upto e.at) both) u =
+        subst (λ (r : List Mark). Begins (upto f (made_upto e.at) r) u) (sym whole) (begins_before f (made_upto e.at) u (submit ∷ (v ++ done ∷ w)) (omega (arith, made_first))) in
+        let from = bound_begins s J link n both b.placed (upto f (made_upto e.at) both) u (submit ∷ (v ++ done ∷ w)) whole low in
+        let kept_done : filter f (u ++ submit ∷ v) ≡ (alone ++ x) ++ submit ∷ y =
+        filter-append f u (submit ∷ v) ∙ ap (λ (k : Bool). filter f u ++ cond k (submit ∷ filter f v) (filter f v)) (itself link)
+        ∙ ap (λ (l : List Mark). l ++ submit ∷ filter f v) first.first ∙ ap (λ (l : List Mark). (alone ++ x) ++ submit ∷ l) second.first in
+        let made_last : made_upto (suc e.done) ≡ length alone + length (x ++ submit ∷ (y ++ done ∷ [])) =
+        ap (λ (l : List SharedEntry). length alone + length (flat_map (mark_at fed link) l))
+        (taken_first history (two.before ++ entry ∷ (two.between ++ close ∷ [])) two.after (suc e.done) (two.is ∙ two_parts two.before two.between two.after entry close) (two_length two.before two.between entry close e.done two.second))
+        ∙ ap (λ (l : List Mark). length alone + length l)
+        (flat_map-append (mark_at fed link) two.before (entry ∷ (two.between ++ close ∷ [])) ∙ ap (λ (l : List Mark). x ++ submit ∷ l) (flat_map-append (mark_at fed link) two.between (close ∷ []))) in
+        let count : length (filter f (u ++ submit ∷ v)) < made_upto (suc e.done) =
+        more_marks alone x y submit done (filter f (u ++ submit ∷ v)) (made_upto (suc e.done)) kept_done made_last in
+        let high : Begins ((u ++ submit ∷ v) ++ done ∷ []) (upto f (made_upto (suc e.done)) both) =
+        subst (λ (r : List Mark). Begins ((u ++ submit ∷ v) ++ done ∷ []) (upto f (made_upto (suc e.done)) r)) (sym split) (begins_after f (made_upto (suc e.done)) (u ++ submit ∷ v) done w count) in
+        let rest = begins_run f (made_upto (suc e.done)) both in
+        let until = bound_begins s J link n both b.placed ((u ++ submit ∷ v) ++ done ∷ []) (upto f (made_upto (suc e.done)) both) rest.0 rest.1 high in
+        let same : bound s J link n both b.placed (u ++ submit ∷ (v ++ done ∷ [])) ≡ bound s J link n both b.placed ((u ++ submit ∷ v) ++ done ∷ []) =
+        ap (λ (l : List Mark). bound s J link n both b.placed l) (sym (append_assoc u (submit ∷ v) (done ∷ []))) in
+        let at = a.1.1.0 in
+        let next = a.1.1.1 in
+        (a.0, (a.1.0, ((let m : used_upto e.at ≤ a.0 = omega (arith, from, at) in m), (let m : place_after s J call outcome a.0 a.1.0 ≤ used_upto (suc e.done) = omega (arith, next, same, until) in m))))
 
 pub jobs_are_served_lem : JobsAreServed
 jobs_are_served_lem limits first J opened link outside outside' end connection get before after out out' result (NotOpened why is fails same) sane = tt
@@ -181,6 +257,9 @@ jobs_are_served_lem limits first J opened link outside outside' end connection g
           at_places = b.at_places;
           answered = record {
             alone = alone_answered setup sane journal (length J) opened link both typed b ran.alone (flat_map (mark_at ran.fed link) history) made (marks_are ∙ run_first ran.alone ran.fed link history) ran.marks_are;
+            used = used_upto setup sane journal (length J) opened link both typed b ran.alone ran.fed history marks_are;
+            first = used_first setup sane journal (length J) opened link both typed b ran.alone ran.fed history marks_are;
+            rises = used_rises setup sane journal (length J) opened link both typed b ran.alone ran.fed history marks_are;
             shared = shared_answered setup sane journal (length J) opened link both typed b ran.alone ran.fed history marks_are shared.back.earlier;
           };
         }
@@ -278,6 +357,16 @@ module _ (s : Setup) (J : List Entry) (uid gid : ℕ) (export path file : List �
         takes = read.takes;
       }
 
+-- the outcome of a call of the history is a reply at a place from this one on
+shared_after : (s : Setup) (J : List Entry) (from : ℕ) (made : List Exchange) (history : List SharedEntry) → AreJobsAnsweredFrom s J from made history
+    → (mine : List ℕ) (call : Call) (o : Outcome) → IsExchange history mine call o → AnsweredAfter s J from call o
+shared_after s J from made history answered mine call o e =
+    let a = answered.shared mine call o e in
+    let first = answered.first in
+    let later = answered.rises 0 e.at (omega arith) in
+    let low = a.1.1.0 in
+    (a.0, (a.1.0, (let m : from ≤ a.0 = omega (arith, first, later, low) in m)))
+
 shared_read : (s : Setup) (J : List Entry) (uid gid : ℕ) (export path file : List ℕ) (names : List (List ℕ)) (from : ℕ) (at mid : SessionAt) (finds : Finds uid gid export path at mid (Ok file)) (outcome : Outcome) (size : ℕ) (link : LinkAt)
     (source : SourceAt) (sink : SinkAt) (taken taken' : Option (List ℕ)) (shared : ReadsShared uid gid file outcome size link source sink taken taken' (Ok tt)) → path_names path ≡ Ok names
     → KeepPath s J root_handle names from (length J)
@@ -287,7 +376,7 @@ shared_read s J uid gid export path file names from at mid finds outcome size li
     let R = AnsweredAfter s J from in
     let alone = alone_judged s J uid gid export path file names from at mid finds outcome answered.alone in
     let judge : (call : Call) (o : Outcome) → IsExchange shared.seen shared.mine call o → R call o =
-    (λ call o exchange. answered.shared shared.mine call o (exchange_more shared.seen shared.back.history shared.mine call o shared.back.begins exchange)) in
+    (λ call o exchange. shared_after s J from ((tells_finds uid gid export path at mid (Ok file) finds).made ++ Answered (getattr_call uid gid file) outcome ∷ []) shared.back.history answered shared.mine call o (exchange_more shared.seen shared.back.history shared.mine call o shared.back.begins exchange)) in
     let answers = all_answers R uid gid file shared.seen shared.mine judge (outcome ∷ []) shared.reads.outcomes ((getattr_call uid gid file, (refl, alone.first)), tt) shared.reads.made in
     whole_read s J uid gid export path file names from at mid finds outcome alone are_names keep shared.reads.outcomes taken taken' answers
     (has_read uid gid file shared.seen (outcome ∷ shared.reads.outcomes) taken taken' shared.reads.ends)

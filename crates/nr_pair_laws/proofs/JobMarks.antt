@@ -1,5 +1,5 @@
 -- The law of a client's side by its own marks alone, whichever marks its callers make; and where its marks stand in a run of both sides.
-use Rattle.std.proofs.Common.{◌≡◌, ℕ, zero, suc, ◌<◌, Bool, true, false, cond, eqb, List, [], ◌∷◌, ◌++◌, length, Some, refl, sym, ap, subst, ◌∙◌, arith, append-nil}
+use Rattle.std.proofs.Common.{◌≡◌, ℕ, zero, suc, ◌+◌, ◌<◌, Bool, true, false, cond, eqb, List, [], ◌∷◌, ◌++◌, length, Some, refl, sym, ap, subst, ◌∙◌, arith, append-nil}
 use Rattle.std.specs.Prelude.{Contains}
 use Rattle.std.specs.List.{AllByRecursion, filter, flat_map}
 use Rattle.std.proofs.lemmas.List.Elements.{filter-append}
@@ -149,49 +149,86 @@ parts_at f (m ∷ run) (x ∷ xs) ys is = by (f m) refl is (parts_at f run xs ys
         }
 
 -- a mark that is kept stands in the run
-pub record KeptAt (f : Mark → Bool) (run : List Mark) (m : Mark) (rest : List Mark) : Type 0 where
+pub record KeptAt (f : Mark → Bool) (run xs : List Mark) (m : Mark) (rest : List Mark) : Type 0 where
   pub before : List Mark
   pub after : List Mark
   pub is : run ≡ before ++ m ∷ after
+  pub first : filter f before ≡ xs
   pub kept : filter f after ≡ rest
 
-pub kept_at : (f : Mark → Bool) (run xs : List Mark) (m : Mark) (ys : List Mark) → filter f run ≡ xs ++ m ∷ ys → KeptAt f run m ys
+pub kept_at : (f : Mark → Bool) (run xs : List Mark) (m : Mark) (ys : List Mark) → filter f run ≡ xs ++ m ∷ ys → KeptAt f run xs m ys
 kept_at f [] [] m ys is = absurd cc
 kept_at f [] (x ∷ xs) m ys is = absurd cc
-kept_at f (k ∷ run) xs m ys is = by (f k) xs is (λ xs e. kept_at f run xs m ys e)
+kept_at f (k ∷ run) xs m ys is = by (f k) refl xs is (λ xs e. kept_at f run xs m ys e)
   where
-    later : KeptAt f run m ys → KeptAt f (k ∷ run) m ys
-    later found = record { before = k ∷ found.before; after = found.after; is = ap (λ (l : List Mark). k ∷ l) found.is; kept = found.kept }
-
-    by : (b : Bool) (xs : List Mark) → cond b (k ∷ filter f run) (filter f run) ≡ xs ++ m ∷ ys → ((xs : List Mark) → filter f run ≡ xs ++ m ∷ ys → KeptAt f run m ys) → KeptAt f (k ∷ run) m ys
-    by true [] is goes = (let head : k ≡ m = cc in let rest : filter f run ≡ ys = cc in record { before = []; after = run; is = ap (λ (y : Mark). y ∷ run) head; kept = rest })
-    by true (x ∷ xs) is goes = (let rest : filter f run ≡ xs ++ m ∷ ys = cc in later (goes xs rest))
-    by false xs is goes = later (goes xs is)
+    by : (b : Bool) → f k ≡ b → (xs : List Mark) → cond b (k ∷ filter f run) (filter f run) ≡ xs ++ m ∷ ys → ((xs : List Mark) → filter f run ≡ xs ++ m ∷ ys → KeptAt f run xs m ys) → KeptAt f (k ∷ run) xs m ys
+    by true same [] is goes =
+        let head : k ≡ m = cc in let rest : filter f run ≡ ys = cc in record { before = []; after = run; is = ap (λ (y : Mark). y ∷ run) head; first = refl; kept = rest }
+    by true same (x ∷ xs) is goes =
+        let head : k ≡ x = cc in
+        let rest : filter f run ≡ xs ++ m ∷ ys = cc in
+        let found = goes xs rest in
+        record {
+          before = k ∷ found.before;
+          after = found.after;
+          is = ap (λ (l : List Mark). k ∷ l) found.is;
+          first = ap (λ (b : Bool). cond b (k ∷ filter f found.before) (filter f found.before)) same ∙ ap (λ (y : Mark). y ∷ filter f found.before) head ∙ ap (λ (l : List Mark). x ∷ l) found.first;
+          kept = found.kept;
+        }
+    by false same xs is goes =
+        let found = goes xs is in
+        record {
+          before = k ∷ found.before;
+          after = found.after;
+          is = ap (λ (l : List Mark). k ∷ l) found.is;
+          first = ap (λ (b : Bool). cond b (k ∷ filter f found.before) (filter f found.before)) same ∙ found.first;
+          kept = found.kept;
+        }
 
 -- ---- Elements of a list, by their places
 
-pub record OneAt {E : Type 0} (xs : List E) (a : E) : Type 0 where
+pub record OneAt {E : Type 0} (xs : List E) (k : ℕ) (a : E) : Type 0 where
   pub before : List E
   pub after : List E
   pub is : xs ≡ before ++ a ∷ after
+  pub place : length before ≡ k
 
-pub one_at : {E : Type 0} (xs : List E) (k : ℕ) (a : E) → get_elem? xs k ≡ some a → OneAt xs a
+pub one_at : {E : Type 0} (xs : List E) (k : ℕ) (a : E) → get_elem? xs k ≡ some a → OneAt xs k a
 one_at [] k a at = absurd (some-ne-none a (sym at))
-one_at {E} (x ∷ xs) zero a at = record { before = []; after = xs; is = ap (λ (y : E). y ∷ xs) (some-injective x a at) }
-one_at {E} (x ∷ xs) (suc k) a at = let one = one_at xs k a at in record { before = x ∷ one.before; after = one.after; is = ap (λ (l : List E). x ∷ l) one.is }
+one_at {E} (x ∷ xs) zero a at = record { before = []; after = xs; is = ap (λ (y : E). y ∷ xs) (some-injective x a at); place = refl }
+one_at {E} (x ∷ xs) (suc k) a at =
+    let one = one_at xs k a at in record { before = x ∷ one.before; after = one.after; is = ap (λ (l : List E). x ∷ l) one.is; place = ap (λ (n : ℕ). suc n) one.place }
 
-pub record TwoAt {E : Type 0} (xs : List E) (a b : E) : Type 0 where
+pub record TwoAt {E : Type 0} (xs : List E) (i j : ℕ) (a b : E) : Type 0 where
   pub before : List E
   pub between : List E
   pub after : List E
   pub is : xs ≡ before ++ a ∷ (between ++ b ∷ after)
+  pub first : length before ≡ i
+  pub second : length before + suc (length between) ≡ j
 
-pub two_at : {E : Type 0} (xs : List E) (i j : ℕ) (a b : E) → i < j → get_elem? xs i ≡ some a → get_elem? xs j ≡ some b → TwoAt xs a b
+pub two_at : {E : Type 0} (xs : List E) (i j : ℕ) (a b : E) → i < j → get_elem? xs i ≡ some a → get_elem? xs j ≡ some b → TwoAt xs i j a b
 two_at [] i j a b less first second = absurd (some-ne-none a (sym first))
 two_at (x ∷ xs) i zero a b less first second = absurd (omega (arith, less))
 two_at {E} (x ∷ xs) zero (suc j) a b less first second =
     let one = one_at xs j b second in
-    record { before = []; between = one.before; after = one.after; is = ap (λ (y : E). y ∷ xs) (some-injective x a first) ∙ ap (λ (l : List E). a ∷ l) one.is }
+    let place = one.place in
+    record {
+      before = [];
+      between = one.before;
+      after = one.after;
+      is = ap (λ (y : E). y ∷ xs) (some-injective x a first) ∙ ap (λ (l : List E). a ∷ l) one.is;
+      first = refl;
+      second = omega (arith, place);
+    }
 two_at {E} (x ∷ xs) (suc i) (suc j) a b less first second =
     let two = two_at xs i j a b (omega (arith, less)) first second in
-    record { before = x ∷ two.before; between = two.between; after = two.after; is = ap (λ (l : List E). x ∷ l) two.is }
+    let place = two.second in
+    record {
+      before = x ∷ two.before;
+      between = two.between;
+      after = two.after;
+      is = ap (λ (l : List E). x ∷ l) two.is;
+      first = ap (λ (n : ℕ). suc n) two.first;
+      second = omega (arith, place);
+    }

@@ -13,6 +13,7 @@ pub mod Interleaving
 pub mod JobAnswers
 pub mod JobBytes
 pub mod JobMarks
+pub mod JobOrder
 pub mod JobRuns
 pub mod JobTypes
 pub mod Kept

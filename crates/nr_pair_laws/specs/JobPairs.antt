@@ -1,5 +1,5 @@
 -- A `get` by several jobs and a connection of a server as the two sides of one link.
-use Rattle.std.specs.Prelude.{◌≡◌, ℕ, ◌≤◌, List, [], ◌++◌, length, Result, Ok}
+use Rattle.std.specs.Prelude.{◌≡◌, ℕ, suc, ◌≤◌, List, [], ◌++◌, length, Result, Ok}
 use Rattle.std.specs.Io.KnownBytes.{Appends}
 use Rattle.nr_outside.specs.Streams.{SinkAt}
 use Rattle.nr_reduce.specs.declared.call.Call.{Call}
@@ -31,16 +31,21 @@ use Rattle.nr_service_laws.specs.CompleteCommands.{IsServedPlainly}
 use Rattle.nr_service_laws.specs.Exchanges.{Exchange}
 use Rattle.nr_pair_laws.specs.FilesAt.{KeepPath}
 use Rattle.nr_pair_laws.specs.JobRuns.{IsGetOfBytes, IsJobsRun, SaysOfJobs}
-use Rattle.nr_pair_laws.specs.Pairs.{AreAnsweredFrom, AreSidesOf, IsAnsweredAt, IsConnectionRun}
+use Rattle.nr_pair_laws.specs.Pairs.{AreAnsweredFrom, AreSidesOf, IsAnsweredBetween, IsConnectionRun}
 use Rattle.nr_pair_laws.specs.PutThenGet.{GetsFile, HoldsFile, root_handle}
 
 -- ===== what the calls are answered with
 
 -- The outcomes of these exchanges are the plain server's replies at places of this journal from a place on, and so is the
--- outcome of each call of a shared requester's history, whoever made it.
+-- outcome of each call of a shared requester's history, whoever made it. Up to each entry of the history the journal was
+-- used that far. The place of a call isn't below that at its Submit, and what the call adds is within that after its Done:
+-- so it comes after the entry of each call of the history whose outcome was handed over before this call was submitted.
 pub record AreJobsAnsweredFrom (s : Setup) (J : List Entry) (from : ℕ) (made : List Exchange) (history : List SharedEntry) : Type 0 where
   pub alone : AreAnsweredFrom s J from [] made
-  pub shared : (mine : List ℕ) (call : Call) (outcome : Outcome) → IsExchange history mine call outcome → (place : ℕ) × (IsAnsweredAt s J call outcome place × (from ≤ place))
+  pub used : ℕ → ℕ
+  pub first : from ≤ used 0
+  pub rises : (i j : ℕ) → i ≤ j → used i ≤ used j
+  pub shared : (mine : List ℕ) (call : Call) (outcome : Outcome) (e : IsExchange history mine call outcome) → IsAnsweredBetween s J call outcome (used e.at) (used (suc e.done))
 
 -- What follows for such a `get` and a connection that are the sides of this list. The first two fields are the premises of the
 -- laws of nr_laws on matched links.
