@@ -32,7 +32,7 @@ use Rattle.nr_service_laws.specs.Exchanges.{Exchange, Tells, tells_finds, tells_
 use Rattle.nr_reply_laws.specs.Replies.{AreIds}
 use Rattle.nr_pair_laws.specs.Pairs.{AreAnsweredFrom, IsAnsweredAt}
 use Rattle.nr_pair_laws.specs.ReadResults.{results_there}
-use Rattle.nr_text_laws.specs.CommandTexts.{AttributesFit, ChangesTree, IsOfTrees, IsUnanswered, TextIsOfTrees, TextsAreOfTheTrees, file_of, link_in, mkdir_of, on_value, parent_of, remove_of, root_of, silent, stat_in, symlink_of, tree_there, within_target}
+use Rattle.nr_text_laws.specs.CommandTexts.{AttributesFit, ChangesTree, FitsText, IsOfTrees, IsUnanswered, TextIsOfTrees, TextsAreOfTheTrees, file_of, link_in, mkdir_of, on_value, parent_of, remove_of, root_of, silent, stat_in, symlink_of, tree_there, within_target}
 use Rattle.nr_text_laws.proofs.Ending.{IsCalled, IsLast, IsWhole, called, composed, nothing_more, shown}
 use Rattle.nr_text_laws.proofs.Finding.{IsShort, file_long, parent_is_short}
 use Rattle.nr_text_laws.proofs.MadeOf.{made}
@@ -244,20 +244,20 @@ module _ (s : Setup) (J : List Entry) (uid gid : ℕ) (ids : AreIds uid gid) whe
 
   -- ---- Any command
 
-  any_text : IsSane s.tree → AttributesFit s J → (export : List ℕ) (action : Action Text) (input input' : SourceAt) (out out' : SinkAt) (t t' : SessionAt) (result : Result (List ℕ) ClientEnd)
+  any_text : IsSane s.tree → (export : List ℕ) (action : Action Text) → FitsText s J action → (input input' : SourceAt) (out out' : SinkAt) (t t' : SessionAt) (result : Result (List ℕ) ClientEnd)
       (is : text_of uid gid export action input input' out out' t t' result) (from : ℕ) → AreAnsweredFrom s J from [] (tells_text uid gid export action input input' out out' t t' result is).made
       → IsUnanswered result ⊎ TextIsOfTrees s J from uid gid export action result
-  any_text sane fit export actions.Mount input input' out out' t t' result is from are = mount_text export t t' result is.0 from are
-  any_text sane fit export (actions.List path) input input' out out' t t' result is from are = inr tt
-  any_text sane fit export (actions.Stat path) input input' out out' t t' result is from are = stat_text fit export path t t' result is.0 from are
-  any_text sane fit export (actions.ReadLink path) input input' out out' t t' result is from are = link_text sane export path t t' result is.0 from are
-  any_text sane fit export (actions.MakeDirectory path) input input' out out' t t' result is from are = mkdir_text export path t t' result is.0 from are
-  any_text sane fit export (actions.Remove path) input input' out out' t t' result is from are = remove_text export path t t' result is.0 from are
-  any_text sane fit export (actions.Link path target) input input' out out' t t' result is from are = symlink_text export path target t t' result is.0 from are
-  any_text sane fit export (actions.Put path) input input' out out' t t' result is from are = inr tt
-  any_text sane fit export (actions.Get path) input input' out out' t t' result is from are = inr tt
+  any_text sane export actions.Mount fit input input' out out' t t' result is from are = mount_text export t t' result is.0 from are
+  any_text sane export (actions.List path) fit input input' out out' t t' result is from are = inr tt
+  any_text sane export (actions.Stat path) fit input input' out out' t t' result is from are = stat_text fit export path t t' result is.0 from are
+  any_text sane export (actions.ReadLink path) fit input input' out out' t t' result is from are = link_text sane export path t t' result is.0 from are
+  any_text sane export (actions.MakeDirectory path) fit input input' out out' t t' result is from are = mkdir_text export path t t' result is.0 from are
+  any_text sane export (actions.Remove path) fit input input' out out' t t' result is from are = remove_text export path t t' result is.0 from are
+  any_text sane export (actions.Link path target) fit input input' out out' t t' result is from are = symlink_text export path target t t' result is.0 from are
+  any_text sane export (actions.Put path) fit input input' out out' t t' result is from are = inr tt
+  any_text sane export (actions.Get path) fit input input' out out' t t' result is from are = inr tt
 
 pub texts_are_of_the_trees_lem : TextsAreOfTheTrees
 texts_are_of_the_trees_lem s J from c before after input input' out out' result (NotOpened end is fails same_input same_out) sane fit ids = tt
 texts_are_of_the_trees_lem s J from c before after input input' out out' result (Opened dialed t t' opens prints closes) sane fit ids =
-    λ are. any_text s J c.uid c.gid ids sane fit c.export c.action input input' out prints.written t t' prints.text prints.made from are
+    λ are. any_text s J c.uid c.gid ids sane c.export c.action fit input input' out prints.written t t' prints.text prints.made from are

@@ -3,6 +3,7 @@ pub mod Ending
 pub mod Encoded
 pub mod Finding
 pub mod MadeOf
+pub mod Nodes
 pub mod Parts
 pub mod Replies
 pub mod Walks

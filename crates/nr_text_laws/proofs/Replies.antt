@@ -109,7 +109,7 @@ handle_short : (n : ℕ) → length (handle_of n) ≤ handle_max
 handle_short n = let long = length_handle n in omega (arith, long)
 
 -- the attributes of a success are those of the node
-got : (t : Tree) (h : List ℕ) (d : Attributes) → getattr_reply t (record { object = h }) ≡ Done d → attributes_at t h ≡ Some d
+pub got : (t : Tree) (h : List ℕ) (d : Attributes) → getattr_reply t (record { object = h }) ≡ Done d → attributes_at t h ≡ Some d
 got t h d is = by (first (getattr_rules t (record { object = h }))) (attributes_at t h) is
   where
     by : (o : Option Status) (p : Option Attributes) → answer {R = StatusUnion Attributes (Unit {0}) Status} o (λ s. Failed s tt) (getattr_done p) ≡ Done d → p ≡ Some d

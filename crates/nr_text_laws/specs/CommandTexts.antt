@@ -22,8 +22,11 @@ use Rattle.nr_nfs_res.specs.declared.lookup.LookupOk.{LookupOk}
 use Rattle.nr_nfs_res.specs.declared.lookup.ReadlinkOk.{ReadlinkOk}
 use Rattle.nr_reduce.specs.declared.mark.Entry.{Entry}
 use Rattle.nr_tree.specs.Replies.{attributes_at}
+use Rattle.nr_tree.specs.Rules.{node_of_handle, number_of_handle}
 use Rattle.nr_tree.specs.Sane.{IsSane}
-use Rattle.nr_tree.specs.Tree.{Tree}
+use Rattle.nr_tree.specs.Tree.{Tree, attributes_of}
+use Rattle.nr_tree.specs.declared.node.Content.TheVariants.{Link}
+use Rattle.nr_tree.specs.declared.node.Node.{Node}
 use Rattle.nr_ops_file.specs.Attributes.{getattr_reply}
 use Rattle.nr_ops_file.specs.Links.{readlink_reply}
 use Rattle.nr_ops_list.specs.Lookup.{lookup_reply}
@@ -195,6 +198,18 @@ pub record FitFields (a : Attributes) : Type 0 where
 abbrev pub AttributesFit : Setup → List Entry → Type 0
 AttributesFit s J = (k : ℕ) (h : List ℕ) (a : Attributes) → attributes_at (tree_at s J k) h ≡ Some a → FitFields a
 
+-- what is asked of the trees of a command
+abbrev pub FitsText : Setup → List Entry → Action Text → Type 0
+FitsText s J actions.Mount = ⊤
+FitsText s J (actions.List path) = ⊤
+FitsText s J (actions.Stat path) = AttributesFit s J
+FitsText s J (actions.ReadLink path) = ⊤
+FitsText s J (actions.MakeDirectory path) = ⊤
+FitsText s J (actions.Remove path) = ⊤
+FitsText s J (actions.Link path target) = ⊤
+FitsText s J (actions.Put path) = ⊤
+FitsText s J (actions.Get path) = ⊤
+
 -- what follows of a command whose calls are answered at places of a journal
 abbrev pub SaysText : Setup → List Entry → (from : ℕ) → (c : Client Text) (before after : DialerAt) (input input' : SourceAt) (out out' : SinkAt) (result : Result (Unit {0}) ClientEnd)
     → Runs c before after input input' out out' result → Type 0
@@ -208,7 +223,7 @@ SaysText s J from c before after input input' out out' result (Opened dialed t t
 abbrev pub TextsAreOfTheTrees : Type 0
 TextsAreOfTheTrees =
     (s : Setup) (J : List Entry) (from : ℕ) (c : Client Text) (before after : DialerAt) (input input' : SourceAt) (out out' : SinkAt) (result : Result (Unit {0}) ClientEnd)
-    (runs : Runs c before after input input' out out' result) → IsSane s.tree → AttributesFit s J → AreIds c.uid c.gid → SaysText s J from c before after input input' out out' result runs
+    (runs : Runs c before after input input' out out' result) → IsSane s.tree → FitsText s J c.action → AreIds c.uid c.gid → SaysText s J from c before after input input' out out' result runs
 
 -- ---- In one tree
 
@@ -248,3 +263,28 @@ abbrev pub FoundParentsAreThere : Type 0
 FoundParentsAreThere =
     (s : Setup) (J : List Entry) (from : ℕ) (served export path : List ℕ) (names : List (List ℕ)) (c : Caller) (places : ℕ → ℕ) (last : ℕ) (at : List ℕ × List ℕ) → ArePlaces J from places last →
     path_names path ≡ Ok names → KeepPath s J root_handle names from last → parent_of served export path c (λ i. tree_at s J (places i)) ≡ Ok at → IsParentThere (tree_at s J last) names at
+
+-- ---- The node at the end of the path
+
+-- Names lead to the file of a node, of which this holds.
+pub record LeadsToNode (t : Tree) (names : List (List ℕ)) (Is : (number : ℕ) → Node → Type 0) : Type 0 where
+  pub file : List ℕ
+  pub leads : handle_along t root_handle names ≡ Some file
+  pub node : Node
+  pub live : node_of_handle t file ≡ Some node
+  pub is : Is (number_of_handle file) node
+
+-- What `stat` printed are the attributes of the node to which its path leads at the place of its GETATTR, if no entry between its calls changes what the
+-- path leads to.
+abbrev pub StatsAreOfTheNode : Type 0
+StatsAreOfTheNode =
+    (s : Setup) (J : List Entry) (from : ℕ) (c : Caller) (export path text : List ℕ) (names : List (List ℕ))
+    (of_trees : IsOfTrees s J from (file_of s.parameters.export export path c) (λ place m file. stat_in (tree_at s J place) file) (Ok text)) → path_names path ≡ Ok names →
+    KeepPath s J root_handle names from of_trees.last → LeadsToNode (tree_at s J of_trees.last) names (λ number node. text ≡ attributes_text (attributes_of number node))
+
+-- What `readlink` printed is the path of the symbolic link to which its path leads.
+abbrev pub LinksAreOfTheNode : Type 0
+LinksAreOfTheNode =
+    (s : Setup) (J : List Entry) (from : ℕ) (c : Caller) (export path text : List ℕ) (names : List (List ℕ))
+    (of_trees : IsOfTrees s J from (file_of s.parameters.export export path c) (λ place m file. link_in (tree_at s J place) file) (Ok text)) → path_names path ≡ Ok names →
+    KeepPath s J root_handle names from of_trees.last → LeadsToNode (tree_at s J of_trees.last) names (λ number node. (target : List ℕ) × ((node.content ≡ Link target) × (text ≡ path_text target)))
