@@ -69,7 +69,7 @@ symlink_args_read target at within short few =
 
 -- ---- Attributes
 
-hyper_is : (n : ℕ) → n < 2 ^ 64 → IsRead hyper (hyper.items n) (λ m. m ≡ n)
+pub hyper_is : (n : ℕ) → n < 2 ^ 64 → IsRead hyper (hyper.items n) (λ m. m ≡ n)
 unfolding hyper
 hyper_is n fits = lawful_read hyper n hyper_lawful tt (fits, tt)
 

@@ -97,7 +97,7 @@ paths_in_one_tree_lem served export path c trees t same = (
 
 -- ---- Between places
 
-at_least : (J : List Entry) (from : ℕ) (places : ℕ → ℕ) (last : ℕ) → ArePlaces J from places last → (i : ℕ) → from ≤ places i
+pub at_least : (J : List Entry) (from : ℕ) (places : ℕ → ℕ) (last : ℕ) → ArePlaces J from places last → (i : ℕ) → from ≤ places i
 at_least J from places last are zero = are.first
 at_least J from places last are (suc i) = let low = at_least J from places last are i in let up = are.rise i in omega (arith, low, up)
 

@@ -1,7 +1,10 @@
 pub mod Commands
-pub mod Ending
 pub mod Encoded
+pub mod Ending
 pub mod Finding
+pub mod ListingNames
+pub mod ListingReplies
+pub mod ListingWalks
 pub mod MadeOf
 pub mod Nodes
 pub mod Parts

@@ -102,6 +102,11 @@ asked {A} s J reads call t t' result (inl (o, (answers, gives)), counts) from re
 asked {A} s J reads call t t' result (inr (inl (cause, (same, gone))), counts) from rest are = inl (subst (λ (r : Result A ClientEnd). IsUnanswered r) (sym same) tt)
 asked {A} s J reads call t t' result (inr (inr (same, still)), counts) from rest are = inl (subst (λ (r : Result A ClientEnd). IsUnanswered r) (sym same) tt)
 
+-- what a request exchanges, and then more
+abbrev pub exchanged : {A : Type 0} (request : List Outcome → Next A) (outcomes : List Outcome) (b m b' : LinkBytes) (h k h' : RequesterSide) (result : Result A ClientEnd) (made : MakesCalls request outcomes b m h k)
+    (ends : EndsWith (request outcomes) m b' k h' result) → List Exchange → List Exchange
+exchanged request outcomes b m b' h k h' result made ends rest = ((made_exchanges request outcomes b m h k made).made ++ (end_exchanges (request outcomes) m b' k h' result ends).made) ++ rest
+
 -- a request that makes no call
 pub returned : {A : Type 0} (s : Setup) (J : List Entry) (r : Result A ClientEnd) (outcomes : List Outcome) (b m b' : LinkBytes) (h k h' : RequesterSide) (result : Result A ClientEnd)
     (made : MakesCalls (λ later. Returns r) outcomes b m h k) (ends : EndsWith (Returns r) m b' k h' result) (from : ℕ) (rest : List Exchange)

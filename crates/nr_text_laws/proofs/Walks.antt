@@ -29,7 +29,7 @@ use Rattle.nr_reply_laws.specs.Replies.{AreIds}
 use Rattle.nr_pair_laws.specs.Pairs.{AreAnsweredFrom, IsAnsweredAt, place_after}
 use Rattle.nr_pair_laws.proofs.Walked.{AreShort, path_short}
 use Rattle.nr_text_laws.specs.CommandTexts.{IsUnanswered, file_of, object_along, object_in, on_value, parent_after, parent_along, parent_of, root_of}
-use Rattle.nr_text_laws.proofs.Parts.{IsMounted, IsPlaced, mounted, no_answer, returned, root_long, same_end}
+use Rattle.nr_text_laws.proofs.Parts.{IsMounted, IsPlaced, exchanged, mounted, no_answer, returned, root_long, same_end}
 use Rattle.nr_text_laws.proofs.Replies.{object_found, object_there}
 
 -- ---- Places
@@ -39,11 +39,11 @@ abbrev pub from_place : ℕ → (ℕ → ℕ) → ℕ → ℕ
 from_place place places zero = place
 from_place place places (suc i) = places i
 
-rises : (place : ℕ) (places : ℕ → ℕ) → place ≤ places 0 → ((i : ℕ) → places i ≤ places (suc i)) → (i : ℕ) → from_place place places i ≤ from_place place places (suc i)
+pub rises : (place : ℕ) (places : ℕ → ℕ) → place ≤ places 0 → ((i : ℕ) → places i ≤ places (suc i)) → (i : ℕ) → from_place place places i ≤ from_place place places (suc i)
 rises place places first rise zero = first
 rises place places first rise (suc i) = rise i
 
-ends_at : (place : ℕ) (places : ℕ → ℕ) (last : ℕ) → place ≤ last → ((i : ℕ) → places i ≤ last) → (i : ℕ) → from_place place places i ≤ last
+pub ends_at : (place : ℕ) (places : ℕ → ℕ) (last : ℕ) → place ≤ last → ((i : ℕ) → places i ≤ last) → (i : ℕ) → from_place place places i ≤ last
 ends_at place places last first ends zero = first
 ends_at place places last first ends (suc i) = ends i
 
@@ -55,11 +55,6 @@ module _ (s : Setup) (J : List Entry) (uid gid : ℕ) (ids : AreIds uid gid) whe
 
   abbrev Placed : {A : Type 0} → ((trees : ℕ → Tree) → Result A ClientEnd) → (from : ℕ) → Result A ClientEnd → List Exchange → Type 0
   Placed finds from result rest = IsUnanswered result ⊎ IsPlaced s J finds from result rest
-
-  -- what a request exchanges, and then more
-  abbrev exchanged : {A : Type 0} (request : List Outcome → Next A) (outcomes : List Outcome) (b m b' : LinkBytes) (h k h' : RequesterSide) (result : Result A ClientEnd) (made : MakesCalls request outcomes b m h k)
-      (ends : EndsWith (request outcomes) m b' k h' result) → List Exchange → List Exchange
-  exchanged request outcomes b m b' h k h' result made ends rest = ((made_exchanges request outcomes b m h k made).made ++ (end_exchanges (request outcomes) m b' k h' result ends).made) ++ rest
 
   -- a request that is answered from a place on with what the trees give
   abbrev Follows : {A : Type 0} → (List Outcome → Next A) → ((trees : ℕ → Tree) → Result A ClientEnd) → Type 0

@@ -1,6 +1,7 @@
 //! Laws of the texts that commands print.
 
 ghost use Rattle.nr_text_laws.specs.CommandTexts.{FoundFilesAreThere, FoundParentsAreThere, LinksAreOfTheNode, PathsInOneTree, StatsAreOfTheNode, TextsAreOfTheTrees, TextsInOneTree};
+ghost use Rattle.nr_text_laws.specs.Listings.{ListsAreOfTheDirectory, ListsAreOfTheTrees};
 
 /// What a command prints, or the refusal with its status, is a function of the server's trees at the places of its calls, unless a call has no answer or
 /// memory ran out: of `mount`, `stat`, `readlink`, `mkdir`, `rm` and `ln`. For the last three the tree after the entry of a change that was done is the
@@ -26,4 +27,11 @@ pub fn found_files_are_there()
 pub fn texts_are_of_the_node()
     ensures stat { StatsAreOfTheNode }
     ensures link { LinksAreOfTheNode }
+{}
+
+/// What `ls` prints, or the refusal with its status, is a function of the trees at the places of its calls (`trees`). If no entry between them changes
+/// what its path leads to, it prints the name of each entry of that directory, in order (`names`).
+pub fn lists_are_of_the_trees()
+    ensures trees { ListsAreOfTheTrees }
+    ensures names { ListsAreOfTheDirectory }
 {}
