@@ -1,6 +1,6 @@
 -- What each command prints, by its calls and the places at which they are answered.
-use Rattle.std.proofs.Common.{◌≡◌, ℕ, suc, ◌+◌, ◌<◌, ◌≤◌, Bool, true, false, cond, List, [], ◌∷◌, ◌++◌, length, Option, None, Some, Result, Ok, Err, inl, inr, refl, sym, ap, subst, ◌∙◌, arith}
-use Rattle.std.specs.Prelude.{◌⊎◌, MatchBool, MatchResult, nat_eq, nat_lt}
+use Rattle.std.proofs.Common.{◌≡◌, ℕ, suc, ◌≤◌, Bool, true, false, cond, List, [], ◌++◌, length, Result, Ok, Err, inl, inr, refl, sym, ap, subst, ◌∙◌, arith}
+use Rattle.std.specs.Prelude.{◌⊎◌, MatchBool, nat_lt}
 use Rattle.std.proofs.lemmas.Bool.{ltb-false}
 use Rattle.nr_outside.specs.Streams.{SinkAt, SourceAt}
 use Rattle.nr_outside.specs.declared.moment.Moment.{Moment}
@@ -22,13 +22,13 @@ use Rattle.nr_words.specs.declared.commands.Action.TheVariants as actions
 use Rattle.nr_client.specs.declared.client_end.ClientEnd.{ClientEnd}
 use Rattle.nr_client.specs.declared.client_end.ClientEnd.TheVariants as client
 use Rattle.nr_client.specs.Requests.{create_result, getattr_call, getattr_result, machine, mkdir_call, readlink_call, readlink_result, remove_call, remove_result, symlink_call}
-use Rattle.nr_commands.specs.Commands.{Finds, FindsParent, MakesDirectory, MakesSymlink, Mounts, MountsAndPrints, ReadsLink, Removes, Stats, Symlinks}
+use Rattle.nr_commands.specs.Commands.{Finds, FindsParent, MakesDirectory, MakesSymlink, MountsAndPrints, ReadsLink, Removes, Stats, Symlinks}
 use Rattle.nr_commands.specs.Printed.{attributes_text, handle_text, path_text}
 use Rattle.nr_commands.specs.Running.{text_of}
 use Rattle.nr_commands.specs.Running.Runs.{NotOpened, Opened}
 use Rattle.nr_commands.specs.Sessions.{Fails, Part, Request, SessionAt, Then}
 use Rattle.nr_commands.specs.Sessions.{Text as Shows}
-use Rattle.nr_service_laws.specs.Exchanges.{Exchange, Tells, tells_finds, tells_finds_parent, tells_make_directory, tells_make_symlink, tells_mount, tells_mounts, tells_none, tells_read_link, tells_remove, tells_request, tells_stat, tells_symlinks, tells_text, tells_then, within_exchanges}
+use Rattle.nr_service_laws.specs.Exchanges.{Tells, tells_finds, tells_finds_parent, tells_make_directory, tells_make_symlink, tells_mount, tells_mounts, tells_none, tells_read_link, tells_remove, tells_request, tells_stat, tells_symlinks, tells_text, tells_then, within_exchanges}
 use Rattle.nr_reply_laws.specs.Replies.{AreIds}
 use Rattle.nr_pair_laws.specs.Pairs.{AreAnsweredFrom, IsAnsweredAt}
 use Rattle.nr_pair_laws.specs.ReadResults.{results_there}

@@ -1,5 +1,5 @@
 -- What is read of the encodings of a command's arguments and of results that it prints.
-use Rattle.std.proofs.Common.{◌≡◌, ℕ, ◌+◌, ◌<◌, ◌≤◌, ◌^◌, List, [], ◌∷◌, ◌++◌, length, Option, None, Some, Result, Ok, refl, sym, ap, ◌∙◌, arith}
+use Rattle.std.proofs.Common.{◌≡◌, ℕ, ◌<◌, ◌≤◌, ◌^◌, List, ◌++◌, length, Ok, ap, ◌∙◌, arith}
 use Rattle.std.specs.Prelude.{codes}
 use Rattle.nr_xdr.specs.Items.{encodings}
 use Rattle.nr_nfs_base.specs.Attributes.{attributes_codec, special_data_codec}

@@ -1,6 +1,6 @@
 -- The call after the LOOKUPs of a command, and what the whole command has then.
-use Rattle.std.proofs.Common.{◌≡◌, ℕ, suc, ◌+◌, ◌<◌, ◌≤◌, Bool, true, false, cond, List, [], ◌∷◌, ◌++◌, length, Option, None, Some, Result, Ok, Err, inl, inr, refl, sym, ap, subst, ◌∙◌, arith, append-nil}
-use Rattle.std.specs.Prelude.{◌⊎◌, MatchBool, MatchResult, nat_eq, nat_lt}
+use Rattle.std.proofs.Common.{◌≡◌, ℕ, ◌≤◌, List, [], ◌++◌, length, Result, Ok, Err, inl, inr, sym, ap, subst, ◌∙◌, arith, append-nil}
+use Rattle.std.specs.Prelude.{◌⊎◌, MatchResult}
 use Rattle.nr_outside.specs.declared.moment.Moment.{Moment}
 use Rattle.nr_reduce.specs.declared.call.Call.{Call}
 use Rattle.nr_reduce.specs.declared.call.Outcome.{Outcome}
@@ -12,8 +12,8 @@ use Rattle.nr_client.specs.declared.client_end.ClientEnd.{ClientEnd}
 use Rattle.nr_client.specs.declared.client_end.ClientEnd.TheVariants as client
 use Rattle.nr_commands.specs.Sessions.{Part, Request, SessionAt, Text, Then}
 use Rattle.nr_service_laws.specs.Exchanges.{Exchange, Tells, tells_none, tells_request, tells_then}
-use Rattle.nr_pair_laws.specs.Pairs.{AreAnsweredFrom, IsAnsweredAt, place_after}
-use Rattle.nr_text_laws.specs.CommandTexts.{ArePlaces, IsOfTrees, IsUnanswered, on_value}
+use Rattle.nr_pair_laws.specs.Pairs.{AreAnsweredFrom, IsAnsweredAt}
+use Rattle.nr_text_laws.specs.CommandTexts.{IsOfTrees, IsUnanswered, on_value}
 use Rattle.nr_text_laws.proofs.MadeOf.{made}
 use Rattle.nr_text_laws.proofs.Parts.{IsAsked, IsPlaced, asked, same_end}
 

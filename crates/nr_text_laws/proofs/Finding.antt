@@ -1,5 +1,5 @@
 -- What is found along a path, by the trees alone.
-use Rattle.std.proofs.Common.{◌≡◌, ℕ, zero, suc, ◌+◌, ◌-◌, ◌<◌, ◌≤◌, List, [], ◌∷◌, ◌++◌, length, Option, None, Some, Result, Ok, Err, refl, sym, ap, subst, ◌∙◌, arith, append_assoc, append-nil}
+use Rattle.std.proofs.Common.{◌≡◌, ℕ, zero, suc, ◌+◌, ◌-◌, ◌≤◌, List, [], ◌∷◌, ◌++◌, length, Some, Result, Ok, Err, refl, sym, ap, subst, ◌∙◌, arith, append_assoc, append-nil}
 use Rattle.std.specs.Prelude.{nat_eq, nat_lt}
 use Rattle.std.specs.Cmp.Lexicographic.{pointwise}
 use Rattle.nr_nfs_base.specs.Limits.{name_length_max}
@@ -10,7 +10,6 @@ use Rattle.nr_plain.specs.Journal.{tree_at}
 use Rattle.nr_plain.specs.Setup.{Setup}
 use Rattle.nr_words.specs.Limits.{mount_path_max}
 use Rattle.nr_client.specs.declared.client_end.ClientEnd.{ClientEnd}
-use Rattle.nr_client.specs.declared.client_end.ClientEnd.TheVariants as client
 use Rattle.nr_client.specs.Paths.{path_names}
 use Rattle.nr_pair_laws.specs.FilesAt.{KeepPath, handle_along}
 use Rattle.nr_pair_laws.specs.PutThenGet.{root_handle}

@@ -1,10 +1,8 @@
 -- In trees in which a directory has the same entries, READDIRs up to its end list the name of each, in order.
-use Rattle.std.proofs.Common.{◌≡◌, ℕ, zero, suc, ◌+◌, ◌<◌, ◌≤◌, Bool, true, false, cond, ltb, eqb, not, List, [], ◌∷◌, ◌++◌, length, map, Option, None, Some, Result, Ok, Err, refl, sym, ap, subst, ◌∙◌, arith, append_assoc, append-nil}
-use Rattle.std.specs.Prelude.{◌==◌}
+use Rattle.std.proofs.Common.{◌≡◌, ℕ, zero, suc, ◌+◌, ◌≤◌, Bool, true, false, cond, ltb, eqb, not, List, [], ◌∷◌, ◌++◌, length, map, Option, None, Some, Result, Ok, Err, refl, sym, ap, subst, ◌∙◌, arith, append_assoc, append-nil}
 use Rattle.std.specs.Option.{option_map, option_map_or}
 use Rattle.std.proofs.lemmas.Bool.{eqb-true, le-ltb}
 use Rattle.std.proofs.lemmas.List.{length-append}
-use Rattle.std.proofs.lemmas.Option.{same_Some}
 use Rattle.nr_nfs_base.specs.declared.attributes.Attributes.{Attributes}
 use Rattle.nr_nfs_base.specs.declared.caller.Caller.{Caller}
 use Rattle.nr_nfs_base.specs.declared.status.Status.{Status}
@@ -14,11 +12,10 @@ use Rattle.nr_nfs_base.specs.declared.status_union.StatusUnion.TheVariants.{Done
 use Rattle.nr_nfs_args.specs.declared.readdir.ReaddirArgs.{ReaddirArgs}
 use Rattle.nr_nfs_res.specs.Readdir.{ReaddirOk}
 use Rattle.nr_nfs_res.specs.declared.readdir.Entry.{Entry as Listed}
-use Rattle.nr_reduce.specs.declared.mark.Entry.{Entry}
 use Rattle.nr_tree.specs.Entries.{CookiesAscend, Entries}
 use Rattle.nr_tree.specs.Entries.{Entry as DirectoryEntry}
 use Rattle.nr_tree.specs.Listing.{entries_after}
-use Rattle.nr_tree.specs.Rules.{first, node_of_handle}
+use Rattle.nr_tree.specs.Rules.{node_of_handle}
 use Rattle.nr_tree.specs.Sane.{IsSane, IsValidContent}
 use Rattle.nr_tree.specs.Tree.{Tree, entries_in, entries_of, is_dir, is_directory}
 use Rattle.nr_tree.specs.declared.node.Content.{Content}
@@ -29,19 +26,17 @@ use Rattle.nr_tree.proofs.PassedRules.{AllClear, all_clear, clear, got, handled,
 use Rattle.nr_ops_list.specs.Readdir.{cookie_verifier, listed, listing_rules, readdir_fits, readdir_in, readdir_left, readdir_reply, readdir_rules, readdir_taken}
 use Rattle.nr_ops_list.proofs.ListingLimits.{is_longest}
 use Rattle.nr_plain.specs.Journal.{tree_at}
-use Rattle.nr_plain.specs.Setup.{Setup}
 use Rattle.nr_plain.proofs.SaneTrees.{tree_sane}
 use Rattle.nr_client.specs.declared.client_end.ClientEnd.{ClientEnd}
 use Rattle.nr_client.specs.declared.client_end.ClientEnd.TheVariants as client
 use Rattle.nr_client.specs.Listing.{entries_max, last_cookie}
-use Rattle.nr_client.specs.Paths.{path_names}
 use Rattle.nr_commands.specs.Printed.{names_text}
-use Rattle.nr_pair_laws.specs.FilesAt.{KeepPath, content_along, content_at, handle_along}
+use Rattle.nr_pair_laws.specs.FilesAt.{content_along, content_at, handle_along}
 use Rattle.nr_pair_laws.specs.PutThenGet.{root_handle}
 use Rattle.nr_pair_laws.proofs.Kept.{kept}
 use Rattle.nr_pair_laws.proofs.Paths.{content_found, content_node}
-use Rattle.nr_text_laws.specs.CommandTexts.{ArePlaces, file_of}
-use Rattle.nr_text_laws.specs.Listings.{ListsAreOfTheDirectory, ListsTrees, listed_by, listed_in, names_in, readdir_of, text_of_listing, text_of_names}
+use Rattle.nr_text_laws.specs.CommandTexts.{file_of}
+use Rattle.nr_text_laws.specs.Listings.{ListsAreOfTheDirectory, listed_by, listed_in, names_in, readdir_of, text_of_listing, text_of_names}
 use Rattle.nr_text_laws.proofs.Finding.{at_least, found_files_are_there_lem}
 use Rattle.nr_text_laws.proofs.ListingReplies.{done_listing}
 
@@ -218,10 +213,12 @@ has_text (Ok dir) lists text is = by (lists dir) refl is
 pub lists_are_of_the_directory_lem : ListsAreOfTheDirectory
 lists_are_of_the_directory_lem s J from c export path text names l sane are_names keeps = (
   entries.0,
-  (at_place l.last (omega (arith, low 0, l.they.ends 0)) (omega arith),
-  has.text_is ∙ ap (λ (x : List (List ℕ)). names_text x) (all_names l.calls (λ i. tree_at s J (l.readdirs i)) c has.dir [] 0 has.names entries.0 [] entries.0.next_cookie
-  (λ i. sym (content_found (tree_at s J (l.readdirs i)) root_handle names has.dir (leads (l.readdirs i) (low i) (l.they.ends i))) ∙ at_place (l.readdirs i) (low i) (l.they.ends i))
-  up (all_above 0 1 entries.0.list entries.0.next_cookie up (omega arith)) refl has.are)),
+  (
+    at_place l.last (omega (arith, low 0, l.they.ends 0)) (omega arith),
+    has.text_is ∙ ap (λ (x : List (List ℕ)). names_text x) (all_names l.calls (λ i. tree_at s J (l.readdirs i)) c has.dir [] 0 has.names entries.0 [] entries.0.next_cookie
+        (λ i. sym (content_found (tree_at s J (l.readdirs i)) root_handle names has.dir (leads (l.readdirs i) (low i) (l.they.ends i))) ∙ at_place (l.readdirs i) (low i) (l.they.ends i))
+        up (all_above 0 1 entries.0.list entries.0.next_cookie up (omega arith)) refl has.are),
+  ),
 )
   where
     has : HasText (file_of s.parameters.export export path c (λ i. tree_at s J (l.places i))) (λ dir. listed_in l.calls (λ i. tree_at s J (l.readdirs i)) c dir [] 0) text

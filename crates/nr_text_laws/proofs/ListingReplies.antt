@@ -1,14 +1,14 @@
 -- What a client makes of the plain server's reply to a READDIR, at its place.
-use Rattle.std.proofs.Common.{◌≡◌, ℕ, ◌+◌, ◌<◌, ◌≤◌, ◌^◌, Bool, true, false, cond, ltb, List, [], ◌∷◌, ◌++◌, length, map, take, Option, None, Some, Result, Ok, Err, refl, sym, ap, subst, ◌∙◌, arith}
+use Rattle.std.proofs.Common.{◌≡◌, ℕ, ◌<◌, ◌≤◌, ◌^◌, Bool, true, false, cond, ltb, List, [], ◌∷◌, ◌++◌, length, map, take, Option, None, Some, Result, Ok, Err, refl, sym, ap, subst, ◌∙◌, arith}
 use Rattle.std.specs.Prelude.{◌==◌}
 use Rattle.std.specs.List.{AllByRecursion}
 use Rattle.std.specs.Option.{option_map, option_map_or}
 use Rattle.nr_xdr.specs.Items.{AllFit, encodings}
 use Rattle.nr_rpc.specs.declared.cred.Cred.TheVariants as creds
 use Rattle.nr_nfs_base.specs.Attributes.{attributes_codec}
-use Rattle.nr_nfs_base.specs.Codec.{Codec, ◌⊗◌, boolean, hyper, linked_list, linked_list_fits, linked_list_items, opaque, optional, read_all, word}
+use Rattle.nr_nfs_base.specs.Codec.{◌⊗◌, boolean, hyper, linked_list, linked_list_fits, linked_list_items, opaque, optional, read_all, word}
 use Rattle.nr_nfs_base.specs.Laws.{linked_list_lawful}
-use Rattle.nr_nfs_base.specs.Limits.{handle_max, listing_max, name_length_max}
+use Rattle.nr_nfs_base.specs.Limits.{handle_max, name_length_max}
 use Rattle.nr_nfs_base.specs.Verifier.{verifier_codec}
 use Rattle.nr_nfs_base.specs.declared.attributes.Attributes.{Attributes}
 use Rattle.nr_nfs_base.specs.declared.caller.Caller.{Caller}
@@ -20,7 +20,6 @@ use Rattle.nr_nfs_base.specs.declared.verifier.Verifier.{Verifier}
 use Rattle.nr_nfs_args.specs.Readdir.{readdir_args_codec, readdir_args_lawful}
 use Rattle.nr_nfs_args.specs.declared.readdir.ReaddirArgs.{ReaddirArgs}
 use Rattle.nr_nfs_res.specs.Readdir.{ReaddirOk, entry_codec, entry_lawful, listing_codec, readdir_ok_codec}
-use Rattle.nr_nfs_res.specs.Results.{nfs_result}
 use Rattle.nr_nfs_res.specs.declared.readdir.Entry.{Entry as Listed}
 use Rattle.nr_reduce.specs.ClientState.{call_payload}
 use Rattle.nr_reduce.specs.declared.call.Outcome.{Outcome}
@@ -46,10 +45,10 @@ use Rattle.nr_plain.specs.Setup.{Setup, caller_of}
 use Rattle.nr_plain.proofs.SaneTrees.{tree_sane}
 use Rattle.nr_client.specs.declared.client_end.ClientEnd.{ClientEnd}
 use Rattle.nr_client.specs.declared.client_end.ClientEnd.TheVariants as client
-use Rattle.nr_client.specs.Listing.{entries_max, is_stuck, last_cookie, listed_after, listed_or, none_listed, readdir_call, readdir_result}
-use Rattle.nr_client.specs.Requests.{machine, nfs_reads}
-use Rattle.nr_reply_laws.specs.Replies.{AreIds, HasResults, IsPlainReplyTo, ListsOn}
-use Rattle.nr_reply_laws.proofs.Decoding.{Any, IsRead, boolean_is, lawful_read, pair_is, structure_is, weaker}
+use Rattle.nr_client.specs.Listing.{entries_max, last_cookie, listed_after, listed_or, none_listed, readdir_call, readdir_result}
+use Rattle.nr_client.specs.Requests.{machine}
+use Rattle.nr_reply_laws.specs.Replies.{AreIds, HasResults, ListsOn}
+use Rattle.nr_reply_laws.proofs.Decoding.{IsRead, boolean_is, lawful_read, pair_is, structure_is, weaker}
 use Rattle.nr_reply_laws.proofs.Replies.{readdir_lem}
 use Rattle.nr_reply_laws.proofs.Values.{some_attributes}
 use Rattle.nr_pair_laws.specs.FilesAt.{content_at}

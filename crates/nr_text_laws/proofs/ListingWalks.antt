@@ -1,9 +1,8 @@
 -- READDIRs of a directory, each answered at its place, list what is listed in the trees there.
-use Rattle.std.proofs.Common.{◌≡◌, ℕ, zero, suc, ◌+◌, ◌<◌, ◌≤◌, ◌^◌, Bool, true, false, cond, ltb, List, [], ◌∷◌, ◌++◌, length, Option, None, Some, Result, Ok, Err, inl, inr, refl, sym, ap, subst, ◌∙◌, arith}
-use Rattle.std.specs.Prelude.{◌⊎◌, MatchResult}
+use Rattle.std.proofs.Common.{◌≡◌, ℕ, suc, ◌<◌, ◌≤◌, ◌^◌, Bool, true, false, cond, ltb, List, [], ◌∷◌, ◌++◌, length, Option, None, Some, Result, Ok, Err, inl, inr, refl, sym, ap, subst, ◌∙◌, arith}
+use Rattle.std.specs.Prelude.{◌⊎◌}
 use Rattle.std.specs.Option.{option_map}
 use Rattle.nr_rpc.specs.declared.cred.Cred.TheVariants as creds
-use Rattle.nr_nfs_base.specs.Limits.{handle_max}
 use Rattle.nr_nfs_base.specs.declared.attributes.Attributes.{Attributes}
 use Rattle.nr_nfs_base.specs.declared.caller.Caller.{Caller}
 use Rattle.nr_nfs_base.specs.declared.status.Status.{Status}
@@ -25,11 +24,10 @@ use Rattle.nr_client.specs.Following.Next.{Calls, Returns}
 use Rattle.nr_client.specs.Listing.{entries_max, last_cookie, list_from, list_next, listed_after, readdir_call}
 use Rattle.nr_client.specs.Requests.{machine}
 use Rattle.nr_client.specs.Transfers.{LinkBytes}
-use Rattle.nr_commands.specs.Commands.{Lists}
 use Rattle.nr_commands.specs.Printed.{names_text}
-use Rattle.nr_commands.specs.Sessions.{Requests, SessionAt, Then}
+use Rattle.nr_commands.specs.Sessions.{Requests, Then}
 use Rattle.nr_commands.specs.Sessions.{Text as Shows}
-use Rattle.nr_service_laws.specs.Exchanges.{Exchange, tells_finds, tells_list, tells_none, tells_requests, tells_then}
+use Rattle.nr_service_laws.specs.Exchanges.{Exchange, tells_finds, tells_none, tells_requests, tells_then}
 use Rattle.nr_reply_laws.specs.Replies.{AreIds}
 use Rattle.nr_pair_laws.specs.Pairs.{AreAnsweredFrom, IsAnsweredAt, place_after}
 use Rattle.nr_text_laws.specs.CommandTexts.{IsUnanswered, file_of}
@@ -152,10 +150,10 @@ module _ (s : Setup) (J : List Entry) (uid gid : ℕ) (ids : AreIds uid gid) (sa
           done false false within goes remains' =
               goes_on (names ++ names_in d.entries) (last_cookie cookie d.entries)
               (λ calls readdirs.
-                  ap (λ (r : StatusUnion ReaddirOk (Option Attributes) Status). listed_by r names cookie (λ x y. listed_in calls (λ i. tree_at s J (readdirs i)) user dir x y)) is
-                  ∙ ap (λ (x : Bool). cond x (Some (Err (client.Budget entries_max)))
-                  (cond d.eof (Some (Ok (names ++ names_in d.entries))) (listed_in calls (λ i. tree_at s J (readdirs i)) user dir (names ++ names_in d.entries) (last_cookie cookie d.entries)))) within
-                  ∙ ap (λ (x : Bool). cond x (Some (Ok (names ++ names_in d.entries))) (listed_in calls (λ i. tree_at s J (readdirs i)) user dir (names ++ names_in d.entries) (last_cookie cookie d.entries))) goes)
+              ap (λ (r : StatusUnion ReaddirOk (Option Attributes) Status). listed_by r names cookie (λ x y. listed_in calls (λ i. tree_at s J (readdirs i)) user dir x y)) is
+              ∙ ap (λ (x : Bool). cond x (Some (Err (client.Budget entries_max)))
+              (cond d.eof (Some (Ok (names ++ names_in d.entries))) (listed_in calls (λ i. tree_at s J (readdirs i)) user dir (names ++ names_in d.entries) (last_cookie cookie d.entries)))) within
+              ∙ ap (λ (x : Bool). cond x (Some (Ok (names ++ names_in d.entries))) (listed_in calls (λ i. tree_at s J (readdirs i)) user dir (names ++ names_in d.entries) (last_cookie cookie d.entries))) goes)
               (rec (names ++ names_in d.entries) (last_cookie cookie d.entries) (there.0.fits d is) remains')
 
 pub lists_are_of_the_trees_lem : ListsAreOfTheTrees

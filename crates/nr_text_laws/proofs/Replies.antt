@@ -1,5 +1,5 @@
 -- What a client makes of the plain server's reply to each call of a command, at its place.
-use Rattle.std.proofs.Common.{◌≡◌, ℕ, suc, ◌+◌, ◌<◌, ◌≤◌, ◌^◌, Bool, true, false, cond, List, [], ◌∷◌, ◌++◌, length, take, drop, Option, None, Some, Result, Ok, Err, refl, sym, ap, subst, ◌∙◌, arith}
+use Rattle.std.proofs.Common.{◌≡◌, ℕ, suc, ◌<◌, ◌≤◌, ◌^◌, Bool, true, false, cond, List, [], ◌∷◌, length, take, drop, Option, None, Some, Result, Ok, Err, refl, sym, ap, ◌∙◌, arith}
 use Rattle.std.specs.Prelude.{nat_eq}
 use Rattle.std.specs.Cmp.Lexicographic.{pointwise}
 use Rattle.std.specs.Option.{option_map}
@@ -16,9 +16,7 @@ use Rattle.nr_rpc.proofs.FittingCredentials.{sys_fit}
 use Rattle.nr_nfs_base.specs.Attributes.{attributes_codec}
 use Rattle.nr_nfs_base.specs.Codec.{Codec, optional, read_all, void}
 use Rattle.nr_nfs_base.specs.Limits.{handle_max, link_target_max, mount_path_max, name_length_max}
-use Rattle.nr_nfs_base.specs.MountStatus.{mount_status_number, mount_statuses}
 use Rattle.nr_nfs_base.specs.Procedures.{each_mount_procedure, mount_procedure_number, mount_program, mount_version}
-use Rattle.nr_nfs_base.specs.StatusUnion.{status_union_codec}
 use Rattle.nr_nfs_base.specs.WeakCache.{wcc_data_codec}
 use Rattle.nr_nfs_base.specs.declared.attributes.Attributes.{Attributes}
 use Rattle.nr_nfs_base.specs.declared.caller.Caller.{Caller}
@@ -31,7 +29,6 @@ use Rattle.nr_nfs_base.specs.declared.procedure.NfsProcedure.TheVariants as nfs
 use Rattle.nr_nfs_base.specs.declared.status.Status.{Status}
 use Rattle.nr_nfs_base.specs.declared.status_union.StatusUnion.{StatusUnion}
 use Rattle.nr_nfs_base.specs.declared.status_union.StatusUnion.TheVariants.{Done, Failed}
-use Rattle.nr_nfs_base.specs.declared.time.Time.{Time}
 use Rattle.nr_nfs_base.specs.declared.weak_cache.WccData.{WccData}
 use Rattle.nr_nfs_args.specs.Arguments.{MountArguments, NfsArguments, mount_arguments_codec, nfs_arguments_codec}
 use Rattle.nr_nfs_args.specs.Attributes.{getattr_args_codec}
@@ -41,14 +38,13 @@ use Rattle.nr_nfs_args.specs.Mount.{mnt_args_codec}
 use Rattle.nr_nfs_args.specs.Remove.{remove_args_codec}
 use Rattle.nr_nfs_args.specs.Special.{symlink_args_codec}
 use Rattle.nr_nfs_args.specs.declared.attributes.GetattrArgs.{GetattrArgs}
-use Rattle.nr_nfs_args.specs.declared.create.MkdirArgs.{MkdirArgs}
 use Rattle.nr_nfs_args.specs.declared.lookup.LookupArgs.{LookupArgs}
 use Rattle.nr_nfs_args.specs.declared.lookup.ReadlinkArgs.{ReadlinkArgs}
 use Rattle.nr_nfs_args.specs.declared.special.SymlinkArgs.{SymlinkArgs}
 use Rattle.nr_nfs_res.specs.Create.{create_ok_codec}
 use Rattle.nr_nfs_res.specs.Lookup.{lookup_ok_codec, readlink_ok_codec}
 use Rattle.nr_nfs_res.specs.Mount.{mount_ok_codec}
-use Rattle.nr_nfs_res.specs.Results.{NfsResults, mnt_res_codec, nfs_result, nfs_results_codec}
+use Rattle.nr_nfs_res.specs.Results.{mnt_res_codec, nfs_result}
 use Rattle.nr_nfs_res.specs.declared.create.CreateOk.{CreateOk}
 use Rattle.nr_nfs_res.specs.declared.lookup.LookupOk.{LookupOk}
 use Rattle.nr_nfs_res.specs.declared.lookup.ReadlinkOk.{ReadlinkOk}
@@ -67,11 +63,11 @@ use Rattle.nr_tree.specs.declared.rules.Space.{Space}
 use Rattle.nr_ops_file.specs.Attributes.{getattr_done, getattr_reply, getattr_rules}
 use Rattle.nr_ops_file.specs.Links.{readlink_done, readlink_reply, readlink_rules}
 use Rattle.nr_ops_file.proofs.PreferredSizes.{file_short}
-use Rattle.nr_ops_dir.specs.Creation.{create_ok, mkdir_reply, mkdir_rules, mkdir_tree, symlink_reply, symlink_rules, symlink_tree}
-use Rattle.nr_ops_list.specs.Lookup.{found_by, lookup_reply}
+use Rattle.nr_ops_dir.specs.Creation.{create_ok, mkdir_rules, mkdir_tree, symlink_rules, symlink_tree}
+use Rattle.nr_ops_list.specs.Lookup.{lookup_reply}
 use Rattle.nr_plain.specs.Added.{entries_by_call, entries_of_call}
 use Rattle.nr_plain.specs.Journal.{state_of, tree_at}
-use Rattle.nr_plain.specs.Programs.{is_change, is_done, mount_results, mounted}
+use Rattle.nr_plain.specs.Programs.{is_change, mount_results, mounted}
 use Rattle.nr_plain.specs.Replies.{Answer, answer_by, entries_if, mount_by_arguments, mount_by_procedure, mount_call, plain_answer, plain_reply, results_reply}
 use Rattle.nr_plain.specs.Setup.{Setup, State, caller_of, space_of, time_of}
 use Rattle.nr_plain.proofs.Lengths.{length_handle}
@@ -90,7 +86,7 @@ use Rattle.nr_pair_laws.specs.PutThenGet.{root_handle}
 use Rattle.nr_pair_laws.specs.ReadResults.{results_there}
 use Rattle.nr_pair_laws.proofs.AtPlace.{answered_at, entry_by, nfs_client_call, results_at, tree_after_call, tree_by}
 use Rattle.nr_pair_laws.proofs.Results.{answer_done, lookup_found, lookup_short}
-use Rattle.nr_text_laws.specs.CommandTexts.{FitFields, link_in, mkdir_of, object_in, on_value, remove_of, result_by, silent, stat_in, symlink_of, tree_there}
+use Rattle.nr_text_laws.specs.CommandTexts.{FitFields, link_in, mkdir_of, object_in, remove_of, result_by, silent, stat_in, symlink_of, tree_there}
 use Rattle.nr_text_laws.proofs.Encoded.{attributes_text_read, getattr_args_read, lookup_args_read, mkdir_args_read, mnt_args_read, path_text_read, readlink_args_read, remove_args_read, symlink_args_read}
 use Rattle.nr_text_laws.proofs.MadeOf.{ReadsAs, made, made_done, mount_made, mount_result_by, nfs_made, reads_as, value_made}
 use Rattle.nr_commands.specs.Printed.{attributes_text, path_text}

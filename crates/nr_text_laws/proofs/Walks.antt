@@ -1,9 +1,9 @@
 -- LOOKUPs along a path, each answered at its place, find what is found in the trees there.
-use Rattle.std.proofs.Common.{◌≡◌, ℕ, zero, suc, ◌+◌, ◌<◌, ◌≤◌, List, [], ◌∷◌, ◌++◌, length, Option, None, Some, Result, Ok, Err, inl, inr, refl, sym, ap, subst, ◌∙◌, arith, append_assoc, append-nil}
+use Rattle.std.proofs.Common.{◌≡◌, ℕ, zero, suc, ◌≤◌, List, [], ◌∷◌, ◌++◌, length, Result, Ok, Err, inl, inr, refl, sym, ap, subst, ◌∙◌, arith, append_assoc}
 use Rattle.std.specs.Prelude.{◌⊎◌, nat_eq, nat_lt}
 use Rattle.std.specs.Cmp.Lexicographic.{pointwise}
 use Rattle.nr_rpc.specs.declared.cred.Cred.TheVariants as creds
-use Rattle.nr_nfs_base.specs.Limits.{handle_max, name_length_max}
+use Rattle.nr_nfs_base.specs.Limits.{name_length_max}
 use Rattle.nr_nfs_base.specs.declared.caller.Caller.{Caller}
 use Rattle.nr_reduce.specs.declared.call.Call.{Call}
 use Rattle.nr_reduce.specs.declared.call.Outcome.{Outcome}
@@ -15,7 +15,7 @@ use Rattle.nr_plain.specs.Setup.{Setup, caller_of}
 use Rattle.nr_words.specs.Limits.{mount_path_max}
 use Rattle.nr_client.specs.declared.client_end.ClientEnd.{ClientEnd}
 use Rattle.nr_client.specs.declared.client_end.ClientEnd.TheVariants as client
-use Rattle.nr_client.specs.Following.{EndsWith, MakesCalls, Next, Unanswered, asking, go_on}
+use Rattle.nr_client.specs.Following.{EndsWith, MakesCalls, Next, asking, go_on}
 use Rattle.nr_client.specs.Following.Next.{Calls, Returns}
 use Rattle.nr_client.specs.Paths.{path_names}
 use Rattle.nr_client.specs.Requests.{lookup_call, machine}
@@ -23,8 +23,8 @@ use Rattle.nr_client.specs.Transfers.{LinkBytes}
 use Rattle.nr_client.specs.Walking.{object_result, parent_from, parent_next, walk_from, walk_next}
 use Rattle.nr_client.specs.Walking.{parent_along as parent_request}
 use Rattle.nr_commands.specs.Commands.{Finds, FindsParent, Mounts}
-use Rattle.nr_commands.specs.Sessions.{Part, Requests, SessionAt, Then}
-use Rattle.nr_service_laws.specs.Exchanges.{Exchange, Tells, end_exchanges, made_exchanges, tells_finds, tells_finds_parent, tells_mounts, tells_requests, tells_then}
+use Rattle.nr_commands.specs.Sessions.{Requests, SessionAt, Then}
+use Rattle.nr_service_laws.specs.Exchanges.{Exchange, tells_finds, tells_finds_parent, tells_mounts, tells_requests, tells_then}
 use Rattle.nr_reply_laws.specs.Replies.{AreIds}
 use Rattle.nr_pair_laws.specs.Pairs.{AreAnsweredFrom, IsAnsweredAt, place_after}
 use Rattle.nr_pair_laws.proofs.Walked.{AreShort, path_short}

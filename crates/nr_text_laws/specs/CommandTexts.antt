@@ -1,6 +1,6 @@
 -- What a command prints, or why it is refused, as functions of the server's trees: each LOOKUP is answered in the tree at its place of the journal, and
 -- so is the call after them.
-use Rattle.std.specs.Prelude.{◌≡◌, ⊤, ℕ, suc, ◌<◌, ◌≤◌, ◌^◌, ◌⊎◌, if◌then◌else◌, List, [], ◌∷◌, ◌++◌, length, take, nat_eq, nat_lt, Option, None, Some, Result, Ok, Err}
+use Rattle.std.specs.Prelude.{◌≡◌, ⊤, ℕ, suc, ◌<◌, ◌≤◌, ◌^◌, ◌⊎◌, if◌then◌else◌, List, [], ◌∷◌, ◌++◌, length, take, nat_eq, nat_lt, None, Some, Result, Ok, Err}
 use Rattle.std.specs.Cmp.Lexicographic.{pointwise}
 use Rattle.nr_outside.specs.Streams.{SinkAt, SourceAt}
 use Rattle.nr_outside.specs.declared.moment.Moment.{Moment}
