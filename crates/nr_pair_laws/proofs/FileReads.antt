@@ -1,5 +1,5 @@
 -- What READs of a file give is its bytes.
-use Rattle.std.proofs.Common.{◌≡◌, ℕ, suc, ◌+◌, ◌-◌, ◌%◌, ◌<◌, ◌≤◌, ◌^◌, min, Bool, true, false, cond, ltb, List, [], ◌∷◌, ◌++◌, length, take, drop, Option, None, Some, Result, Ok, Err, refl, ap, sym, ◌∙◌, subst, arith, length-take, length-drop, le-leb}
+use Rattle.std.proofs.Common.{◌≡◌, ℕ, ◌+◌, ◌-◌, ◌<◌, ◌≤◌, ◌^◌, min, Bool, true, false, cond, ltb, List, [], ◌∷◌, ◌++◌, length, take, Some, Result, Ok, Err, refl, ap, sym, ◌∙◌, subst, arith}
 use Rattle.std.specs.Prelude.{nat_le}
 use Rattle.std.specs.List.{fold}
 use Rattle.std.proofs.lemmas.Bool.{ltb-false, ltb-true}
@@ -19,12 +19,12 @@ use Rattle.nr_client.specs.Following.{Next}
 use Rattle.nr_client.specs.Following.Next.{Calls, Returns}
 use Rattle.nr_client.specs.Reading.{FileRead, after_reply, bytes_of, next_read, offset_after, piece_left, read_call, read_result, with_data, with_size}
 use Rattle.nr_client.specs.Reading.FileRead.{NothingKnown, ReadEnds, SizeKnown}
-use Rattle.nr_client.specs.Requests.{getattr_call, getattr_result}
+use Rattle.nr_client.specs.Requests.{getattr_result}
 use Rattle.nr_reply_laws.specs.Replies.{AreIds}
 use Rattle.nr_pair_laws.specs.FilesAt.{KeepPath, content_at, handle_along}
 use Rattle.nr_pair_laws.specs.Pairs.{IsAnsweredAt}
 use Rattle.nr_pair_laws.specs.PutThenGet.{AnsweredSince, OnCall, root_handle}
-use Rattle.nr_pair_laws.proofs.Bytes.{next_piece, piece_length, take_piece}
+use Rattle.nr_pair_laws.proofs.Bytes.{next_piece, piece_length}
 use Rattle.nr_pair_laws.proofs.Calls.{data_at, size_at}
 use Rattle.nr_pair_laws.proofs.Kept.{file_kept, kept}
 

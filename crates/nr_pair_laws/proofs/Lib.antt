@@ -10,6 +10,11 @@ pub mod FileWrites
 pub mod FirstTrees
 pub mod Getting
 pub mod Interleaving
+pub mod JobAnswers
+pub mod JobBytes
+pub mod JobMarks
+pub mod JobRuns
+pub mod JobTypes
 pub mod Kept
 pub mod LongerJournals
 pub mod Mounts

@@ -1,6 +1,6 @@
 -- The calls of a `put` command, in order.
-use Rattle.std.proofs.Common.{◌≡◌, ℕ, ◌+◌, ◌<◌, ◌≤◌, Bool, true, false, List, [], ◌∷◌, ◌++◌, length, Option, Result, Ok, Err, inl, inr, refl, ap, sym, ◌∙◌, subst, arith, append-nil, append_assoc}
-use Rattle.std.specs.Prelude.{◌⊎◌, ⊤, IfSome, MatchBool, None, Some, nat_lt}
+use Rattle.std.proofs.Common.{◌≡◌, ℕ, ◌+◌, ◌≤◌, Bool, true, false, List, [], ◌∷◌, ◌++◌, length, Option, Ok, Err, inl, inr, refl, ap, sym, ◌∙◌, subst, append-nil, append_assoc}
+use Rattle.std.specs.Prelude.{IfSome, MatchBool, None, Some, nat_lt}
 use Rattle.std.specs.Io.KnownBytes.{IsAtEnd}
 use Rattle.nr_outside.specs.Streams.{SourceAt}
 use Rattle.nr_outside.specs.Content.{HandsOut}
@@ -10,20 +10,18 @@ use Rattle.nr_reduce.specs.declared.call.Outcome.{Outcome}
 use Rattle.nr_reduce.specs.declared.mark.Entry.{Entry}
 use Rattle.nr_requester.specs.RequesterState.{RequesterSide}
 use Rattle.nr_plain.specs.Setup.{Setup}
-use Rattle.nr_client.specs.declared.client_end.ClientEnd.{ClientEnd}
 use Rattle.nr_client.specs.declared.client_end.ClientEnd.TheVariants as client
 use Rattle.nr_client.specs.Following.{EndsWith, Follows, MakesCalls, Next}
 use Rattle.nr_client.specs.Following.Next.{Calls, Returns}
-use Rattle.nr_client.specs.Requests.{Asks, mnt_call, mnt_result}
+use Rattle.nr_client.specs.Requests.{mnt_call, mnt_result}
 use Rattle.nr_client.specs.Transfers.{LinkBytes}
 use Rattle.nr_client.specs.Walking.{parent_next}
 use Rattle.nr_client.specs.Writing.{EndsWriting, WritesFile, writing}
 use Rattle.nr_client.specs.Writing.EndsWriting.{FollowsInput, InputFails}
-use Rattle.nr_commands.specs.Commands.{FindsParent, Mounts, Puts, WritesIn}
-use Rattle.nr_commands.specs.Sessions.{Fails, Request, Requests, SessionAt}
-use Rattle.nr_service_laws.specs.Exchanges.{Exchange, Exchanges, and_then, asked_exchanges, end_exchanges, followed_exchanges, made_exchanges, none, tells_finds_parent, tells_mounts, tells_put, tells_request, tells_requests, tells_writes_in, within_exchanges, write_exchanges, write_exchanges_by}
-use Rattle.nr_service_laws.specs.Exchanges.Exchange.{Answered}
-use Rattle.nr_pair_laws.specs.PutCommands.{CommandsPutTheirInput, OthersKeep, PutsInput}
+use Rattle.nr_commands.specs.Commands.{FindsParent, Mounts, WritesIn}
+use Rattle.nr_commands.specs.Sessions.{Fails, Request, SessionAt}
+use Rattle.nr_service_laws.specs.Exchanges.{Exchange, end_exchanges, followed_exchanges, made_exchanges, none, tells_finds_parent, tells_mounts, tells_request, tells_requests, tells_writes_in, within_exchanges, write_exchanges, write_exchanges_by}
+use Rattle.nr_pair_laws.specs.PutCommands.{CommandsPutTheirInput, OthersKeep}
 use Rattle.nr_pair_laws.specs.FilesAt.{KeepPath}
 use Rattle.nr_pair_laws.specs.Pairs.{AreAnsweredFrom, IsAnsweredAt, place_after}
 use Rattle.nr_pair_laws.specs.PutThenGet.{AnsweredInOrder, HoldsFile, OnCall, PutsFile, mounting, root_handle}

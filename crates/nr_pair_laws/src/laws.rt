@@ -3,6 +3,8 @@
 ghost use Rattle.nr_pair_laws.specs.FirstTrees.{RootsAreSane};
 ghost use Rattle.nr_pair_laws.specs.Getting.{GetsReadTheFile};
 ghost use Rattle.nr_pair_laws.specs.Interleaving.{SidesAreInterleaved};
+ghost use Rattle.nr_pair_laws.specs.JobPairs.{JobsAreServed, JobsAreTyped, JobsGiveTheFile, JobsReadTheFile};
+ghost use Rattle.nr_pair_laws.specs.JobRuns.{JobsHaveARun};
 ghost use Rattle.nr_pair_laws.specs.Pairs.{AnsweredInLongerJournals, ConnectionsHaveARun, PairsAreServed, PairsAreTyped};
 ghost use Rattle.nr_pair_laws.specs.PutCommands.{CommandsPutTheirInput};
 ghost use Rattle.nr_pair_laws.specs.PutThenGet.{FilesInLongerJournals, GetsGiveTheFile, GetsGiveWhatWasPut, OtherEntriesKeepTheFile, PutsLeaveTheFile, ReadsGiveTheFile};
@@ -72,4 +74,26 @@ pub fn commands_put_their_input()
 /// entry from there on changes what the path leads to; and its output took the bytes of the replies.
 pub fn commands_get_the_file()
     ensures { GetsReadTheFile }
+{}
+
+/// A `get` by several jobs whose requester was shared, as of each that is done, is one run of its link: the marks of its calls up to GETATTR, and then
+/// those of the shared requester's history. The client keeps its law in it, and its bytes are those of the link that was hung up.
+pub fn jobs_have_a_run()
+    ensures { JobsHaveARun }
+{}
+
+/// If that run and a connection's run are the sides of one matched list, and the marks are of their types, each outcome of the `get` is the plain
+/// server's reply to its call, at a place of the server's journal from the one on that the connection's pass had seen (`served`). The marks are of their
+/// types if what the `get` names are bytes, the first tree holds bytes, and the entries of the journal are those of calls (`typed`).
+pub fn jobs_are_served()
+    ensures served { JobsAreServed }
+    ensures typed { JobsAreTyped }
+{}
+
+/// A `get` by several jobs that is done, and whose outcomes are replies at places of a journal as `jobs_are_served` gives them, read the file of its
+/// path, if no entry from there on changes what the path leads to; and its output took the bytes of the replies (`reads`). These are exactly the bytes
+/// of the file to which the path led before, as after a `put` (`gives`).
+pub fn jobs_get_the_file()
+    ensures reads { JobsReadTheFile }
+    ensures gives { JobsGiveTheFile }
 {}

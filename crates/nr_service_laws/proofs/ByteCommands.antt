@@ -43,7 +43,7 @@ symlinks_bytes uid gid dir name target words d n t s s' result is =
     (tells_request create_result (symlink_call uid gid dir name target) s s' result) is result (λ fails. (client.Budget link_target_max, fails.1))
     (λ asked. request_bytes Any create_result (symlink_call uid gid dir name target) (symlink_is uid gid dir name target words d n t) (reads_any create_result) s s' result asked)
 
-finds_bytes : (uid gid : ℕ) (export path : List ℕ) → AreWords uid gid → IsBytes export → IsBytes path → PartBytes IsBytes (Finds uid gid export path) (tells_finds uid gid export path)
+pub finds_bytes : (uid gid : ℕ) (export path : List ℕ) → AreWords uid gid → IsBytes export → IsBytes path → PartBytes IsBytes (Finds uid gid export path) (tells_finds uid gid export path)
 finds_bytes uid gid export path words e p =
     then_bytes IsBytes IsBytes (Mounts uid gid export) (λ root. Requests (walk_next uid gid root path)) (tells_mounts uid gid export) (λ root. tells_requests (walk_next uid gid root path))
     (mounts_bytes uid gid export words e) (λ root r. requests_bytes IsBytes (walk_next uid gid root path) (walks uid gid root path words r p))
