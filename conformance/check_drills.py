@@ -96,8 +96,8 @@ class Drills:
     def ask(self, role: str, *args: Value) -> Value:
         return call(self.role[role], *args)
 
-    def printed(self, script: Value, answers: Answers) -> tuple[str, str]:
-        """What is printed of a script: the report, and the line of sums."""
+    def made(self, script: Value, answers: Answers) -> tuple[Value, Value]:
+        """What a script is made with, and the drill after its last line."""
         self.ends.begin()
         server = {'reply_to': Fn(3, answers.reply_to), 'adds': self.role['adds']}
         opening = script['opening']
@@ -107,7 +107,12 @@ class Drills:
         for line in script['lines']:
             drill = self.drained(setting, links, drill, calm) if line.n == 'Drain' else self.ask('line', setting, line, drill)
             calm = {link for link in calm if not self.ask('raw', link, line)}
-        texts = (self.ask('shown', setting, opening['clients'], drill['marks']), self.ask('sums', setting, drill['marks']))
+        return setting, drill
+
+    def printed(self, script: Value, answers: Answers) -> tuple[str, str]:
+        """What is printed of a script: the report, and the line of sums."""
+        setting, drill = self.made(script, answers)
+        texts = (self.ask('shown', setting, script['opening']['clients'], drill['marks']), self.ask('sums', setting, drill['marks']))
         return bytes(texts[0]).decode('latin-1'), bytes(texts[1]).decode('latin-1')
 
     def stepped(self, setting: Value, link: int, step: str, drill: Value, calm: set[int]) -> Value:

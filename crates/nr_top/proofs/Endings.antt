@@ -1,8 +1,9 @@
 -- What a cause, and what is written for it, say of the status of a drill.
-use Rattle.std.proofs.Common.{◌≡◌, ℕ, ◌<◌, ◌≤◌, rules, List, length, Option, Some, IfSome, Result, Ok, Err, IfOk, refl, sym, ap, subst, ◌∙◌, arith, inl, inr, le-ltb, lt-ltb}
+use Rattle.std.proofs.Common.{◌≡◌, Bool, true, false, ℕ, ◌<◌, ◌≤◌, rules, List, length, Option, Some, IfSome, Result, Ok, Err, IfOk, refl, sym, ap, subst, ◌∙◌, arith, inl, inr, le-ltb, lt-ltb}
 use Rattle.nr_outside.specs.Streams.{SourceAt, SinkAt, Writes, WritesNone}
 use Rattle.nr_outside.specs.Whole.{input_max}
 use Rattle.nr_script.specs.Script.{ScriptLines, script_of}
+use Rattle.nr_capture.specs.Captured.{Captured}
 use Rattle.nr_drill.specs.declared.report.Report.{Report}
 use Rattle.nr_drill.specs.DrillSetup.{GivesReport, drill_setup, server_of}
 use Rattle.nr_drill.specs.Shown.{text_of, sums_of}
@@ -12,11 +13,11 @@ use Rattle.nr_top.specs.Statuses as statuses
 use Rattle.nr_top.specs.declared.drill.ScriptSource.{ScriptSource}
 use Rattle.nr_top.specs.declared.drill.ScriptSource.TheVariants as sources
 use Rattle.nr_top.specs.Sources.{due_status}
-use Rattle.nr_top.specs.Ends.{Done, IsGiven, IsPrinted, StoppedBefore, ReadsFor, BadLine, TooLong, Cause, FaultReport, memory_text, bad_line_text, budget_text, Ends, Stopped, Reported, ReportsFailure}
+use Rattle.nr_top.specs.Ends.{Done, IsGiven, IsPrinted, StoppedBefore, ReadsFor, BadLine, TooLong, Cause, FaultReport, memory_text, bad_line_text, budget_text, printed, Ends, Stopped, Reported, ReportsFailure}
 
 -- the fault count of err rose
-report_fault : (source : ScriptSource) (status : ℕ) (input input' : SourceAt) (out out' err err' : SinkAt) → status ≡ statuses.fault → FaultReport source input input' out out' err err' → Ends source status input input' out out' err err'
-report_fault source status input input' out out' err err' is told = record {
+report_fault : (log : Bool) (source : ScriptSource) (status : ℕ) (input input' : SourceAt) (out out' err err' : SinkAt) → status ≡ statuses.fault → FaultReport log source input input' out out' err err' → Ends log source status input input' out out' err err'
+report_fault log source status input input' out out' err err' is told = record {
   known = inr (inr (inl is));
   done = λ e. absurd (omega (arith, e, is));
   memory = λ e. absurd (omega (arith, e, is));
@@ -32,18 +33,18 @@ with_status : (cause : Cause) (status : ℕ) (err err' : SinkAt) → status ≡ 
 with_status cause status err err' is said = subst (λ (s : ℕ). ReportsFailure cause s err err') is said
 
 -- the text of a cause was written, or the fault count of err rose
-said_or : {due : ℕ} {text : List ℕ} (cause : Cause) (source : ScriptSource) (status : ℕ) (input input' : SourceAt) (out out' err err' : SinkAt) → Stopped cause source input input' out out' → ReportsFailure cause status err err'
-    → Reported due text status err err' → (status ≡ due → Writes err err' text → Ends source status input input' out out' err err') → Ends source status input input' out out' err err'
-said_or cause source status input input' out out' err err' stopped said (inl spoke) make = make spoke.0 spoke.1
-said_or cause source status input input' out out' err err' stopped said (inr failed) make =
-    report_fault source status input input' out out' err err' failed.0 (cause, stopped, with_status cause status err err' failed.0 said)
+said_or : {due : ℕ} {text : List ℕ} (log : Bool) (cause : Cause) (source : ScriptSource) (status : ℕ) (input input' : SourceAt) (out out' err err' : SinkAt) → Stopped log cause source input input' out out' → ReportsFailure cause status err err'
+    → Reported due text status err err' → (status ≡ due → Writes err err' text → Ends log source status input input' out out' err err') → Ends log source status input input' out out' err err'
+said_or log cause source status input input' out out' err err' stopped said (inl spoke) make = make spoke.0 spoke.1
+said_or log cause source status input input' out out' err err' stopped said (inr failed) make =
+    report_fault log source status input input' out out' err err' failed.0 (cause, stopped, with_status cause status err err' failed.0 said)
 
 took_unfailing : (source : ScriptSource) (input input' : SourceAt) → ReadsFor source input input' → input'.faults ≡ input.faults
 took_unfailing sources.Input input input' took = took.1
 took_unfailing (sources.Seed seed clients calls) input input' took = ap (λ (i : SourceAt). i.faults) took
 
-no_memory : (source : ScriptSource) (status : ℕ) (input input' : SourceAt) (out out' err err' : SinkAt) → Stopped NoMemory source input input' out out' → status ≡ statuses.no_memory → Writes err err' memory_text → Ends source status input input' out out' err err'
-no_memory source status input input' out out' err err' stopped is said = record {
+no_memory : (log : Bool) (source : ScriptSource) (status : ℕ) (input input' : SourceAt) (out out' err err' : SinkAt) → Stopped log NoMemory source input input' out out' → status ≡ statuses.no_memory → Writes err err' memory_text → Ends log source status input input' out out' err err'
+no_memory log source status input input' out out' err err' stopped is said = record {
   known = inr (inl is);
   done = λ e. absurd (omega (arith, e, is));
   memory = λ _. (stopped, said);
@@ -62,8 +63,8 @@ report_same left text read all told = subst (λ (l : Option (List ℕ)). IfSome 
 due_of_bad : (source : ScriptSource) (text : List ℕ) (number : ℕ) → source ≡ sources.Input → length text ≤ input_max → script_of text ≡ Err number → due_status source text ≡ statuses.bad_input
 due_of_bad source text number is within bad = subst (λ (s : ScriptSource). due_status s text ≡ statuses.bad_input) (sym is) (rw (le-ltb input_max (length text) within, bad) refl)
 
-bad_script : (number : ℕ) (source : ScriptSource) (status : ℕ) (input input' : SourceAt) (out out' err err' : SinkAt) → Stopped (BadScript number) source input input' out out' → status ≡ statuses.bad_input → Writes err err' (bad_line_text number) → Ends source status input input' out out' err err'
-bad_script number source status input input' out out' err err' stopped is said =
+bad_script : (log : Bool) (number : ℕ) (source : ScriptSource) (status : ℕ) (input input' : SourceAt) (out out' err err' : SinkAt) → Stopped log (BadScript number) source input input' out out' → status ≡ statuses.bad_input → Writes err err' (bad_line_text number) → Ends log source status input input' out out' err err'
+bad_script log number source status input input' out out' err err' stopped is said =
     let bad : BadLine number source input input' = stopped.0 in
     record {
       known = inr (inr (inr (inl is)));
@@ -82,8 +83,8 @@ bad_script number source status input input' out out' err err' stopped is said =
 due_of_long : (source : ScriptSource) (text : List ℕ) → source ≡ sources.Input → input_max < length text → due_status source text ≡ statuses.over_budget
 due_of_long source text is long = subst (λ (s : ScriptSource). due_status s text ≡ statuses.over_budget) (sym is) (rw (lt-ltb input_max (length text) long) refl)
 
-over_budget : (source : ScriptSource) (status : ℕ) (input input' : SourceAt) (out out' err err' : SinkAt) → Stopped OverBudget source input input' out out' → status ≡ statuses.over_budget → Writes err err' budget_text → Ends source status input input' out out' err err'
-over_budget source status input input' out out' err err' stopped is said =
+over_budget : (log : Bool) (source : ScriptSource) (status : ℕ) (input input' : SourceAt) (out out' err err' : SinkAt) → Stopped log OverBudget source input input' out out' → status ≡ statuses.over_budget → Writes err err' budget_text → Ends log source status input input' out out' err err'
+over_budget log source status input input' out out' err err' stopped is said =
     let long : TooLong source input = stopped.0 in
     record {
       known = inr (inr (inr (inr is)));
@@ -97,38 +98,49 @@ over_budget source status input input' out out' err err' stopped is said =
     }
 
 -- if there is no memory for the text of an invalid line
-without_text : (number : ℕ) (source : ScriptSource) (input input' : SourceAt) (out out' : SinkAt) → Stopped (BadScript number) source input input' out out' → Stopped NoMemory source input input' out out'
-without_text number source input input' out out' stopped =
+without_text : (log : Bool) (number : ℕ) (source : ScriptSource) (input input' : SourceAt) (out out' : SinkAt) → Stopped log (BadScript number) source input input' out out' → Stopped log NoMemory source input input' out out'
+without_text log number source input input' out out' stopped =
     (subst (λ (s : ScriptSource). ReadsFor s input input') (sym stopped.0.from_input) ((stopped.0.text, stopped.0.whole.handed, stopped.0.whole.within), stopped.0.whole.unfailing), stopped.1)
 
 -- a cause and what is written for it make an end
-pub ends_of : (cause : Cause) (source : ScriptSource) (status : ℕ) (input input' : SourceAt) (out out' err err' : SinkAt) → Stopped cause source input input' out out' → ReportsFailure cause status err err' → Ends source status input input' out out' err err'
-ends_of NoMemory source status input input' out out' err err' stopped said =
-    said_or NoMemory source status input input' out out' err err' stopped said said (no_memory source status input input' out out' err err' stopped)
-ends_of InputFault source status input input' out out' err err' stopped said =
-    said_or InputFault source status input input' out out' err err' stopped said said
-    (λ is wrote. report_fault source status input input' out out' err err' is (InputFault, stopped, with_status InputFault status err err' is said))
-ends_of OutputFault source status input input' out out' err err' stopped said =
-    said_or OutputFault source status input input' out out' err err' stopped said said
-    (λ is wrote. report_fault source status input input' out out' err err' is (OutputFault, stopped, with_status OutputFault status err err' is said))
-ends_of (BadScript number) source status input input' out out' err err' stopped (inl said) =
-    said_or (BadScript number) source status input input' out out' err err' stopped (inl said) said (bad_script number source status input input' out out' err err' stopped)
-ends_of (BadScript number) source status input input' out out' err err' stopped (inr said) =
-    said_or (BadScript number) source status input input' out out' err err' stopped (inr said) said (no_memory source status input input' out out' err err' (without_text number source input input' out out' stopped))
-ends_of OverBudget source status input input' out out' err err' stopped said =
-    said_or OverBudget source status input input' out out' err err' stopped said said (over_budget source status input input' out out' err err' stopped)
+pub ends_of : (log : Bool) (cause : Cause) (source : ScriptSource) (status : ℕ) (input input' : SourceAt) (out out' err err' : SinkAt) → Stopped log cause source input input' out out' → ReportsFailure cause status err err' → Ends log source status input input' out out' err err'
+ends_of log NoMemory source status input input' out out' err err' stopped said =
+    said_or log NoMemory source status input input' out out' err err' stopped said said (no_memory log source status input input' out out' err err' stopped)
+ends_of log InputFault source status input input' out out' err err' stopped said =
+    said_or log InputFault source status input input' out out' err err' stopped said said
+    (λ is wrote. report_fault log source status input input' out out' err err' is (InputFault, stopped, with_status InputFault status err err' is said))
+ends_of log OutputFault source status input input' out out' err err' stopped said =
+    said_or log OutputFault source status input input' out out' err err' stopped said said
+    (λ is wrote. report_fault log source status input input' out out' err err' is (OutputFault, stopped, with_status OutputFault status err err' is said))
+ends_of log (BadScript number) source status input input' out out' err err' stopped (inl said) =
+    said_or log (BadScript number) source status input input' out out' err err' stopped (inl said) said (bad_script log number source status input input' out out' err err' stopped)
+ends_of log (BadScript number) source status input input' out out' err err' stopped (inr said) =
+    said_or log (BadScript number) source status input input' out out' err err' stopped (inr said) said (no_memory log source status input input' out out' err err' (without_text log number source input input' out out' stopped))
+ends_of log OverBudget source status input input' out out' err err' stopped said =
+    said_or log OverBudget source status input input' out out' err err' stopped said said (over_budget log source status input input' out out' err err' stopped)
 
 -- a text of a report is what is printed of a run of the script
-pub printed_text : {E : Type 0} (r : Result (List ℕ) E) (script : ScriptLines) (report : Report) → GivesReport script report → IfOk r (λ text. text ≡ text_of report.calls report.links (length report.journal))
-    → IfOk r (λ text. IsPrinted sources.Input script text)
-printed_text (Ok text) script report gives is =
-    (gives.0, report.marks, record { first = gives.1; keeps = gives.2.drill }, is ∙ (reports_tell (server_of (drill_setup gives.0 script.opening)) script report gives.2).text)
-printed_text (Err error) script report gives is = tt
+printed_text : {E : Type 0} (r : Result (List ℕ) E) (log : Bool) (source : ScriptSource) (script : ScriptLines) (report : Report) (gives : GivesReport script report)
+    → IfOk r (λ text. text ≡ printed log source gives.0 script report.marks) → IfOk r (λ text. IsPrinted log source script text)
+printed_text (Ok text) log source script report gives is = (gives.0, report.marks, record { first = gives.1; keeps = gives.2.drill }, is)
+printed_text (Err error) log source script report gives is = tt
+
+-- its capture
+pub captured_text : {E : Type 0} (r : Result (List ℕ) E) (source : ScriptSource) (script : ScriptLines) (report : Report) → GivesReport script report → IfOk r (λ text. text ≡ Captured script.opening report.marks)
+    → IfOk r (λ text. IsPrinted true source script text)
+captured_text r source script report gives is = printed_text r true source script report gives is
+
+-- what is shown of it, and its sums
+pub shown_text : {E : Type 0} (r : Result (List ℕ) E) (script : ScriptLines) (report : Report) → GivesReport script report → IfOk r (λ text. text ≡ text_of report.calls report.links (length report.journal))
+    → IfOk r (λ text. IsPrinted false sources.Input script text)
+shown_text (Ok text) script report gives is =
+    printed_text (Ok text) false sources.Input script report gives (is ∙ (reports_tell (server_of (drill_setup gives.0 script.opening)) script report gives.2).text)
+shown_text (Err error) script report gives is = tt
 
 pub summed_text : {E : Type 0} (r : Result (List ℕ) E) (seed clients calls : ℕ) (script : ScriptLines) (report : Report) → GivesReport script report → IfOk r (λ text. text ≡ sums_of report.calls (length report.journal))
-    → IfOk r (λ text. IsPrinted (sources.Seed seed clients calls) script text)
+    → IfOk r (λ text. IsPrinted false (sources.Seed seed clients calls) script text)
 summed_text (Ok text) seed clients calls script report gives is =
-    (gives.0, report.marks, record { first = gives.1; keeps = gives.2.drill }, is ∙ (reports_tell (server_of (drill_setup gives.0 script.opening)) script report gives.2).sums)
+    printed_text (Ok text) false (sources.Seed seed clients calls) script report gives (is ∙ (reports_tell (server_of (drill_setup gives.0 script.opening)) script report gives.2).sums)
 summed_text (Err error) seed clients calls script report gives is = tt
 
 -- ===== nothing is printed
@@ -137,14 +149,14 @@ silent : (out : SinkAt) → WritesNone out out
 silent out = record { keeps = search rules; unfailing = refl }
 
 -- a drill that printed nothing
-pub stopped_drill : (cause : Cause) (source : ScriptSource) (input input' : SourceAt) (out : SinkAt) → StoppedBefore source cause input input' → Stopped cause source input input' out out
-stopped_drill NoMemory sources.Input input input' out before = (before, silent out)
-stopped_drill InputFault sources.Input input input' out before = (refl, before.0, before.1, silent out)
-stopped_drill OutputFault sources.Input input input' out before = absurd before
-stopped_drill (BadScript number) sources.Input input input' out before = (record { from_input = refl; text = before.0; whole = before.1; bad = before.2 }, silent out)
-stopped_drill OverBudget sources.Input input input' out before = (record { from_input = refl; long = before.0 }, before.1, before.2, silent out)
-stopped_drill cause (sources.Seed seed clients calls) input input' out before =
-    subst (λ (c : Cause). Stopped c (sources.Seed seed clients calls) input input' out out) (sym before.0) (before.1, silent out)
+pub stopped_drill : (log : Bool) (cause : Cause) (source : ScriptSource) (input input' : SourceAt) (out : SinkAt) → StoppedBefore source cause input input' → Stopped log cause source input input' out out
+stopped_drill log NoMemory sources.Input input input' out before = (before, silent out)
+stopped_drill log InputFault sources.Input input input' out before = (refl, before.0, before.1, silent out)
+stopped_drill log OutputFault sources.Input input input' out before = absurd before
+stopped_drill log (BadScript number) sources.Input input input' out before = (record { from_input = refl; text = before.0; whole = before.1; bad = before.2 }, silent out)
+stopped_drill log OverBudget sources.Input input input' out before = (record { from_input = refl; long = before.0 }, before.1, before.2, silent out)
+stopped_drill log cause (sources.Seed seed clients calls) input input' out before =
+    subst (λ (c : Cause). Stopped log c (sources.Seed seed clients calls) input input' out out) (sym before.0) (before.1, silent out)
 
 -- ===== a drill that was printed
 
@@ -159,8 +171,8 @@ due_of_done sources.Input text input input' script given left =
     rw (le-ltb input_max (length text) (subst (λ (l : List ℕ). length l ≤ input_max) same given.whole.within), subst (λ (l : List ℕ). script_of l ≡ Ok script) same given.reads) refl
 due_of_done (sources.Seed seed clients calls) text input input' script given left = refl
 
-pub done_ends : (source : ScriptSource) (input input' : SourceAt) (out out' err : SinkAt) → Done source input input' out out' → Ends source statuses.done input input' out out' err err
-done_ends source input input' out out' err d = record {
+pub done_ends : (log : Bool) (source : ScriptSource) (input input' : SourceAt) (out out' err : SinkAt) → Done log source input input' out out' → Ends log source statuses.done input input' out out' err err
+done_ends log source input input' out out' err d = record {
   known = inl refl;
   done = λ _. (d, silent err);
   memory = λ e. absurd (omega (arith, e));

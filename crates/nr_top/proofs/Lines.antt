@@ -13,14 +13,14 @@ use Rattle.nr_words.specs.declared.commands.Command.TheVariants as commands
 use Rattle.nr_top.specs.Sources.{HasRanges}
 use Rattle.nr_top.specs.declared.drill.ScriptSource.TheVariants as sources
 
-ranges : (seed clients calls : ℕ) → is_command (commands.GeneratedDrill seed clients calls) ≡ true → HasRanges (sources.Seed seed clients calls)
-ranges seed clients calls possible = grind (arith, possible)
+ranges : (seed clients calls : ℕ) (log : Bool) → is_command (commands.GeneratedDrill seed clients calls log) ≡ true → HasRanges (sources.Seed seed clients calls)
+ranges seed clients calls log possible = grind (arith, possible)
 
 -- a script is made for its clients and calls
-pub has_ranges : (command : Command (Bor Text)) (seed clients calls : ℕ) → command ≡ commands.GeneratedDrill seed clients calls → is_command (plain_command command) ≡ true
+pub has_ranges : (command : Command (Bor Text)) (seed clients calls : ℕ) (log : Bool) → command ≡ commands.GeneratedDrill seed clients calls log → is_command (plain_command command) ≡ true
     → HasRanges (sources.Seed seed clients calls)
-has_ranges command seed clients calls is possible =
-    ranges seed clients calls (subst (λ (k : Command (Bor Text)). is_command (plain_command k) ≡ true) is possible)
+has_ranges command seed clients calls log is possible =
+    ranges seed clients calls log (subst (λ (k : Command (Bor Text)). is_command (plain_command k) ≡ true) is possible)
 
 last_of : (a b c d e : Bool) → (a && b && c && d && e) ≡ true → e ≡ true
 last_of true true true true e is = is

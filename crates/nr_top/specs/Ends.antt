@@ -1,6 +1,6 @@
 -- How a drill ends, and what its status says. Clauses about bytes apply only if the bytes are known;
 -- fault counts are always known.
-use Rattle.std.specs.Prelude.{◌≡◌, ◌≢◌, ℕ, ◌<◌, ◌⊎◌, List, ◌++◌, length, codes, Some, IfSome, Ok, Err}
+use Rattle.std.specs.Prelude.{◌≡◌, ◌≢◌, Bool, true, false, ℕ, ◌<◌, ◌⊎◌, List, ◌++◌, length, codes, Some, IfSome, Ok, Err}
 use Rattle.std.specs.Fmt.{decimal}
 use Rattle.nr_outside.specs.Faults.{Rises}
 use Rattle.nr_outside.specs.Streams.{SourceAt, SinkAt, ReadsAll, ReadsWithin, ReadsBeyond, Writes, WritesNone, WritesSome}
@@ -9,6 +9,7 @@ use Rattle.nr_tree.specs.Tree.{Tree}
 use Rattle.nr_tree.specs.Drill.{IsDrill}
 use Rattle.nr_outside.specs.Whole.{input_max}
 use Rattle.nr_script.specs.Script.{ScriptLines, script_of}
+use Rattle.nr_capture.specs.Captured.{Captured}
 use Rattle.nr_drill.specs.DrillSetup.{drill_setup, server_of}
 use Rattle.nr_drill.specs.Follows.{setting_of}
 use Rattle.nr_drill.specs.Headline.{IsDrillRun}
@@ -19,10 +20,12 @@ use Rattle.nr_top.specs.declared.drill.ScriptSource.{ScriptSource}
 use Rattle.nr_top.specs.declared.drill.ScriptSource.TheVariants as sources
 use Rattle.nr_top.specs.Sources.{due_status}
 
--- What a drill prints of a run of a script: what is shown of the run; of a script that was made from a seed the line of sums.
-abbrev pub printed : ScriptSource → Tree → ScriptLines → List Mark → List ℕ
-printed sources.Input tree script run = shown (setting_of (server_of (drill_setup tree script.opening)) script.opening) script.opening.clients run
-printed (sources.Seed seed clients calls) tree script run = summary (setting_of (server_of (drill_setup tree script.opening)) script.opening) run
+-- What a drill prints of a run of a script: with `log` the capture of the run; without it what is shown of the run, or, of a script that was
+-- made from a seed, the line of sums.
+abbrev pub printed : (log : Bool) → ScriptSource → Tree → ScriptLines → List Mark → List ℕ
+printed true source tree script run = Captured script.opening run
+printed false sources.Input tree script run = shown (setting_of (server_of (drill_setup tree script.opening)) script.opening) script.opening.clients run
+printed false (sources.Seed seed clients calls) tree script run = summary (setting_of (server_of (drill_setup tree script.opening)) script.opening) run
 
 -- a run of the script over the tree of a drill, which keeps the promise of a drill
 pub record IsRunOf (tree : Tree) (script : ScriptLines) (run : List Mark) : Type 0 where
@@ -48,15 +51,15 @@ pub record Ran (source : ScriptSource) (input input' : SourceAt) : Type 0 where
   pub given : IsGiven source input input' script
   pub drill : IsRunOf tree script run
 
--- and what is shown of the run was written
-pub record Done (source : ScriptSource) (input input' : SourceAt) (out out' : SinkAt) : Type 0 where
+-- and what is printed of the run was written
+pub record Done (log : Bool) (source : ScriptSource) (input input' : SourceAt) (out out' : SinkAt) : Type 0 where
   pub ran : Ran source input input'
-  pub prints : Writes out out' (printed source ran.tree ran.script ran.run)
+  pub prints : Writes out out' (printed log source ran.tree ran.script ran.run)
 
 -- and a proper prefix of that was written
-pub record PrintsSome (source : ScriptSource) (input input' : SourceAt) (out out' : SinkAt) : Type 0 where
+pub record PrintsSome (log : Bool) (source : ScriptSource) (input input' : SourceAt) (out out' : SinkAt) : Type 0 where
   pub ran : Ran source input input'
-  pub cut : WritesSome out out' (printed source ran.tree ran.script ran.run)
+  pub cut : WritesSome out out' (printed log source ran.tree ran.script ran.run)
 
 -- the input is no script: this is the number of its first invalid line
 pub record BadLine (number : ℕ) (source : ScriptSource) (input input' : SourceAt) : Type 0 where
@@ -85,12 +88,12 @@ ReadsFor sources.Input input input' = ReadsWithin input_max input input' × (inp
 ReadsFor (sources.Seed seed clients calls) input input' = input' ≡ input
 
 -- what holds if a drill wasn't done, by the cause
-abbrev pub Stopped : Cause → ScriptSource → SourceAt → SourceAt → SinkAt → SinkAt → Type 0
-Stopped NoMemory source input input' out out' = ReadsFor source input input' × WritesNone out out'
-Stopped InputFault source input input' out out' = (source ≡ sources.Input) × ReadsWithin input_max input input' × Rises input.faults input'.faults × WritesNone out out'
-Stopped OutputFault source input input' out out' = PrintsSome source input input' out out'
-Stopped (BadScript number) source input input' out out' = BadLine number source input input' × WritesNone out out'
-Stopped OverBudget source input input' out out' = TooLong source input × ReadsBeyond input_max input input' × (input'.faults ≡ input.faults) × WritesNone out out'
+abbrev pub Stopped : (log : Bool) → Cause → ScriptSource → SourceAt → SourceAt → SinkAt → SinkAt → Type 0
+Stopped log NoMemory source input input' out out' = ReadsFor source input input' × WritesNone out out'
+Stopped log InputFault source input input' out out' = (source ≡ sources.Input) × ReadsWithin input_max input input' × Rises input.faults input'.faults × WritesNone out out'
+Stopped log OutputFault source input input' out out' = PrintsSome log source input input' out out'
+Stopped log (BadScript number) source input input' out out' = BadLine number source input input' × WritesNone out out'
+Stopped log OverBudget source input input' out out' = TooLong source input × ReadsBeyond input_max input input' × (input'.faults ≡ input.faults) × WritesNone out out'
 
 -- the texts for memory that ran out, for an input that is too long, and for an invalid line
 abbrev pub memory_text : List ℕ
@@ -117,14 +120,14 @@ StoppedReading OverBudget input input' =
     IfSome input.left (λ left. input_max < length left) × ReadsBeyond input_max input input' × (input'.faults ≡ input.faults)
 
 -- the text is what is printed of a run of the script that keeps the promise of a drill
-abbrev pub IsPrinted : ScriptSource → ScriptLines → List ℕ → Type 0
-IsPrinted source script text = (tree : Tree) × (run : List Mark) × IsRunOf tree script run × (text ≡ printed source tree script run)
+abbrev pub IsPrinted : (log : Bool) → ScriptSource → ScriptLines → List ℕ → Type 0
+IsPrinted log source script text = (tree : Tree) × (run : List Mark) × IsRunOf tree script run × (text ≡ printed log source tree script run)
 
 -- a script was read or made, and this is printed of a run of it
-pub record Shown (source : ScriptSource) (input input' : SourceAt) (text : List ℕ) : Type 0 where
+pub record Shown (log : Bool) (source : ScriptSource) (input input' : SourceAt) (text : List ℕ) : Type 0 where
   pub script : ScriptLines
   pub given : IsGiven source input input' script
-  pub prints : IsPrinted source script text
+  pub prints : IsPrinted log source script text
 
 -- no script was had, or memory ran out when it was run
 abbrev pub StoppedBefore : ScriptSource → Cause → SourceAt → SourceAt → Type 0
@@ -141,23 +144,23 @@ ReportsFailure OverBudget status err err' = Reported statuses.over_budget budget
 
 -- Why the drill wasn't done, if a fault count rose, and what was written for it: for a fault of the input or of
 -- the output the complete text, or a proper prefix, if err failed too; for another cause a proper prefix.
-abbrev pub FaultReport : ScriptSource → SourceAt → SourceAt → SinkAt → SinkAt → SinkAt → SinkAt → Type 0
-FaultReport source input input' out out' err err' = (cause : Cause) × Stopped cause source input input' out out' × ReportsFailure cause statuses.fault err err'
+abbrev pub FaultReport : (log : Bool) → ScriptSource → SourceAt → SourceAt → SinkAt → SinkAt → SinkAt → SinkAt → Type 0
+FaultReport log source input input' out out' err err' = (cause : Cause) × Stopped log cause source input input' out out' × ReportsFailure cause statuses.fault err err'
 
 -- What the status of a drill says.
-pub record Ends (source : ScriptSource) (status : ℕ) (input input' : SourceAt) (out out' err err' : SinkAt) : Type 0 where
+pub record Ends (log : Bool) (source : ScriptSource) (status : ℕ) (input input' : SourceAt) (out out' err err' : SinkAt) : Type 0 where
   -- it is one of these
   pub known : statuses.IsStatus status
-  -- the script was run, the run keeps the promise, and its lines were printed
-  pub done : status ≡ statuses.done → Done source input input' out out' × WritesNone err err'
+  -- the script was run, the run keeps the promise, and what is due of it was printed
+  pub done : status ≡ statuses.done → Done log source input input' out out' × WritesNone err err'
   -- memory ran out
-  pub memory : status ≡ statuses.no_memory → Stopped NoMemory source input input' out out' × Writes err err' memory_text
+  pub memory : status ≡ statuses.no_memory → Stopped log NoMemory source input input' out out' × Writes err err' memory_text
   -- the number of the first invalid line
-  pub script : status ≡ statuses.bad_input → (number : ℕ) × Stopped (BadScript number) source input input' out out' × Writes err err' (bad_line_text number)
+  pub script : status ≡ statuses.bad_input → (number : ℕ) × Stopped log (BadScript number) source input input' out out' × Writes err err' (bad_line_text number)
   -- the input is longer than a script may be
-  pub budget : status ≡ statuses.over_budget → Stopped OverBudget source input input' out out' × Writes err err' budget_text
+  pub budget : status ≡ statuses.over_budget → Stopped log OverBudget source input input' out out' × Writes err err' budget_text
   -- a fault count rose
-  pub fault : status ≡ statuses.fault → FaultReport source input input' out out' err err'
+  pub fault : status ≡ statuses.fault → FaultReport log source input input' out out' err err'
   -- with any other status no fault count rose
   pub unfailing : status ≢ statuses.fault → (input'.faults ≡ input.faults) × (out'.faults ≡ out.faults) × (err'.faults ≡ err.faults)
   -- the status is the one that is due for the input, unless memory ran out or a fault count rose

@@ -1,5 +1,5 @@
 -- How a run of the program ends, by its words.
-use Rattle.std.specs.Prelude.{◌≡◌, ℕ, ◌⊎◌, List, Option, Result, Ok, Err, codes, string_bytes}
+use Rattle.std.specs.Prelude.{◌≡◌, Bool, ℕ, ◌⊎◌, List, Option, Result, Ok, Err, codes, string_bytes}
 use Rattle.std.specs.Borrow.{Bor}
 use Rattle.nr_outside.specs.Streams.{SinkAt, SourceAt, Writes, WritesSome}
 use Rattle.nr_outside.specs.declared.moment.Moment.{Moment}
@@ -44,9 +44,9 @@ pub record AcceptsNone (before after : Outside) : Type 0 where
   pub gave : after.gave ≡ before.gave
 
 -- a drill; the dialer was not used
-abbrev pub DrillEnds : ScriptSource → ℕ → (before after : Outside) → Type 0
-DrillEnds source status before after =
-    Ends source status before.input after.input before.out after.out before.err after.err × ((after.dialer ≡ before.dialer) × AcceptsNone before after)
+abbrev pub DrillEnds : (log : Bool) → ScriptSource → ℕ → (before after : Outside) → Type 0
+DrillEnds log source status before after =
+    Ends log source status before.input after.input before.out after.out before.err after.err × ((after.dialer ≡ before.dialer) × AcceptsNone before after)
 
 -- Each command of a line. `O` and `C` are the types of the sink of the dialer's links, and of the rule on the calls of a gateway.
 abbrev pub CommandEnds : (O C : Type 0) → Command Text → ℕ → (before after : Outside) → Type 0
@@ -60,8 +60,8 @@ CommandEnds O C (commands.Serve config) status before after =
 CommandEnds O C (commands.Gate config) status before after =
     GatewayEnds O C status before.input after.input before.out after.out before.err after.err (around before.acceptor before.dialer before.gates) (around after.acceptor after.dialer after.gates)
     × ((after.spawner ≡ before.spawner) × (after.gave ≡ before.gave))
-CommandEnds O C commands.Drill status before after = DrillEnds sources.Input status before after
-CommandEnds O C (commands.GeneratedDrill seed clients calls) status before after = DrillEnds (sources.Seed seed clients calls) status before after
+CommandEnds O C (commands.Drill log) status before after = DrillEnds log sources.Input status before after
+CommandEnds O C (commands.GeneratedDrill seed clients calls log) status before after = DrillEnds log (sources.Seed seed clients calls) status before after
 
 -- Words that give no command: help or the version is printed; or they are refused with a text; or no command is what they spell; or memory
 -- ran out.

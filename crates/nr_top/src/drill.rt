@@ -13,6 +13,7 @@ ghost use Rattle.nr_top.specs.Ends.Cause.{BadScript};
 
 use crate::report::write_error;
 use crate::status::{BAD_INPUT, DONE, FAULT, NO_MEMORY, OVER_BUDGET};
+use nr_capture::write_run;
 use nr_drill::{shown, summary};
 use nr_outside::{INPUT_MAX, ReadEnd, Sink, Source, read_whole, write_whole};
 use nr_script::{Script, ScriptFault, make_script, read_script};
@@ -89,57 +90,80 @@ fn read_drill<I: Source>(alloc: Global, input: &mut I) -> Result<Script, Failure
     Ok(script)
 }
 
-/// Runs a script, and gives what is shown of that.
-fn shown_drill(alloc: Global, script: &Script) -> Result<Octets, Memory>
-    ensures { IfOk result (λ text. IsPrinted sources.Input script.now text) }
+/// Runs a script, and gives what is printed of that: with `log` the capture of the run; without it what is shown of the run, or
+/// the line of its sums if the script was made from a seed.
+fn run_script(
+    alloc: Global,
+    source: ScriptSource,
+    log: bool,
+    script: &Script,
+) -> Result<Octets, Memory>
+    ensures { IfOk result (λ text. IsPrinted log source script.now text) }
 {
     let report = run_world(alloc, script)?;
-    shown(alloc, &report)
+    if log {
+        return write_run(alloc, script.opening(), &report.marks);
+    }
+    match source {
+        ScriptSource::Input => shown(alloc, &report),
+        ScriptSource::Seed { .. } => summary(alloc, &report),
+    }
 }
 
-/// Reads a script and runs it, and gives what is shown of that.
-fn read_and_run<I: Source>(alloc: Global, input: &mut I) -> Result<Octets, Failure>
+/// Reads a script and runs it, and gives what is printed of that.
+fn read_and_run<I: Source>(alloc: Global, log: bool, input: &mut I) -> Result<Octets, Failure>
     ensures { MatchResult result
-        (λ text. Shown sources.Input (source_at (I.left input.old) (I.given input.old) (I.faults input.old))
+        (λ text. Shown log sources.Input (source_at (I.left input.old) (I.given input.old) (I.faults input.old))
         (source_at (I.left input.new) (I.given input.new) (I.faults input.new)) text)
         (λ stop. StoppedReading (cause_of stop) (source_at (I.left input.old) (I.given input.old) (I.faults input.old))
         (source_at (I.left input.new) (I.given input.new) (I.faults input.new))) }
 {
     let script = read_drill(alloc, input)?;
-    let printed = shown_drill(alloc, &script)?;
+    let printed = run_script(alloc, ScriptSource::Input, log, &script)?;
     Ok(printed)
 }
 
-/// Makes a script from a seed and runs it, and gives the line of sums.
-fn make_and_run(alloc: Global, seed: u64, clients: u32, calls: u64) -> Result<Octets, Memory>
+/// Makes a script from a seed and runs it, and gives what is printed of that.
+fn make_and_run(
+    alloc: Global,
+    log: bool,
+    seed: u64,
+    clients: u32,
+    calls: u64,
+) -> Result<Octets, Memory>
     requires { (0 < clients) × (clients ≤ clients_max) × (calls ≤ calls_max) }
-    ensures { IfOk result (λ text. IsPrinted (sources.Seed seed clients calls) (made_script seed clients calls) text) }
+    ensures { IfOk result (λ text. IsPrinted log (sources.Seed seed clients calls) (made_script seed clients calls) text) }
 {
     let script = make_script(alloc, seed, clients, calls)?;
-    let report = run_world(alloc, &script)?;
-    summary(alloc, &report)
+    let source = ScriptSource::Seed {
+        seed,
+        clients,
+        calls,
+    };
+    run_script(alloc, source, log, &script)
 }
 
 /// Has a script and runs it, and gives what is printed of that.
 fn printed_drill<I: Source>(
     alloc: Global,
     source: ScriptSource,
+    log: bool,
     input: &mut I,
 ) -> Result<Octets, Failure>
     requires { HasRanges source }
     ensures { MatchResult result
-        (λ text. Shown source (source_at (I.left input.old) (I.given input.old) (I.faults input.old))
+        (λ text. Shown log source (source_at (I.left input.old) (I.given input.old) (I.faults input.old))
         (source_at (I.left input.new) (I.given input.new) (I.faults input.new)) text)
         (λ stop. StoppedBefore source (cause_of stop) (source_at (I.left input.old) (I.given input.old) (I.faults input.old))
         (source_at (I.left input.new) (I.given input.new) (I.faults input.new))) }
 {
     match source {
-        ScriptSource::Input => read_and_run(alloc, input),
+        ScriptSource::Input => read_and_run(alloc, log, input),
         ScriptSource::Seed {
             seed,
             clients,
             calls,
-        } => match make_and_run(alloc, seed, clients, calls) {
+        } => match make_and_run(alloc, log, seed, clients, calls) {
             Ok(printed) => Ok(printed),
             Err(_) => Err(Failure::Memory),
         },
@@ -150,19 +174,20 @@ fn printed_drill<I: Source>(
 fn drill<I: Source, O: Sink>(
     alloc: Global,
     source: ScriptSource,
+    log: bool,
     input: &mut I,
     out: &mut O,
 ) -> Result<(), Failure>
     requires { HasRanges source }
     ensures { MatchResult result
-        (λ _. Done source (source_at (I.left input.old) (I.given input.old) (I.faults input.old))
+        (λ _. Done log source (source_at (I.left input.old) (I.given input.old) (I.faults input.old))
         (source_at (I.left input.new) (I.given input.new) (I.faults input.new))
         (sink_at (O.taken out.old) (O.faults out.old)) (sink_at (O.taken out.new) (O.faults out.new)))
-        (λ stop. Stopped (cause_of stop) source (source_at (I.left input.old) (I.given input.old) (I.faults input.old))
+        (λ stop. Stopped log (cause_of stop) source (source_at (I.left input.old) (I.given input.old) (I.faults input.old))
         (source_at (I.left input.new) (I.given input.new) (I.faults input.new))
         (sink_at (O.taken out.old) (O.faults out.old)) (sink_at (O.taken out.new) (O.faults out.new))) }
 {
-    let printed = printed_drill(alloc, source, input)?;
+    let printed = printed_drill(alloc, source, log, input)?;
     match write_whole(out, printed.as_slice()) {
         Ok(()) => Ok(()),
         Err(_) => Err(Failure::Output),
@@ -194,23 +219,24 @@ fn report_failure<E: Sink>(alloc: Global, stop: Failure, err: &mut E) -> u8
 }
 
 /// Runs a drill, and gives the status. A script that is read from `input` is run, and what happened is printed on `out`; of one that is made
-/// from a seed one line of sums is printed. If the drill isn't done, `err` takes the reason. The record `Ends` of the specs says what each
-/// status means.
+/// from a seed one line of sums is printed. With `log` the capture of the run is printed in place of both. If the drill isn't done, `err`
+/// takes the reason. The record `Ends` of the specs says what each status means.
 pub(crate) fn run_drill<I: Source, O: Sink, E: Sink>(
     alloc: Global,
     source: ScriptSource,
+    log: bool,
     input: &mut I,
     out: &mut O,
     err: &mut E,
 ) -> u8
     requires { HasRanges source }
-    ensures { Ends source result
+    ensures { Ends log source result
         (source_at (I.left input.old) (I.given input.old) (I.faults input.old))
         (source_at (I.left input.new) (I.given input.new) (I.faults input.new))
         (sink_at (O.taken out.old) (O.faults out.old)) (sink_at (O.taken out.new) (O.faults out.new))
         (sink_at (E.taken err.old) (E.faults err.old)) (sink_at (E.taken err.new) (E.faults err.new)) }
 {
-    match drill(alloc, source, input, out) {
+    match drill(alloc, source, log, input, out) {
         Ok(()) => DONE,
         Err(stop) => report_failure(alloc, stop, err),
     }

@@ -76,11 +76,12 @@ where
         Command::Gate { config: _config } => {
             run_gateway(rt, alloc, input, out, err, accept, dial, gates)
         },
-        Command::Drill => run_drill(alloc, ScriptSource::Input, input, out, err),
+        Command::Drill { log } => run_drill(alloc, ScriptSource::Input, *log, input, out, err),
         Command::GeneratedDrill {
             seed,
             clients,
             calls,
+            log,
         } => {
             let calls = *calls as u64;
             run_drill(
@@ -90,6 +91,7 @@ where
                     clients: *clients,
                     calls,
                 },
+                *log,
                 input,
                 out,
                 err,

@@ -2,3 +2,4 @@ pub mod CommandStatuses
 pub mod ServerStatuses
 pub mod GatewayStatuses
 pub mod StatusCauses
+pub mod Logs

@@ -2,6 +2,7 @@
 
 ghost use Rattle.nr_top_laws.specs.CommandStatuses.{ServedCommandsHaveStatuses};
 ghost use Rattle.nr_top_laws.specs.GatewayStatuses.{GatewayLinkFaults, GatewaysHaveStatuses};
+ghost use Rattle.nr_top_laws.specs.Logs.{LogsAreReadBack};
 ghost use Rattle.nr_top_laws.specs.ServerStatuses.{ServersHaveStatuses};
 ghost use Rattle.nr_top_laws.specs.StatusCauses.{LinesAreRead, StatusesHaveCauses};
 
@@ -34,4 +35,9 @@ pub fn gateways_have_statuses<O, C>()
 pub fn statuses_have_causes()
     ensures causes { StatusesHaveCauses }
     ensures lines { LinesAreRead }
+{}
+
+/// What a drill with `--log` printed is the text of the capture of its run, and is read back as that capture, if the status is 0.
+pub fn logs_are_read_back()
+    ensures { LogsAreReadBack }
 {}

@@ -10,14 +10,14 @@ use Rattle.nr_words.specs.declared.commands.Action.{Action}
 use Rattle.nr_words.specs.declared.commands.Action.TheVariants as actions
 use Rattle.nr_words.specs.declared.lines.Subcommand.{Subcommand}
 use Rattle.nr_words.specs.declared.lines.Subcommand.TheVariants as subcommands
-use Rattle.nr_words.specs.declared.lines.OptionName.{OptionName}
-use Rattle.nr_words.specs.declared.lines.OptionName.TheVariants as option_names
-use Rattle.nr_words.specs.declared.lines.Options.{Options}
+use Rattle.nr_words.specs.declared.options.OptionName.{OptionName}
+use Rattle.nr_words.specs.declared.options.OptionName.TheVariants as option_names
+use Rattle.nr_words.specs.declared.options.Options.{Options}
 use Rattle.nr_words.specs.declared.lines.Positionals.{Positionals}
 use Rattle.nr_words.specs.declared.lines.State.{State}
 use Rattle.nr_words.specs.Limits.{calls_max, clients_max, default_jobs, default_units, jobs_max, units_max}
 use Rattle.nr_words.specs.Numbers.{has_leading_zero, number_within, numeral_within, value_after, within}
-use Rattle.nr_words.specs.Lines.{Text, after_free_word, after_name, after_word, arity, by_jobs, client, complete, drill_of, finished, get_of, is_positional, line_of, once, option_named, start, step, steps, subcommand_named, takes, with_invalidate, with_positional, with_value}
+use Rattle.nr_words.specs.Lines.{Text, after_free_word, after_name, after_word, arity, by_jobs, client, complete, drill_of, finished, get_of, is_positional, line_of, once, option_named, start, step, steps, subcommand_named, takes, with_invalidate, with_log, with_positional, with_value}
 use Rattle.nr_words.specs.Reads.{are_jobs, are_units, is_action, is_command}
 
 -- ---- Numbers in their ranges
@@ -66,11 +66,19 @@ value_fits o option_names.Jobs word t fits e = once_fits o.jobs _ _ t e (λ n is
 value_fits o option_names.Seed word t fits e = once_fits o.seed _ _ t e (λ n is. record { inline = fits.inline; jobs = fits.jobs; clients = fits.clients; calls = fits.calls })
 value_fits o option_names.Clients word t fits e = once_fits o.clients _ _ t e (λ n is. record { inline = fits.inline; jobs = fits.jobs; clients = subst (InRange clients_max) is (numeral_fits clients_max word); calls = fits.calls })
 value_fits o option_names.Calls word t fits e = once_fits o.calls _ _ t e (λ n is. record { inline = fits.inline; jobs = fits.jobs; clients = fits.clients; calls = subst (InRange calls_max) is (numeral_fits calls_max word) })
+value_fits o option_names.Log word t fits e = absurd (none-some _ e)
 
 invalidate_fits : (o : Options) (t : Options) → OptionsFit o → with_invalidate o ≡ Some t → OptionsFit t
 invalidate_fits o t fits e = by o.invalidates e
   where
     by : (b : Bool) → cond b None (Some (record o { invalidates = true })) ≡ Some t → OptionsFit t
+    by true e = absurd (none-some t e)
+    by false e = subst OptionsFit (same_Some _ t e) (record { inline = fits.inline; jobs = fits.jobs; clients = fits.clients; calls = fits.calls })
+
+log_fits : (o : Options) (t : Options) → OptionsFit o → with_log o ≡ Some t → OptionsFit t
+log_fits o t fits e = by o.log e
+  where
+    by : (b : Bool) → cond b None (Some (record o { log = true })) ≡ Some t → OptionsFit t
     by true e = absurd (none-some t e)
     by false e = subst OptionsFit (same_Some _ t e) (record { inline = fits.inline; jobs = fits.jobs; clients = fits.clients; calls = fits.calls })
 
@@ -128,6 +136,7 @@ waiting_fits s name t fits e = subst StateFits (same_Some _ t e) (record { optio
 
 name_fits : (s : State Text) (name : OptionName) (t : State Text) → StateFits s → after_name s name ≡ Some t → StateFits t
 name_fits s option_names.Invalidate t fits e = mapped _ (with_invalidate s.options) t StateFits e (λ o is. record { options = invalidate_fits s.options o fits.options is; positionals = fits.positionals })
+name_fits s option_names.Log t fits e = mapped _ (with_log s.options) t StateFits e (λ o is. record { options = log_fits s.options o fits.options is; positionals = fits.positionals })
 name_fits s option_names.Uid t fits e = waiting_fits s _ t fits e
 name_fits s option_names.Gid t fits e = waiting_fits s _ t fits e
 name_fits s option_names.Inline t fits e = waiting_fits s _ t fits e
@@ -172,14 +181,14 @@ start_fits = record {
 
 -- ---- The command
 
-drill_possible : (seed clients calls : Option ℕ) (c : Command Text) → InRange clients_max clients → InRange calls_max calls → drill_of seed clients calls ≡ Some c → is_command c ≡ true
-drill_possible None None None c a b e = subst (λ (x : Command Text). is_command x ≡ true) (same_Some _ c e) refl
-drill_possible (Some seed) (Some n) (Some m) c a b e =
+drill_possible : (seed clients calls : Option ℕ) (log : Bool) (c : Command Text) → InRange clients_max clients → InRange calls_max calls → drill_of seed clients calls log ≡ Some c → is_command c ≡ true
+drill_possible None None None log c a b e = subst (λ (x : Command Text). is_command x ≡ true) (same_Some _ c e) refl
+drill_possible (Some seed) (Some n) (Some m) log c a b e =
     subst (λ (x : Command Text). is_command x ≡ true) (same_Some _ c e) (grind (arith, nat_tests, a.0, a.1, b.0, b.1))
-drill_possible None None (Some m) c a b e = absurd (none-some c e)
-drill_possible None (Some n) calls c a b e = absurd (none-some c e)
-drill_possible (Some seed) None calls c a b e = absurd (none-some c e)
-drill_possible (Some seed) (Some n) None c a b e = absurd (none-some c e)
+drill_possible None None (Some m) log c a b e = absurd (none-some c e)
+drill_possible None (Some n) calls log c a b e = absurd (none-some c e)
+drill_possible (Some seed) None calls log c a b e = absurd (none-some c e)
+drill_possible (Some seed) (Some n) None log c a b e = absurd (none-some c e)
 
 units_possible : (inline : Option ℕ) → InRange units_max inline → are_units (unwrap_or inline default_units) ≡ true
 units_possible None h = refl
@@ -232,7 +241,7 @@ complete_possible subcommands.Link o p c opt fits n e =
     let path = fits.third (omega (arith, n)) in
     let target = fits.fourth (omega (arith, n)) in
     client_possible o p _ c opt fits (omega (arith, n)) (rw (path, target) refl) e
-complete_possible subcommands.Drill o p c opt fits n e = drill_possible o.seed o.clients o.calls c opt.clients opt.calls e
+complete_possible subcommands.Drill o p c opt fits n e = drill_possible o.seed o.clients o.calls o.log c opt.clients opt.calls e
 
 command_possible : (subcommand : Subcommand) (s : State Text) (c : Command Text) → StateFits s → finished subcommand s ≡ Some c → is_command c ≡ true
 command_possible subcommand s c fits e = by (is_some s.waiting) (eqb s.positionals.count (arity subcommand)) refl e

@@ -12,9 +12,9 @@ use Rattle.nr_words.specs.declared.commands.Action.{Action}
 use Rattle.nr_words.specs.declared.commands.Action.TheVariants as actions
 use Rattle.nr_words.specs.declared.lines.Subcommand.{Subcommand}
 use Rattle.nr_words.specs.declared.lines.Subcommand.TheVariants as subcommands
-use Rattle.nr_words.specs.declared.lines.OptionName.{OptionName}
-use Rattle.nr_words.specs.declared.lines.OptionName.TheVariants as option_names
-use Rattle.nr_words.specs.declared.lines.Options.{Options}
+use Rattle.nr_words.specs.declared.options.OptionName.{OptionName}
+use Rattle.nr_words.specs.declared.options.OptionName.TheVariants as option_names
+use Rattle.nr_words.specs.declared.options.Options.{Options}
 use Rattle.nr_words.specs.declared.lines.Positionals.{Positionals}
 use Rattle.nr_words.specs.declared.lines.State.{State}
 
@@ -48,6 +48,7 @@ option_named word =
     else if bytes_eq word (codes "--seed") then Some option_names.Seed
     else if bytes_eq word (codes "--clients") then Some option_names.Clients
     else if bytes_eq word (codes "--calls") then Some option_names.Calls
+    else if bytes_eq word (codes "--log") then Some option_names.Log
     else None
 
 -- the options of each client command, of `get`, and of `drill`
@@ -66,6 +67,7 @@ abbrev pub is_of_drill : OptionName → Bool
 is_of_drill option_names.Seed = true
 is_of_drill option_names.Clients = true
 is_of_drill option_names.Calls = true
+is_of_drill option_names.Log = true
 is_of_drill _ = false
 
 abbrev pub takes : Subcommand → OptionName → Bool
@@ -98,10 +100,14 @@ with_value o option_names.Jobs word = once o.jobs (numeral_within 1 jobs_max wor
 with_value o option_names.Seed word = once o.seed (numeral_within 0 seed_max word) (λ n. record o { seed = Some n })
 with_value o option_names.Clients word = once o.clients (numeral_within 1 clients_max word) (λ n. record o { clients = Some n })
 with_value o option_names.Calls word = once o.calls (numeral_within 1 calls_max word) (λ n. record o { calls = Some n })
+with_value o option_names.Log word = None
 
--- the options with `--invalidate`, which has no value, if it was not given before
+-- the options with `--invalidate` or `--log`, which have no value, if it was not given before
 abbrev pub with_invalidate : Options → Option Options
 with_invalidate o = if o.invalidates then None else Some (record o { invalidates = true })
+
+abbrev pub with_log : Options → Option Options
+with_log o = if o.log then None else Some (record o { log = true })
 
 -- a positional is not empty, and does not begin with '-'
 abbrev pub is_positional : Text → Bool
@@ -116,9 +122,14 @@ with_positional p word =
     else if p.count == 3 then Some (record p { count = 4; fourth = word })
     else None
 
+-- what is known with these options, if there are any: no value is waited for
+abbrev pub with_options : State Text → Option Options → Option (State Text)
+with_options s options = option_map (λ o. record s { waiting = None; options = o }) options
+
 -- what is known after the name of an option: its value is waited for, if it has one
 abbrev pub after_name : State Text → OptionName → Option (State Text)
-after_name s option_names.Invalidate = option_map (λ o. record s { waiting = None; options = o }) (with_invalidate s.options)
+after_name s option_names.Invalidate = with_options s (with_invalidate s.options)
+after_name s option_names.Log = with_options s (with_log s.options)
 after_name s name = Some (record s { waiting = Some name })
 
 -- what is known after one more word
@@ -127,7 +138,7 @@ after_free_word subcommand s (Some name) word = if takes subcommand name then af
 after_free_word subcommand s None word = if is_positional word then option_map (λ p. record s { positionals = p }) (with_positional s.positionals word) else None
 
 abbrev pub after_word : Subcommand → State Text → Option OptionName → Text → Option (State Text)
-after_word subcommand s (Some name) word = option_map (λ o. record s { waiting = None; options = o }) (with_value s.options name word)
+after_word subcommand s (Some name) word = with_options s (with_value s.options name word)
 after_word subcommand s None word = after_free_word subcommand s (option_named word) word
 
 abbrev pub step : Subcommand → State Text → Text → Option (State Text)
@@ -138,10 +149,10 @@ steps subcommand s [] = Some s
 steps subcommand s (word ∷ words) = option_and_then (λ s'. steps subcommand s' words) (step subcommand s word)
 
 -- the command of these options and positionals, if none is missing
-abbrev pub drill_of : Option ℕ → Option ℕ → Option ℕ → Option (Command Text)
-drill_of None None None = Some commands.Drill
-drill_of (Some seed) (Some clients) (Some calls) = Some (commands.GeneratedDrill seed clients calls)
-drill_of _ _ _ = None
+abbrev pub drill_of : Option ℕ → Option ℕ → Option ℕ → Bool → Option (Command Text)
+drill_of None None None log = Some (commands.Drill log)
+drill_of (Some seed) (Some clients) (Some calls) log = Some (commands.GeneratedDrill seed clients calls log)
+drill_of _ _ _ log = None
 
 abbrev pub client : Options → Positionals Text → Action Text → Option (Command Text)
 client o p action =
@@ -167,7 +178,7 @@ complete subcommands.Remove o p = client o p (actions.Remove p.third)
 complete subcommands.Put o p = client o p (actions.Put p.third)
 complete subcommands.Get o p = get_of o p (unwrap_or o.jobs default_jobs)
 complete subcommands.Link o p = client o p (actions.Link p.third p.fourth)
-complete subcommands.Drill o p = drill_of o.seed o.clients o.calls
+complete subcommands.Drill o p = drill_of o.seed o.clients o.calls o.log
 
 abbrev pub command_of : Subcommand → Options → Positionals Text → Option (Command Text)
 command_of subcommand o p = if p.count == arity subcommand then complete subcommand o p else None
@@ -176,7 +187,7 @@ abbrev pub finished : Subcommand → State Text → Option (Command Text)
 finished subcommand s = if is_some s.waiting then None else command_of subcommand s.options s.positionals
 
 abbrev pub no_options : Options
-no_options = record { uid = None; gid = None; inline = None; invalidates = false; jobs = None; seed = None; clients = None; calls = None }
+no_options = record { uid = None; gid = None; inline = None; invalidates = false; jobs = None; seed = None; clients = None; calls = None; log = false }
 
 abbrev pub start : State Text
 start = record { waiting = None; options = no_options; positionals = record { count = 0; first = []; second = []; third = []; fourth = [] } }
@@ -217,5 +228,5 @@ plain_command (commands.Serve config) = commands.Serve config.now
 plain_command (commands.Gate config) = commands.Gate config.now
 plain_command (commands.Client client) = commands.Client (plain_client client)
 plain_command (commands.GetByJobs get) = commands.GetByJobs (plain_get get)
-plain_command commands.Drill = commands.Drill
-plain_command (commands.GeneratedDrill seed clients calls) = commands.GeneratedDrill seed clients calls
+plain_command (commands.Drill log) = commands.Drill log
+plain_command (commands.GeneratedDrill seed clients calls log) = commands.GeneratedDrill seed clients calls log

@@ -47,8 +47,9 @@ gate_app = with_rule (new_app (codes "gate")) (positional_rule (codes "CONFIG"))
 
 abbrev pub drill_app : App
 drill_app =
-    with_rule (with_rule (with_rule (new_app (codes "drill")) (number_rule (codes "seed") (parsers.Unsigned 0 seed_max)))
-    (number_rule (codes "clients") (parsers.Signed (pos 1) (pos clients_max)))) (number_rule (codes "calls") (parsers.Signed (pos 1) (pos calls_max)))
+    with_rule (with_rule (with_rule (with_rule (new_app (codes "drill")) (number_rule (codes "seed") (parsers.Unsigned 0 seed_max)))
+    (number_rule (codes "clients") (parsers.Signed (pos 1) (pos clients_max)))) (number_rule (codes "calls") (parsers.Signed (pos 1) (pos calls_max))))
+    (flag_rule (codes "log"))
 
 abbrev pub plain_app : App
 plain_app = record (new_app (codes "nfsrdma")) {

@@ -40,8 +40,8 @@ is_command (commands.Serve config) = is_positional config
 is_command (commands.Gate config) = is_positional config
 is_command (commands.Client c) = is_positional c.addr && is_positional c.export && are_units c.units && is_action c.action
 is_command (commands.GetByJobs g) = is_positional g.addr && is_positional g.export && is_positional g.path && are_units g.units && are_jobs g.jobs
-is_command commands.Drill = true
-is_command (commands.GeneratedDrill seed clients calls) = nat_le 1 clients && nat_le clients clients_max && nat_le 1 calls && nat_le calls calls_max
+is_command (commands.Drill log) = true
+is_command (commands.GeneratedDrill seed clients calls log) = nat_le 1 clients && nat_le clients clients_max && nat_le 1 calls && nat_le calls calls_max
 
 abbrev pub is_some_command : Option (Command Text) → Bool
 is_some_command None = false

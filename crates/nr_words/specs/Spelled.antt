@@ -5,7 +5,7 @@ use Rattle.clap.specs.Words.{Row, first_of}
 use Rattle.nr_words.specs.declared.commands.Command.{Command}
 use Rattle.nr_words.specs.declared.lines.Subcommand.{Subcommand}
 use Rattle.nr_words.specs.declared.lines.Subcommand.TheVariants as subcommands
-use Rattle.nr_words.specs.declared.lines.Options.{Options}
+use Rattle.nr_words.specs.declared.options.Options.{Options}
 use Rattle.nr_words.specs.declared.lines.Positionals.{Positionals}
 use Rattle.nr_words.specs.Limits.{calls_max, clients_max, id_max, jobs_max, seed_max, units_max}
 use Rattle.nr_words.specs.Numbers.{number_within}
@@ -46,6 +46,7 @@ options_of rows = record {
   seed = number_of 0 seed_max (codes "seed") rows;
   clients = narrow (number_of 1 clients_max (codes "clients") rows);
   calls = narrow (number_of 1 calls_max (codes "calls") rows);
+  log = flag_of (codes "log") rows;
 }
 
 abbrev pub first_text : Subcommand → List Row → Text

@@ -104,18 +104,34 @@ impl<T: Copy> Copy for GetByJobs<T> {}
 /// What the words of a run ask for.
 pub enum Command<T> {
     /// Serve by the configuration in this file.
-    Serve { config: T },
+    Serve {
+        config: T,
+    },
     /// Run a gateway by the configuration in this file.
-    Gate { config: T },
+    Gate {
+        config: T,
+    },
     /// Run a client.
-    Client { client: Client<T> },
+    Client {
+        client: Client<T>,
+    },
     /// Run a client that writes a file to standard output, which several jobs read.
-    GetByJobs { get: GetByJobs<T> },
-    /// Run a script from standard input.
-    Drill,
+    GetByJobs {
+        get: GetByJobs<T>,
+    },
+    /// Run a script from standard input. `log` says whether the capture of the run is printed, in place of the report.
+    Drill {
+        log: bool,
+    },
     /// Run a script that is generated from this seed, of 1 to [`CLIENTS_MAX`](crate::CLIENTS_MAX) clients and 1 to
-    /// [`CALLS_MAX`](crate::CALLS_MAX) calls.
-    GeneratedDrill { seed: u64, clients: u32, calls: u32 },
+    /// [`CALLS_MAX`](crate::CALLS_MAX) calls. `log` says whether the capture of the run is printed, in place of the line of
+    /// sums.
+    GeneratedDrill {
+        seed: u64,
+        clients: u32,
+        calls: u32,
+        log: bool,
+    },
 }
 
 impl<T: Copy> Clone for Command<T> {

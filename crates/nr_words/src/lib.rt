@@ -15,6 +15,7 @@ mod laws;
 mod limits;
 mod lines;
 mod numbers;
+mod options;
 mod program;
 mod settings;
 mod words;

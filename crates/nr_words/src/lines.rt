@@ -1,13 +1,11 @@
 //! The lines of the program: words in the one spelling that is never refused.
 
 ghost use Rattle.std.specs.Prelude.{◌≡◌, ⊤, map, option_map, string_bytes};
-ghost use Rattle.nr_words.specs.Lines.{option_named, takes, with_invalidate, with_value, after_name, with_positional, is_positional, step, steps, start, arity, by_jobs, drill_of, subcommand_named, command_of, finished, line_of, plain_state, plain_positionals, plain_command, plain_client, plain_get};
+ghost use Rattle.nr_words.specs.Lines.{takes, with_options, after_name, with_positional, is_positional, step, steps, start, arity, by_jobs, drill_of, subcommand_named, command_of, finished, line_of, plain_state, plain_positionals, plain_command, plain_client, plain_get};
 
 use crate::commands::{Action, Client, Command, GetByJobs};
-use crate::limits::{
-    CALLS_MAX, CLIENTS_MAX, DEFAULT_JOBS, DEFAULT_UNITS, ID_MAX, JOBS_MAX, SEED_MAX, UNITS_MAX,
-};
-use crate::numbers::numeral_within;
+use crate::limits::{DEFAULT_JOBS, DEFAULT_UNITS};
+use crate::options::{OptionName, Options, option_named, with_invalidate, with_log, with_value};
 use std::alloc::AllocError;
 
 /// The first word after the program's name.
@@ -25,32 +23,6 @@ pub(crate) enum Subcommand {
     Get,
     Link,
     Drill,
-}
-
-/// An option.
-#[derive(Clone, Copy)]
-pub(crate) enum OptionName {
-    Uid,
-    Gid,
-    Inline,
-    Invalidate,
-    Jobs,
-    Seed,
-    Clients,
-    Calls,
-}
-
-/// The values of the options that are given, and whether `--invalidate` is, which has no value.
-#[derive(Clone, Copy)]
-pub(crate) struct Options {
-    pub(crate) uid: Option<u32>,
-    pub(crate) gid: Option<u32>,
-    pub(crate) inline: Option<u8>,
-    pub(crate) invalidates: bool,
-    pub(crate) jobs: Option<u8>,
-    pub(crate) seed: Option<u64>,
-    pub(crate) clients: Option<u32>,
-    pub(crate) calls: Option<u32>,
 }
 
 /// The positionals, of which `count` are given.
@@ -114,23 +86,6 @@ pub(crate) fn subcommand_named(word: &str) -> Option<Subcommand>
     }
 }
 
-/// The option that a word names.
-fn option_named(word: &str) -> Option<OptionName>
-    ensures { result ≡ option_named word.now }
-{
-    match word {
-        "--uid" => Some(OptionName::Uid),
-        "--gid" => Some(OptionName::Gid),
-        "--inline" => Some(OptionName::Inline),
-        "--invalidate" => Some(OptionName::Invalidate),
-        "--jobs" => Some(OptionName::Jobs),
-        "--seed" => Some(OptionName::Seed),
-        "--clients" => Some(OptionName::Clients),
-        "--calls" => Some(OptionName::Calls),
-        _ => None,
-    }
-}
-
 /// Whether a command takes an option.
 fn takes(subcommand: Subcommand, name: OptionName) -> bool
     ensures { result ≡ takes subcommand name }
@@ -139,7 +94,7 @@ fn takes(subcommand: Subcommand, name: OptionName) -> bool
         Subcommand::Serve | Subcommand::Gate => false,
         Subcommand::Drill => matches!(
             name,
-            OptionName::Seed | OptionName::Clients | OptionName::Calls
+            OptionName::Seed | OptionName::Clients | OptionName::Calls | OptionName::Log
         ),
         Subcommand::Get => matches!(
             name,
@@ -169,80 +124,15 @@ pub(crate) fn arity(subcommand: Subcommand) -> usize
     }
 }
 
-/// The options with one more that has a value, if it was not given before and its value is in its range.
-fn with_value(options: Options, name: OptionName, word: &str) -> Option<Options>
-    ensures { result ≡ with_value options name word.now }
+/// What is known with these options, if there are any. No value is waited for.
+fn with_options<'a>(state: State<&'a str>, options: Option<Options>) -> Option<State<&'a str>>
+    ensures { option_map plain_state result ≡ with_options (plain_state state.entry) options }
 {
-    match name {
-        OptionName::Uid => match (options.uid, numeral_within(0, ID_MAX, word.as_bytes())) {
-            (None, Some(value)) => Some(Options {
-                uid: Some(value as u32),
-                ..options
-            }),
-            _ => None,
-        },
-        OptionName::Gid => match (options.gid, numeral_within(0, ID_MAX, word.as_bytes())) {
-            (None, Some(value)) => Some(Options {
-                gid: Some(value as u32),
-                ..options
-            }),
-            _ => None,
-        },
-        OptionName::Inline => match (
-            options.inline,
-            numeral_within(1, UNITS_MAX, word.as_bytes()),
-        ) {
-            (None, Some(value)) => Some(Options {
-                inline: Some(value as u8),
-                ..options
-            }),
-            _ => None,
-        },
-        OptionName::Invalidate => None,
-        OptionName::Jobs => match (options.jobs, numeral_within(1, JOBS_MAX, word.as_bytes())) {
-            (None, Some(value)) => Some(Options {
-                jobs: Some(value as u8),
-                ..options
-            }),
-            _ => None,
-        },
-        OptionName::Seed => match (options.seed, numeral_within(0, SEED_MAX, word.as_bytes())) {
-            (None, Some(value)) => Some(Options {
-                seed: Some(value),
-                ..options
-            }),
-            _ => None,
-        },
-        OptionName::Clients => match (
-            options.clients,
-            numeral_within(1, CLIENTS_MAX, word.as_bytes()),
-        ) {
-            (None, Some(value)) => Some(Options {
-                clients: Some(value as u32),
-                ..options
-            }),
-            _ => None,
-        },
-        OptionName::Calls => match (options.calls, numeral_within(1, CALLS_MAX, word.as_bytes())) {
-            (None, Some(value)) => Some(Options {
-                calls: Some(value as u32),
-                ..options
-            }),
-            _ => None,
-        },
-    }
-}
-
-/// The options with `--invalidate`, if it was not given before.
-fn with_invalidate(options: Options) -> Option<Options>
-    ensures { result ≡ with_invalidate options }
-{
-    if options.invalidates {
-        return None;
-    }
-    Some(Options {
-        invalidates: true,
-        ..options
+    let options = options?;
+    Some(State {
+        waiting: None,
+        options,
+        positionals: state.positionals,
     })
 }
 
@@ -251,14 +141,8 @@ fn after_name<'a>(state: State<&'a str>, name: OptionName) -> Option<State<&'a s
     ensures { option_map plain_state result ≡ after_name (plain_state state.entry) name }
 {
     match name {
-        OptionName::Invalidate => {
-            let options = with_invalidate(state.options)?;
-            Some(State {
-                waiting: None,
-                options,
-                positionals: state.positionals,
-            })
-        }
+        OptionName::Invalidate => with_options(state, with_invalidate(state.options)),
+        OptionName::Log => with_options(state, with_log(state.options)),
         _ => Some(State {
             waiting: Some(name),
             options: state.options,
@@ -314,14 +198,7 @@ fn step<'a>(subcommand: Subcommand, state: State<&'a str>, word: &'a str) -> Opt
     ensures { option_map plain_state result ≡ step subcommand (plain_state state.entry) word.entry.now }
 {
     match state.waiting {
-        Some(name) => {
-            let options = with_value(state.options, name, word)?;
-            Some(State {
-                waiting: None,
-                options,
-                positionals: state.positionals,
-            })
-        }
+        Some(name) => with_options(state, with_value(state.options, name, word)),
         None => match option_named(word) {
             Some(name) => {
                 if !takes(subcommand, name) {
@@ -349,15 +226,17 @@ fn drill_of<'a>(
     seed: Option<u64>,
     clients: Option<u32>,
     calls: Option<u32>,
+    log: bool,
 ) -> Option<Command<&'a str>>
-    ensures { option_map plain_command result ≡ drill_of seed clients calls }
+    ensures { option_map plain_command result ≡ drill_of seed clients calls log }
 {
     match (seed, clients, calls) {
-        (None, None, None) => Some(Command::Drill),
+        (None, None, None) => Some(Command::Drill { log }),
         (Some(seed), Some(clients), Some(calls)) => Some(Command::GeneratedDrill {
             seed,
             clients,
             calls,
+            log,
         }),
         _ => None,
     }
@@ -403,7 +282,9 @@ pub(crate) fn command_of<'a>(
                 config: positionals.first,
             });
         }
-        Subcommand::Drill => return drill_of(options.seed, options.clients, options.calls),
+        Subcommand::Drill => {
+            return drill_of(options.seed, options.clients, options.calls, options.log);
+        }
         Subcommand::Mount => Action::Mount,
         Subcommand::List => Action::List { path },
         Subcommand::Stat => Action::Stat { path },
@@ -462,6 +343,7 @@ fn steps<'a>(subcommand: Subcommand, words: &'a [String]) -> Option<State<&'a st
             seed: None,
             clients: None,
             calls: None,
+            log: false,
         },
         positionals: Positionals {
             count: 0,

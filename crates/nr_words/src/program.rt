@@ -40,6 +40,8 @@ const CLIENTS_HELP: &str = "The number of clients of that script, 1 to 16";
 
 const CALLS_HELP: &str = "The number of calls of that script, 1 to 1000000";
 
+const LOG_HELP: &str = "Print the capture of the run, a line for each mark, in place of the report";
+
 /// A required positional, and what `--help` says of it.
 fn positional<'a>(alloc: Global, name: &'a str, help: &'a str) -> Arg<'a>
     ensures rule { rule_of result ≡ positional_rule name.entry.now }
@@ -186,7 +188,8 @@ fn drill<'a>(alloc: Global) -> Result<Command<'a>, AllocError>
     let clients = ValueParser::Signed(1, CLIENTS_MAX as i64);
     let command = add_number(alloc, command, "clients", CLIENTS_HELP, clients)?;
     let calls = ValueParser::Signed(1, CALLS_MAX as i64);
-    add_number(alloc, command, "calls", CALLS_HELP, calls)
+    let command = add_number(alloc, command, "calls", CALLS_HELP, calls)?;
+    add_flag(alloc, command, "log", LOG_HELP)
 }
 
 /// The program itself, without a command.

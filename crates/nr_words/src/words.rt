@@ -10,9 +10,10 @@ ghost use Rattle.nr_words.specs.Lines.{plain_command, plain_action, plain_get, p
 use crate::commands::{Action, Command, GetByJobs};
 use crate::limits::{CALLS_MAX, CLIENTS_MAX, ID_MAX, JOBS_MAX, SEED_MAX, UNITS_MAX};
 use crate::lines::{
-    Options, Positionals, Subcommand, arity, command_of, is_positional, read_line, subcommand_named,
+    Positionals, Subcommand, arity, command_of, is_positional, read_line, subcommand_named,
 };
 use crate::numbers::number_within;
+use crate::options::Options;
 use crate::program::program;
 use clap::error::ErrorKind;
 use clap::{ArgMatches, Error};
@@ -132,11 +133,12 @@ fn is_command(command: &Command<&str>) -> bool
                 && is_action(&client.action)
         }
         Command::GetByJobs { get } => is_get(get),
-        Command::Drill => true,
+        Command::Drill { log: _ } => true,
         Command::GeneratedDrill {
             seed: _,
             clients,
             calls,
+            log: _,
         } => 1 <= *clients
             && u64::from(*clients) <= CLIENTS_MAX
             && 1 <= *calls
@@ -198,6 +200,7 @@ fn options_of(given: &ArgMatches<'_>) -> Options
         seed: number_of(given, "seed", 0, SEED_MAX),
         clients: narrow(number_of(given, "clients", 1, CLIENTS_MAX)),
         calls: narrow(number_of(given, "calls", 1, CALLS_MAX)),
+        log: flag_of(given, "log"),
     }
 }
 

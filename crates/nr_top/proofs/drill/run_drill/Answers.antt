@@ -5,7 +5,7 @@ use Rattle.nr_top.proofs.drill.run_drill.Goals as goal
 
 pub returns-in-Err : goal.returns-in-Err
 returns-in-Err g c =
-    ends_of (cause_of c.in-Err.stop) c.args.source c.report_failure.result
+    ends_of c.args.log (cause_of c.in-Err.stop) c.args.source c.report_failure.result
     (source_at (g.I.Source.left c.args.input.now) (g.I.Source.given c.args.input.now) (g.I.Source.faults c.args.input.now))
     (source_at (g.I.Source.left c.drill.new.input) (g.I.Source.given c.drill.new.input) (g.I.Source.faults c.drill.new.input))
     (sink_at (g.O.Sink.taken c.args.out.now) (g.O.Sink.faults c.args.out.now))
@@ -16,7 +16,7 @@ returns-in-Err g c =
 
 pub returns-in-Ok : goal.returns-in-Ok
 returns-in-Ok g c =
-    done_ends c.args.source
+    done_ends c.args.log c.args.source
     (source_at (g.I.Source.left c.args.input.now) (g.I.Source.given c.args.input.now) (g.I.Source.faults c.args.input.now))
     (source_at (g.I.Source.left c.drill.new.input) (g.I.Source.given c.drill.new.input) (g.I.Source.faults c.drill.new.input))
     (sink_at (g.O.Sink.taken c.args.out.now) (g.O.Sink.faults c.args.out.now))

@@ -22,7 +22,7 @@ pub returns-in-GeneratedDrill : goal.returns-in-GeneratedDrill
 returns-in-GeneratedDrill g c = rw c.in-GeneratedDrill.is (c.run_drill-in-GeneratedDrill.ensures, (refl, record { acceptor = refl; spawner = refl; gates = refl; gave = refl }))
 
 pub run_drill-requires-in-GeneratedDrill : goal.run_drill-requires-in-GeneratedDrill
-run_drill-requires-in-GeneratedDrill g c = has_ranges c.args.command.now _ _ _ c.in-GeneratedDrill.is c.requires.line
+run_drill-requires-in-GeneratedDrill g c = has_ranges c.args.command.now _ _ _ _ c.in-GeneratedDrill.is c.requires.line
 
 pub run_get-requires : goal.run_get-requires
 run_get-requires g c = (search sendable depth 40, (search sendable depth 40, (search sendable depth 40, has_jobs c.args.command.now _ c.in-GetByJobs.is c.requires.line)))

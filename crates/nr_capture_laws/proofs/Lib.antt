@@ -1,0 +1,4 @@
+pub mod SaidLines
+pub mod SaidSteps
+pub mod CompletedWords
+pub mod WritableRuns
