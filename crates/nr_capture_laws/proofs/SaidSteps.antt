@@ -236,8 +236,7 @@ ticked opening before seconds d e h = record {
 }
   where
     on : d.seconds + seconds ≡ seconds_after (before ++ lines.Tick seconds ∷ [])
-    on = (let both = sum_by-append seconds_in before (lines.Tick seconds ∷ []) in let one = sum_by-cons seconds_in (lines.Tick seconds) [] in let nil : sum_by seconds_in [] ≡ 0 = refl in let is = h.clock in
-    omega (arith, both, one, nil, is))
+    on = (let both = sum_by-append seconds_in before (lines.Tick seconds ∷ []) in let one = sum_by-cons seconds_in (lines.Tick seconds) [] in let nil : sum_by seconds_in [] ≡ 0 = refl in let is = h.clock in omega (arith, both, one, nil, is))
 
 made : (s : Setting) (opening : Opening) (before : List Line) (line : Line) (old new : Drill) → may_follow opening before line ≡ true → IsTypedLine line → IsSaidLine line → Makes s opening.clients line old new → IsSaidDrill before old
     → IsSaidDrill (before ++ line ∷ []) new

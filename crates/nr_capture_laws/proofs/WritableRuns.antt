@@ -117,7 +117,7 @@ head_word payload (calls.Other xid rpcvers) (front, behind, (apart, (first, rest
 first_bytes : (ready : List ReadyCall) (ended : Option Stop) (r : ReadyCall) → AllByRecursion ReadyOfBytes ready → first_ready ready ended ≡ Some r → IsBytes r.payload
 first_bytes ready (Some end) r h e = absurd cc
 first_bytes [] None r h e = absurd cc
-first_bytes (x ∷ ready) None r h e = subst ReadyOfBytes (let s : Some x ≡ Some r = e in cc) h.0
+first_bytes (x ∷ ready) None r h e = (let same : x ≡ r = cc in subst ReadyOfBytes same h.0)
 
 executed_word : (opened : LinkParameters) (link : ℕ) (before : List Mark) (xid : ℕ) (payload : List ℕ) → IsTyped before → IsExecuted opened link before xid payload → IsWord xid
 unfolding next_call
@@ -125,7 +125,7 @@ executed_word opened link before xid payload typed h =
     let own = executed_head opened link before xid payload h in
     let r = server opened link before in
     let bytes : IsBytes payload = subst IsBytes (sym h.conveyed) (first_bytes r.state.ready r.ended h.call (ready_bytes opened link before typed) h.is_next) in
-    subst IsWord own.2 (head_word payload own.0 (call_begins payload own.0 bytes own.1))
+    subst IsWord own.1.1 (head_word payload own.0 (call_begins payload own.0 bytes own.1.0))
 
 -- ===== pieces and outcomes
 
@@ -174,7 +174,7 @@ module _ (server : SerialServer) (script : ScriptLines) (run : List Mark) (is : 
 
   submit_right : (before : List Mark) (link : ℕ) (call : Call) (form : Form) (answer : Submission) → IsSaidMark (runs.Submit link call form answer) → AtMark before (runs.Submit link call form answer) link
       → AllByRecursion Right (captured_submit link call form answer)
-  submit_right before link call form (submissions.Accepted xid) s a = ((a.is_link_of, (a.asked refl).xids, s.0, s.1), tt)
+  submit_right before link call form (submissions.Accepted xid) s a = ((a.is_link_of, ((a.asked refl).xids, s.0, s.1)), tt)
   submit_right before link call form (submissions.Refused why) s a = tt
   submit_right before link call form submissions.Dropped s a = tt
 

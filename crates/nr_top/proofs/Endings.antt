@@ -3,16 +3,15 @@ use Rattle.std.proofs.Common.{◌≡◌, Bool, true, false, ℕ, ◌<◌, ◌≤
 use Rattle.nr_outside.specs.Streams.{SourceAt, SinkAt, Writes, WritesNone}
 use Rattle.nr_outside.specs.Whole.{input_max}
 use Rattle.nr_script.specs.Script.{ScriptLines, script_of}
-use Rattle.nr_capture.specs.Captured.{Captured}
 use Rattle.nr_drill.specs.declared.report.Report.{Report}
 use Rattle.nr_drill.specs.DrillSetup.{GivesReport, drill_setup, server_of}
-use Rattle.nr_drill.specs.Shown.{text_of, sums_of}
 use Rattle.nr_drill.proofs.Told.{reports_tell}
 use Rattle.nr_top.specs.Ends.Cause.{NoMemory, InputFault, OutputFault, BadScript, OverBudget}
 use Rattle.nr_top.specs.Statuses as statuses
 use Rattle.nr_top.specs.declared.drill.ScriptSource.{ScriptSource}
 use Rattle.nr_top.specs.declared.drill.ScriptSource.TheVariants as sources
 use Rattle.nr_top.specs.Sources.{due_status}
+use Rattle.nr_top.specs.private.ReportTexts.{report_text}
 use Rattle.nr_top.specs.Ends.{Done, IsGiven, IsPrinted, StoppedBefore, ReadsFor, BadLine, TooLong, Cause, FaultReport, memory_text, bad_line_text, budget_text, printed, Ends, Stopped, Reported, ReportsFailure}
 
 -- the fault count of err rose
@@ -119,29 +118,16 @@ ends_of log (BadScript number) source status input input' out out' err err' stop
 ends_of log OverBudget source status input input' out out' err err' stopped said =
     said_or log OverBudget source status input input' out out' err err' stopped said said (over_budget log source status input input' out out' err err' stopped)
 
--- a text of a report is what is printed of a run of the script
-printed_text : {E : Type 0} (r : Result (List ℕ) E) (log : Bool) (source : ScriptSource) (script : ScriptLines) (report : Report) (gives : GivesReport script report)
-    → IfOk r (λ text. text ≡ printed log source gives.0 script report.marks) → IfOk r (λ text. IsPrinted log source script text)
-printed_text (Ok text) log source script report gives is = (gives.0, report.marks, record { first = gives.1; keeps = gives.2.drill }, is)
+-- the text of a report is what is printed of its run
+same_text : (log : Bool) (source : ScriptSource) (script : ScriptLines) (report : Report) (gives : GivesReport script report) → report_text log source script.opening report ≡ printed log source gives.0 script report.marks
+same_text true source script report gives = refl
+same_text false sources.Input script report gives = (reports_tell (server_of (drill_setup gives.0 script.opening)) script report gives.2).text
+same_text false (sources.Seed seed clients calls) script report gives = (reports_tell (server_of (drill_setup gives.0 script.opening)) script report gives.2).sums
+
+pub printed_text : {E : Type 0} (r : Result (List ℕ) E) (log : Bool) (source : ScriptSource) (script : ScriptLines) (report : Report) → GivesReport script report
+    → IfOk r (λ text. text ≡ report_text log source script.opening report) → IfOk r (λ text. IsPrinted log source script text)
+printed_text (Ok text) log source script report gives is = (gives.0, report.marks, record { first = gives.1; keeps = gives.2.drill }, is ∙ same_text log source script report gives)
 printed_text (Err error) log source script report gives is = tt
-
--- its capture
-pub captured_text : {E : Type 0} (r : Result (List ℕ) E) (source : ScriptSource) (script : ScriptLines) (report : Report) → GivesReport script report → IfOk r (λ text. text ≡ Captured script.opening report.marks)
-    → IfOk r (λ text. IsPrinted true source script text)
-captured_text r source script report gives is = printed_text r true source script report gives is
-
--- what is shown of it, and its sums
-pub shown_text : {E : Type 0} (r : Result (List ℕ) E) (script : ScriptLines) (report : Report) → GivesReport script report → IfOk r (λ text. text ≡ text_of report.calls report.links (length report.journal))
-    → IfOk r (λ text. IsPrinted false sources.Input script text)
-shown_text (Ok text) script report gives is =
-    printed_text (Ok text) false sources.Input script report gives (is ∙ (reports_tell (server_of (drill_setup gives.0 script.opening)) script report gives.2).text)
-shown_text (Err error) script report gives is = tt
-
-pub summed_text : {E : Type 0} (r : Result (List ℕ) E) (seed clients calls : ℕ) (script : ScriptLines) (report : Report) → GivesReport script report → IfOk r (λ text. text ≡ sums_of report.calls (length report.journal))
-    → IfOk r (λ text. IsPrinted false (sources.Seed seed clients calls) script text)
-summed_text (Ok text) seed clients calls script report gives is =
-    printed_text (Ok text) false (sources.Seed seed clients calls) script report gives (is ∙ (reports_tell (server_of (drill_setup gives.0 script.opening)) script report gives.2).sums)
-summed_text (Err error) seed clients calls script report gives is = tt
 
 -- ===== nothing is printed
 

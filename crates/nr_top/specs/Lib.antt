@@ -6,3 +6,4 @@ pub mod Serving
 pub mod Gating
 pub mod Clients
 pub mod RunEnds
+pub mod private

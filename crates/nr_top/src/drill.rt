@@ -10,13 +10,15 @@ ghost use Rattle.nr_top.specs.Sources.{HasRanges};
 ghost use Rattle.nr_top.specs.Causes.{cause_of};
 ghost use Rattle.nr_top.specs.Ends.{Ends, Done, IsPrinted, ReadsScript, Stopped, StoppedBefore, StoppedReading, Shown, ReportsFailure};
 ghost use Rattle.nr_top.specs.Ends.Cause.{BadScript};
+ghost use Rattle.nr_top.specs.private.ReportTexts.{report_text};
 
 use crate::report::write_error;
 use crate::status::{BAD_INPUT, DONE, FAULT, NO_MEMORY, OVER_BUDGET};
 use nr_capture::write_run;
-use nr_drill::{shown, summary};
+use nr_drill::{Report, shown, summary};
 use nr_outside::{INPUT_MAX, ReadEnd, Sink, Source, read_whole, write_whole};
 use nr_script::{Script, ScriptFault, make_script, read_script};
+use nr_texts::Opening;
 use nr_world::run_world;
 use nr_xdr::{Memory, Octets};
 use std::alloc::Global;
@@ -90,8 +92,27 @@ fn read_drill<I: Source>(alloc: Global, input: &mut I) -> Result<Script, Failure
     Ok(script)
 }
 
-/// Runs a script, and gives what is printed of that: with `log` the capture of the run; without it what is shown of the run, or
-/// the line of its sums if the script was made from a seed.
+/// The text that is printed of a report: with `log` the capture of its marks; without it what is shown of it, or the line of its
+/// sums if the script was made from a seed. `opening` is the first line of the script.
+fn text_of_report(
+    alloc: Global,
+    source: ScriptSource,
+    log: bool,
+    opening: Opening,
+    report: &Report,
+) -> Result<Octets, Memory>
+    ensures { IfOk result (λ text. text ≡ report_text log source opening report.now) }
+{
+    if log {
+        return write_run(alloc, opening, &report.marks);
+    }
+    match source {
+        ScriptSource::Input => shown(alloc, report),
+        ScriptSource::Seed { .. } => summary(alloc, report),
+    }
+}
+
+/// Runs a script, and gives what is printed of that.
 fn run_script(
     alloc: Global,
     source: ScriptSource,
@@ -101,13 +122,7 @@ fn run_script(
     ensures { IfOk result (λ text. IsPrinted log source script.now text) }
 {
     let report = run_world(alloc, script)?;
-    if log {
-        return write_run(alloc, script.opening(), &report.marks);
-    }
-    match source {
-        ScriptSource::Input => shown(alloc, &report),
-        ScriptSource::Seed { .. } => summary(alloc, &report),
-    }
+    text_of_report(alloc, source, log, script.opening(), &report)
 }
 
 /// Reads a script and runs it, and gives what is printed of that.
