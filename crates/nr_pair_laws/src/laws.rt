@@ -113,8 +113,8 @@ pub fn gets_end_for_a_cause()
     ensures { GetsEndForACause }
 {}
 
-/// A `get` by several jobs whose requester was shared, as of each that is done, is one run of its link: the marks of its calls up to GETATTR, and then
-/// those of the shared requester's history. The client keeps its law in it, and its bytes are those of the link that was hung up.
+/// A `get` by several jobs that opened a session is one run of its link: the marks of its calls up to GETATTR, and then those of the history of the
+/// requester that the jobs shared. The client keeps its law in it, and its bytes are those of the link that was hung up.
 pub fn jobs_have_a_run()
     ensures { JobsHaveARun }
 {}
