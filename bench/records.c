@@ -1,12 +1,16 @@
 /* Records over TCP (RFC 5531 section 11), for bench/records.sh and bench/gate.sh.
 
-   records serve PORT REPLY        answers each record of one connection by one of REPLY bytes; no RPC, no tree
+   records serve PORT REPLY [COPIES]
+                                   answers each record of one connection by one of REPLY bytes; no RPC, no tree. Before, it copies them
+                                   COPIES times, the first time out of 2 MiB
    records call PORT KIND N OUT    N calls with OUT outstanding: getattr, read, write (of 32,768 bytes of file f), or make: CREATE of f and
                                    64 WRITEs, one at a time; prints the microseconds of a call
    records call .. EXPORT MOUNT    the same at a server that gives other handles: MNT of EXPORT at port MOUNT and a LOOKUP of f get them.
                                    Without these words the root has handle 1, f has handle 2, and replies come in order
    records raw PORT KIND N OUT     the same records to `serve`, whose replies are not read as RPC
-   records relay PORT TO           hands each record of one connection on to port TO, and each reply back: the second hop of two */
+   records relay PORT TO [COPIES]  hands each record of one connection on to port TO, and each reply back: the second hop of two. It copies
+                                   each reply COPIES times (1 if that isn't given); if more than once, first into a buffer that it clears
+                                   before */
 #include <arpa/inet.h>
 #include <netinet/in.h>
 #include <netinet/tcp.h>
@@ -19,7 +23,7 @@
 #include <unistd.h>
 
 enum { SIZE = 32768, BLOCKS = 64, LAST = 0x7fffffff };
-static unsigned char in[1 << 17], out[1 << 17];
+static unsigned char in[1 << 17], out[1 << 17], spare[2][1 << 17], stored[BLOCKS * SIZE];
 /* The handles of the root and of the file f, after their length. */
 static struct handle { uint32_t size; unsigned char bytes[64]; } root = {8, {[7] = 1}}, file = {8, {[7] = 2}};
 
@@ -157,12 +161,25 @@ static int calls(int s, const char *kind, long n, long outstanding, enum reading
     return 0;
 }
 
-static int serve(int listening, size_t reply) {
+/* Copies bytes from one buffer to the next, and the last time to `to`. */
+static void copy_on(unsigned char *to, const unsigned char *from, size_t n, int copies) {
+    for (int k = 1; k <= copies; k++) {
+        unsigned char *next = k == copies ? to : spare[k % 2];
+        memcpy(next, from, n);
+        __asm__ volatile("" ::"r"(next) : "memory");
+        from = next;
+    }
+}
+
+static int serve(int listening, size_t reply, int copies) {
     int one = 1, s = accept(listening, 0, 0);
     setsockopt(s, IPPROTO_TCP, TCP_NODELAY, &one, sizeof one);
-    while (read_record(s) >= 0) {
+    memset(stored, 1, sizeof stored);
+    if (reply > SIZE + 1024) return 1;
+    for (uint32_t i = 0; read_record(s) >= 0; i++) {
         unsigned char *at = out;
         put(&at, 0x80000000u | reply);
+        copy_on(at, stored + i % (BLOCKS - 1) * SIZE, reply, copies);
         send_all(s, out, reply + 4);
     }
     return 0;
@@ -184,27 +201,36 @@ static int listen_at(int port) {
     return s;
 }
 
-static void hand_on(int s, size_t n) {
+static void hand_on(int s, size_t n, int copies) {
     unsigned char *at = out;
     put(&at, 0x80000000u | n);
-    memcpy(at, in, n);
+    copy_on(at, in, n, copies);
     send_all(s, out, n + 4);
 }
 
-static int relay(int listening, int port) {
+/* Clears the buffer into which a reply of this length is copied first. */
+static void clear(size_t n) {
+    memset(spare[1], 0, n);
+    __asm__ volatile("" ::"r"(spare[1]) : "memory");
+}
+
+static int relay(int listening, int port, int copies) {
     int one = 1, near = accept(listening, 0, 0), far = dial(port);
     setsockopt(near, IPPROTO_TCP, TCP_NODELAY, &one, sizeof one);
-    for (long n; (n = read_record(near)) >= 0;) {
-        hand_on(far, n);
-        if ((n = read_record(far)) < 0) return 4;
-        hand_on(near, n);
+    for (long n, reply = 0; (n = read_record(near)) >= 0;) {
+        if (copies > 1) clear(reply);
+        hand_on(far, n, 1);
+        if ((reply = read_record(far)) < 0) return 4;
+        hand_on(near, reply, copies);
     }
     return 0;
 }
 
 int main(int count, char **words) {
-    if (count == 4 && !strcmp(words[1], "serve")) return serve(listen_at(atoi(words[2])), atol(words[3]));
-    if (count == 4 && !strcmp(words[1], "relay")) return relay(listen_at(atoi(words[2])), atoi(words[3]));
+    if ((count == 4 || count == 5) && !strcmp(words[1], "serve"))
+        return serve(listen_at(atoi(words[2])), atol(words[3]), count == 5 ? atoi(words[4]) : 0);
+    if ((count == 4 || count == 5) && !strcmp(words[1], "relay"))
+        return relay(listen_at(atoi(words[2])), atoi(words[3]), count == 5 ? atoi(words[4]) : 1);
     if (count != 6 && count != 8) return 1;
     int s = dial(atoi(words[2]));
     if (count == 8) {

@@ -55,13 +55,13 @@ front_bytes (suc n) [] h = tt
 front_bytes (suc n) (e ∷ J) h = (h.0, front_bytes n J h.1)
 
 -- an entry of a call is in bytes, since the call's payload is bytes
-of_calls_bytes : (s : Setup) (J more : List Entry) → AreOfCalls s J more → EntriesInBytes more
+pub of_calls_bytes : (s : Setup) (J more : List Entry) → AreOfCalls s J more → EntriesInBytes more
 of_calls_bytes s J [] h = tt
 of_calls_bytes s J (e ∷ more) (one, rest) =
     let here : EntriesInBytes (e ∷ []) = subst EntriesInBytes one.adds (entries_bytes one.moment one.payload one.reply one.bytes) in
     (here.0, of_calls_bytes s (J ++ e ∷ []) more rest)
 
-all_bytes : (s : Setup) (J more : List Entry) → EntriesInBytes J → AreOfCalls s J more → EntriesInBytes (J ++ more)
+pub all_bytes : (s : Setup) (J more : List Entry) → EntriesInBytes J → AreOfCalls s J more → EntriesInBytes (J ++ more)
 all_bytes s J more entries calls = each_append EntryInBytes J more entries (of_calls_bytes s J more calls)
 
 take_twice : {X : Type 0} (n : ℕ) (xs : List X) → take n (take n xs) ≡ take n xs

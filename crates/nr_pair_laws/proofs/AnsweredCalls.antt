@@ -1,5 +1,5 @@
 -- Each outcome that a command hands over is the plain server's reply to its call at the call's place, and the places follow the order of its calls.
-use Rattle.std.proofs.Common.{◌≡◌, ℕ, ◌+◌, ◌≤◌, ◌<◌, Bool, true, false, cond, not, ◌&&◌, List, [], ◌∷◌, ◌++◌, length, take, drop, Option, Some, refl, sym, ap, subst, ◌∙◌, arith, append_assoc, length-append}
+use Rattle.std.proofs.Common.{◌≡◌, ℕ, ◌+◌, ◌≤◌, Bool, true, false, cond, not, ◌&&◌, List, [], ◌∷◌, ◌++◌, length, Option, refl, sym, ap, subst, ◌∙◌, arith, append_assoc, length-append}
 use Rattle.std.specs.List.{AllByRecursion, filter}
 use Rattle.nr_outside.specs.declared.moment.Moment.{Moment}
 use Rattle.nr_reduce.specs.declared.call.Call.{Call}
@@ -38,6 +38,7 @@ use Rattle.nr_service_laws.specs.ClientMarks.{AreMarksOf, moves_bytes, without_b
 use Rattle.nr_service_laws.specs.Exchanges.{Exchange}
 use Rattle.nr_service_laws.specs.Exchanges.Exchange.{Answered, Forgotten, GivenUp, HandedOver, Submitted}
 use Rattle.nr_service_laws.specs.ServedCommands.{client_marks, is_client_mark}
+use Rattle.nr_service_laws.proofs.ServedAnswers.{submit_of}
 use Rattle.nr_pair_laws.specs.Pairs.{AreAnsweredFrom, IsAnsweredBetween, OpenCall, place_after}
 use Rattle.nr_pair_laws.proofs.PlacedCalls.{StandsBetween, bound, bound_low, bound_rises, served_calls, stands_between}
 
@@ -75,9 +76,6 @@ pub exchanged_in : (link : ℕ) (both : List Mark) → without_bytes (client_mar
 exchanged_in link both = filter_twice (is_client_mark link) (λ mark. not (moves_bytes mark)) both
 
 -- ---- One call
-
-abbrev submit_of : ℕ → Call → ℕ → Mark
-submit_of link call xid = marks.Submit link call forms.Auto (submissions.Accepted xid)
 
 front_is_short : (first : List Mark) (m : Mark) (rest : List Mark) → first ≡ first ++ m ∷ rest → ⊥
 front_is_short first m rest is = let same = ap (λ (l : List Mark). length l) is in let sum = length-append first (m ∷ rest) in absurd (omega (arith, same, sum))
@@ -160,7 +158,7 @@ module _ (s : Setup) (sane : IsSane s.tree) (J : List Entry) (n : ℕ) (opened :
         ),
       )
 
-  one_outcome : (call : Call) (xid : ℕ) (outcome : Outcome) (u v w : List Mark) → both ≡ u ++ submit_of link call xid ∷ (v ++ marks.Done link xid outcome ∷ w)
+  pub one_outcome : (call : Call) (xid : ℕ) (outcome : Outcome) (u v w : List Mark) → both ≡ u ++ submit_of link call xid ∷ (v ++ marks.Done link xid outcome ∷ w)
       → IsAnsweredBetween s J call outcome (limit u) (limit (u ++ submit_of link call xid ∷ (v ++ marks.Done link xid outcome ∷ [])))
   unfolding replies_to
   one_outcome call xid outcome u v w is =

@@ -1,5 +1,5 @@
 -- Any READ of a file reads its bytes.
-use Rattle.std.proofs.Common.{◌≡◌, ℕ, ◌+◌, ◌≤◌, List, length, take, drop, Option, None, Some, Result, Ok, refl, ap, sym, ◌∙◌, subst}
+use Rattle.std.proofs.Common.{◌≡◌, ℕ, ◌+◌, List, length, take, drop, Option, Some, Result, ap, sym, ◌∙◌}
 use Rattle.std.specs.Prelude.{nat_le}
 use Rattle.std.specs.Option.{option_map}
 use Rattle.std.proofs.lemmas.Option.{same_Some}
@@ -10,15 +10,14 @@ use Rattle.nr_nfs_base.specs.declared.procedure.NfsProcedure.{NfsProcedure}
 use Rattle.nr_nfs_base.specs.declared.procedure.NfsProcedure.TheVariants as nfs
 use Rattle.nr_nfs_args.specs.declared.bytes.ReadArgs.{ReadArgs}
 use Rattle.nr_nfs_res.specs.Results.{read_res_codec}
-use Rattle.nr_nfs_res.specs.declared.bytes.ReadOk.{ReadOk}
 use Rattle.nr_reduce.specs.declared.mark.Entry.{Entry}
 use Rattle.nr_tree.specs.declared.node.Content.TheVariants.{Regular}
-use Rattle.nr_ops_file.specs.Bytes.{piece_read, read_reply}
+use Rattle.nr_ops_file.specs.Bytes.{read_reply}
 use Rattle.nr_plain.specs.Journal.{state_of, tree_at}
 use Rattle.nr_plain.specs.Replies.{Answer, answer_by, call_by_cred, nfs_by_arguments, nfs_by_procedure, nfs_call, plain_reply, program_call, results_reply}
 use Rattle.nr_plain.specs.Setup.{Setup, State, caller_of}
 use Rattle.nr_pair_laws.specs.FilesAt.{content_at}
-use Rattle.nr_pair_laws.specs.PutThenGet.{HoldsFile, IsReadCall, ReadsGiveTheFile, ReadsOf, root_handle}
+use Rattle.nr_pair_laws.specs.PutThenGet.{IsReadCall, ReadsGiveTheFile, root_handle}
 use Rattle.nr_pair_laws.proofs.Kept.{file_kept, kept}
 use Rattle.nr_pair_laws.proofs.Results.{read_is}
 

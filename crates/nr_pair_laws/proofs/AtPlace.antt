@@ -1,10 +1,8 @@
 -- What the plain server replies to a call of a client at a place of a journal, and the tree after it.
-use Rattle.std.proofs.Common.{◌≡◌, ℕ, zero, suc, ◌+◌, ◌<◌, ◌≤◌, ◌^◌, Bool, true, false, min, List, [], ◌∷◌, ◌++◌, length, take, drop, Option, None, Some, Result, Ok, Err, refl, sym, ap, subst, ◌∙◌, arith, length-take}
-use Rattle.std.specs.Option.{option_map}
+use Rattle.std.proofs.Common.{◌≡◌, ℕ, zero, suc, ◌<◌, ◌^◌, List, [], ◌∷◌, length, take, drop, Option, Some, Result, Ok, refl, sym, ap, ◌∙◌, arith}
 use Rattle.std.proofs.lemmas.List.{drop_at, take_all}
 use Rattle.std.proofs.lemmas.Option.{same_Some}
-use Rattle.nr_rpc.specs.Call.{call_again, call_head}
-use Rattle.nr_rpc.specs.declared.cred.Cred.{Cred}
+use Rattle.nr_rpc.specs.Call.{call_head}
 use Rattle.nr_rpc.specs.declared.cred.Cred.TheVariants as creds
 use Rattle.nr_rpc.specs.declared.head.CallHead.{CallHead}
 use Rattle.nr_rpc.specs.declared.head.CallHead.TheVariants as heads
@@ -16,16 +14,16 @@ use Rattle.nr_nfs_base.specs.Procedures.{each_nfs_procedure, nfs_procedure_numbe
 use Rattle.nr_nfs_base.specs.declared.procedure.NfsProcedure.{NfsProcedure}
 use Rattle.nr_nfs_base.specs.declared.procedure.NfsProcedure.TheVariants as nfs
 use Rattle.nr_nfs_args.specs.Arguments.{NfsArguments, nfs_arguments_codec}
-use Rattle.nr_nfs_res.specs.Results.{NfsResults, nfs_results_codec}
+use Rattle.nr_nfs_res.specs.Results.{NfsResults}
 use Rattle.nr_outside.specs.declared.moment.Moment.{Moment}
 use Rattle.nr_reduce.specs.declared.call.Call.{Call}
 use Rattle.nr_reduce.specs.declared.mark.Entry.{Entry}
 use Rattle.nr_reduce.specs.ClientState.{call_payload}
 use Rattle.nr_tree.specs.Tree.{Tree}
 use Rattle.nr_plain.specs.Added.{entries_of_call}
-use Rattle.nr_plain.specs.Journal.{next_state, nfs_procedure_of, state_after, state_of, tree_at, tree_by_arguments, tree_by_procedure}
-use Rattle.nr_plain.specs.Programs.{is_change, nfs_results, nfs_tree}
-use Rattle.nr_plain.specs.Replies.{Answer, answer_by, answer_to, entries_if, nfs_answer, nfs_by_arguments, nfs_by_procedure, nfs_call, plain_answer, plain_reply}
+use Rattle.nr_plain.specs.Journal.{next_state, state_after, state_of, tree_at, tree_by_arguments, tree_by_procedure}
+use Rattle.nr_plain.specs.Programs.{nfs_results, nfs_tree}
+use Rattle.nr_plain.specs.Replies.{answer_by, nfs_answer, nfs_by_arguments, nfs_by_procedure, nfs_call, plain_answer, plain_reply}
 use Rattle.nr_plain.specs.Setup.{Setup, State, caller_of, space_of, time_of}
 use Rattle.nr_plain.proofs.Added.{answer_of_reply}
 use Rattle.nr_client.specs.Requests.{client_call, machine}

@@ -1,6 +1,6 @@
 -- Bytes that are written one piece after another, and read so.
-use Rattle.std.proofs.Common.{◌≡◌, ℕ, zero, suc, ◌+◌, ◌-◌, ◌<◌, ◌≤◌, min, List, [], ◌∷◌, ◌++◌, length, replicate, take, drop, refl, ap, sym, ◌∙◌, arith, append-nil, length-take, length-drop}
-use Rattle.std.proofs.lemmas.List.{drop_all, take-take, take_all}
+use Rattle.std.proofs.Common.{◌≡◌, ℕ, zero, suc, ◌+◌, ◌-◌, ◌≤◌, min, List, [], ◌∷◌, ◌++◌, length, replicate, take, drop, refl, ap, sym, ◌∙◌, arith, append-nil, length-take, length-drop}
+use Rattle.std.proofs.lemmas.List.{drop_all, take-take}
 use Rattle.nr_tree.specs.Bytes.{with_bytes_at, with_length}
 
 -- the first bytes, and then some more

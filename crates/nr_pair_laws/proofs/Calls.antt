@@ -1,39 +1,25 @@
 -- What a client reads of the plain server's reply to a call at its place, and what the call makes of the tree.
-use Rattle.std.proofs.Common.{◌≡◌, ℕ, suc, ◌+◌, ◌<◌, ◌≤◌, ◌^◌, Bool, true, false, cond, min, List, [], ◌∷◌, ◌++◌, length, take, drop, Option, None, Some, Result, Ok, Err, inl, inr, refl, ap, sym, ◌∙◌, subst, arith}
-use Rattle.std.specs.Prelude.{◌⊎◌, ◌==◌, ◌||◌, nat_eq, nat_le, nat_lt}
-use Rattle.std.specs.Cmp.Lexicographic.{pointwise}
+use Rattle.std.proofs.Common.{◌≡◌, ℕ, suc, ◌+◌, ◌<◌, ◌≤◌, ◌^◌, Bool, true, false, cond, List, [], ◌∷◌, length, take, drop, Option, None, Some, Result, Ok, Err, refl, ap, sym, ◌∙◌, subst, arith}
+use Rattle.std.specs.Prelude.{◌==◌, ◌||◌, nat_le, nat_lt}
 use Rattle.std.specs.Option.{option_map}
 use Rattle.nr_xdr.specs.Items.{encodings}
-use Rattle.nr_rpc.specs.Call.{call_head}
 use Rattle.nr_rpc.specs.declared.cred.Cred.TheVariants as creds
-use Rattle.nr_rpc.specs.declared.head.CallHead.{CallHead}
-use Rattle.nr_rpc.specs.declared.head.CallHead.TheVariants as heads
-use Rattle.nr_rpc.specs.Reading.{call_of}
-use Rattle.nr_rpc.proofs.Calls.{call_written}
-use Rattle.nr_rpc.proofs.FittingCredentials.{sys_fit}
 use Rattle.nr_nfs_base.specs.Attributes.{attributes_codec, special_data_codec}
-use Rattle.nr_nfs_base.specs.Codec.{Codec, boolean, enumeration, hyper, opaque, optional, read_all, void, word}
+use Rattle.nr_nfs_base.specs.Codec.{boolean, enumeration, hyper, opaque, optional, read_all, void, word}
 use Rattle.nr_nfs_base.specs.FileType.{each_file_type, file_type_codec, file_type_number, file_types}
 use Rattle.nr_nfs_base.specs.Laws.{hyper_lawful}
 use Rattle.nr_nfs_base.specs.Limits.{handle_max, name_length_max, transfer_max}
-use Rattle.nr_nfs_base.specs.Procedures.{mount_procedure_number, mount_program, mount_version}
 use Rattle.nr_nfs_base.specs.SetAttributes.{set_attributes_codec, set_time_codec, time_how_codec}
 use Rattle.nr_nfs_base.specs.Stable.{stable_how_codec}
 use Rattle.nr_nfs_base.specs.Time.{time_codec}
 use Rattle.nr_nfs_base.specs.WeakCache.{wcc_data_codec}
 use Rattle.nr_nfs_base.specs.declared.attributes.Attributes.{Attributes}
-use Rattle.nr_nfs_base.specs.declared.caller.Caller.{Caller}
 use Rattle.nr_nfs_base.specs.declared.file_type.FileType.{FileType}
 use Rattle.nr_nfs_base.specs.declared.file_type.FileType.TheVariants as types
 use Rattle.nr_nfs_base.specs.declared.time.Time.{Time}
-use Rattle.nr_nfs_base.specs.declared.procedure.MountProcedure.TheVariants as mount
-use Rattle.nr_nfs_base.specs.declared.procedure.NfsProcedure.{NfsProcedure}
 use Rattle.nr_nfs_base.specs.declared.procedure.NfsProcedure.TheVariants as nfs
 use Rattle.nr_nfs_base.specs.declared.stable.StableHow.TheVariants as stable
-use Rattle.nr_nfs_base.specs.declared.status.Status.{Status}
-use Rattle.nr_nfs_base.specs.declared.status_union.StatusUnion.{StatusUnion}
-use Rattle.nr_nfs_base.specs.declared.status_union.StatusUnion.TheVariants.{Done, Failed}
-use Rattle.nr_nfs_args.specs.Arguments.{NfsArguments, nfs_arguments_codec}
+use Rattle.nr_nfs_base.specs.declared.status_union.StatusUnion.TheVariants.{Done}
 use Rattle.nr_nfs_args.specs.Attributes.{getattr_args_codec, getattr_args_lawful}
 use Rattle.nr_nfs_args.specs.Bytes.{read_args_codec, read_args_lawful, write_args_codec, write_args_lawful}
 use Rattle.nr_nfs_args.specs.Create.{create_args_codec, create_args_lawful, create_how_codec}
@@ -47,7 +33,7 @@ use Rattle.nr_nfs_args.specs.declared.lookup.LookupArgs.{LookupArgs}
 use Rattle.nr_nfs_res.specs.Bytes.{read_ok_codec, write_ok_codec}
 use Rattle.nr_nfs_res.specs.Create.{create_ok_codec}
 use Rattle.nr_nfs_res.specs.Lookup.{lookup_ok_codec}
-use Rattle.nr_nfs_res.specs.Results.{NfsResults, nfs_results_codec}
+use Rattle.nr_nfs_res.specs.Results.{NfsResults}
 use Rattle.nr_nfs_res.specs.declared.bytes.ReadOk.{ReadOk}
 use Rattle.nr_nfs_res.specs.declared.bytes.WriteOk.{WriteOk}
 use Rattle.nr_nfs_res.specs.declared.create.CreateOk.{CreateOk}
@@ -57,17 +43,15 @@ use Rattle.nr_reduce.specs.declared.call.Outcome.{Outcome}
 use Rattle.nr_reduce.specs.declared.call.Outcome.TheVariants as outcomes
 use Rattle.nr_reduce.specs.declared.mark.Entry.{Entry}
 use Rattle.nr_tree.specs.Changes.{tree_with_bytes}
-use Rattle.nr_tree.specs.Rules.{first, handle_of, number_of_handle}
+use Rattle.nr_tree.specs.Rules.{handle_of, number_of_handle}
 use Rattle.nr_tree.specs.Sane.{IsSane}
 use Rattle.nr_tree.specs.Tree.{Tree}
 use Rattle.nr_tree.specs.declared.node.Content.TheVariants.{Regular}
 use Rattle.nr_ops_file.specs.Bytes.{piece_read}
-use Rattle.nr_ops_dir.specs.Create.{create_reply, create_rules, create_tree}
-use Rattle.nr_ops_dir.specs.Creation.{create_ok}
 use Rattle.nr_plain.specs.Added.{entries_of_call}
 use Rattle.nr_plain.specs.Journal.{state_of, tree_at}
 use Rattle.nr_plain.specs.Programs.{is_change}
-use Rattle.nr_plain.specs.Replies.{Answer, entries_if, results_reply}
+use Rattle.nr_plain.specs.Replies.{Answer, entries_if}
 use Rattle.nr_plain.specs.Setup.{Setup, caller_of, space_of, time_of}
 use Rattle.nr_plain.proofs.Lengths.{length_handle}
 use Rattle.nr_plain.proofs.SaneTrees.{tree_sane}
@@ -81,24 +65,24 @@ use Rattle.nr_reply_laws.proofs.Decoding.{Any, IsRead, enumeration_is, hyper_any
 use Rattle.nr_reply_laws.proofs.Values.{create_ok_some, lookup_ok_is, read_ok_is, some_attributes, void_any, wcc_any, write_ok_is}
 use Rattle.nr_pair_laws.specs.FilesAt.{content_at, handle_in}
 use Rattle.nr_pair_laws.specs.Pairs.{IsAnsweredAt, place_after}
-use Rattle.nr_pair_laws.proofs.AtPlace.{answered_at, entry_by, nfs_client_call, results_at, tree_after_call, tree_by}
+use Rattle.nr_pair_laws.proofs.AtPlace.{answered_at, entry_by, results_at, tree_after_call, tree_by}
 use Rattle.nr_pair_laws.proofs.Created.{IsCreated, create_args, created}
 use Rattle.nr_pair_laws.proofs.ReadBack.{Gave, read_as_done, written_read}
 use Rattle.nr_pair_laws.proofs.Results.{create_done, getattr_is, lookup_found, lookup_short, read_is, read_short, write_done}
 
 -- ---- Arguments
 
-lookup_args_read : (dir name : List ℕ) → length dir ≤ handle_max → length name ≤ name_length_max
+pub lookup_args_read : (dir name : List ℕ) → length dir ≤ handle_max → length name ≤ name_length_max
     → read_all lookup_args_codec (encodings (lookup_args_codec.items (record { dir = dir; name = name }))) ≡ Ok (record { dir = dir; name = name })
 unfolding lookup_args_codec opaque
 lookup_args_read dir name short few =
     written_read lookup_args_codec (record { dir = dir; name = name }) lookup_args_lawful (short, omega (arith, few)) (omega (arith, short), (omega (arith, few), tt))
 
-getattr_args_read : (file : List ℕ) → length file ≤ handle_max → read_all getattr_args_codec (encodings (getattr_args_codec.items (record { object = file }))) ≡ Ok (record { object = file })
+pub getattr_args_read : (file : List ℕ) → length file ≤ handle_max → read_all getattr_args_codec (encodings (getattr_args_codec.items (record { object = file }))) ≡ Ok (record { object = file })
 unfolding getattr_args_codec opaque
 getattr_args_read file short = written_read getattr_args_codec (record { object = file }) getattr_args_lawful short (omega (arith, short), tt)
 
-read_args_read : (file : List ℕ) (offset count : ℕ) → length file ≤ handle_max → offset < 2 ^ 64 → count < 2 ^ 32
+pub read_args_read : (file : List ℕ) (offset count : ℕ) → length file ≤ handle_max → offset < 2 ^ 64 → count < 2 ^ 32
     → read_all read_args_codec (encodings (read_args_codec.items (record { file = file; offset = offset; count = count }))) ≡ Ok (record { file = file; offset = offset; count = count })
 unfolding read_args_codec opaque hyper word
 read_args_read file offset count short at few =
@@ -125,7 +109,7 @@ create_args_read dir name short few =
 
 -- ---- The calls
 
-same_outcome : {A : Type 0} (reads : Outcome → Result A ClientEnd) (o : Outcome) (reply reply' : List ℕ) (r : Result A ClientEnd) → o ≡ outcomes.Reply reply → reply ≡ reply' → reads o ≡ r → reads (outcomes.Reply reply') ≡ r
+pub same_outcome : {A : Type 0} (reads : Outcome → Result A ClientEnd) (o : Outcome) (reply reply' : List ℕ) (r : Result A ClientEnd) → o ≡ outcomes.Reply reply → reply ≡ reply' → reads o ≡ r → reads (outcomes.Reply reply') ≡ r
 same_outcome reads o reply reply' r is same e = sym (ap reads is ∙ ap (λ (l : List ℕ). reads (outcomes.Reply l)) same) ∙ e
 
 object_read : (r : Result LookupOk ClientEnd) (g : List ℕ) → object_in r ≡ Ok g → (w : LookupOk) × ((r ≡ Ok w) × (w.object ≡ g))

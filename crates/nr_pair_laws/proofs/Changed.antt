@@ -1,8 +1,8 @@
 -- Where names lead, and what files hold, after a node was changed.
-use Rattle.std.proofs.Common.{◌≡◌, ℕ, zero, ◌+◌, ◌-◌, ◌<◌, ◌≤◌, ◌^◌, Bool, true, false, cond, eqb, not, List, [], ◌∷◌, ◌++◌, length, replicate, take, drop, Option, None, Some, refl, ap, sym, ◌∙◌, subst, arith, ne_eqb}
-use Rattle.std.specs.Option.{option_and_then, option_map, option_map_or}
+use Rattle.std.proofs.Common.{◌≡◌, ℕ, ◌-◌, ◌<◌, Bool, true, false, cond, eqb, List, [], length, replicate, Option, None, Some, refl, ap, sym, ◌∙◌, subst, arith, ne_eqb}
+use Rattle.std.specs.Option.{option_and_then, option_map}
 use Rattle.std.specs.Ordering.{nat_cmp, eq_by_cmp}
-use Rattle.std.specs.FinMap.{FinMap, get}
+use Rattle.std.specs.FinMap.{get}
 use Rattle.nr_nfs_base.specs.declared.time.Time.{Time}
 use Rattle.nr_tree.specs.Bytes.{with_bytes_at, with_length}
 use Rattle.nr_tree.specs.Changes.{node_with_bytes, node_with_size, on_bytes, tree_with_bytes, tree_with_piece, tree_with_size}
@@ -14,8 +14,8 @@ use Rattle.nr_tree.specs.declared.node.Content.TheVariants.{Regular, Directory, 
 use Rattle.nr_tree.specs.declared.node.Node.{Node}
 use Rattle.nr_tree.proofs.NodeMaps.{get_changed, same_number}
 use Rattle.nr_ops_list.specs.Lookup.{number_of_name}
-use Rattle.nr_pair_laws.specs.FilesAt.{content_at, handle_in}
-use Rattle.nr_pair_laws.proofs.Paths.{Grows, SameNames, content_node}
+use Rattle.nr_pair_laws.specs.FilesAt.{content_at}
+use Rattle.nr_pair_laws.proofs.Paths.{SameNames, content_node}
 
 abbrev pub changed : Tree → ℕ → (Node → Node) → Tree
 changed t n change = record t { nodes = nodes_with_change t.nodes n change }

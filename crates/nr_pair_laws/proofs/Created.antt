@@ -1,8 +1,7 @@
 -- Where names lead, and what the file holds, after a CREATE that sets the size 0.
-use Rattle.std.proofs.Common.{◌≡◌, ℕ, ◌+◌, ◌<◌, ◌≤◌, ◌^◌, Bool, true, false, cond, eqb, not, ◌||◌, List, [], ◌∷◌, ◌++◌, length, Option, None, Some, refl, ap, sym, ◌∙◌, subst, arith}
+use Rattle.std.proofs.Common.{◌≡◌, ℕ, ◌<◌, ◌^◌, Bool, true, false, cond, eqb, not, ◌||◌, List, [], ◌∷◌, ◌++◌, length, Option, None, Some, refl, ap, sym, ◌∙◌, subst, arith}
 use Rattle.std.specs.Option.{option_and_then, option_map, option_map_or}
 use Rattle.std.specs.Cmp.{nat_cmp_total}
-use Rattle.std.specs.Int.{from_be_bytes, to_be_bytes, w64}
 use Rattle.std.specs.Ordering.{nat_cmp, eq_by_cmp}
 use Rattle.std.specs.FinMap.{FinMap, get, get-insert, insert}
 use Rattle.std.proofs.lemmas.Nat.{from_be_bytes-to_be_bytes_8}
@@ -13,14 +12,13 @@ use Rattle.nr_nfs_base.specs.declared.status.Status.{Status}
 use Rattle.nr_nfs_base.specs.declared.status.Status.TheVariants.{Exist}
 use Rattle.nr_nfs_base.specs.declared.time.Time.{Time}
 use Rattle.nr_nfs_args.specs.declared.create.CreateArgs.{CreateArgs}
-use Rattle.nr_nfs_args.specs.declared.create.CreateHow.{CreateHow}
 use Rattle.nr_nfs_args.specs.declared.create.CreateHow.TheVariants as hows
 use Rattle.nr_tree.specs.Changes.{entry_at, node_with_entry, on_entries, tree_with_node, tree_with_size}
 use Rattle.nr_tree.specs.Entries.{Entries, Entry, entries_with, entry_of_name, is_name, next_entry}
-use Rattle.nr_tree.specs.Rules.{after, first, handle_of, handle_rule, is_dot, is_dot_dot, is_dot_name, node_of_handle, number_of_handle, on}
+use Rattle.nr_tree.specs.Rules.{after, first, handle_of, is_dot, is_dot_dot, is_dot_name, node_of_handle, number_of_handle, on}
 use Rattle.nr_tree.specs.Sane.{IsSane}
 use Rattle.nr_tree.specs.Steps.{CanAddNode, entries_at, is_live_at}
-use Rattle.nr_tree.specs.Tree.{Tree, entries_in, entries_of, is_dir, is_regular, is_regular_content, nodes_with_change}
+use Rattle.nr_tree.specs.Tree.{Tree, entries_in, entries_of, is_dir, is_regular, is_regular_content}
 use Rattle.nr_tree.specs.declared.node.Content.{Content}
 use Rattle.nr_tree.specs.declared.node.Content.TheVariants.{Regular, Directory, Block, Character, Link, Socket, Fifo}
 use Rattle.nr_tree.specs.declared.node.Node.{Node}
@@ -37,7 +35,7 @@ use Rattle.nr_ops_dir.proofs.NamesAfter.{named_after_addition, named_after_size}
 use Rattle.nr_ops_list.specs.Lookup.{number_of_name}
 use Rattle.nr_plain.proofs.Lengths.{length_handle}
 use Rattle.nr_pair_laws.specs.FilesAt.{content_at, handle_in}
-use Rattle.nr_pair_laws.proofs.Changed.{changed, emptied_content, emptied_names, node_changed, same_test}
+use Rattle.nr_pair_laws.proofs.Changed.{emptied_content, emptied_names, node_changed, same_test}
 use Rattle.nr_pair_laws.proofs.Paths.{Grows}
 
 -- ---- Handles and entries

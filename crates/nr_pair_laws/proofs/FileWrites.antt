@@ -1,5 +1,5 @@
 -- A file that CREATE and WRITEs made has the bytes of the input.
-use Rattle.std.proofs.Common.{◌≡◌, ℕ, suc, ◌+◌, ◌-◌, ◌<◌, ◌≤◌, ◌^◌, min, Bool, true, false, cond, ltb, List, [], ◌∷◌, ◌++◌, length, take, drop, Option, None, Some, Result, Ok, Err, refl, ap, sym, ◌∙◌, subst, arith, length-take}
+use Rattle.std.proofs.Common.{◌≡◌, ℕ, suc, ◌+◌, ◌<◌, ◌≤◌, Bool, true, false, cond, ltb, List, [], ◌∷◌, ◌++◌, length, take, Some, Result, Ok, Err, refl, ap, sym, ◌∙◌, subst, arith, length-take}
 use Rattle.std.specs.List.{fold}
 use Rattle.std.proofs.lemmas.Bool.{ltb-false, ltb-true}
 use Rattle.std.proofs.lemmas.List.{take_all}
@@ -12,7 +12,6 @@ use Rattle.nr_tree.specs.Changes.{tree_with_bytes}
 use Rattle.nr_tree.specs.Rules.{handle_of, number_of_handle}
 use Rattle.nr_tree.specs.Sane.{IsSane}
 use Rattle.nr_tree.specs.Tree.{Tree}
-use Rattle.nr_tree.specs.declared.node.Content.{Content}
 use Rattle.nr_tree.specs.declared.node.Content.TheVariants.{Regular}
 use Rattle.nr_plain.specs.Journal.{tree_at}
 use Rattle.nr_plain.specs.Setup.{Setup, time_of}
@@ -24,7 +23,7 @@ use Rattle.nr_client.specs.Following.Next.{Calls, Returns}
 use Rattle.nr_client.specs.Writing.{FileWrite, after_write_reply, create_call, created_file, next_write, piece_at, with_count, with_handle, write_call, write_end, write_result}
 use Rattle.nr_client.specs.Writing.FileWrite.{Created, NotCreated, WriteEnds}
 use Rattle.nr_reply_laws.specs.Replies.{AreIds}
-use Rattle.nr_pair_laws.specs.FilesAt.{KeepPath, KeepsPath, NumbersFit, content_at, handle_along}
+use Rattle.nr_pair_laws.specs.FilesAt.{KeepPath, NumbersFit, content_at, handle_along}
 use Rattle.nr_pair_laws.specs.Pairs.{IsAnsweredAt, place_after}
 use Rattle.nr_pair_laws.specs.PutThenGet.{AnsweredInOrder, HoldsFile, OnCall, root_handle}
 use Rattle.nr_pair_laws.proofs.Bytes.{piece_added, piece_length}

@@ -1,9 +1,8 @@
 -- The calls of a `get` by its exchanges, each answered at a place of a journal.
-use Rattle.std.proofs.Common.{◌≡◌, ◌⊎◌, ℕ, ◌+◌, ◌≤◌, ◌<◌, Bool, true, false, List, [], ◌∷◌, ◌++◌, length, map, Option, Result, Ok, Err, inl, inr, refl, sym, ap, subst, ◌∙◌, arith}
+use Rattle.std.proofs.Common.{◌≡◌, ◌⊎◌, ℕ, ◌≤◌, Bool, true, false, List, [], ◌∷◌, ◌++◌, length, map, Option, Result, Ok, Err, inl, inr, refl, sym, ap, subst, arith}
 use Rattle.std.specs.Prelude.{MatchBool, nat_lt}
 use Rattle.std.specs.List.{AllByRecursion}
 use Rattle.std.specs.Io.KnownBytes.{Appends}
-use Rattle.nr_outside.specs.Streams.{SinkAt}
 use Rattle.nr_words.specs.Limits.{mount_path_max}
 use Rattle.nr_reduce.specs.declared.call.Call.{Call}
 use Rattle.nr_reduce.specs.declared.call.Outcome.{Outcome}
@@ -12,25 +11,22 @@ use Rattle.nr_requester.specs.RequesterState.{RequesterSide}
 use Rattle.nr_plain.specs.Setup.{Setup}
 use Rattle.nr_client.specs.declared.client_end.ClientEnd.{ClientEnd}
 use Rattle.nr_client.specs.declared.client_end.ClientEnd.TheVariants as client
-use Rattle.nr_client.specs.Following.{EndsWith, Follows, MakesCalls, Next}
+use Rattle.nr_client.specs.Following.{EndsWith, Follows, Next}
 use Rattle.nr_client.specs.Following.Next.{Calls, Returns}
-use Rattle.nr_client.specs.Reading.{EndsReading, LeadsBy, OpenRead, ReadStep, ReadingAt, ReadsFile, TakesRead, bytes_read, reading, starts_at}
+use Rattle.nr_client.specs.Reading.{EndsReading, OpenRead, ReadsFile, TakesRead, bytes_read, reading, starts_at}
 use Rattle.nr_client.specs.Reading.EndsReading.{EndsByReplies, NotAnswered, NotSubmitted, OldestForgotten, OutputFails}
-use Rattle.nr_client.specs.Reading.ReadStep.{AsksAhead, MakesAlone, TakesOldest}
-use Rattle.nr_client.specs.Requests.{Asks, mnt_call, mnt_result}
+use Rattle.nr_client.specs.Requests.{mnt_call, mnt_result}
 use Rattle.nr_client.specs.Transfers.{LinkBytes}
 use Rattle.nr_client.specs.Walking.{walk_next}
-use Rattle.nr_commands.specs.Commands.{Finds, Gets, Mounts, ReadsOut}
-use Rattle.nr_commands.specs.Sessions.{Fails, Request, Requests, SessionAt, Then}
-use Rattle.nr_service_laws.specs.Exchanges.{Exchange, asked_exchanges, followed_exchanges, made_exchanges, read_exchanges, reading_end_exchanges, step_exchanges, steps_exchanges, tells_finds, tells_mounts, tells_reads_out, tells_request, within_exchanges}
+use Rattle.nr_commands.specs.Sessions.{Fails, Request, SessionAt}
+use Rattle.nr_service_laws.specs.Exchanges.{Exchange, followed_exchanges, made_exchanges, read_exchanges, steps_exchanges, tells_finds, tells_mounts, tells_reads_out, tells_request, within_exchanges}
 use Rattle.nr_service_laws.specs.Exchanges.Exchange.{Answered, Forgotten, GivenUp, HandedOver, Submitted}
 use Rattle.nr_service_laws.specs.ReplyEnds.{AreAnswers}
-use Rattle.nr_service_laws.proofs.Judged.{answers_more}
-use Rattle.nr_service_laws.proofs.JudgedParts.{AreJudged, IsOf, judged_both, reads_after}
+use Rattle.nr_service_laws.proofs.JudgedParts.{AreJudged, IsOf, answers_of, judged_both, reads_after, steps_judged}
 use Rattle.nr_pair_laws.specs.FilesAt.{KeepPath}
 use Rattle.nr_pair_laws.specs.Getting.{GetsReadTheFile}
 use Rattle.nr_pair_laws.specs.Pairs.{AreAnsweredFrom, IsAnsweredAt, IsAnsweredBetween, OpenCall, place_after}
-use Rattle.nr_pair_laws.specs.PutThenGet.{AnsweredSince, GetsFile, OnCall, mounting, root_handle}
+use Rattle.nr_pair_laws.specs.PutThenGet.{AnsweredSince, OnCall, mounting, root_handle}
 
 -- ---- Each outcome at a place
 
@@ -65,7 +61,7 @@ module _ (s : Setup) (J : List Entry) (from : ℕ) where
 
   -- ---- Requests
 
-  since : {A : Type 0} (dir : List ℕ) (names : List (List ℕ)) → KeepPath s J dir names from (length J) → (request : List Outcome → Next A) (outcomes : List Outcome) → AreAnswers AnsweredAfter request outcomes
+  pub since : {A : Type 0} (dir : List ℕ) (names : List (List ℕ)) → KeepPath s J dir names from (length J) → (request : List Outcome → Next A) (outcomes : List Outcome) → AreAnswers AnsweredAfter request outcomes
       → AnsweredSince s J (KeepPath s J dir names) request outcomes from
   since dir names keep request [] are = tt
   since {A} dir names keep request (o ∷ later) ((call, (is, (place, (a, low)))), rest) =
@@ -75,19 +71,13 @@ module _ (s : Setup) (J : List Entry) (from : ℕ) where
       subst (λ (n : Next A). OnCall n (λ c. (p : ℕ) × (answered : IsAnsweredAt s J c o p) × ((from ≤ p) × (KeepPath s J dir names from p
       × AnsweredSince s J (KeepPath s J dir names) (λ more. request (o ∷ more)) later from)))) (sym is) (place, a, (low, (others, then)))
 
-answers_of : {A : Type 0} (R : Call → Outcome → Type 0) (request : List Outcome → Next A) (outcomes : List Outcome) (b c : LinkBytes) (h i : RequesterSide) (made : MakesCalls request outcomes b c h i) (before : List OpenRead)
-    → AreJudged R before (made_exchanges request outcomes b c h i made).made → AreAnswers R request outcomes
-answers_of R request [] b c h i made before are = tt
-answers_of R request (outcome ∷ outcomes) b c h i (call, d, j, (is, (answers, rest))) before (one, are) =
-    ((call, (is, one)), answers_of R (λ later. request (outcome ∷ later)) outcomes d c j i rest before are)
-
 -- a request that has its value by these outcomes
-record HasValue {A : Type 0} (R : Call → Outcome → Type 0) (request : List Outcome → Next A) (value : A) : Type 0 where
-  outcomes : List Outcome
-  answers : AreAnswers R request outcomes
-  is : request outcomes ≡ Returns (Ok value)
+pub record HasValue {A : Type 0} (R : Call → Outcome → Type 0) (request : List Outcome → Next A) (value : A) : Type 0 where
+  pub outcomes : List Outcome
+  pub answers : AreAnswers R request outcomes
+  pub is : request outcomes ≡ Returns (Ok value)
 
-followed : {A : Type 0} (R : Call → Outcome → Type 0) (request : List Outcome → Next A) (b c : LinkBytes) (h i : RequesterSide) (value : A) (f : Follows request b c h i (Ok value)) (before : List OpenRead)
+pub followed : {A : Type 0} (R : Call → Outcome → Type 0) (request : List Outcome → Next A) (b c : LinkBytes) (h i : RequesterSide) (value : A) (f : Follows request b c h i (Ok value)) (before : List OpenRead)
     → AreJudged R before (followed_exchanges request b c h i (Ok value) f).made → HasValue R request value
 followed {A} R request b c h i value f before are =
     let made = (made_exchanges request f.outcomes b f.between h f.side f.made).made in
@@ -98,7 +88,7 @@ followed {A} R request b c h i value f before are =
     ends (Calls call) (end, (same, gone)) = absurd (let wrong = same in cc)
 
 -- MNT
-mounted : (R : Call → Outcome → Type 0) (uid gid : ℕ) (export : List ℕ) (s m : SessionAt) (root : List ℕ) (b : Bool) → (is : MatchBool b (Fails (client.Budget mount_path_max) s m (Ok root)) (Request mnt_result (mnt_call uid gid export) s m (Ok root)))
+pub mounted : (R : Call → Outcome → Type 0) (uid gid : ℕ) (export : List ℕ) (s m : SessionAt) (root : List ℕ) (b : Bool) → (is : MatchBool b (Fails (client.Budget mount_path_max) s m (Ok root)) (Request mnt_result (mnt_call uid gid export) s m (Ok root)))
     → AreJudged R [] (within_exchanges b (Fails (client.Budget mount_path_max) s m (Ok root)) (Request mnt_result (mnt_call uid gid export) s m (Ok root)) (tells_request mnt_result (mnt_call uid gid export) s m (Ok root)) is).made
     → (o : Outcome) × ((mnt_result o ≡ Ok root) × R (mnt_call uid gid export) o)
 mounted R uid gid export s m root true (same, wrong) are = absurd (let w = wrong in cc)
@@ -107,63 +97,6 @@ mounted R uid gid export s m root false ((inr (inl (cause, (wrong, rest)))), cou
 mounted R uid gid export s m root false ((inr (inr (wrong, same))), counts) are = absurd (let w = wrong in cc)
 
 -- ---- A file that is read
-
-AllOf : List OpenRead → List OpenRead → Type 0
-AllOf reads [] = Unit {0}
-AllOf reads (read ∷ waiting) = IsOf reads read.xid read.call × AllOf reads waiting
-
-all_more : (read : OpenRead) (reads waiting : List OpenRead) → AllOf reads waiting → AllOf (read ∷ reads) waiting
-unfolding AllOf
-all_more read reads [] all = tt
-all_more read reads (x ∷ waiting) (is, all) = (inr is, all_more read reads waiting all)
-
-all_last : (read : OpenRead) (reads waiting : List OpenRead) → AllOf reads waiting → IsOf reads read.xid read.call → AllOf reads (waiting ++ read ∷ [])
-unfolding AllOf
-all_last read reads [] all is = (is, tt)
-all_last read reads (x ∷ waiting) (one, all) is = (one, all_last read reads waiting all is)
-
-record IsReadSoFar (R : Call → Outcome → Type 0) (uid gid : ℕ) (file : List ℕ) (reads : List OpenRead) (s : ReadingAt) : Type 0 where
-  answers : AreAnswers R (reading uid gid file) s.outcomes
-  waiting : AllOf reads s.waiting
-
-step_judged : (R : Call → Outcome → Type 0) (uid gid : ℕ) (file : List ℕ) (reads : List OpenRead) (s t : ReadingAt) (step : ReadStep uid gid file s t) → IsReadSoFar R uid gid file reads s
-    → AreJudged R reads (step_exchanges uid gid file s t step).made → IsReadSoFar R uid gid file (reads_after reads (step_exchanges uid gid file s t step).made) t
-unfolding AllOf
-step_judged R uid gid file reads s t (MakesAlone call outcome alone answers replies waits) so_far (one, are) = record {
-  answers = subst (λ (os : List Outcome). AreAnswers R (reading uid gid file) os) (sym replies) (answers_more R (reading uid gid file) s.outcomes call outcome so_far.answers alone.0 one);
-  waiting = subst (λ (w : List OpenRead). AllOf reads w) (sym waits) so_far.waiting;
-}
-step_judged R uid gid file reads s t (AsksAhead read ahead submits replies waits) so_far are = record {
-  answers = subst (λ (os : List Outcome). AreAnswers R (reading uid gid file) os) (sym replies) so_far.answers;
-  waiting = subst (λ (w : List OpenRead). AllOf (record { xid = read.xid; call = read.call } ∷ reads) w) (sym waits)
-      (all_last read (record { xid = read.xid; call = read.call } ∷ reads) s.waiting (all_more (record { xid = read.xid; call = read.call }) reads s.waiting so_far.waiting) (inl (refl, refl)));
-}
-step_judged R uid gid file reads s t (TakesOldest read outcome full is completes replies waits) so_far (one, are) =
-    let all = subst (λ (w : List OpenRead). AllOf reads w) waits so_far.waiting in
-    record {
-      answers = subst (λ (os : List Outcome). AreAnswers R (reading uid gid file) os) (sym replies)
-          (answers_more R (reading uid gid file) s.outcomes read.call outcome so_far.answers is (one read.call all.0));
-      waiting = all.1;
-    }
-
-after_both : (rs : List OpenRead) (made later : List Exchange) → reads_after rs (made ++ later) ≡ reads_after (reads_after rs made) later
-after_both rs [] later = refl
-after_both rs (Answered call outcome ∷ rest) later = after_both rs rest later
-after_both rs (Forgotten call ∷ rest) later = after_both rs rest later
-after_both rs (Submitted xid call ∷ rest) later = after_both (record { xid = xid; call = call } ∷ rs) rest later
-after_both rs (HandedOver xid outcome ∷ rest) later = after_both rs rest later
-after_both rs (GivenUp xid ∷ rest) later = after_both rs rest later
-
-steps_judged : (R : Call → Outcome → Type 0) (uid gid : ℕ) (file : List ℕ) (reads : List OpenRead) (b : LinkBytes) (h : RequesterSide) (states : List ReadingAt) (last : ReadingAt) (leads : LeadsBy uid gid file (starts_at b h) states last)
-    → AreJudged R reads (steps_exchanges uid gid file (starts_at b h) states last leads).made → IsReadSoFar R uid gid file (reads_after reads (steps_exchanges uid gid file (starts_at b h) states last leads).made) last
-unfolding AllOf
-steps_judged R uid gid file reads b h [] last same are = subst (λ (s : ReadingAt). IsReadSoFar R uid gid file reads s) (sym same) (record { answers = tt; waiting = tt })
-steps_judged R uid gid file reads b h (s ∷ states) last (step, leads) are =
-    let before = (steps_exchanges uid gid file (starts_at b h) states s leads).made in
-    let one = (step_exchanges uid gid file s last step).made in
-    let both = judged_both R reads before one are in
-    subst (λ (r : List OpenRead). IsReadSoFar R uid gid file r last) (sym (after_both reads before one))
-    (step_judged R uid gid file (reads_after reads before) s last step (steps_judged R uid gid file reads b h states s leads both.0) both.1)
 
 -- a file that was read to its end
 record IsReadWhole (R : Call → Outcome → Type 0) (uid gid : ℕ) (file : List ℕ) (taken taken' : Option (List ℕ)) : Type 0 where

@@ -1,7 +1,6 @@
 -- A client's marks and a server's are put into one order: the next mark of either that receives only what was sent, until
 -- there is none.
 use Rattle.std.proofs.Common.{◌≡◌, ℕ, ◌+◌, ◌<◌, ◌≤◌, Bool, true, false, cond, ◌&&◌, ◌||◌, eqb, suc, List, [], ◌∷◌, ◌++◌, length, refl, sym, ap, subst, ◌∙◌, append_assoc, append-nil, length-append, inl, inr, ◌⊎◌, arith}
-use Rattle.std.proofs.lemmas.Bool.{eqb-true}
 use Rattle.std.proofs.lemmas.Grind.{flat_map-append}
 use Rattle.std.proofs.lemmas.List.Elements.{filter-append}
 use Rattle.std.specs.Prelude.{⊤}
@@ -14,12 +13,12 @@ use Rattle.nr_reduce.specs.declared.mark.Mark.{Mark}
 use Rattle.nr_reduce.specs.declared.mark.Mark.TheVariants as marks
 use Rattle.nr_reduce.specs.AtEachMark.{AtEachMark}
 use Rattle.nr_reduce.specs.History.{bytes_received, bytes_sent, fed_at, other, same_side, written_at}
-use Rattle.nr_reduce.specs.Matched.{IsPrefixOf, Matched, MatchedMark}
+use Rattle.nr_reduce.specs.Matched.{IsPrefixOf, MatchedMark}
 use Rattle.nr_reduce.proofs.Standing.{AtEachMark_more, itself, received_one, sent_one}
 use Rattle.nr_host.specs.Connections as connections
-use Rattle.nr_host_laws.specs.OwnMarks.{is_own, own_marks}
+use Rattle.nr_host_laws.specs.OwnMarks.{is_own}
 use Rattle.nr_service_laws.specs.ClientMarks as commands
-use Rattle.nr_service_laws.specs.ServedCommands.{client_marks, is_client_mark}
+use Rattle.nr_service_laws.specs.ServedCommands.{is_client_mark}
 use Rattle.nr_pair_laws.specs.Interleaving.{BothWait, SidesAreInterleaved}
 use Rattle.nr_pair_laws.specs.Pairs.{AreSidesOf, IsOfSide}
 

@@ -1,11 +1,11 @@
 -- Entries of a journal that don't change what a path leads to.
-use Rattle.std.proofs.Common.{◌≡◌, ℕ, zero, suc, ◌+◌, ◌-◌, ◌<◌, ◌≤◌, List, [], ◌∷◌, ◌++◌, Some, refl, ap, sym, ◌∙◌, subst, arith}
+use Rattle.std.proofs.Common.{◌≡◌, ℕ, zero, suc, ◌+◌, ◌-◌, ◌≤◌, List, [], ◌∷◌, ◌++◌, Some, refl, ap, sym, ◌∙◌, subst, arith}
 use Rattle.nr_reduce.specs.declared.mark.Entry.{Entry}
 use Rattle.nr_tree.specs.Tree.{Tree}
 use Rattle.nr_tree.specs.declared.node.Content.{Content}
 use Rattle.nr_plain.specs.Journal.{tree_at}
 use Rattle.nr_plain.specs.Setup.{Setup}
-use Rattle.nr_pair_laws.specs.FilesAt.{KeepPath, KeepsPath, content_along, content_at, handle_along}
+use Rattle.nr_pair_laws.specs.FilesAt.{KeepPath, KeepsPath, content_at, handle_along}
 use Rattle.nr_pair_laws.proofs.Paths.{content_found}
 
 same_path : (dir : List ℕ) (names : List (List ℕ)) (t : Tree) → KeepsPath dir names t t

@@ -1,4 +1,5 @@
 pub mod AnsweredCalls
+pub mod AnyInputs
 pub mod AnyReads
 pub mod AtPlace
 pub mod Bytes
@@ -10,9 +11,16 @@ pub mod FileWrites
 pub mod FirstTrees
 pub mod Getting
 pub mod Interleaving
+pub mod JobAnswers
+pub mod JobBytes
+pub mod JobMarks
+pub mod JobOrder
+pub mod JobRuns
+pub mod JobTypes
 pub mod Kept
 pub mod LongerJournals
 pub mod Mounts
+pub mod Numbers
 pub mod Pairs
 pub mod Paths
 pub mod PlacedCalls
@@ -20,6 +28,10 @@ pub mod PutThenGet
 pub mod Putting
 pub mod ReadBack
 pub mod ReadResults
+pub mod RecordReads
+pub mod Refusals
+pub mod RefusedCalls
+pub mod RefusedGets
 pub mod Results
 pub mod ServerSide
 pub mod TypedPairs

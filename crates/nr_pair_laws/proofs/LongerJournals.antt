@@ -1,5 +1,5 @@
 -- What a path leads to at a place of a journal, in a longer journal.
-use Rattle.std.proofs.Common.{◌≡◌, List, ◌++◌, sym, ap, subst, ◌∙◌}
+use Rattle.std.proofs.Common.{◌≡◌, List, ◌++◌, sym, ap, subst}
 use Rattle.std.proofs.lemmas.List.{take-append-le}
 use Rattle.std.specs.Prelude.{Some}
 use Rattle.nr_reduce.specs.declared.mark.Entry.{Entry}

@@ -1,13 +1,11 @@
 -- MNT gives the handle of the root, and adds no entry.
-use Rattle.std.proofs.Common.{◌≡◌, ℕ, ◌+◌, ◌<◌, ◌≤◌, ◌^◌, Bool, true, false, cond, List, [], ◌∷◌, length, take, Option, Some, Result, Ok, Err, inl, inr, refl, ap, sym, ◌∙◌, subst, arith}
+use Rattle.std.proofs.Common.{◌≡◌, ℕ, ◌<◌, ◌≤◌, ◌^◌, Bool, true, false, cond, List, [], length, take, Result, Ok, Err, inl, inr, ap, sym, ◌∙◌, arith}
 use Rattle.std.specs.Prelude.{◌⊎◌, nat_eq}
 use Rattle.std.specs.Cmp.Lexicographic.{pointwise}
 use Rattle.nr_xdr.specs.Items.{encodings}
-use Rattle.nr_rpc.specs.Call.{call_head}
 use Rattle.nr_rpc.specs.declared.cred.Cred.TheVariants as creds
 use Rattle.nr_rpc.specs.declared.head.CallHead.{CallHead}
 use Rattle.nr_rpc.specs.declared.head.CallHead.TheVariants as heads
-use Rattle.nr_rpc.specs.Reading.{call_of}
 use Rattle.nr_rpc.proofs.Calls.{call_written}
 use Rattle.nr_rpc.proofs.FittingCredentials.{sys_fit}
 use Rattle.nr_nfs_base.specs.Codec.{void}
@@ -27,7 +25,6 @@ use Rattle.nr_nfs_res.specs.declared.mount.MountOk.{MountOk}
 use Rattle.nr_outside.specs.declared.moment.Moment.{Moment}
 use Rattle.nr_reduce.specs.ClientState.{call_payload}
 use Rattle.nr_reduce.specs.declared.call.Outcome.{Outcome}
-use Rattle.nr_reduce.specs.declared.call.Outcome.TheVariants as outcomes
 use Rattle.nr_reduce.specs.declared.mark.Entry.{Entry}
 use Rattle.nr_tree.specs.Rules.{handle_of}
 use Rattle.nr_plain.specs.Added.{entries_by_call, entries_of_call}
@@ -43,20 +40,10 @@ use Rattle.nr_client.specs.Results.{mount_done, result_of_reply}
 use Rattle.nr_reply_laws.specs.Replies.{AreIds}
 use Rattle.nr_reply_laws.proofs.Decoding.{UnionIs, done_is, failed_is}
 use Rattle.nr_reply_laws.proofs.Replied.{garbage, garbage_read, mnt_replied, results_read}
+use Rattle.nr_reply_laws.proofs.Replies.{mount_status_fits}
 use Rattle.nr_reply_laws.proofs.Values.{mount_ok_is, void_any}
 use Rattle.nr_pair_laws.specs.Pairs.{IsAnsweredAt, place_after}
 use Rattle.nr_pair_laws.proofs.ReadBack.{Gave}
-
-mount_status_fits : (m : MountStatus) → mount_status_number m < 2 ^ 32
-mount_status_fits mount_status.Perm = omega arith
-mount_status_fits mount_status.Noent = omega arith
-mount_status_fits mount_status.Io = omega arith
-mount_status_fits mount_status.Acces = omega arith
-mount_status_fits mount_status.Notdir = omega arith
-mount_status_fits mount_status.Inval = omega arith
-mount_status_fits mount_status.Nametoolong = omega arith
-mount_status_fits mount_status.Notsupp = omega arith
-mount_status_fits mount_status.Serverfault = omega arith
 
 abbrev Read : Type 0
 Read = Result (StatusUnion MountOk (Unit {0}) MountStatus) ClientEnd

@@ -1,9 +1,9 @@
 -- A command and a connection that are the sides of one list of marks.
-use Rattle.std.proofs.Common.{◌≡◌, ◌⊎◌, ℕ, List, [], ◌++◌, length, Option, None, Some, Result, Err, inl, inr, refl, sym, ap, subst, ◌∙◌}
+use Rattle.std.proofs.Common.{◌≡◌, ◌⊎◌, ℕ, List, [], ◌++◌, length, Option, None, Some, Err, inl, inr, sym, ap, subst, ◌∙◌}
 use Rattle.std.specs.List.{AllByRecursion, flat_map}
 use Rattle.std.proofs.lemmas.Option.{none-some}
 use Rattle.nr_outside.specs.declared.moment.Moment.{Moment}
-use Rattle.nr_wire.specs.declared.hello.Side.TheVariants.{Initiator, Responder}
+use Rattle.nr_wire.specs.declared.hello.Side.TheVariants.{Responder}
 use Rattle.nr_link.specs.declared.end.End.{End}
 use Rattle.nr_reduce.specs.declared.mark.Entry.{Entry}
 use Rattle.nr_reduce.specs.declared.mark.LinkParameters.{LinkParameters}
@@ -24,33 +24,35 @@ use Rattle.nr_laws.proofs.NeitherEnds.{links_stay}
 use Rattle.nr_laws.proofs.PlacedLinks.{placed_links_have_plain_replies}
 use Rattle.nr_tree.specs.Sane.{IsSane}
 use Rattle.nr_plain.specs.Added.{entries_of_call}
-use Rattle.nr_plain.specs.History.{AllPlaced, Answered, setup_in}
+use Rattle.nr_plain.specs.History.{AllPlaced, AreOfCalls, Opening, setup_in}
 use Rattle.nr_plain.specs.Replies.{plain_reply}
 use Rattle.nr_plain.specs.ReplyLaws.{plain_server}
 use Rattle.nr_plain.specs.Setup.{Setup}
 use Rattle.nr_plain.proofs.PlainServers.{server_is_plain}
+use Rattle.nr_byte_laws.specs.InBytes.{IsInBytes}
 use Rattle.nr_client.specs.declared.call_end.CallEnd.TheVariants as calls
-use Rattle.nr_client.specs.declared.client_end.ClientEnd.{ClientEnd}
 use Rattle.nr_client.specs.declared.client_end.ClientEnd.TheVariants as client
 use Rattle.nr_commands.specs.Running.Runs.{NotOpened, Opened}
-use Rattle.nr_host.specs.Connections.{answer_of, answers_of, IsOpenedWith}
+use Rattle.nr_host.specs.Connections.{Outside, answer_of, answers_of}
 use Rattle.nr_host.specs.Ending.{IsCause}
 use Rattle.nr_host.specs.declared.connection_limits.ConnectionLimits.{ConnectionLimits}
 use Rattle.nr_host.specs.declared.conn_end.ConnEnd.{ConnEnd}
-use Rattle.nr_host.specs.declared.conn_end.ConnEnd.TheVariants as ends
 use Rattle.nr_host_laws.specs.OwnMarks.{own_marks}
 use Rattle.nr_host_laws.proofs.Lawful.{keep_the_law}
+use Rattle.nr_host_laws.proofs.OwnMarks.{same_server}
+use Rattle.nr_host_laws.proofs.TypedMarks.{all_bytes, of_calls_bytes}
 use Rattle.nr_service_laws.specs.ClientMarks.{AreMarksOf, IsOwn, without_bytes}
-use Rattle.nr_service_laws.specs.Exchanges.{tells_text}
+use Rattle.nr_service_laws.specs.Exchanges.{Exchange, tells_text}
 use Rattle.nr_service_laws.specs.ServedCommands.{client_marks}
 use Rattle.nr_service_laws.proofs.ByteCommands.{command_calls}
+use Rattle.nr_service_laws.proofs.ByteExchanges.{CallsAreBytes}
 use Rattle.nr_service_laws.proofs.OpenLinks.{conveyed, not_revoked, own_each}
 use Rattle.nr_service_laws.proofs.ServedLaws.{ServerKeeps, matched_by, served_keep_laws_lem}
-use Rattle.nr_pair_laws.specs.Pairs.{AreSidesOf, ConnectionsHaveARun, PairsAreServed, PairsAreTyped}
-use Rattle.nr_pair_laws.proofs.AnsweredCalls.{exchanged_in, exchanges_answered, is_exchanged}
+use Rattle.nr_pair_laws.specs.Pairs.{AreSidesOf, ConnectionsHaveARun, IsConnectionRun, PairsAreServed, PairsAreTyped}
+use Rattle.nr_pair_laws.proofs.AnsweredCalls.{exchanged_in, exchanges_answered}
 use Rattle.nr_pair_laws.proofs.PlacedCalls.{each_placed, served_calls}
-use Rattle.nr_pair_laws.proofs.ServerSide.{placed_in_both, served_in_both, server_same}
-use Rattle.nr_pair_laws.proofs.TypedPairs.{entries_typed, of_calls_bytes, pair_is_typed}
+use Rattle.nr_pair_laws.proofs.ServerSide.{placed_in_both, served_in_both}
+use Rattle.nr_pair_laws.proofs.TypedPairs.{pair_is_typed}
 
 pub connections_have_a_run_lem : ConnectionsHaveARun
 connections_have_a_run_lem limits first J opened link before after end served other same history =
@@ -59,13 +61,13 @@ connections_have_a_run_lem limits first J opened link before after end served ot
 
 -- ---- A link that stays
 
-abbrev plain_replies : Setup → List Entry → Moment → List ℕ → Option (List ℕ)
+abbrev pub plain_replies : Setup → List Entry → Moment → List ℕ → Option (List ℕ)
 plain_replies s entries moment payload = plain_reply s entries (length entries) moment payload
 
 ended_server : (opened : LinkParameters) (link : ℕ) (run own : List Mark) (why : End) → own_marks link run ≡ own → end_of_side opened link Responder run ≡ None → (server opened link own).ended ≡ Some why → ⊥
 unfolding end_of_side
 ended_server opened link run own why same open_still out =
-    none-some why (sym open_still ∙ ap (λ (x : EndState ServerState). x.ended) (server_same opened link run ∙ ap (λ (r : List Mark). server opened link r) same) ∙ out)
+    none-some why (sym open_still ∙ ap (λ (x : EndState ServerState). x.ended) (same_server opened link run ∙ ap (λ (r : List Mark). server opened link r) same) ∙ out)
 
 -- the client's marks are those of a command
 never_ends : (s : Setup) → IsSane s.tree → (opened : LinkParameters) (link : ℕ) (both : List Mark) → IsOpened opened → IsTyped both → KeepLaws opened link both → HasPlainReplies (plain_server s) link both
@@ -76,7 +78,7 @@ never_ends s sane opened link both fine typed laws plain owns =
 
 -- ---- The pair
 
-placed_of : (s : Setup) (J : List Entry) (n : ℕ) (link : ℕ) (own both : List Mark) → own_marks link both ≡ own → AllPlaced s J n (answers_of own) → AllPlaced s J n (served_calls link both)
+pub placed_of : (s : Setup) (J : List Entry) (n : ℕ) (link : ℕ) (own both : List Mark) → own_marks link both ≡ own → AllPlaced s J n (answers_of own) → AllPlaced s J n (served_calls link both)
 unfolding answers_of
 placed_of s J n link own both same placed = subst (λ (r : List Mark). AllPlaced s J n (flat_map answer_of r)) (sym same) placed
 
@@ -129,14 +131,21 @@ pairs_are_served_lem limits first J opened link outside outside' end connection 
     by clash (inl failed) = failed
     by clash (inr laws) = absurd (clash laws)
 
+-- a list with both sides is of its types, if each call of the command is of bytes
+pub sides_typed : (limits : ConnectionLimits) (first : Opening) (J : List Entry) (opened : LinkParameters) (link : ℕ) (outside outside' : Outside) (end : ConnEnd)
+    (connection : IsConnectionRun limits first J opened link outside outside' end) (run both : List Mark) (made : List Exchange) → AllByRecursion (IsOwn link) run → AskedSoFar opened link run
+    → AreMarksOf link made (without_bytes run) → AreSidesOf link run connection.ended.run both → IsInBytes (setup_in first).tree → AreOfCalls (setup_in first) [] J → CallsAreBytes made → IsTyped both
+sides_typed limits first J opened link outside outside' end connection run both made owns asked are sides tree entries words =
+    let setup = setup_in first in
+    let journal : List Entry = J ++ connection.over.more in
+    let b = both_sides setup journal (length J) opened link run connection.ended.run both owns asked sides connection.served connection.over.placed in
+    let are_both = subst (λ (r : List Mark). AreMarksOf link made (without_bytes r)) (sym sides.client_side) are in
+    pair_is_typed setup journal opened link both made tree (all_bytes setup J connection.over.more (of_calls_bytes setup [] J entries) connection.over.of_calls) b.far b.at_places b.owns
+    (subst (λ (r : List Mark). AreMarksOf link made r) (exchanged_in link both) are_both) words sides.no_others
+
 pub pairs_are_typed_lem : PairsAreTyped
 pairs_are_typed_lem limits first J opened link outside outside' end connection c before after input input' out out' result (NotOpened why is fails same_input same_out) of tree entries = tt
 pairs_are_typed_lem limits first J opened link outside outside' end connection c before after input input' out out' result (Opened dialed s s' opens prints closes) of tree entries = λ ran both sides.
-    let setup = setup_in first in
-    let journal : List Entry = J ++ connection.over.more in
-    let made = (tells_text c.uid c.gid c.export c.action input input' out prints.written s s' prints.text prints.made).made in
-    let b = both_sides setup journal (length J) opened link ran.run connection.ended.run both ran.own ran.asked sides connection.served connection.over.placed in
-    let are = subst (λ (r : List Mark). AreMarksOf link made (without_bytes r)) (sym sides.client_side) ran.marks_are in
-    let words = command_calls c.uid c.gid c.export c.action input input' out prints.written s s' prints.text prints.made (of.uid, of.gid) of.export of.names in
-    pair_is_typed setup journal opened link both made tree (entries_typed setup J connection.over.more (of_calls_bytes setup [] J entries) connection.over.of_calls) b.far b.at_places b.owns
-    (subst (λ (r : List Mark). AreMarksOf link made r) (exchanged_in link both) are) words sides.no_others
+    sides_typed limits first J opened link outside outside' end connection ran.run both
+    (tells_text c.uid c.gid c.export c.action input input' out prints.written s s' prints.text prints.made).made ran.own ran.asked ran.marks_are sides tree entries
+    (command_calls c.uid c.gid c.export c.action input input' out prints.written s s' prints.text prints.made (of.uid, of.gid) of.export of.names)

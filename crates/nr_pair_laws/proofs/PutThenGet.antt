@@ -1,6 +1,5 @@
 -- A `put` leaves a file with the bytes of its input, other entries keep it, and a `get` gives its bytes.
-use Rattle.std.proofs.Common.{◌≡◌, ℕ, ◌+◌, ◌<◌, ◌≤◌, ◌^◌, List, [], ◌∷◌, ◌++◌, length, Option, Some, Result, Ok, Err, refl, ap, sym, ◌∙◌, subst, arith, append-nil}
-use Rattle.nr_reduce.specs.declared.call.Outcome.{Outcome}
+use Rattle.std.proofs.Common.{◌≡◌, ℕ, ◌<◌, ◌≤◌, ◌^◌, List, [], ◌∷◌, length, Some, Result, Ok, refl, ap, sym, ◌∙◌, subst, arith}
 use Rattle.nr_reduce.specs.declared.mark.Entry.{Entry}
 use Rattle.nr_tree.specs.Rules.{number_of_handle}
 use Rattle.nr_tree.specs.Sane.{IsSane, IsValidContent, file_size_max}
@@ -11,18 +10,17 @@ use Rattle.nr_plain.specs.Setup.{Setup}
 use Rattle.nr_plain.proofs.Lengths.{length_handle}
 use Rattle.nr_plain.proofs.SaneTrees.{tree_sane}
 use Rattle.nr_client.specs.declared.client_end.ClientEnd.{ClientEnd}
-use Rattle.nr_client.specs.Following.{Next, go_on}
-use Rattle.nr_client.specs.Following.Next.{Calls, Returns}
-use Rattle.nr_client.specs.Paths.{path_names}
+use Rattle.nr_client.specs.Following.{go_on}
+use Rattle.nr_client.specs.Following.Next.{Returns}
 use Rattle.nr_client.specs.Walking.{parent_along, walk_from}
-use Rattle.nr_pair_laws.specs.FilesAt.{KeepPath, content_at, handle_along}
-use Rattle.nr_pair_laws.specs.PutThenGet.{AnsweredInOrder, AnsweredSince, GetsFile, GetsGiveTheFile, GetsGiveWhatWasPut, HoldsFile, OtherEntriesKeepTheFile, PutsFile, PutsLeaveTheFile, root_handle}
+use Rattle.nr_pair_laws.specs.FilesAt.{KeepPath, content_at}
+use Rattle.nr_pair_laws.specs.PutThenGet.{AnsweredInOrder, AnsweredSince, GetsGiveTheFile, GetsGiveWhatWasPut, OtherEntriesKeepTheFile, PutsLeaveTheFile, root_handle}
 use Rattle.nr_pair_laws.proofs.FileReads.{file_read}
 use Rattle.nr_pair_laws.proofs.FileWrites.{input_written}
 use Rattle.nr_pair_laws.proofs.Kept.{file_kept, kept}
 use Rattle.nr_pair_laws.proofs.Mounts.{mounted_at}
 use Rattle.nr_pair_laws.proofs.Paths.{content_node}
-use Rattle.nr_pair_laws.proofs.Walked.{AreShort, EndsAbove, IsAbove, parent_walked, path_short, walk_found}
+use Rattle.nr_pair_laws.proofs.Walked.{AreShort, EndsAbove, parent_walked, path_short, walk_found}
 
 pub put_leaves : PutsLeaveTheFile
 put_leaves s J uid gid export path names input from to sane fit ids p =
@@ -48,7 +46,7 @@ others_keep s J names bytes from to rises keeps h =
     record { file = h.file; leads = there.0; holds = there.1 }
 
 -- a file has fewer bytes than a READ can name
-file_few : (s : Setup) (J : List Entry) (place : ℕ) (file bytes : List ℕ) → IsSane s.tree → content_at (tree_at s J place) file ≡ Some (Regular bytes) → length bytes < 2 ^ 64
+pub file_few : (s : Setup) (J : List Entry) (place : ℕ) (file bytes : List ℕ) → IsSane s.tree → content_at (tree_at s J place) file ≡ Some (Regular bytes) → length bytes < 2 ^ 64
 file_few s J place file bytes sane holds =
     let v = content_node (tree_at s J place) file (Regular bytes) holds in
     let valid = (tree_sane s J place sane).contents (number_of_handle file) v.0 (got (tree_at s J place) file v.0 v.1.0) in

@@ -1,5 +1,5 @@
 -- What is read of arguments and results that were encoded.
-use Rattle.std.proofs.Common.{◌≡◌, ℕ, ◌+◌, ◌<◌, ◌≤◌, ◌^◌, List, [], ◌∷◌, ◌++◌, length, drop, Option, None, Some, Result, Ok, Err, refl, sym, ap, subst, ◌∙◌, arith, append-nil}
+use Rattle.std.proofs.Common.{◌≡◌, ℕ, ◌<◌, ◌^◌, List, [], ◌++◌, length, drop, Result, Ok, refl, sym, ap, subst, ◌∙◌, arith, append-nil}
 use Rattle.std.proofs.lemmas.List.{drop_at}
 use Rattle.nr_xdr.specs.Items.{AllFit, encodings}
 use Rattle.nr_xdr.specs.Reading.{Cursor}
@@ -11,7 +11,6 @@ use Rattle.nr_rpc.proofs.Replies.{reply_written}
 use Rattle.nr_nfs_base.specs.Codec.{Codec, Lawful, read_all, value_at_end}
 use Rattle.nr_nfs_base.specs.Status.{each_status, status_not_ok, status_number, statuses}
 use Rattle.nr_nfs_base.specs.declared.status.Status.{Status}
-use Rattle.nr_nfs_base.specs.declared.status.Status.TheVariants.{Perm, Noent, Io, Nxio, Acces, Exist, Xdev, Nodev, Notdir, Isdir, Inval, Fbig, Nospc, Rofs, Mlink, Nametoolong, Notempty, Dquot, Stale, Remote, Badhandle, NotSync, BadCookie, Notsupp, Toosmall, Serverfault, Badtype, Jukebox}
 use Rattle.nr_nfs_base.specs.declared.status_union.StatusUnion.{StatusUnion}
 use Rattle.nr_nfs_base.specs.declared.status_union.StatusUnion.TheVariants.{Done, Failed}
 use Rattle.nr_nfs_res.specs.Results.{nfs_result}
@@ -21,6 +20,7 @@ use Rattle.nr_client.specs.declared.client_end.ClientEnd.{ClientEnd}
 use Rattle.nr_client.specs.Requests.{nfs_reads}
 use Rattle.nr_client.specs.Results.{nfs_done, result_by_reading, result_of_reply, results_or}
 use Rattle.nr_reply_laws.proofs.Decoding.{Any, IsRead, UnionIs, done_is, failed_is, lawful_read}
+use Rattle.nr_reply_laws.proofs.Procedures.{status_fits}
 
 -- ---- Arguments
 
@@ -41,39 +41,9 @@ Gave result value = result ≡ Ok value
 abbrev pub Succeeds : {D F : Type 0} → StatusUnion D F Status → D → Type 0
 Succeeds results value = results ≡ Done value
 
-status_fits : (s : Status) → status_number s < 2 ^ 32
-status_fits Perm = omega arith
-status_fits Noent = omega arith
-status_fits Io = omega arith
-status_fits Nxio = omega arith
-status_fits Acces = omega arith
-status_fits Exist = omega arith
-status_fits Xdev = omega arith
-status_fits Nodev = omega arith
-status_fits Notdir = omega arith
-status_fits Isdir = omega arith
-status_fits Inval = omega arith
-status_fits Fbig = omega arith
-status_fits Nospc = omega arith
-status_fits Rofs = omega arith
-status_fits Mlink = omega arith
-status_fits Nametoolong = omega arith
-status_fits Notempty = omega arith
-status_fits Dquot = omega arith
-status_fits Stale = omega arith
-status_fits Remote = omega arith
-status_fits Badhandle = omega arith
-status_fits NotSync = omega arith
-status_fits BadCookie = omega arith
-status_fits Notsupp = omega arith
-status_fits Toosmall = omega arith
-status_fits Serverfault = omega arith
-status_fits Badtype = omega arith
-status_fits Jukebox = omega arith
-
 module _ (xid : ℕ) (xid_fits : xid < 2 ^ 32) where
   -- results that are read completely, with nothing after them
-  results_read : {A : Type 0} (codec : Codec A) (results : A) (P : A → Type 0) → IsRead codec (codec.items results) P → (v : A) × ((result_of_reply codec (results_reply xid codec results) ≡ Ok v) × P v)
+  pub results_read : {A : Type 0} (codec : Codec A) (results : A) (P : A → Type 0) → IsRead codec (codec.items results) P → (v : A) × ((result_of_reply codec (results_reply xid codec results) ≡ Ok v) × P v)
   results_read {A} codec results P reads =
       let bytes = encodings (codec.items results) in
       let head = reply_head (accepted xid 0) in

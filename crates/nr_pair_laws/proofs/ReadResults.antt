@@ -1,19 +1,18 @@
 -- What is read of the plain server's reply to a call of NFS is what the procedure answered.
-use Rattle.std.proofs.Common.{◌≡◌, ℕ, ◌<◌, ◌^◌, List, [], ◌++◌, length, take, Some, Result, Ok, refl, sym, ap, subst, ◌∙◌, append-nil}
+use Rattle.std.proofs.Common.{◌≡◌, ℕ, ◌<◌, ◌^◌, List, [], Result, Ok, sym, ap, ◌∙◌, append-nil}
 use Rattle.nr_xdr.specs.Items.{encodings}
 use Rattle.nr_xdr.specs.Reading.{Cursor}
 use Rattle.nr_xdr.specs.Sequencing.{◌>>=◌}
 use Rattle.nr_xdr.proofs.Chains.{standing}
 use Rattle.nr_nfs_base.specs.Attributes.{attributes_codec, attributes_lawful}
 use Rattle.nr_nfs_base.specs.Codec.{Codec, Lawful, optional, read_all, value_at_end, void}
-use Rattle.nr_nfs_base.specs.Fronts.{success_lawful}
 use Rattle.nr_nfs_base.specs.Laws.{optional_lawful, void_lawful}
 use Rattle.nr_nfs_base.specs.Status.{each_status, status_not_ok, status_number, statuses}
 use Rattle.nr_nfs_base.specs.StatusUnion.{status_union_lawful}
 use Rattle.nr_nfs_base.specs.WeakCache.{wcc_data_codec, wcc_data_lawful}
 use Rattle.nr_nfs_base.specs.declared.procedure.NfsProcedure.{NfsProcedure}
 use Rattle.nr_nfs_base.specs.declared.procedure.NfsProcedure.TheVariants as nfs
-use Rattle.nr_nfs_args.specs.Arguments.{NfsArguments, nfs_arguments_codec}
+use Rattle.nr_nfs_args.specs.Arguments.{nfs_arguments_codec}
 use Rattle.nr_nfs_args.specs.Attributes.{access_args_lawful, getattr_args_lawful, setattr_args_lawful}
 use Rattle.nr_nfs_args.specs.Bytes.{commit_args_lawful, read_args_lawful, write_args_lawful}
 use Rattle.nr_nfs_args.specs.Create.{create_args_lawful, mkdir_args_lawful}
@@ -33,7 +32,6 @@ use Rattle.nr_nfs_res.specs.Readdir.{entry_codec, entry_lawful, entry_plus_codec
 use Rattle.nr_nfs_res.specs.Remove.{link_wcc_codec, link_wcc_lawful, rename_wcc_codec, rename_wcc_lawful}
 use Rattle.nr_nfs_res.specs.Results.{NfsResults, nfs_result, nfs_results_codec}
 use Rattle.nr_reduce.specs.declared.call.Outcome.{Outcome}
-use Rattle.nr_reduce.specs.declared.call.Outcome.TheVariants as outcomes
 use Rattle.nr_plain.specs.Replies.{Answer, results_reply}
 use Rattle.nr_client.specs.Results.{result_of_outcome, result_of_reply}
 use Rattle.nr_reply_laws.proofs.Decoding.{lawful_read}

@@ -1,5 +1,5 @@
 -- What the plain server's results say of the tree: of LOOKUP, CREATE, WRITE, READ and GETATTR.
-use Rattle.std.proofs.Common.{◌≡◌, ℕ, ◌+◌, ◌<◌, ◌≤◌, ◌^◌, Bool, true, false, cond, eqb, not, min, List, [], ◌∷◌, length, take, drop, Option, None, Some, refl, ap, sym, ◌∙◌, subst, arith, length-take, length-drop, unwrap_or}
+use Rattle.std.proofs.Common.{◌≡◌, ℕ, ◌+◌, ◌≤◌, min, List, [], length, take, drop, Option, None, Some, refl, ap, sym, ◌∙◌, arith, length-take, unwrap_or}
 use Rattle.std.specs.Prelude.{is_none, nat_le}
 use Rattle.std.specs.Option.{option_and_then, option_map, option_map_or}
 use Rattle.std.proofs.lemmas.List.{take_all}
@@ -7,7 +7,7 @@ use Rattle.nr_nfs_base.specs.Limits.{handle_max, transfer_max}
 use Rattle.nr_nfs_base.specs.declared.attributes.Attributes.{Attributes}
 use Rattle.nr_nfs_base.specs.declared.caller.Caller.{Caller}
 use Rattle.nr_nfs_base.specs.declared.status.Status.{Status}
-use Rattle.nr_nfs_base.specs.declared.status.Status.TheVariants.{Noent, Serverfault}
+use Rattle.nr_nfs_base.specs.declared.status.Status.TheVariants.{Noent}
 use Rattle.nr_nfs_base.specs.declared.status_union.StatusUnion.{StatusUnion}
 use Rattle.nr_nfs_base.specs.declared.status_union.StatusUnion.TheVariants.{Done, Failed}
 use Rattle.nr_nfs_base.specs.declared.time.Time.{Time}
@@ -22,7 +22,7 @@ use Rattle.nr_nfs_res.specs.declared.create.CreateOk.{CreateOk}
 use Rattle.nr_nfs_res.specs.declared.lookup.LookupOk.{LookupOk}
 use Rattle.nr_tree.specs.Changes.{tree_with_bytes}
 use Rattle.nr_tree.specs.Replies.{attributes_at, wcc_data}
-use Rattle.nr_tree.specs.Rules.{after, answer, first, handle_of, node_of_handle, number_of_handle, on, ◌⇒◌}
+use Rattle.nr_tree.specs.Rules.{after, answer, first, handle_of, node_of_handle, number_of_handle}
 use Rattle.nr_tree.specs.Tree.{Tree, attributes_of, bytes_of}
 use Rattle.nr_tree.specs.declared.node.Content.{Content}
 use Rattle.nr_tree.specs.declared.node.Content.TheVariants.{Regular}

@@ -1,99 +1,32 @@
 -- The server's side of a run of both sides is as its own marks say, and what holds of these holds of the complete run: its law, and the places of its
 -- calls.
-use Rattle.std.proofs.Common.{◌≡◌, ℕ, Bool, true, false, cond, ◌&&◌, eqb, List, [], ◌∷◌, ◌++◌, length, refl, sym, ap, subst, ◌∙◌, append-nil}
-use Rattle.std.specs.List.{AllByRecursion, filter}
+use Rattle.std.proofs.Common.{◌≡◌, ℕ, Bool, true, false, cond, ◌&&◌, eqb, List, [], ◌∷◌, ◌++◌, refl, sym, ap, subst, ◌∙◌, append-nil}
 use Rattle.std.proofs.lemmas.List.Elements.{filter-append}
 use Rattle.nr_wire.specs.declared.hello.Side.TheVariants.{Initiator, Responder}
-use Rattle.nr_link.specs.Frames.{Frame, frames_completed}
-use Rattle.nr_reduce.specs.declared.call.Submission.TheVariants as submissions
 use Rattle.nr_reduce.specs.declared.mark.Entry.{Entry}
 use Rattle.nr_reduce.specs.declared.mark.Mark.{Mark}
 use Rattle.nr_reduce.specs.declared.mark.Mark.TheVariants as marks
 use Rattle.nr_reduce.specs.declared.mark.LinkParameters.{LinkParameters}
 use Rattle.nr_reduce.specs.AtEachMark.{AtEachMark}
-use Rattle.nr_reduce.specs.EndRules.{EndState, end_state_after, output_for_all}
-use Rattle.nr_reduce.specs.Events.{RunEvent, events, events_at, events_from, if_own, mark_events}
-use Rattle.nr_reduce.specs.History.{bytes_received, bytes_sent, fed_at, written_at}
+use Rattle.nr_reduce.specs.EndRules.{EndState, output_for_all}
+use Rattle.nr_reduce.specs.Events.{RunEvent, events}
+use Rattle.nr_reduce.specs.History.{bytes_sent, written_at}
 use Rattle.nr_reduce.specs.PlainJournal.{PlainServer}
-use Rattle.nr_reduce.specs.Run.{output_due, server}
-use Rattle.nr_reduce.specs.Served.{IsExecuted, ServedMark, first_ready, next_call}
+use Rattle.nr_reduce.specs.Run.{output_due}
+use Rattle.nr_reduce.specs.Served.{ServedMark, first_ready, next_call}
 use Rattle.nr_reduce.specs.Server.{initial_server, server_rules}
-use Rattle.nr_reduce.specs.ServerState.{ReadyCall, ServerState}
-use Rattle.nr_reduce.proofs.Standing.{itself, received_one}
+use Rattle.nr_reduce.specs.ServerState.{ServerState}
+use Rattle.nr_reduce.proofs.Standing.{itself}
 use Rattle.nr_laws.specs.PlainLinks.{AtPlaceOnMark, AtPlacesOn}
 use Rattle.nr_host_laws.specs.OwnMarks.{is_own, own_marks}
+use Rattle.nr_host_laws.proofs.OwnMarks.{not_own, same_events, same_server}
 use Rattle.nr_service_laws.proofs.ServedOutcomes.{kept_all}
 
 -- ---- What the server's marks alone say
 
--- a mark that is not of the server's side says nothing of it
-record SaysNothing (link : ℕ) (mark : Mark) : Type 0 where
-  no_events : (place : ℕ) (completed : List ℕ → List Frame) → mark_events link Responder place completed mark ≡ []
-  no_bytes : fed_at link Responder mark ≡ []
-  no_output : written_at link Responder mark ≡ []
-
-if_other : (b : Bool) (es : List RunEvent) → if_own (b && false) es ≡ []
-if_other true es = refl
-if_other false es = refl
-
-if_not : (b : Bool) (es : List RunEvent) → b ≡ false → if_own (b && true) es ≡ []
-if_not true es is = absurd cc
-if_not false es is = refl
-
-bytes_other : (b : Bool) (bytes : List ℕ) → cond (b && false) bytes [] ≡ []
-bytes_other true bytes = refl
-bytes_other false bytes = refl
-
-bytes_not : (b : Bool) (bytes : List ℕ) → b ≡ false → cond (b && true) bytes [] ≡ []
-bytes_not true bytes is = absurd cc
-bytes_not false bytes is = refl
-
-not_own : (link : ℕ) (mark : Mark) → is_own link mark ≡ false → SaysNothing link mark
-not_own link (marks.Fed l Responder bytes) is = record { no_events = λ place completed. if_not (eqb l link) _ is; no_bytes = bytes_not (eqb l link) bytes is; no_output = refl }
-not_own link (marks.Fed l Initiator bytes) is = record { no_events = λ place completed. if_other (eqb l link) _; no_bytes = bytes_other (eqb l link) bytes; no_output = refl }
-not_own link (marks.Wrote l Responder bytes) is = record { no_events = λ place completed. if_not (eqb l link) _ is; no_bytes = refl; no_output = bytes_not (eqb l link) bytes is }
-not_own link (marks.Wrote l Initiator bytes) is = record { no_events = λ place completed. if_other (eqb l link) _; no_bytes = refl; no_output = bytes_other (eqb l link) bytes }
-not_own link (marks.Execute l xid moment payload place reply) is = record { no_events = λ at completed. if_not (eqb l link) _ is; no_bytes = refl; no_output = refl }
-not_own link (marks.Submit l call form (submissions.Accepted xid)) is = record { no_events = λ place completed. if_other (eqb l link) _; no_bytes = refl; no_output = refl }
-not_own link (marks.Submit l call form (submissions.Refused why)) is = record { no_events = λ place completed. refl; no_bytes = refl; no_output = refl }
-not_own link (marks.Submit l call form submissions.Dropped) is = record { no_events = λ place completed. refl; no_bytes = refl; no_output = refl }
-not_own link (marks.Revoke l xid bytes) is = record { no_events = λ place completed. if_other (eqb l link) _; no_bytes = refl; no_output = refl }
-not_own link (marks.Done l xid outcome) is = record { no_events = λ place completed. refl; no_bytes = refl; no_output = refl }
-not_own link (marks.Lost l xid) is = record { no_events = λ place completed. refl; no_bytes = refl; no_output = refl }
-not_own link (marks.Forget l xid) is = record { no_events = λ place completed. refl; no_bytes = refl; no_output = refl }
-not_own link (marks.Drop l) is = record { no_events = λ place completed. refl; no_bytes = refl; no_output = refl }
-not_own link (marks.Told l what) is = record { no_events = λ place completed. if_not (eqb l link) _ is; no_bytes = refl; no_output = refl }
-
-same_events : (link : ℕ) (before before' run : List Mark) → bytes_received link Responder before ≡ bytes_received link Responder before'
-    → events_from link Responder before run ≡ events_from link Responder before' (own_marks link run)
-same_events link before before' [] same = refl
-same_events link before before' (mark ∷ run) same = by (is_own link mark) refl (λ first. same_events link (before ++ mark ∷ []) first run)
-  where
-    at : (events_at link Responder before mark) ≡ events_at link Responder before' mark
-    at = λ i. mark_events link Responder (length (same i)) (frames_completed Initiator (same i)) mark
-
-    by : (b : Bool) → is_own link mark ≡ b
-        → ((first : List Mark) → bytes_received link Responder (before ++ mark ∷ []) ≡ bytes_received link Responder first
-        → events_from link Responder (before ++ mark ∷ []) run ≡ events_from link Responder first (own_marks link run))
-        → events_at link Responder before mark ++ events_from link Responder (before ++ mark ∷ []) run
-        ≡ events_from link Responder before' (cond b (mark ∷ own_marks link run) (own_marks link run))
-    by true is rest =
-        let received : bytes_received link Responder (before ++ mark ∷ []) ≡ bytes_received link Responder (before' ++ mark ∷ []) =
-        received_one link Responder before mark ∙ ap (λ (l : List ℕ). l ++ fed_at link Responder mark) same ∙ sym (received_one link Responder before' mark) in
-        (λ i. at i ++ rest (before' ++ mark ∷ []) received i)
-    by false is rest =
-        let none = not_own link mark is in
-        let received : bytes_received link Responder (before ++ mark ∷ []) ≡ bytes_received link Responder before' =
-        received_one link Responder before mark ∙ ap (λ (l : List ℕ). bytes_received link Responder before ++ l) none.no_bytes ∙ append-nil (bytes_received link Responder before) ∙ same in
-        (λ i. none.no_events (length (bytes_received link Responder before)) (frames_completed Initiator (bytes_received link Responder before)) i ++ rest before' received i)
-
 events_same : (link : ℕ) (both : List Mark) → events link Responder both ≡ events link Responder (own_marks link both)
 unfolding events
 events_same link both = same_events link [] [] both refl
-
-pub server_same : (opened : LinkParameters) (link : ℕ) (both : List Mark) → server opened link both ≡ server opened link (own_marks link both)
-unfolding server
-server_same opened link both = ap (λ (es : List RunEvent). end_state_after (server_rules opened) (initial_server opened) es) (events_same link both)
 
 due_same : (opened : LinkParameters) (link : ℕ) (both : List Mark) → output_due opened link Responder both ≡ output_due opened link Responder (own_marks link both)
 unfolding output_due
@@ -105,7 +38,7 @@ sent_same link both = kept_all (written_at link Responder) (is_own link) both (�
 
 next_same : (opened : LinkParameters) (link : ℕ) (both : List Mark) → next_call opened link both ≡ next_call opened link (own_marks link both)
 unfolding next_call
-next_same opened link both = ap (λ (e : EndState ServerState). first_ready e.state.ready e.ended) (server_same opened link both)
+next_same opened link both = ap (λ (e : EndState ServerState). first_ready e.state.ready e.ended) (same_server opened link both)
 
 -- ---- The law of each mark
 

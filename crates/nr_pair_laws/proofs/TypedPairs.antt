@@ -1,5 +1,5 @@
 -- The marks of a command and of a connection on one link are of their types: what each side is fed the other has sent, and so it is bytes.
-use Rattle.std.proofs.Common.{◌≡◌, ℕ, zero, suc, Bool, true, false, cond, not, ◌&&◌, ◌||◌, eqb, List, [], ◌∷◌, ◌++◌, length, take, Some, refl, sym, ap, subst, ◌∙◌, append_assoc, append-nil, eqb-true}
+use Rattle.std.proofs.Common.{◌≡◌, ℕ, zero, suc, Bool, true, false, cond, ◌&&◌, ◌||◌, eqb, List, [], ◌∷◌, ◌++◌, length, take, refl, sym, ap, subst, ◌∙◌, append_assoc, append-nil, eqb-true}
 use Rattle.std.specs.List.{AllByRecursion, filter}
 use Rattle.std.proofs.lemmas.List.Elements.{All-contains, All-from_recursion, filter-append}
 use Rattle.nr_xdr.specs.Item.{IsBytes}
@@ -8,7 +8,6 @@ use Rattle.nr_wire.specs.declared.hello.Side.TheVariants.{Initiator, Responder}
 use Rattle.nr_reduce.specs.declared.call.Call.{Call}
 use Rattle.nr_reduce.specs.declared.call.Form.{Form}
 use Rattle.nr_reduce.specs.declared.call.Form.TheVariants as forms
-use Rattle.nr_reduce.specs.declared.call.Outcome.{Outcome}
 use Rattle.nr_reduce.specs.declared.call.Submission.TheVariants as submissions
 use Rattle.nr_reduce.specs.declared.mark.Entry.{Entry}
 use Rattle.nr_reduce.specs.declared.mark.LinkParameters.{LinkParameters}
@@ -24,44 +23,28 @@ use Rattle.nr_reduce.proofs.Standing.{AtEachMark_more, itself}
 use Rattle.nr_laws.specs.MatchedSoFar.{MatchedSoFar}
 use Rattle.nr_laws.specs.PlainLinks.{AtPlaceOnMark, AtPlacesOn}
 use Rattle.nr_laws.specs.Typed.{IsTyped, IsTypedForm, TypedMark}
-use Rattle.nr_laws.proofs.Basics.{each_append}
 use Rattle.nr_laws.proofs.OnceByXid.{at_mark, before_mark}
 use Rattle.nr_laws.proofs.SentBytes.{client_sends_what_is_due, server_sends_what_is_due}
-use Rattle.nr_plain.specs.History.{AreOfCalls}
 use Rattle.nr_plain.specs.ReplyLaws.{plain_server}
 use Rattle.nr_plain.specs.Setup.{Setup}
 use Rattle.nr_byte_laws.specs.DueBytes.{CompletedInBytes, OutcomeIsBytes}
-use Rattle.nr_byte_laws.specs.InBytes.{EntriesInBytes, EntryInBytes, IsInBytes}
+use Rattle.nr_byte_laws.specs.InBytes.{EntriesInBytes, IsInBytes}
 use Rattle.nr_byte_laws.proofs.ByteClients.{client_due, outcome_bytes}
 use Rattle.nr_byte_laws.proofs.ByteServers.{server_due}
-use Rattle.nr_byte_laws.proofs.PlainBytes.{entries_bytes, plain_reply_bytes}
+use Rattle.nr_byte_laws.proofs.PlainBytes.{plain_reply_bytes}
 use Rattle.nr_service_laws.specs.ClientMarks.{AreMarksOf, IsOwn}
 use Rattle.nr_service_laws.specs.Exchanges.{Exchange}
-use Rattle.nr_service_laws.specs.Exchanges.Exchange.{Answered, Forgotten, GivenUp, HandedOver, Submitted}
 use Rattle.nr_service_laws.specs.ServedCommands.{client_marks, is_client_mark}
 use Rattle.nr_service_laws.proofs.ByteCalls.{IsByteCall}
 use Rattle.nr_service_laws.proofs.ByteExchanges.{CallsAreBytes}
-use Rattle.nr_service_laws.proofs.OpenLinks.{own_each}
-use Rattle.nr_host_laws.specs.OwnMarks.{is_own}
+use Rattle.nr_service_laws.proofs.TypedCommands.{MarksOfBytes, exchanged}
+use Rattle.nr_pair_laws.specs.JobRuns.{IsJobMark}
 use Rattle.nr_pair_laws.specs.Pairs.{IsOfSide}
 use Rattle.nr_pair_laws.proofs.AnsweredCalls.{is_exchanged}
+use Rattle.nr_pair_laws.proofs.JobMarks.{client_each}
+use Rattle.nr_pair_laws.proofs.JobRuns.{job_marks}
 
 -- ---- The calls of a command
-
--- each call that marks submit is of bytes, if the outcomes that they handed over before it are
-abbrev MarksOfBytes : List Mark → Type 0
-MarksOfBytes [] = Unit {0}
-MarksOfBytes (marks.Submit l call form answer ∷ run) = IsByteCall call × MarksOfBytes run
-MarksOfBytes (marks.Done l xid outcome ∷ run) = OutcomeIsBytes outcome → MarksOfBytes run
-MarksOfBytes (mark ∷ run) = MarksOfBytes run
-
-exchanged : (link : ℕ) (made : List Exchange) (run : List Mark) → AreMarksOf link made run → CallsAreBytes made → MarksOfBytes run
-exchanged link [] run is h = subst MarksOfBytes (sym is) tt
-exchanged link (Answered call outcome ∷ made) run (xid, rest, (is, are)) h = subst MarksOfBytes (sym is) (h.0, λ o. exchanged link made rest are (h.1 o))
-exchanged link (Forgotten call ∷ made) run (xid, rest, (is, are)) h = subst MarksOfBytes (sym is) (h.0, exchanged link made rest are h.1)
-exchanged link (Submitted number call ∷ made) run (xid, rest, (is, are)) h = subst MarksOfBytes (sym is) (h.0, exchanged link made rest are h.1)
-exchanged link (HandedOver number outcome ∷ made) run (xid, rest, (is, are)) h = subst MarksOfBytes (sym is) (λ o. exchanged link made rest are (h o))
-exchanged link (GivenUp number ∷ made) run (xid, rest, (is, are)) h = subst MarksOfBytes (sym is) (exchanged link made rest are h)
 
 -- the outcomes that marks hand over are bytes
 abbrev OutcomesOfBytes : List Mark → Type 0
@@ -119,7 +102,7 @@ one_link link l of never is = by (eqb l link) refl is
     by false same is = absurd (let wrong : false ≡ true = sym never ∙ is in cc)
 
 module _ (s : Setup) (J : List Entry) (opened : LinkParameters) (link : ℕ) (tree : IsInBytes s.tree) (entries : EntriesInBytes J) (both : List Mark) (far : MatchedSoFar opened link both)
-    (placed : AtPlacesOn (plain_server s) J link both) (own : AllByRecursion (IsOwn link) (client_marks link both)) (calls : MarksOfBytes (filter (is_exchanged link) both)) where
+    (placed : AtPlacesOn (plain_server s) J link both) (submits : AllByRecursion (IsJobMark link) (client_marks link both)) (calls : MarksOfBytes (filter (is_exchanged link) both)) where
   module _ (front rest : List Mark) (m : Mark) (is : both ≡ front ++ m ∷ rest) (typed : IsTyped front) where
     up_is_bytes : IsBytes (bytes_sent link Initiator front)
     up_is_bytes =
@@ -139,8 +122,8 @@ module _ (s : Setup) (J : List Entry) (opened : LinkParameters) (link : ℕ) (tr
     matched_here : MatchedMark link front m
     matched_here = at_mark (MatchedMark link) both front m rest is far.matched
 
-    own_here : is_client_mark link m ≡ true → IsOwn link m
-    own_here = at_mark (λ earlier k. is_client_mark link k ≡ true → IsOwn link k) both front m rest is (own_each (λ earlier k. is_client_mark link k ≡ true → IsOwn link k) link [] both (λ earlier k h. h) own)
+    own_here : is_client_mark link m ≡ true → IsJobMark link m
+    own_here = at_mark (λ earlier k. is_client_mark link k ≡ true → IsJobMark link k) both front m rest is (client_each (IsJobMark link) link [] both submits)
 
   first_entries : (n : ℕ) (K : List Entry) → EntriesInBytes K → EntriesInBytes (take n K)
   first_entries zero K h = tt
@@ -165,11 +148,11 @@ module _ (s : Setup) (J : List Entry) (opened : LinkParameters) (link : ℕ) (tr
       let here : MarksOfBytes (cond (eqb l link && true) (submit ∷ filter (is_exchanged link) rest) (filter (is_exchanged link) rest)) = calls_here front (submit ∷ rest) is outs in
       (subst (λ (b : Bool). MarksOfBytes (cond (b && true) (submit ∷ filter (is_exchanged link) rest) (filter (is_exchanged link) rest))) (ap (λ (k : ℕ). eqb k link) same ∙ itself link) here).0
 
-  form_typed : (link l : ℕ) (call : Call) (form : Form) (xid : ℕ) → IsOwn link (marks.Submit l call form (submissions.Accepted xid)) → IsTypedForm form
+  form_typed : (link l : ℕ) (call : Call) (form : Form) (xid : ℕ) → IsJobMark link (marks.Submit l call form (submissions.Accepted xid)) → IsTypedForm form
   form_typed link l call forms.Auto xid h = tt
-  form_typed link l call forms.Inline xid h = tt
-  form_typed link l call forms.Chunk xid h = tt
-  form_typed link l call forms.Long xid h = tt
+  form_typed link l call forms.Inline xid h = absurd h
+  form_typed link l call forms.Chunk xid h = absurd h
+  form_typed link l call forms.Long xid h = absurd h
   form_typed link l call (forms.Given offer) xid h = absurd h
 
   mark_typed : (front rest : List Mark) (m : Mark) → both ≡ front ++ m ∷ rest → IsTyped front → OutcomesOfBytes (filter (is_exchanged link) front) → IsOfSide link m → TypedMark front m
@@ -228,23 +211,15 @@ module _ (s : Setup) (J : List Entry) (opened : LinkParameters) (link : ℕ) (tr
             (outcomes_then front m outs (outcome_of front rest m is typed sides.0)) sides.1,
       )
 
--- ---- The entries of a journal
-
-pub of_calls_bytes : (s : Setup) (J more : List Entry) → AreOfCalls s J more → EntriesInBytes more
-of_calls_bytes s J [] h = tt
-of_calls_bytes s J (e ∷ more) (one, rest) =
-    let here : EntriesInBytes (e ∷ []) = subst EntriesInBytes one.adds (entries_bytes one.moment one.payload one.reply one.bytes) in
-    (here.0, of_calls_bytes s (J ++ e ∷ []) more rest)
-
--- entries of calls are in bytes, since the payloads of the calls are
-pub entries_typed : (s : Setup) (J more : List Entry) → EntriesInBytes J → AreOfCalls s J more → EntriesInBytes (J ++ more)
-entries_typed s J more entries calls = each_append EntryInBytes J more entries (of_calls_bytes s J more calls)
-
 -- ---- A pair
 
--- a list with both sides is of its types
+-- a list with both sides is of its types, if the calls that its client submits are
+pub typed_by : (s : Setup) (J : List Entry) (opened : LinkParameters) (link : ℕ) (both : List Mark) → IsInBytes s.tree → EntriesInBytes J → MatchedSoFar opened link both
+    → AtPlacesOn (plain_server s) J link both → AllByRecursion (IsJobMark link) (client_marks link both) → MarksOfBytes (filter (is_exchanged link) both) → AllByRecursion (IsOfSide link) both → IsTyped both
+typed_by s J opened link both tree entries far placed submits calls sides = typed_from s J opened link tree entries both far placed submits calls [] both refl tt tt sides
+
 pub pair_is_typed : (s : Setup) (J : List Entry) (opened : LinkParameters) (link : ℕ) (both : List Mark) (made : List Exchange) → IsInBytes s.tree → EntriesInBytes J → MatchedSoFar opened link both
     → AtPlacesOn (plain_server s) J link both → AllByRecursion (IsOwn link) (client_marks link both) → AreMarksOf link made (filter (is_exchanged link) both) → CallsAreBytes made
     → AllByRecursion (IsOfSide link) both → IsTyped both
 pair_is_typed s J opened link both made tree entries far placed own are calls sides =
-    typed_from s J opened link tree entries both far placed own (exchanged link made (filter (is_exchanged link) both) are calls) [] both refl tt tt sides
+    typed_by s J opened link both tree entries far placed (job_marks link (client_marks link both) own) (exchanged link made (filter (is_exchanged link) both) are calls) sides

@@ -1,23 +1,22 @@
 -- A path that is walked by LOOKUPs leads to the handle of the last.
-use Rattle.std.proofs.Common.{◌≡◌, ℕ, suc, ◌+◌, ◌<◌, ◌≤◌, Bool, true, false, cond, ltb, List, [], ◌∷◌, ◌++◌, length, Option, None, Some, Result, Ok, Err, refl, ap, sym, ◌∙◌, subst, arith, append_assoc, append-nil}
+use Rattle.std.proofs.Common.{◌≡◌, ℕ, ◌≤◌, Bool, true, false, cond, ltb, List, [], ◌∷◌, ◌++◌, length, Some, Result, Ok, Err, refl, ap, sym, ◌∙◌, subst, arith, append_assoc, append-nil}
 use Rattle.std.specs.Prelude.{⊤}
 use Rattle.std.proofs.lemmas.Bool.{ltb-false}
-use Rattle.nr_nfs_base.specs.Limits.{handle_max, name_length_max}
-use Rattle.nr_reduce.specs.declared.call.Call.{Call}
+use Rattle.nr_nfs_base.specs.Limits.{name_length_max}
 use Rattle.nr_reduce.specs.declared.call.Outcome.{Outcome}
 use Rattle.nr_reduce.specs.declared.mark.Entry.{Entry}
 use Rattle.nr_plain.specs.Journal.{tree_at}
 use Rattle.nr_plain.specs.Setup.{Setup}
 use Rattle.nr_client.specs.declared.client_end.ClientEnd.{ClientEnd}
 use Rattle.nr_client.specs.declared.client_end.ClientEnd.TheVariants as client
-use Rattle.nr_client.specs.Following.{Next, go_on}
-use Rattle.nr_client.specs.Following.Next.{Calls, Returns}
+use Rattle.nr_client.specs.Following.{go_on}
+use Rattle.nr_client.specs.Following.Next.{Returns}
 use Rattle.nr_client.specs.Paths.{component_max, components_of, names_in, path_names, with_name}
 use Rattle.nr_client.specs.Requests.{lookup_call}
-use Rattle.nr_client.specs.Walking.{object_result, parent_along, parent_from, walk_from}
+use Rattle.nr_client.specs.Walking.{object_result, parent_from, walk_from}
 use Rattle.nr_reply_laws.specs.Replies.{AreIds}
-use Rattle.nr_pair_laws.specs.FilesAt.{KeepPath, KeepsPath, handle_along, handle_in}
-use Rattle.nr_pair_laws.specs.Pairs.{IsAnsweredAt, place_after}
+use Rattle.nr_pair_laws.specs.FilesAt.{KeepPath, handle_along, handle_in}
+use Rattle.nr_pair_laws.specs.Pairs.{place_after}
 use Rattle.nr_pair_laws.specs.PutThenGet.{AnsweredInOrder, AnsweredSince, root_handle}
 use Rattle.nr_pair_laws.proofs.Calls.{looked_up}
 use Rattle.nr_pair_laws.proofs.Kept.{kept}
@@ -59,7 +58,7 @@ module _ (s : Setup) (J : List Entry) (uid gid : ℕ) (ids : AreIds uid gid) (al
     pub whole : walked ++ name ∷ [] ≡ all
     pub above : IsAbove walked dir name place
 
-  step_leads : (walked rest : List (List ℕ)) (name dir g : List ℕ) (from place : ℕ) → walked ++ name ∷ rest ≡ all → handle_along (tree_at s J from) root_handle walked ≡ Some dir → from ≤ place
+  pub step_leads : (walked rest : List (List ℕ)) (name dir g : List ℕ) (from place : ℕ) → walked ++ name ∷ rest ≡ all → handle_along (tree_at s J from) root_handle walked ≡ Some dir → from ≤ place
       → KeepPath s J root_handle all from place → handle_in (tree_at s J place) dir name ≡ Some g → handle_along (tree_at s J place) root_handle (walked ++ name ∷ []) ≡ Some g
   step_leads walked rest name dir g from place whole leads rises keeps found =
       along_name (tree_at s J place) root_handle walked name dir g ((kept s J root_handle all from place rises keeps).leads walked (name ∷ rest) whole ∙ leads) found

@@ -1,5 +1,5 @@
 -- What a client reads of the plain server's reply to a call of NFS: what the procedure answers over the tree at the call's place.
-use Rattle.std.specs.Prelude.{◌≡◌, ℕ, List, [], take, Result, Ok}
+use Rattle.std.specs.Prelude.{◌≡◌, ℕ, List, [], take, Ok}
 use Rattle.nr_xdr.specs.Items.{AllFit, encodings}
 use Rattle.nr_rpc.specs.declared.cred.Cred.TheVariants as creds
 use Rattle.nr_nfs_base.specs.Codec.{Codec}

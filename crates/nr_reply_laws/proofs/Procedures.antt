@@ -66,7 +66,7 @@ use Rattle.nr_reply_laws.specs.Replies.{AnyValue, IsHandle, ListsOn}
 use Rattle.nr_reply_laws.proofs.Decoding.{Any, IsRead, UnionIs, done_is, failed_is, weaker}
 use Rattle.nr_reply_laws.proofs.Values.{attributes_any, create_ok_none, create_ok_some, lookup_ok_is, read_ok_is, readdir_ok_is, readlink_ok_any, some_attributes, void_any, wcc_any, write_ok_is}
 
-status_fits : (s : Status) → status_number s < 2 ^ 32
+pub status_fits : (s : Status) → status_number s < 2 ^ 32
 status_fits Perm = omega arith
 status_fits Noent = omega arith
 status_fits Io = omega arith

@@ -217,7 +217,7 @@ write_lem s uid gid file offset bytes o short some few ids of =
 
 -- ---- MNT
 
-mount_status_fits : (m : MountStatus) → mount_status_number m < 2 ^ 32
+pub mount_status_fits : (m : MountStatus) → mount_status_number m < 2 ^ 32
 mount_status_fits mount_status.Perm = omega arith
 mount_status_fits mount_status.Noent = omega arith
 mount_status_fits mount_status.Io = omega arith

@@ -47,7 +47,7 @@ both_calls (Submitted xid call ∷ made) later h g = (h.0, both_calls made later
 both_calls (HandedOver xid outcome ∷ made) later h g = λ b. both_calls made later (h b) (λ all. g (b, all))
 both_calls (GivenUp xid ∷ made) later h g = both_calls made later h g
 
-first_bytes : (made later : List Exchange) → AreBytes (made ++ later) → AreBytes made
+pub first_bytes : (made later : List Exchange) → AreBytes (made ++ later) → AreBytes made
 first_bytes [] later h = tt
 first_bytes (Answered call outcome ∷ made) later h = (h.0, first_bytes made later h.1)
 first_bytes (Forgotten call ∷ made) later h = first_bytes made later h

@@ -106,7 +106,7 @@ abandoned_same link xid both = any_kept (abandons link xid) (is_client_mark link
 -- ---- The law of each mark
 
 module _ (Relates : List ℕ → List ℕ → Type 0) (opened : LinkParameters) (link : ℕ) (before : List Mark) where
-  awaited_back : (xid : ℕ) → IsAwaited link (client_marks link before) xid → IsAwaited link before xid
+  pub awaited_back : (xid : ℕ) → IsAwaited link (client_marks link before) xid → IsAwaited link before xid
   awaited_back xid w = record {
     asked = w.asked;
     is_asked = subst (λ (l : List AcceptedCall). Contains l w.asked) (sym (accepted_same link before)) w.is_asked;
@@ -128,7 +128,7 @@ module _ (Relates : List ℕ → List ℕ → Type 0) (opened : LinkParameters) 
         writable = a.writable;
       }
 
-  asked_back : (m : Mark) → IsOwn link m → AskedMark Relates opened link (client_marks link before) m → AskedMark Relates opened link before m
+  pub asked_back : (m : Mark) → IsOwn link m → AskedMark Relates opened link (client_marks link before) m → AskedMark Relates opened link before m
   asked_back (marks.Submit l call form (submissions.Accepted xid)) own h = λ same. accepted_back call form xid (h same)
   asked_back (marks.Submit l call form (submissions.Refused why)) own h = tt
   asked_back (marks.Submit l call form submissions.Dropped) own h = tt
@@ -153,7 +153,7 @@ module _ (Relates : List ℕ → List ℕ → Type 0) (opened : LinkParameters) 
   not_here_own l is same = absurd (let wrong : true ≡ false = ap (λ (b : Bool). b && true) (sym (itself link) ∙ ap (λ (k : ℕ). eqb k link) (sym same)) ∙ is in cc)
 
   -- of a mark that is no client's nothing is asked
-  asked_others : (m : Mark) → is_client_mark link m ≡ false → AskedMark Relates opened link before m
+  pub asked_others : (m : Mark) → is_client_mark link m ≡ false → AskedMark Relates opened link before m
   asked_others (marks.Submit l call form (submissions.Accepted xid)) is = λ same. absurd (not_here l is same)
   asked_others (marks.Submit l call form (submissions.Refused why)) is = tt
   asked_others (marks.Submit l call form submissions.Dropped) is = tt

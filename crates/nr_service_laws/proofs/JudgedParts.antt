@@ -177,7 +177,7 @@ asks_is {A} R V F reads call b c h i result (inr (inl (cause, (is, (gives_up, wh
     subst (λ (r : Result A ClientEnd). GivenIs V F r c i) (sym is) (cause_at cause c i call why)
 asks_is {A} R V F reads call b c h i result (inr (inr (is, same))) before judge are = subst (λ (r : Result A ClientEnd). GivenIs V F r c i) (sym is) tt
 
-answers_of : {A : Type 0} (R : Call → Outcome → Type 0) (request : List Outcome → Next A) (outcomes : List Outcome) (b c : LinkBytes) (h i : RequesterSide) (made : MakesCalls request outcomes b c h i) (before : List OpenRead)
+pub answers_of : {A : Type 0} (R : Call → Outcome → Type 0) (request : List Outcome → Next A) (outcomes : List Outcome) (b c : LinkBytes) (h i : RequesterSide) (made : MakesCalls request outcomes b c h i) (before : List OpenRead)
     → AreJudged R before (made_exchanges request outcomes b c h i made).made → AreAnswers R request outcomes
 answers_of R request [] b c h i made before are = tt
 answers_of R request (outcome ∷ outcomes) b c h i (call, d, j, (is, (answers, rest))) before (judged, are) =
@@ -293,25 +293,25 @@ given_out V F given b i is = subst (λ (r : Result (Unit {0}) ClientEnd). GivenI
 
 -- ---- A file that is read
 
-AllOf : List OpenRead → List OpenRead → Type 0
+pub AllOf : List OpenRead → List OpenRead → Type 0
 AllOf reads [] = Unit {0}
 AllOf reads (read ∷ waiting) = IsOf reads read.xid read.call × AllOf reads waiting
 
-all_more : (read : OpenRead) (reads waiting : List OpenRead) → AllOf reads waiting → AllOf (read ∷ reads) waiting
+pub all_more : (read : OpenRead) (reads waiting : List OpenRead) → AllOf reads waiting → AllOf (read ∷ reads) waiting
 unfolding AllOf
 all_more read reads [] all = tt
 all_more read reads (x ∷ waiting) (is, all) = (inr is, all_more read reads waiting all)
 
-all_last : (read : OpenRead) (reads waiting : List OpenRead) → AllOf reads waiting → IsOf reads read.xid read.call → AllOf reads (waiting ++ read ∷ [])
+pub all_last : (read : OpenRead) (reads waiting : List OpenRead) → AllOf reads waiting → IsOf reads read.xid read.call → AllOf reads (waiting ++ read ∷ [])
 unfolding AllOf
 all_last read reads [] all is = (is, tt)
 all_last read reads (x ∷ waiting) (one, all) is = (one, all_last read reads waiting all is)
 
-record IsReadSoFar (R : Call → Outcome → Type 0) (uid gid : ℕ) (file : List ℕ) (reads : List OpenRead) (s : ReadingAt) : Type 0 where
-  answers : AreAnswers R (reading uid gid file) s.outcomes
-  waiting : AllOf reads s.waiting
+pub record IsReadSoFar (R : Call → Outcome → Type 0) (uid gid : ℕ) (file : List ℕ) (reads : List OpenRead) (s : ReadingAt) : Type 0 where
+  pub answers : AreAnswers R (reading uid gid file) s.outcomes
+  pub waiting : AllOf reads s.waiting
 
-step_judged : (R : Call → Outcome → Type 0) (uid gid : ℕ) (file : List ℕ) (reads : List OpenRead) (s t : ReadingAt) (step : ReadStep uid gid file s t) → IsReadSoFar R uid gid file reads s
+pub step_judged : (R : Call → Outcome → Type 0) (uid gid : ℕ) (file : List ℕ) (reads : List OpenRead) (s t : ReadingAt) (step : ReadStep uid gid file s t) → IsReadSoFar R uid gid file reads s
     → AreJudged R reads (step_exchanges uid gid file s t step).made → IsReadSoFar R uid gid file (reads_after reads (step_exchanges uid gid file s t step).made) t
 unfolding AllOf
 step_judged R uid gid file reads s t (MakesAlone call outcome alone answers replies waits) so_far (judged, are) = record {
@@ -331,7 +331,7 @@ step_judged R uid gid file reads s t (TakesOldest read outcome full is completes
       waiting = all.1;
     }
 
-steps_judged : (R : Call → Outcome → Type 0) (uid gid : ℕ) (file : List ℕ) (reads : List OpenRead) (b : LinkBytes) (h : RequesterSide) (states : List ReadingAt) (last : ReadingAt) (leads : LeadsBy uid gid file (starts_at b h) states last)
+pub steps_judged : (R : Call → Outcome → Type 0) (uid gid : ℕ) (file : List ℕ) (reads : List OpenRead) (b : LinkBytes) (h : RequesterSide) (states : List ReadingAt) (last : ReadingAt) (leads : LeadsBy uid gid file (starts_at b h) states last)
     → AreJudged R reads (steps_exchanges uid gid file (starts_at b h) states last leads).made → IsReadSoFar R uid gid file (reads_after reads (steps_exchanges uid gid file (starts_at b h) states last leads).made) last
 unfolding AllOf
 steps_judged R uid gid file reads b h [] last same are = subst (λ (s : ReadingAt). IsReadSoFar R uid gid file reads s) (sym same) (record { answers = tt; waiting = tt })

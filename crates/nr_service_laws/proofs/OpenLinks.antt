@@ -50,7 +50,7 @@ others_no_events link place completed (marks.Revoke l xid bytes) is = not_own (e
 others_no_events link place completed (marks.Drop l) is = refl
 others_no_events link place completed (marks.Told l what) is = not_own (eqb l link && false) _ (and_never (eqb l link))
 
-others_not_fed : (link : ℕ) (m : Mark) → is_client_mark link m ≡ false → fed_at link Initiator m ≡ []
+pub others_not_fed : (link : ℕ) (m : Mark) → is_client_mark link m ≡ false → fed_at link Initiator m ≡ []
 others_not_fed link (marks.Wrote l side bytes) is = refl
 others_not_fed link (marks.Fed l side bytes) is = ap (λ (b : Bool). cond b bytes []) is
 others_not_fed link (marks.Submit l call form answer) is = refl

@@ -88,7 +88,7 @@ precede_in f run first second p =
 
 -- ---- The reply to a call
 
-abbrev submit_of : ℕ → Call → ℕ → Mark
+abbrev pub submit_of : ℕ → Call → ℕ → Mark
 submit_of link call xid = marks.Submit link call forms.Auto (submissions.Accepted xid)
 
 -- the plain server's reply to a call whose credential can be encoded

@@ -40,13 +40,13 @@ fed_bytes : (link l : ℕ) (bytes : List ℕ) → l ≡ link → fed_at link Ini
 fed_bytes link l bytes same = ap (λ (b : Bool). cond (b && true) bytes []) (own_link link l same)
 
 -- each call that marks submit is of bytes, if the outcomes that they handed over before it are
-abbrev MarksOfBytes : List Mark → Type 0
+abbrev pub MarksOfBytes : List Mark → Type 0
 MarksOfBytes [] = Unit {0}
 MarksOfBytes (marks.Submit l call form answer ∷ run) = IsByteCall call × MarksOfBytes run
 MarksOfBytes (marks.Done l xid outcome ∷ run) = OutcomeIsBytes outcome → MarksOfBytes run
 MarksOfBytes (mark ∷ run) = MarksOfBytes run
 
-exchanged : (link : ℕ) (made : List Exchange) (run : List Mark) → AreMarksOf link made run → CallsAreBytes made → MarksOfBytes run
+pub exchanged : (link : ℕ) (made : List Exchange) (run : List Mark) → AreMarksOf link made run → CallsAreBytes made → MarksOfBytes run
 exchanged link [] run is h = subst MarksOfBytes (sym is) tt
 exchanged link (Answered call outcome ∷ made) run (xid, rest, (is, are)) h = subst MarksOfBytes (sym is) (h.0, λ o. exchanged link made rest are (h.1 o))
 exchanged link (Forgotten call ∷ made) run (xid, rest, (is, are)) h = subst MarksOfBytes (sym is) (h.0, exchanged link made rest are h.1)

@@ -20,10 +20,10 @@ use Rattle.nr_drill.specs.DrillSetup.{drill_setup}
 use Rattle.nr_drill.specs.Follows.{Drains, Makes, MakeAll, is_still}
 use Rattle.nr_drill.proofs.LessPlain.{plain_answers_calls}
 use Rattle.nr_drill.proofs.Followed.{cred_at, with_cred_at}
-use Rattle.nr_drill_link.specs.DrillLinkState.{DrillLinkState}
-use Rattle.nr_drill_link.specs.LinkStands.{LinkStands}
-use Rattle.nr_drill_link.specs.Steps.{ServerStands}
-use Rattle.nr_drill_link.proofs.Granting.{receives_are}
+use Rattle.nr_world.specs.DrillLinkState.{DrillLinkState}
+use Rattle.nr_world.specs.LinkStands.{LinkStands}
+use Rattle.nr_world.specs.Steps.{ServerStands}
+use Rattle.nr_world.proofs.Granting.{receives_are}
 use Rattle.nr_world.specs.declared.world.World.{World}
 use Rattle.nr_world.specs.private.Stands.{drill_setting, WorldStands, Steps, MakesLine, MakesLines}
 use Rattle.nr_reduce.specs.Served.{CreditsInRange}

@@ -21,9 +21,9 @@ use Rattle.nr_drill.specs.DrillSetup.{drill_setup, server_of}
 use Rattle.nr_drill.specs.Follows.{opened_drill}
 use Rattle.nr_drill.specs.InBytes.{RepliedInBytes}
 use Rattle.nr_drill.proofs.Followed.{Extends, opening_adds}
-use Rattle.nr_drill_link.specs.DrillLinkState.{DrillLinkState}
-use Rattle.nr_drill_link.specs.LinkStands.{LinkStands}
-use Rattle.nr_drill_link.specs.Steps.{ServerStands, IsBeforeOpening, Opens}
+use Rattle.nr_world.specs.DrillLinkState.{DrillLinkState}
+use Rattle.nr_world.specs.LinkStands.{LinkStands}
+use Rattle.nr_world.specs.Steps.{ServerStands, IsBeforeOpening, Opens}
 use Rattle.nr_world.specs.declared.world.World.{World}
 use Rattle.nr_world.specs.private.Stands.{drill_setting, HasOpened, WorldStands}
 use Rattle.nr_world.specs.private.Opened.{OpensAll}

@@ -3,9 +3,9 @@ use Rattle.std.proofs.Common.{◌≢◌, ℕ, ◌≤◌, List, refl, sym}
 use Rattle.nr_rpc.specs.declared.cred.Cred.{Cred}
 use Rattle.nr_drill.specs.Drill.{Setting, Drill}
 use Rattle.nr_drill.proofs.Followed.{Extends}
-use Rattle.nr_drill_link.specs.DrillLinkState.{DrillLinkState}
-use Rattle.nr_drill_link.specs.LinkStands.{LinkStands}
-use Rattle.nr_drill_link.proofs.Apart.{stands_by, stands_elsewhere}
+use Rattle.nr_world.specs.DrillLinkState.{DrillLinkState}
+use Rattle.nr_world.specs.LinkStands.{LinkStands}
+use Rattle.nr_world.proofs.Apart.{stands_by, stands_elsewhere}
 
 pub others_stand : (s : Setting) (acted link : ℕ) (old new : Drill) (v : DrillLinkState) → 1 ≤ acted → link ≢ acted → Extends acted old new → LinkStands s link old v → LinkStands s link new v
 others_stand s acted link old new v first ne x h = stands_elsewhere s link acted old new v first (λ same. ne (sym same)) x h

@@ -18,9 +18,9 @@ use Rattle.nr_drill.specs.DrillSetup.{drill_setup}
 use Rattle.nr_drill.specs.Follows.{parameters_of}
 use Rattle.nr_drill.specs.InBytes.{RepliedInBytes}
 use Rattle.nr_drill.proofs.Followed.{Extends}
-use Rattle.nr_drill_link.specs.DrillLinkState.{DrillLinkState}
-use Rattle.nr_drill_link.specs.LinkStands.{LinkStands}
-use Rattle.nr_drill_link.specs.Steps.{StandsAt, Goes, Works, ServerStands}
+use Rattle.nr_world.specs.DrillLinkState.{DrillLinkState}
+use Rattle.nr_world.specs.LinkStands.{LinkStands}
+use Rattle.nr_world.specs.Steps.{StandsAt, Goes, Works, ServerStands}
 use Rattle.nr_world.specs.declared.world.World.{World}
 use Rattle.nr_world.specs.private.Stands.{drill_setting, HasOpened, WorldStands, Steps}
 use Rattle.nr_world.specs.private.Within.{IsClient}

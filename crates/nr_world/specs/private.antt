@@ -1,4 +1,5 @@
 -- Definitions that only private code cites.
+pub mod HandsOver
 pub mod Opened
 pub mod Results
 pub mod Stands

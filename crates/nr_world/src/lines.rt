@@ -5,9 +5,9 @@ ghost use Rattle.nr_script.specs.declared.script.Line.TheVariants as lines;
 ghost use Rattle.nr_world.specs.private.Stands.{MakesLine, MakesLines};
 ghost use Rattle.nr_world.specs.private.Within.{CanMake, CanMakeAll};
 
+use crate::copying::copy_cred;
 use crate::steps::Procedure;
 use crate::world::World;
-use nr_drill_link::copy_cred;
 use nr_rpc::Cred;
 use nr_script::Line;
 use nr_xdr::Memory;

@@ -5,8 +5,8 @@ ghost use Rattle.nr_rpc.specs.declared.cred.Cred.TheVariants as credentials;
 ghost use Rattle.nr_texts.specs.Limits.{capacity_max};
 ghost use Rattle.nr_world.specs.private.Opened.{IsDrillServer, HasOpenLinks, IsStarted, OpensAll};
 
+use crate::link::DrillLink;
 use crate::world::World;
-use nr_drill_link::DrillLink;
 use nr_marks::MarkLog;
 use nr_nfs_base::Verifier;
 use nr_plain::Server;

@@ -1,6 +1,6 @@
 //! A script is run.
 
-ghost use Rattle.std.specs.Prelude.{◌≡◌, ◌≤◌, ◌+◌, [], IfOk, OnOk, length};
+ghost use Rattle.std.specs.Prelude.{◌≡◌, ◌≤◌, [], IfOk, OnOk, length};
 ghost use Rattle.nr_texts.specs.Limits.{clients_max};
 ghost use Rattle.nr_drill.specs.DrillSetup.{GivesReport};
 ghost use Rattle.nr_world.specs.private.Results.{AreEndsOf, ReportsWorld};

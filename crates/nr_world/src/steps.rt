@@ -1,7 +1,7 @@
 //! What a line does on one link, and a round of all links. Each function does what the function of the same name does to a drill
 //! in the definitions of `nr_drill`.
 
-ghost use Rattle.std.specs.Prelude.{◌≡◌, ℕ, ◌-◌, ◌≤◌, OnOk, IfOk, length, slice_index_or};
+ghost use Rattle.std.specs.Prelude.{◌≡◌, ◌-◌, OnOk, IfOk, length, slice_index_or};
 ghost use Rattle.std.specs.List.{list_all};
 ghost use Rattle.nr_rpc.specs.Credential.{CanWriteCred};
 ghost use Rattle.nr_rpc.specs.declared.cred.Cred.TheVariants as creds;
@@ -13,8 +13,8 @@ ghost use Rattle.nr_drill.specs.Follows.{is_still as is_still_in};
 ghost use Rattle.nr_world.specs.private.Stands.{Steps, WorldStands, drill_setting};
 ghost use Rattle.nr_world.specs.private.Within.{IsClient, MayGrant};
 
+use crate::copying::{copy_cred, copy_form};
 use crate::world::World;
-use nr_drill_link::{copy_cred, copy_form};
 use nr_reduce::{Call, Form};
 use nr_wire::Side;
 use nr_xdr::{Memory, Octets};

@@ -1,6 +1,6 @@
 //! A drill that runs.
 
-use nr_drill_link::DrillLink;
+use crate::link::DrillLink;
 use nr_marks::MarkLog;
 use nr_plain::Server;
 use nr_rpc::Cred;

@@ -9,9 +9,9 @@ use Rattle.nr_drill.specs.Drill.{Setting, Drill}
 use Rattle.nr_drill.specs.DrillSetup.{drill_setup, server_of}
 use Rattle.nr_drill.specs.Follows.{setting_of, Makes, MakeAll}
 use Rattle.nr_drill.specs.InBytes.{RepliedInBytes}
-use Rattle.nr_drill_link.specs.DrillLinkState.{DrillLinkState}
-use Rattle.nr_drill_link.specs.LinkStands.{LinkStands}
-use Rattle.nr_drill_link.specs.Steps.{ServerStands}
+use Rattle.nr_world.specs.DrillLinkState.{DrillLinkState}
+use Rattle.nr_world.specs.LinkStands.{LinkStands}
+use Rattle.nr_world.specs.Steps.{ServerStands}
 use Rattle.nr_world.specs.declared.world.World.{World}
 
 -- what a drill over this tree is with, if this is its first line

@@ -9,7 +9,7 @@ use Rattle.nr_texts.specs.Limits.{number_max}
 use Rattle.nr_script.specs.Script.{seconds_in}
 use Rattle.nr_reduce.specs.Served.{CreditsInRange}
 use Rattle.nr_drill.specs.Drill.{Drill}
-use Rattle.nr_drill_link.specs.DrillLinkState.{DrillLinkState}
+use Rattle.nr_world.specs.DrillLinkState.{DrillLinkState}
 use Rattle.nr_world.specs.declared.world.World.{World}
 use Rattle.nr_world.specs.private.Stands.{WorldStands}
 

@@ -1,7 +1,7 @@
 use Rattle.std.proofs.Common.{ℕ, refl, sym, subst}
 use Rattle.nr_drill.specs.Drill.{Setting, Drill, after_grant}
 use Rattle.nr_drill.proofs.Followed.{grant_adds}
-use Rattle.nr_drill_link.specs.DrillLinkState.{DrillLinkState}
+use Rattle.nr_world.specs.DrillLinkState.{DrillLinkState}
 use Rattle.nr_reduce.specs.Served.{CreditsInRange}
 use Rattle.nr_world.proofs.SameServer.{grant_leaves}
 use Rattle.nr_world.proofs.Stands.{on_ok, world_goes}

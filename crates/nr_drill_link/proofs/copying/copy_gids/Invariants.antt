@@ -1,5 +1,0 @@
-use Rattle.std.proofs.Common.{◌≡◌, take}
-use Rattle.nr_drill_link.proofs.copying.copy_gids.Given as goal
-
-abbrev pub invariant-gids : goal.invariant-gids
-invariant-gids l = l.copy ≡ take l.gid-index l.of

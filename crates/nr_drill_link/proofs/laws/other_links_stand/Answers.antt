@@ -1,5 +1,0 @@
-use Rattle.nr_drill_link.proofs.Apart.{other_links_stand}
-use Rattle.nr_drill_link.proofs.laws.other_links_stand.Goals as goal
-
-pub returns : goal.returns
-returns c = other_links_stand

@@ -1,5 +1,0 @@
-use Rattle.nr_drill_link.proofs.Rounds.{HasWorked}
-use Rattle.nr_drill_link.proofs.link.DrillLink.all_work.Given as goal
-
-abbrev pub invariant-loop-at : goal.invariant-loop-at
-invariant-loop-at l = HasWorked l._at l.seconds l.initial.self l.self l.initial.marks l.marks l.initial.server l.server

@@ -1,7 +1,0 @@
-use Rattle.std.proofs.Common.{◌∙◌, ap}
-use Rattle.nr_drill_link.specs.DrillLinkState.{DrillLinkState}
-use Rattle.nr_drill_link.proofs.Reading.{client_end_is}
-use Rattle.nr_drill_link.proofs.link.DrillLink.client_end.Goals as goal
-
-pub returns : goal.returns
-returns c s link d h = c.end.ensures ∙ ap (λ (v : DrillLinkState). v.client.state.side.ended) c.self.view_is ∙ client_end_is s link d c.args.self.now h

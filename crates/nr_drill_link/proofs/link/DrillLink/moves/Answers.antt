@@ -1,7 +1,0 @@
-use Rattle.nr_drill_link.proofs.Standing.{on_ok}
-use Rattle.nr_drill_link.proofs.Rounds.{moves_go}
-use Rattle.nr_drill_link.proofs.link.DrillLink.moves.Goals as goal
-
-pub returns-in-Ok-all_work : goal.returns-in-Ok-all_work
-returns-in-Ok-all_work c =
-    on_ok c.all_down.result _ _ (λ falls. moves_go c.args.seconds _ _ _ _ _ _ _ _ _ _ c.in-Ok.ensures c.in-Ok-all_work.ensures falls) c.all_down.ensures

@@ -1,5 +1,0 @@
-use Rattle.nr_drill_link.proofs.Opening.{opens}
-use Rattle.nr_drill_link.proofs.link.DrillLink.open.Goals as goal
-
-pub returns-in-Ok : goal.returns-in-Ok
-returns-in-Ok c = opens c.args.number c.args.opening _ _ c.args.marks.now _ c.in_ok-link.ensures c.in-Ok.ensures

@@ -1,8 +1,0 @@
-use Rattle.std.proofs.Common.{◌∙◌, ap}
-use Rattle.nr_responder.specs.ResponderState.{end_of}
-use Rattle.nr_drill_link.specs.DrillLinkState.{DrillLinkState}
-use Rattle.nr_drill_link.proofs.Reading.{server_end_is}
-use Rattle.nr_drill_link.proofs.link.DrillLink.server_end.Goals as goal
-
-pub returns : goal.returns
-returns c s link d h = c.end.ensures ∙ ap (λ (v : DrillLinkState). end_of v.server) c.self.view_is ∙ server_end_is s link d c.args.self.now h

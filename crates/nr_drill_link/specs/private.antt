@@ -1,2 +1,0 @@
--- Definitions that only private code cites.
-pub mod HandsOver

@@ -1,0 +1,12 @@
+pub mod Commands
+pub mod Encoded
+pub mod Ending
+pub mod Finding
+pub mod ListingNames
+pub mod ListingReplies
+pub mod ListingWalks
+pub mod MadeOf
+pub mod Nodes
+pub mod Parts
+pub mod Replies
+pub mod Walks

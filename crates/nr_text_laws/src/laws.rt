@@ -1,0 +1,37 @@
+//! Laws of the texts that commands print.
+
+ghost use Rattle.nr_text_laws.specs.CommandTexts.{FoundFilesAreThere, FoundParentsAreThere, LinksAreOfTheNode, PathsInOneTree, StatsAreOfTheNode, TextsAreOfTheTrees, TextsInOneTree};
+ghost use Rattle.nr_text_laws.specs.Listings.{ListsAreOfTheDirectory, ListsAreOfTheTrees};
+
+/// What a command prints, or the refusal with its status, is a function of the server's trees at the places of its calls, unless a call has no answer or
+/// memory ran out: of `mount`, `stat`, `readlink`, `mkdir`, `rm` and `ln`. For the last three the tree after the entry of a change that was done is the
+/// one that the procedure makes (RFC 1813 section 3.3).
+pub fn texts_are_of_the_trees()
+    ensures { TextsAreOfTheTrees }
+{}
+
+/// If the trees are one (`same`), or no entry between the calls changes the tree (`kept`), what is found along a path is a function of that one tree.
+pub fn paths_in_one_tree()
+    ensures same { PathsInOneTree }
+    ensures kept { TextsInOneTree }
+{}
+
+/// If no entry between the calls changes what the path leads to, the file (`file`), or the directory that has the last name (`parent`), is the one to
+/// which the path leads in the tree at the place of the last call.
+pub fn found_files_are_there()
+    ensures file { FoundFilesAreThere }
+    ensures parent { FoundParentsAreThere }
+{}
+
+/// So what `stat` and `readlink` printed is of the node to which the path leads: its attributes, and the path that the symbolic link holds.
+pub fn texts_are_of_the_node()
+    ensures stat { StatsAreOfTheNode }
+    ensures link { LinksAreOfTheNode }
+{}
+
+/// What `ls` prints, or the refusal with its status, is a function of the trees at the places of its calls (`trees`). If no entry between them changes
+/// what its path leads to, it prints the name of each entry of that directory, in order (`names`).
+pub fn lists_are_of_the_trees()
+    ensures trees { ListsAreOfTheTrees }
+    ensures names { ListsAreOfTheDirectory }
+{}
