@@ -72,17 +72,17 @@ use Rattle.nr_pair_laws.proofs.Results.{create_done, getattr_is, lookup_found, l
 
 -- ---- Arguments
 
-lookup_args_read : (dir name : List ℕ) → length dir ≤ handle_max → length name ≤ name_length_max
+pub lookup_args_read : (dir name : List ℕ) → length dir ≤ handle_max → length name ≤ name_length_max
     → read_all lookup_args_codec (encodings (lookup_args_codec.items (record { dir = dir; name = name }))) ≡ Ok (record { dir = dir; name = name })
 unfolding lookup_args_codec opaque
 lookup_args_read dir name short few =
     written_read lookup_args_codec (record { dir = dir; name = name }) lookup_args_lawful (short, omega (arith, few)) (omega (arith, short), (omega (arith, few), tt))
 
-getattr_args_read : (file : List ℕ) → length file ≤ handle_max → read_all getattr_args_codec (encodings (getattr_args_codec.items (record { object = file }))) ≡ Ok (record { object = file })
+pub getattr_args_read : (file : List ℕ) → length file ≤ handle_max → read_all getattr_args_codec (encodings (getattr_args_codec.items (record { object = file }))) ≡ Ok (record { object = file })
 unfolding getattr_args_codec opaque
 getattr_args_read file short = written_read getattr_args_codec (record { object = file }) getattr_args_lawful short (omega (arith, short), tt)
 
-read_args_read : (file : List ℕ) (offset count : ℕ) → length file ≤ handle_max → offset < 2 ^ 64 → count < 2 ^ 32
+pub read_args_read : (file : List ℕ) (offset count : ℕ) → length file ≤ handle_max → offset < 2 ^ 64 → count < 2 ^ 32
     → read_all read_args_codec (encodings (read_args_codec.items (record { file = file; offset = offset; count = count }))) ≡ Ok (record { file = file; offset = offset; count = count })
 unfolding read_args_codec opaque hyper word
 read_args_read file offset count short at few =
@@ -109,7 +109,7 @@ create_args_read dir name short few =
 
 -- ---- The calls
 
-same_outcome : {A : Type 0} (reads : Outcome → Result A ClientEnd) (o : Outcome) (reply reply' : List ℕ) (r : Result A ClientEnd) → o ≡ outcomes.Reply reply → reply ≡ reply' → reads o ≡ r → reads (outcomes.Reply reply') ≡ r
+pub same_outcome : {A : Type 0} (reads : Outcome → Result A ClientEnd) (o : Outcome) (reply reply' : List ℕ) (r : Result A ClientEnd) → o ≡ outcomes.Reply reply → reply ≡ reply' → reads o ≡ r → reads (outcomes.Reply reply') ≡ r
 same_outcome reads o reply reply' r is same e = sym (ap reads is ∙ ap (λ (l : List ℕ). reads (outcomes.Reply l)) same) ∙ e
 
 object_read : (r : Result LookupOk ClientEnd) (g : List ℕ) → object_in r ≡ Ok g → (w : LookupOk) × ((r ≡ Ok w) × (w.object ≡ g))

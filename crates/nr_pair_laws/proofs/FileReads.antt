@@ -1,5 +1,5 @@
 -- What READs of a file give is its bytes.
-use Rattle.std.proofs.Common.{◌≡◌, ℕ, ◌+◌, ◌-◌, ◌<◌, ◌≤◌, ◌^◌, min, Bool, true, false, cond, ltb, List, [], ◌∷◌, ◌++◌, length, take, Some, Result, Ok, Err, refl, ap, sym, ◌∙◌, subst, arith}
+use Rattle.std.proofs.Common.{◌≡◌, ℕ, ◌+◌, ◌<◌, ◌≤◌, ◌^◌, min, Bool, true, false, cond, ltb, List, [], ◌∷◌, ◌++◌, length, take, Some, Result, Ok, Err, refl, ap, sym, ◌∙◌, subst, arith}
 use Rattle.std.specs.Prelude.{nat_le}
 use Rattle.std.specs.List.{fold}
 use Rattle.std.proofs.lemmas.Bool.{ltb-false, ltb-true}
@@ -29,10 +29,10 @@ use Rattle.nr_pair_laws.proofs.Calls.{data_at, size_at}
 use Rattle.nr_pair_laws.proofs.Kept.{file_kept, kept}
 
 -- what was read after some replies, and these replies more
-abbrev read_after : FileRead → List Outcome → FileRead
+abbrev pub read_after : FileRead → List Outcome → FileRead
 read_after state later = fold after_reply state later
 
-abbrev request_after : (uid gid : ℕ) → (file : List ℕ) → FileRead → List Outcome → Next (Unit {0})
+abbrev pub request_after : (uid gid : ℕ) → (file : List ℕ) → FileRead → List Outcome → Next (Unit {0})
 request_after uid gid file state later = next_read uid gid file (read_after state later)
 
 -- a request is done
@@ -47,7 +47,7 @@ ended uid gid file end bytes os is =
     absurd cc
 
 -- what is left of a piece is no more than one READ moves, and than the file has
-left_few : (size at : ℕ) → piece_left size at ≤ transfer_max
+pub left_few : (size at : ℕ) → piece_left size at ≤ transfer_max
 left_few size at = omega arith
 
 module _ (s : Setup) (J : List Entry) (uid gid : ℕ) (ids : AreIds uid gid) (names : List (List ℕ)) (file bytes : List ℕ) (from : ℕ) (short : length file ≤ handle_max) (few : length bytes < 2 ^ 64)

@@ -1,5 +1,5 @@
 -- Each outcome of a `get` by several jobs is the plain server's reply to its call at the call's place; and the file that it read.
-use Rattle.std.proofs.Common.{◌≡◌, ℕ, zero, suc, ◌+◌, ◌<◌, ◌≤◌, Bool, cond, List, [], ◌∷◌, ◌++◌, length, take, Option, Ok, inl, inr, refl, sym, ap, subst, ◌∙◌, arith, append_assoc, append-nil, length-append}
+use Rattle.std.proofs.Common.{◌≡◌, ℕ, zero, suc, ◌+◌, ◌<◌, ◌≤◌, Bool, cond, List, [], ◌∷◌, ◌++◌, length, take, Option, Result, Ok, Err, inl, inr, refl, sym, ap, subst, ◌∙◌, arith, append_assoc, append-nil, length-append}
 use Rattle.std.specs.Prelude.{nat_lt}
 use Rattle.std.specs.List.{AllByRecursion, filter, flat_map}
 use Rattle.std.specs.Io.KnownBytes.{Appends}
@@ -8,6 +8,7 @@ use Rattle.std.proofs.lemmas.List.{take_at}
 use Rattle.std.proofs.lemmas.List.Elements.{filter-append}
 use mathlib.Core.Option.{some, some-ne-none}
 use lib.ListN.{get_elem?}
+use Rattle.nr_links.specs.Links.{LinkLog}
 use Rattle.nr_words.specs.Limits.{mount_path_max}
 use Rattle.nr_reduce.specs.declared.call.Call.{Call}
 use Rattle.nr_reduce.specs.declared.call.Form.TheVariants as forms
@@ -36,22 +37,23 @@ use Rattle.nr_plain.specs.Added.{entries_of_call}
 use Rattle.nr_plain.specs.History.{AllPlaced, Answered as AnsweredCall, setup_in}
 use Rattle.nr_plain.specs.ReplyLaws.{plain_server}
 use Rattle.nr_plain.specs.Setup.{Setup}
+use Rattle.nr_client.specs.declared.client_end.ClientEnd.{ClientEnd}
 use Rattle.nr_client.specs.Following.Next.{Returns}
 use Rattle.nr_outside.specs.Streams.{SinkAt, SourceAt}
-use Rattle.nr_client.specs.Jobs.{AreExchanges, EndsByJobs, IsExchange, LinkAt, ReadsFileByJobs, ReadsShared}
+use Rattle.nr_client.specs.Jobs.{AreExchanges, EndsByJobs, IsExchange, LinkAt, ReadsFileByJobs, ReadsShared, bytes_at}
 use Rattle.nr_client.specs.Jobs.ReadsFileByJobs.{NoAttributes, Shared}
 use Rattle.nr_client.specs.Paths.{path_names}
 use Rattle.nr_client.specs.Reading.{bytes_read, reading}
-use Rattle.nr_client.specs.Requests.{getattr_call, mnt_call}
+use Rattle.nr_client.specs.Requests.{getattr_call, getattr_result, mnt_call}
 use Rattle.nr_client.specs.Walking.{walk_next}
 use Rattle.nr_commands.specs.ByJobs.{link_of}
 use Rattle.nr_commands.specs.ByJobs.GetsByJobs.{Found, NotFound, NotOpened}
 use Rattle.nr_commands.specs.Commands.{Finds}
-use Rattle.nr_commands.specs.Sessions.{SessionAt}
+use Rattle.nr_commands.specs.Sessions.{SessionAt, sink_of, source_of}
 use Rattle.nr_host.specs.Connections.{answers_of}
 use Rattle.nr_host_laws.specs.OwnMarks.{own_marks}
 use Rattle.nr_service_laws.specs.ClientMarks.{AreMarksOf, without_bytes}
-use Rattle.nr_service_laws.specs.Exchanges.{Exchange, followed_exchanges, tells_finds, tells_mounts}
+use Rattle.nr_service_laws.specs.Exchanges.{Exchange, asked_exchanges, followed_exchanges, tells_finds, tells_mounts}
 use Rattle.nr_service_laws.specs.Exchanges.Exchange.{Answered}
 use Rattle.nr_service_laws.specs.ReplyEnds.{AreAnswers}
 use Rattle.nr_service_laws.specs.ServedCommands.{client_marks, is_client_mark}
@@ -60,7 +62,7 @@ use Rattle.nr_service_laws.proofs.JudgedParts.{AreJudged, judged_both, reads_aft
 use Rattle.nr_service_laws.proofs.ServedAnswers.{submit_of}
 use Rattle.nr_pair_laws.specs.FilesAt.{KeepPath}
 use Rattle.nr_pair_laws.specs.JobPairs.{AreJobsAnsweredFrom, IsServedJobs, JobsAreServed, JobsGiveTheFile, JobsReadTheFile}
-use Rattle.nr_pair_laws.specs.JobRuns.{IsJobMark, IsJobsRun, SaysOfShared}
+use Rattle.nr_pair_laws.specs.JobRuns.{IsJobMark, IsJobsRun, SaysOfFile}
 use Rattle.nr_pair_laws.specs.Pairs.{AreAnsweredFrom, AreSidesOf, IsAnsweredBetween, place_after}
 use Rattle.nr_pair_laws.specs.PutThenGet.{GetsFile, mounting, root_handle}
 use Rattle.nr_pair_laws.proofs.AnsweredCalls.{exchanges_answered, one_outcome}
@@ -231,38 +233,51 @@ module _ (s : Setup) (sane : IsSane s.tree) (J : List Entry) (n : ℕ) (opened :
         let next = a.1.1.1 in
         (a.0, (a.1.0, ((let m : used_upto e.at ≤ a.0 = omega (arith, from, at) in m), (let m : place_after s J call outcome a.0 a.1.0 ≤ used_upto (suc e.done) = omega (arith, next, same, until) in m))))
 
+pub none_earlier : Earlier closes_of []
+none_earlier p q e at is = absurd (some-ne-none e (sym at))
+
+-- a run of a `get` by jobs and that of a connection
+job_served : (setup : Setup) → IsSane setup.tree → (J more : List Entry) (opened : LinkParameters) (link : ℕ) (own : List Mark) → Served opened link own → AllPlaced setup (J ++ more) (length J) (answers_of own)
+    → (s : SessionAt) (source : SourceAt) (sink : SinkAt) (log log' : Option LinkLog) (result : Result (Unit {0}) ClientEnd) (made : List Exchange) (history : List SharedEntry)
+    (ran : IsJobsRun opened link s source sink log log' result made history) → Earlier closes_of history → (both : List Mark) → AreSidesOf link ran.run own both → IsTyped both
+    → IsServedJobs setup J more opened link ran.run both made history
+job_served setup sane J more opened link own law placed s source sink log log' result made history ran earlier both sides typed =
+    let b = job_sides setup (J ++ more) (length J) opened link ran.run own both ran.own ran.asked sides law placed in
+    let marks_are : client_marks link both ≡ run_of ran.alone ran.fed link history = sides.client_side ∙ ran.run_is in
+    record {
+      served = record { client_side = sides.client_side; typed = typed; served = b.served; matched = sides.matched; plain = b.plain };
+      at_places = b.at_places;
+      answered = record {
+        alone = alone_answered setup sane (J ++ more) (length J) opened link both typed b ran.alone (flat_map (mark_at ran.fed link) history) made (marks_are ∙ run_first ran.alone ran.fed link history) ran.marks_are;
+        used = used_upto setup sane (J ++ more) (length J) opened link both typed b ran.alone ran.fed history marks_are;
+        first = used_first setup sane (J ++ more) (length J) opened link both typed b ran.alone ran.fed history marks_are;
+        rises = used_rises setup sane (J ++ more) (length J) opened link both typed b ran.alone ran.fed history marks_are;
+        shared = shared_answered setup sane (J ++ more) (length J) opened link both typed b ran.alone ran.fed history marks_are earlier;
+      };
+    }
+
 pub jobs_are_served_lem : JobsAreServed
 jobs_are_served_lem limits first J opened link outside outside' end connection get before after out out' result (NotOpened why is fails same) sane = tt
-jobs_are_served_lem limits first J opened link outside outside' end connection get before after out out' result (NotFound dialed s s' why opens finds is same closes) sane = tt
+jobs_are_served_lem limits first J opened link outside outside' end connection get before after out out' result (NotFound dialed s s' why opens finds is same closes) sane = λ ran both sides typed.
+    job_served (setup_in first) sane J connection.over.more opened link connection.ended.run connection.served connection.over.placed s (source_of s') (sink_of s') dialed.ended after.ended result
+    (tells_finds get.uid get.gid get.export get.path s s' (Err why) finds).made [] ran none_earlier both sides typed
 jobs_are_served_lem limits first J opened link outside outside' end connection get before after out out' result (Found dialed s s' file opens finds hangs) sane = by hangs.reads
   where
-    setup : Setup
-    setup = setup_in first
+    served : (made : List Exchange) (history : List SharedEntry) (ran : IsJobsRun opened link s hangs.source hangs.sink dialed.ended after.ended result made history) → Earlier closes_of history → (both : List Mark)
+        → AreSidesOf link ran.run connection.ended.run both → IsTyped both → IsServedJobs (setup_in first) J connection.over.more opened link ran.run both made history
+    served = job_served (setup_in first) sane J connection.over.more opened link connection.ended.run connection.served connection.over.placed s hangs.source hangs.sink dialed.ended after.ended result
 
-    journal : List Entry
-    journal = J ++ connection.over.more
+    found : List Exchange
+    found = (tells_finds get.uid get.gid get.export get.path s s' (Ok file) finds).made
 
     by : (reads : ReadsFileByJobs get.uid get.gid file (link_of s') hangs.source hangs.sink out.taken out'.taken result)
-        → SaysOfShared (λ source sink made history. (ran : IsJobsRun opened link s source sink dialed.ended after.ended made history) → (both : List Mark) → AreSidesOf link ran.run connection.ended.run both →
-        IsTyped both → IsServedJobs setup J connection.over.more opened link ran.run both made history) (tells_finds get.uid get.gid get.export get.path s s' (Ok file) finds).made
+        → SaysOfFile (λ source sink made history. (ran : IsJobsRun opened link s source sink dialed.ended after.ended result made history) → (both : List Mark) → AreSidesOf link ran.run connection.ended.run both →
+        IsTyped both → IsServedJobs (setup_in first) J connection.over.more opened link ran.run both made history) (tells_finds get.uid get.gid get.export get.path s s' (Ok file) finds).made
         get.uid get.gid file s' hangs.source hangs.sink out.taken out'.taken result reads
-    by (NoAttributes mid why gets is same none) = tt
+    by (NoAttributes mid why gets is same none) = λ ran both sides typed.
+        served (found ++ (asked_exchanges getattr_result (getattr_call get.uid get.gid file) (bytes_at (link_of s')) (bytes_at mid) (link_of s').requester mid.requester (Err why) gets.asks).made) [] ran none_earlier both sides typed
     by (Shared mid outcome attributes gets shared) = λ ran both sides typed.
-        let b = job_sides setup journal (length J) opened link ran.run connection.ended.run both ran.own ran.asked sides connection.served connection.over.placed in
-        let history = shared.back.history in
-        let marks_are : client_marks link both ≡ run_of ran.alone ran.fed link history = sides.client_side ∙ ran.run_is in
-        let made = (tells_finds get.uid get.gid get.export get.path s s' (Ok file) finds).made ++ Answered (getattr_call get.uid get.gid file) outcome ∷ [] in
-        record {
-          served = record { client_side = sides.client_side; typed = typed; served = b.served; matched = sides.matched; plain = b.plain };
-          at_places = b.at_places;
-          answered = record {
-            alone = alone_answered setup sane journal (length J) opened link both typed b ran.alone (flat_map (mark_at ran.fed link) history) made (marks_are ∙ run_first ran.alone ran.fed link history) ran.marks_are;
-            used = used_upto setup sane journal (length J) opened link both typed b ran.alone ran.fed history marks_are;
-            first = used_first setup sane journal (length J) opened link both typed b ran.alone ran.fed history marks_are;
-            rises = used_rises setup sane journal (length J) opened link both typed b ran.alone ran.fed history marks_are;
-            shared = shared_answered setup sane journal (length J) opened link both typed b ran.alone ran.fed history marks_are shared.back.earlier;
-          };
-        }
+        served (found ++ Answered (getattr_call get.uid get.gid file) outcome ∷ []) shared.back.history ran shared.back.earlier both sides typed
 
 -- ---- The file
 
@@ -383,27 +398,27 @@ shared_read s J uid gid export path file names from at mid finds outcome size li
 
 pub jobs_read_the_file_lem : JobsReadTheFile
 jobs_read_the_file_lem s J get before after out out' (NotOpened why is fails same) names from are_names keep = tt
-jobs_read_the_file_lem s J get before after out out' (NotFound dialed at mid why opens finds is same closes) names from are_names keep = tt
+jobs_read_the_file_lem s J get before after out out' (NotFound dialed at mid why opens finds is same closes) names from are_names keep = λ answered. absurd (let wrong = is in cc)
 jobs_read_the_file_lem s J get before after out out' (Found dialed at mid file opens finds hangs) names from are_names keep = by hangs.reads
   where
     by : (reads : ReadsFileByJobs get.uid get.gid file (link_of mid) hangs.source hangs.sink out.taken out'.taken (Ok tt))
-        → SaysOfShared (λ source sink made history. AreJobsAnsweredFrom s J from made history →
+        → SaysOfFile (λ source sink made history. AreJobsAnsweredFrom s J from made history →
         (outcomes : List Outcome) × (GetsFile s J get.uid get.gid get.export get.path names from outcomes × Appends out.taken out'.taken (bytes_read outcomes)))
         (tells_finds get.uid get.gid get.export get.path at mid (Ok file) finds).made get.uid get.gid file mid hangs.source hangs.sink out.taken out'.taken (Ok tt) reads
-    by (NoAttributes link why gets is same none) = tt
+    by (NoAttributes link why gets is same none) = λ answered. absurd (let wrong = is in cc)
     by (Shared link outcome attributes gets shared) = λ answered.
         let read = shared_read s J get.uid get.gid get.export get.path file names from at mid finds outcome attributes.size link hangs.source hangs.sink out.taken out'.taken shared are_names keep answered in
         (read.outcomes, (read.gets, read.takes))
 
 pub jobs_give_the_file_lem : JobsGiveTheFile
 jobs_give_the_file_lem s J get before after out out' (NotOpened why is fails same) names bytes to from sane ids are_names holds low keep = tt
-jobs_give_the_file_lem s J get before after out out' (NotFound dialed at mid why opens finds is same closes) names bytes to from sane ids are_names holds low keep = tt
+jobs_give_the_file_lem s J get before after out out' (NotFound dialed at mid why opens finds is same closes) names bytes to from sane ids are_names holds low keep = λ answered. absurd (let wrong = is in cc)
 jobs_give_the_file_lem s J get before after out out' (Found dialed at mid file opens finds hangs) names bytes to from sane ids are_names holds low keep = by hangs.reads
   where
     by : (reads : ReadsFileByJobs get.uid get.gid file (link_of mid) hangs.source hangs.sink out.taken out'.taken (Ok tt))
-        → SaysOfShared (λ source sink made history. AreJobsAnsweredFrom s J from made history → Appends out.taken out'.taken bytes)
+        → SaysOfFile (λ source sink made history. AreJobsAnsweredFrom s J from made history → Appends out.taken out'.taken bytes)
         (tells_finds get.uid get.gid get.export get.path at mid (Ok file) finds).made get.uid get.gid file mid hangs.source hangs.sink out.taken out'.taken (Ok tt) reads
-    by (NoAttributes link why gets is same none) = tt
+    by (NoAttributes link why gets is same none) = λ answered. absurd (let wrong = is in cc)
     by (Shared link outcome attributes gets shared) = λ answered.
         let alone = alone_judged s J get.uid get.gid get.export get.path file names from at mid finds outcome answered.alone in
         let within = within_journal s J from (getattr_call get.uid get.gid file) outcome alone.first in

@@ -1,5 +1,5 @@
 -- A `get` by several jobs is one run of its link.
-use Rattle.std.proofs.Common.{◌≡◌, ℕ, suc, Bool, true, false, List, [], ◌∷◌, ◌++◌, Option, None, Some, Result, Ok, inl, inr, refl, sym, ap, subst, ◌∙◌, append-nil}
+use Rattle.std.proofs.Common.{◌≡◌, ◌≢◌, ℕ, suc, Bool, true, false, List, [], ◌∷◌, ◌++◌, Option, None, Some, Result, Ok, Err, inl, inr, refl, sym, ap, subst, ◌∙◌, append-nil}
 use Rattle.std.specs.Prelude.{IfSome}
 use Rattle.std.specs.List.{AllByRecursion, flat_map}
 use Rattle.std.specs.Io.KnownBytes.{Appends}
@@ -8,6 +8,8 @@ use Rattle.nr_outside.specs.Content.{HandsOut}
 use Rattle.nr_outside.specs.Streams.{SinkAt, SourceAt}
 use Rattle.nr_outside.proofs.Moves.{HandsOut_append}
 use Rattle.nr_link.specs.Agreement.{terms_with}
+use Rattle.nr_link.specs.declared.agreement.SideTerms.{SideTerms}
+use Rattle.nr_link.specs.declared.end.End.TheVariants as ends
 use Rattle.nr_wire.specs.declared.hello.Side.TheVariants.{Initiator, Responder}
 use Rattle.nr_nfs_base.specs.declared.attributes.Attributes.{Attributes}
 use Rattle.nr_reduce.specs.declared.call.Call.{Call}
@@ -31,27 +33,32 @@ use Rattle.nr_shared.specs.Histories.{Allows, AreAllowed, FitsInitialState, byte
 use Rattle.nr_shared.specs.Marks.{IsLive as IsSharedLive}
 use Rattle.nr_shared.specs.Standing.{RepresentsHistoryIf, is_out_of_memory}
 use Rattle.nr_shared.proofs.Histories.{initial_more}
+use Rattle.nr_client.specs.declared.call_end.CallEnd.TheVariants as calls
 use Rattle.nr_client.specs.declared.client_end.ClientEnd.{ClientEnd}
+use Rattle.nr_client.specs.declared.client_end.ClientEnd.TheVariants as client
 use Rattle.nr_client.specs.Dialing.{DialerAt}
-use Rattle.nr_client.specs.Jobs.{FileReads, GetsAttributes, LinkAt, ReadsFileByJobs, ReadsShared, bytes_at}
+use Rattle.nr_client.specs.Jobs.{FileReads, GetsAttributes, GetsNoAttributes, LinkAt, ReadsFileByJobs, ReadsShared, bytes_at}
 use Rattle.nr_client.specs.Jobs.ReadsFileByJobs.{NoAttributes, Shared}
-use Rattle.nr_client.specs.Requests.{getattr_call}
+use Rattle.nr_client.specs.Requests.{getattr_call, getattr_result}
 use Rattle.nr_client.specs.Steps.{IsLive}
+use Rattle.nr_client.specs.Transfers.{link_bytes}
+use Rattle.nr_client.proofs.CallsMade.{end_in}
 use Rattle.nr_commands.specs.ByJobs.{link_of}
 use Rattle.nr_commands.specs.ByJobs.GetsByJobs.{Found, NotFound, NotOpened}
 use Rattle.nr_commands.specs.Commands.{Finds}
-use Rattle.nr_commands.specs.Running.{HangsUp, Opens}
-use Rattle.nr_commands.specs.Sessions.{SessionAt}
+use Rattle.nr_commands.specs.Running.{Closes, HangsUp, Opens}
+use Rattle.nr_commands.specs.Sessions.{SessionAt, sink_of, source_of}
 use Rattle.nr_service_laws.specs.ClientMarks.{IsOwn, StandsAt}
 use Rattle.nr_service_laws.specs.CommandRuns.{AreThen}
 use Rattle.nr_service_laws.specs.CompleteCommands.{IsSession}
-use Rattle.nr_service_laws.specs.Exchanges.{one, tells_finds}
+use Rattle.nr_service_laws.specs.Exchanges.{Exchange, Exchanges, and_then, asked_exchanges, one, tells_finds}
 use Rattle.nr_service_laws.specs.Exchanges.Exchange.{Answered}
+use Rattle.nr_service_laws.specs.SessionMarks.{Does}
 use Rattle.nr_service_laws.proofs.Commands.{sessions_begin_lem}
-use Rattle.nr_service_laws.proofs.Extending.{does_both}
+use Rattle.nr_service_laws.proofs.Extending.{does_as, does_both}
 use Rattle.nr_service_laws.proofs.OneCall.{does_answers}
-use Rattle.nr_service_laws.proofs.Parts.{has_finds}
-use Rattle.nr_pair_laws.specs.JobRuns.{IsJobMark, IsJobsRun, JobsHaveARun, SaysOfShared}
+use Rattle.nr_service_laws.proofs.Parts.{has_finds, has_request}
+use Rattle.nr_pair_laws.specs.JobRuns.{IsJobMark, IsJobsRun, JobsHaveARun, SaysOfFile}
 use Rattle.nr_pair_laws.proofs.JobBytes.{history_fed, history_received, history_sent}
 
 -- ---- Its marks
@@ -140,7 +147,7 @@ jobs_run : (opened : LinkParameters) (link : ℕ) (addr : List ℕ) (units : ℕ
     (opens : Opens addr (terms_with units invalidates) before dialed s) (finds : Finds uid gid export path s s' (Ok file)) (source : SourceAt) (sink : SinkAt) (mid : LinkAt) (outcome : Outcome) (attributes : Attributes)
     (answered : GetsAttributes uid gid file outcome attributes (link_of s') mid) (taken taken' : Option (List ℕ)) (result : Result (Unit {0}) ClientEnd)
     (shared : ReadsShared uid gid file outcome attributes.size mid source sink taken taken' result) → HangsUp opens.number source sink dialed after → IsSession opened (terms_with units invalidates)
-    → IsJobsRun opened link s source sink dialed.ended after.ended ((tells_finds uid gid export path s s' (Ok file) finds).made ++ Answered (getattr_call uid gid file) outcome ∷ []) shared.back.history
+    → IsJobsRun opened link s source sink dialed.ended after.ended result ((tells_finds uid gid export path s s' (Ok file) finds).made ++ Answered (getattr_call uid gid file) outcome ∷ []) shared.back.history
 jobs_run opened link addr units invalidates uid gid export path file before dialed after s s' opens finds source sink mid outcome attributes answered taken taken' result shared hangs session =
     let back = shared.back in
     let history = back.history in
@@ -178,7 +185,7 @@ jobs_run opened link addr units invalidates uid gid export path file before dial
       run_is = refl;
       marks_are = done.extends.marks_are;
       ahead = fed.ahead;
-      all_fed = fed.all;
+      all_fed = λ other not_out. fed.all other;
       given = then_are s.bytes.given source.given (bytes_received link Initiator (run_of alone laws.fed link history) ++ fed.ahead) opens.fresh.nothing_given all.to_given;
       left = all.from_left;
       taken = then_are s.bytes.taken sink.taken (bytes_sent link Initiator (run_of alone laws.fed link history)) opens.fresh.nothing_taken (subst (λ (l : List ℕ). Appends s.bytes.taken sink.taken l) (sym sent) took);
@@ -187,15 +194,99 @@ jobs_run opened link addr units invalidates uid gid export path file before dial
       hung_up = hangs.ends;
     }
 
+-- the end of one request is the end of all
+same_end : {A : Type 0} (result : Result (Unit {0}) ClientEnd) (end e : ClientEnd) → result ≡ Err end → ◌≡◌ {A = Result A ClientEnd} (Err end) (Err e) → result ≡ Err e
+same_end {A} result end e is ended = is ∙ ap (λ (x : ClientEnd). Err x) (ap (end_in {A = A}) ended)
+
+-- a run whose requester wasn't shared
+run_alone : (alone : List Mark) (link : ℕ) → alone ≡ run_of alone 0 link []
+unfolding run_of
+run_alone alone link = sym (append-nil alone)
+
+alone_asked : (opened : LinkParameters) (link : ℕ) (h : RequesterSide) (ahead : List ℕ) (run : List Mark) (result : Result (Unit {0}) ClientEnd) → StandsAt result opened link h ahead run
+    → AskedSoFar opened link run × KeepsGrant opened link run
+alone_asked opened link h ahead run result (inl (live, fed)) = (live.asked, live.granted)
+alone_asked opened link h ahead run result (inr (is, out)) = (out.asked, out.granted)
+
+alone_fed : (opened : LinkParameters) (link : ℕ) (h : RequesterSide) (ahead : List ℕ) (run : List Mark) (result : Result (Unit {0}) ClientEnd) → StandsAt result opened link h ahead run
+    → result ≢ Err (client.Link (calls.Ended ends.Memory)) → ahead ≡ []
+alone_fed opened link h ahead run result (inl (live, fed)) other = fed
+alone_fed opened link h ahead run result (inr (is, out)) other = absurd (other is)
+
+alone_run : (opened : LinkParameters) (link : ℕ) (addr : List ℕ) (terms : SideTerms) (before dialed after : DialerAt) (s : SessionAt) (opens : Opens addr terms before dialed s) (source : SourceAt) (sink : SinkAt) (read : ℕ) (h : RequesterSide)
+    (result : Result (Unit {0}) ClientEnd) (exchanges : Exchanges) → Does result opened link [] s.bytes (link_bytes source.left source.given sink.taken read) h exchanges → HangsUp opens.number source sink dialed after
+    → IsJobsRun opened link s source sink dialed.ended after.ended result exchanges.made []
+alone_run opened link addr terms before dialed after s opens source sink read h result exchanges done hangs =
+    let laws = alone_asked opened link h done.ahead done.more result done.stands in
+    record {
+      run = done.more;
+      own = job_marks link done.more done.extends.own;
+      asked = laws.0;
+      granted = laws.1;
+      alone = done.more;
+      fed = 0;
+      run_is = run_alone done.more link;
+      marks_are = done.extends.marks_are;
+      ahead = done.ahead;
+      all_fed = λ other not_out. alone_fed opened link h done.ahead done.more result done.stands not_out;
+      given = then_are s.bytes.given source.given (bytes_received link Initiator done.more ++ done.ahead) opens.fresh.nothing_given done.extends.handed.to_given;
+      left = done.extends.handed.from_left;
+      taken = then_are s.bytes.taken sink.taken (bytes_sent link Initiator done.more) opens.fresh.nothing_taken done.extends.taken;
+      told = opens.told;
+      number = opens.number;
+      hung_up = hangs.ends;
+    }
+
+-- no file was found
+not_found_run : (opened : LinkParameters) (link : ℕ) (addr : List ℕ) (units : ℕ) (invalidates : Bool) (uid gid : ℕ) (export path : List ℕ) (before dialed after : DialerAt) (s s' : SessionAt) (end : ClientEnd)
+    (opens : Opens addr (terms_with units invalidates) before dialed s) (finds : Finds uid gid export path s s' (Err end)) (result : Result (Unit {0}) ClientEnd) → result ≡ Err end → Closes opens.number s' dialed after
+    → IsSession opened (terms_with units invalidates) → IsJobsRun opened link s (source_of s') (sink_of s') dialed.ended after.ended result (tells_finds uid gid export path s s' (Err end) finds).made []
+not_found_run opened link addr units invalidates uid gid export path before dialed after s s' end opens finds result is closes session =
+    let exchanges = tells_finds uid gid export path s s' (Err end) finds in
+    let has = does_as {A = List ℕ} {B = Unit {0}} (Err end) result s.bytes s'.bytes s.requester s'.requester exchanges (λ e ended. same_end {A = List ℕ} result end e is ended) (has_finds uid gid export path s s' (Err end) finds) in
+    let done = has opened link [] session.fine (sessions_begin_lem addr (terms_with units invalidates) before dialed s opened link opens session.first_xid session.first_stag session.wished) in
+    alone_run opened link addr (terms_with units invalidates) before dialed after s opens (source_of s') (sink_of s') s'.bytes.read s'.requester result exchanges done closes
+
+-- the session of a link
+abbrev pub session_of : LinkAt → SessionAt
+session_of mid = record { bytes = bytes_at mid; requester = mid.requester; source_faults = mid.source.faults; sink_faults = mid.sink.faults }
+
+-- GETATTR gave no size
+no_size_run : (opened : LinkParameters) (link : ℕ) (addr : List ℕ) (units : ℕ) (invalidates : Bool) (uid gid : ℕ) (export path file : List ℕ) (before dialed after : DialerAt) (s s' : SessionAt) (opens : Opens addr (terms_with units invalidates) before dialed s)
+    (finds : Finds uid gid export path s s' (Ok file)) (mid : LinkAt) (end : ClientEnd) (gets : GetsNoAttributes uid gid file end (link_of s') mid) (result : Result (Unit {0}) ClientEnd) → result ≡ Err end
+    → HangsUp opens.number mid.source mid.sink dialed after → IsSession opened (terms_with units invalidates)
+    → IsJobsRun opened link s mid.source mid.sink dialed.ended after.ended result
+    ((tells_finds uid gid export path s s' (Ok file) finds).made
+    ++ (asked_exchanges getattr_result (getattr_call uid gid file) (bytes_at (link_of s')) (bytes_at mid) (link_of s').requester mid.requester (Err end) gets.asks).made) []
+no_size_run opened link addr units invalidates uid gid export path file before dialed after s s' opens finds mid end gets result is hangs session =
+    let call = getattr_call uid gid file in
+    let found = tells_finds uid gid export path s s' (Ok file) finds in
+    let asked = asked_exchanges getattr_result call (bytes_at (link_of s')) (bytes_at mid) (link_of s').requester mid.requester (Err end) gets.asks in
+    let second = does_as {A = Attributes} {B = Unit {0}} (Err end) result s'.bytes (bytes_at mid) s'.requester mid.requester asked (λ e ended. same_end {A = Attributes} result end e is ended)
+    (has_request getattr_result call s' (session_of mid) (Err end) (gets.asks, (gets.source_count, gets.sink_count))) in
+    let has = does_both {A = List ℕ} {B = Unit {0}} file result s.bytes s'.bytes (bytes_at mid) s.requester s'.requester mid.requester found asked (has_finds uid gid export path s s' (Ok file) finds) second in
+    let done = has opened link [] session.fine (sessions_begin_lem addr (terms_with units invalidates) before dialed s opened link opens session.first_xid session.first_stag session.wished) in
+    alone_run opened link addr (terms_with units invalidates) before dialed after s opens mid.source mid.sink mid.read mid.requester result (and_then found asked) done hangs
+
 pub jobs_have_a_run_lem : JobsHaveARun
 jobs_have_a_run_lem get before after out out' result (NotOpened end is fails same) opened link session = tt
-jobs_have_a_run_lem get before after out out' result (NotFound dialed s s' end opens finds is same closes) opened link session = tt
+jobs_have_a_run_lem get before after out out' result (NotFound dialed s s' end opens finds is same closes) opened link session =
+    not_found_run opened link get.addr get.units get.invalidates get.uid get.gid get.export get.path before dialed after s s' end opens finds result is closes session
 jobs_have_a_run_lem get before after out out' result (Found dialed s s' file opens finds hangs) opened link session = by hangs.reads
   where
+    found : List Exchange
+    found = (tells_finds get.uid get.gid get.export get.path s s' (Ok file) finds).made
+
     by : (reads : ReadsFileByJobs get.uid get.gid file (link_of s') hangs.source hangs.sink out.taken out'.taken result)
-        → SaysOfShared (λ source sink made history. IsJobsRun opened link s source sink dialed.ended after.ended made history) (tells_finds get.uid get.gid get.export get.path s s' (Ok file) finds).made
+        → SaysOfFile (λ source sink made history. IsJobsRun opened link s source sink dialed.ended after.ended result made history) (tells_finds get.uid get.gid get.export get.path s s' (Ok file) finds).made
         get.uid get.gid file s' hangs.source hangs.sink out.taken out'.taken result reads
-    by (NoAttributes mid end gets is same none) = tt
+    by (NoAttributes mid end gets is same none) =
+        let made = found ++ (asked_exchanges getattr_result (getattr_call get.uid get.gid file) (bytes_at (link_of s')) (bytes_at mid) (link_of s').requester mid.requester (Err end) gets.asks).made in
+        let hung : HangsUp opens.number mid.source mid.sink dialed after =
+        subst (λ (i : SourceAt). HangsUp opens.number i mid.sink dialed after) same.0 (subst (λ (o : SinkAt). HangsUp opens.number hangs.source o dialed after) same.1 hangs.hangs_up) in
+        let run = no_size_run opened link get.addr get.units get.invalidates get.uid get.gid get.export get.path file before dialed after s s' opens finds mid end gets result is hung session in
+        subst (λ (i : SourceAt). IsJobsRun opened link s i hangs.sink dialed.ended after.ended result made []) (sym same.0)
+        (subst (λ (o : SinkAt). IsJobsRun opened link s mid.source o dialed.ended after.ended result made []) (sym same.1) run)
     by (Shared mid outcome attributes gets shared) =
         jobs_run opened link get.addr get.units get.invalidates get.uid get.gid get.export get.path file before dialed after s s' opens finds hangs.source hangs.sink mid outcome attributes gets
         out.taken out'.taken result shared hangs.hangs_up session

@@ -1,36 +1,47 @@
 -- The marks of a `get` by several jobs and of a connection on one link are of their types.
-use Rattle.std.proofs.Common.{◌≡◌, ℕ, suc, not, List, [], ◌∷◌, ◌++◌, length, Ok, refl, sym, ap, subst, ◌∙◌}
+use Rattle.std.proofs.Common.{◌≡◌, ℕ, suc, not, List, [], ◌∷◌, ◌++◌, length, Option, Result, Ok, Err, refl, sym, ap, subst, ◌∙◌}
 use Rattle.std.specs.List.{AllByRecursion, filter, flat_map}
 use Rattle.std.proofs.lemmas.List.Elements.{filter-append}
 use Rattle.nr_xdr.specs.Item.{IsBytes}
+use Rattle.nr_outside.specs.Streams.{SinkAt, SourceAt}
+use Rattle.nr_links.specs.Links.{LinkLog}
+use Rattle.nr_nfs_base.specs.declared.attributes.Attributes.{Attributes}
+use Rattle.nr_reduce.specs.declared.call.Call.{Call}
 use Rattle.nr_reduce.specs.declared.mark.Entry.{Entry}
 use Rattle.nr_reduce.specs.declared.mark.Mark.{Mark}
+use Rattle.nr_reduce.specs.declared.mark.LinkParameters.{LinkParameters}
+use Rattle.nr_reduce.specs.Served.{Served}
 use Rattle.nr_laws.specs.Typed.{IsTyped}
 use Rattle.nr_shared.specs.declared.entry.Entry.{Entry as SharedEntry}
 use Rattle.nr_shared.specs.declared.entry.Entry.TheVariants as entries
 use Rattle.nr_shared.specs.Histories.{Allows, AreAllowed, mark_at}
-use Rattle.nr_plain.specs.History.{setup_in}
+use Rattle.nr_plain.specs.History.{AllPlaced, setup_in}
 use Rattle.nr_plain.specs.Setup.{Setup}
-use Rattle.nr_client.specs.Jobs.{FileReads, ReadsFileByJobs}
+use Rattle.nr_byte_laws.specs.InBytes.{EntriesInBytes, IsInBytes}
+use Rattle.nr_client.specs.declared.client_end.ClientEnd.{ClientEnd}
+use Rattle.nr_client.specs.Jobs.{FileReads, ReadsFileByJobs, bytes_at}
 use Rattle.nr_client.specs.Jobs.ReadsFileByJobs.{NoAttributes, Shared}
 use Rattle.nr_client.specs.Reading.{piece_left}
-use Rattle.nr_client.specs.Requests.{getattr_call}
+use Rattle.nr_client.specs.Requests.{getattr_call, getattr_result}
 use Rattle.nr_commands.specs.ByJobs.{link_of}
 use Rattle.nr_commands.specs.ByJobs.GetsByJobs.{Found, NotFound, NotOpened}
+use Rattle.nr_commands.specs.Sessions.{SessionAt, sink_of, source_of}
+use Rattle.nr_host.specs.Connections.{answers_of}
 use Rattle.nr_host_laws.proofs.TypedMarks.{all_bytes, of_calls_bytes}
 use Rattle.nr_service_laws.specs.ClientMarks.{AreMarksOf, moves_bytes, without_bytes}
-use Rattle.nr_service_laws.specs.Exchanges.{Exchange, tells_finds}
+use Rattle.nr_service_laws.specs.Exchanges.{Exchange, asked_exchanges, tells_finds}
 use Rattle.nr_service_laws.specs.Exchanges.Exchange.{Answered, Forgotten, GivenUp, HandedOver, Submitted}
 use Rattle.nr_service_laws.specs.ServedCommands.{client_marks}
 use Rattle.nr_service_laws.proofs.ByteCalls.{AreWords, IsByteCall, getattr_is, read_is}
 use Rattle.nr_service_laws.proofs.ByteCommands.{finds_bytes}
-use Rattle.nr_service_laws.proofs.ByteExchanges.{AreBytes, CallsAreBytes, both_calls, first_bytes}
+use Rattle.nr_service_laws.proofs.ByteExchanges.{AreBytes, CallsAreBytes, both_calls, first_bytes, request_bytes}
 use Rattle.nr_service_laws.proofs.TypedCommands.{MarksOfBytes}
 use Rattle.nr_pair_laws.specs.JobPairs.{JobsAreTyped}
-use Rattle.nr_pair_laws.specs.JobRuns.{IsJobMark, IsJobsRun, SaysOfShared}
+use Rattle.nr_pair_laws.specs.JobRuns.{IsJobMark, IsJobsRun, SaysOfFile}
 use Rattle.nr_pair_laws.specs.Pairs.{AreSidesOf}
 use Rattle.nr_pair_laws.proofs.AnsweredCalls.{exchanged_in, is_exchanged}
 use Rattle.nr_pair_laws.proofs.JobAnswers.{job_sides, run_first}
+use Rattle.nr_pair_laws.proofs.JobRuns.{session_of}
 use Rattle.nr_pair_laws.proofs.TypedPairs.{typed_by}
 
 -- exchanges of calls of bytes, and then marks whose calls are of bytes if the outcomes of those are
@@ -63,37 +74,58 @@ module _ (uid gid : ℕ) (file : List ℕ) (size n link : ℕ) (words : AreWords
   all_entries [] allowed = tt
   all_entries (e ∷ history) allowed = one_entry e (flat_map (mark_at n link) history) (allowed 0 e refl) (all_entries history (λ k x at. allowed (suc k) x at))
 
+-- a run of a `get` by jobs whose calls are of bytes, and that of a connection
+job_typed : (setup : Setup) (journal : List Entry) (n : ℕ) (opened : LinkParameters) (link : ℕ) (own : List Mark) → Served opened link own → AllPlaced setup journal n (answers_of own) → IsInBytes setup.tree → EntriesInBytes journal
+    → (s : SessionAt) (source : SourceAt) (sink : SinkAt) (log log' : Option LinkLog) (result : Result (Unit {0}) ClientEnd) (made : List Exchange) (history : List SharedEntry)
+    (ran : IsJobsRun opened link s source sink log log' result made history) → CallsAreBytes made → (AreBytes made → (k : ℕ) → MarksOfBytes (without_bytes (flat_map (mark_at k link) history)))
+    → (both : List Mark) → AreSidesOf link ran.run own both → IsTyped both
+job_typed setup journal n opened link own law placed tree entries s source sink log log' result made history ran calls reads both sides =
+    let b = job_sides setup journal n opened link ran.run own both ran.own ran.asked sides law placed in
+    let later = flat_map (mark_at ran.fed link) history in
+    let marks = exchanged_then link made (without_bytes ran.alone) (without_bytes later) ran.marks_are calls (λ all. reads all ran.fed) in
+    let parts : client_marks link both ≡ ran.alone ++ later = sides.client_side ∙ ran.run_is ∙ run_first ran.alone ran.fed link history in
+    let kept : filter (is_exchanged link) both ≡ without_bytes ran.alone ++ without_bytes later =
+    sym (exchanged_in link both) ∙ ap (λ (r : List Mark). without_bytes r) parts ∙ filter-append (λ (m : Mark). not (moves_bytes m)) ran.alone later in
+    typed_by setup journal opened link both tree entries b.far b.at_places
+    (subst (λ (r : List Mark). AllByRecursion (IsJobMark link) r) (sym sides.client_side) ran.own) (subst (λ (r : List Mark). MarksOfBytes r) (sym kept) marks) sides.no_others
+
 pub jobs_are_typed_lem : JobsAreTyped
 jobs_are_typed_lem limits first J opened link outside outside' end connection get before after out out' result (NotOpened why is fails same) of tree entries = tt
-jobs_are_typed_lem limits first J opened link outside outside' end connection get before after out out' result (NotFound dialed s s' why opens finds is same closes) of tree entries = tt
+jobs_are_typed_lem limits first J opened link outside outside' end connection get before after out out' result (NotFound dialed s s' why opens finds is same closes) of tree entries = λ ran both sides.
+    let made = (tells_finds get.uid get.gid get.export get.path s s' (Err why) finds).made in
+    let finding = finds_bytes get.uid get.gid get.export get.path (of.uid, of.gid) of.export of.path s s' (Err why) finds in
+    let journal = all_bytes (setup_in first) J connection.over.more (of_calls_bytes (setup_in first) [] J entries) connection.over.of_calls in
+    job_typed (setup_in first) (J ++ connection.over.more) (length J) opened link connection.ended.run connection.served connection.over.placed tree journal s (source_of s') (sink_of s') dialed.ended after.ended result
+    made [] ran finding.0 (λ all k. tt) both sides
 jobs_are_typed_lem limits first J opened link outside outside' end connection get before after out out' result (Found dialed s s' file opens finds hangs) of tree entries = by hangs.reads
   where
-    setup : Setup
-    setup = setup_in first
-
-    journal : List Entry
-    journal = J ++ connection.over.more
-
     found : List Exchange
     found = (tells_finds get.uid get.gid get.export get.path s s' (Ok file) finds).made
 
+    call : Call
+    call = getattr_call get.uid get.gid file
+
+    typed : (made : List Exchange) (history : List SharedEntry) (ran : IsJobsRun opened link s hangs.source hangs.sink dialed.ended after.ended result made history) → CallsAreBytes made
+        → (AreBytes made → (k : ℕ) → MarksOfBytes (without_bytes (flat_map (mark_at k link) history))) → (both : List Mark) → AreSidesOf link ran.run connection.ended.run both → IsTyped both
+    typed = job_typed (setup_in first) (J ++ connection.over.more) (length J) opened link connection.ended.run connection.served connection.over.placed tree
+        (all_bytes (setup_in first) J connection.over.more (of_calls_bytes (setup_in first) [] J entries) connection.over.of_calls) s hangs.source hangs.sink dialed.ended after.ended result
+
+    finding : CallsAreBytes found × (AreBytes found → IsBytes file)
+    finding = let is = finds_bytes get.uid get.gid get.export get.path (of.uid, of.gid) of.export of.path s s' (Ok file) finds in (is.0, λ all. is.1 all file refl)
+
+    asks : AreBytes found → IsByteCall call
+    asks all = getattr_is get.uid get.gid file (of.uid, of.gid) (finding.1 all)
+
     by : (reads : ReadsFileByJobs get.uid get.gid file (link_of s') hangs.source hangs.sink out.taken out'.taken result)
-        → SaysOfShared (λ source sink made history. (ran : IsJobsRun opened link s source sink dialed.ended after.ended made history) → (both : List Mark) → AreSidesOf link ran.run connection.ended.run both →
+        → SaysOfFile (λ source sink made history. (ran : IsJobsRun opened link s source sink dialed.ended after.ended result made history) → (both : List Mark) → AreSidesOf link ran.run connection.ended.run both →
         IsTyped both) (tells_finds get.uid get.gid get.export get.path s s' (Ok file) finds).made get.uid get.gid file s' hangs.source hangs.sink out.taken out'.taken result reads
-    by (NoAttributes mid why gets is same none) = tt
+    by (NoAttributes mid why gets is same none) = λ ran both sides.
+        let asked = (asked_exchanges getattr_result call (bytes_at (link_of s')) (bytes_at mid) (link_of s').requester mid.requester (Err why) gets.asks).made in
+        let of_asked : AreBytes found → CallsAreBytes asked =
+        (λ all. (request_bytes (λ (value : Attributes). Unit {0}) getattr_result call (asks all) (λ outcome value o e. tt) s' (session_of mid) (Err why) (gets.asks, (gets.source_count, gets.sink_count))).0) in
+        typed (found ++ asked) [] ran (both_calls found asked finding.0 of_asked) (λ all k. tt) both sides
     by (Shared mid outcome attributes gets shared) = λ ran both sides.
-        let history = shared.back.history in
-        let words : AreWords get.uid get.gid = (of.uid, of.gid) in
-        let b = job_sides setup journal (length J) opened link ran.run connection.ended.run both ran.own ran.asked sides connection.served connection.over.placed in
-        let asked = Answered (getattr_call get.uid get.gid file) outcome ∷ [] in
-        let finding = finds_bytes get.uid get.gid get.export get.path words of.export of.path s s' (Ok file) finds in
-        let handle : AreBytes found → IsBytes file = (λ all. finding.1 all file refl) in
-        let calls : CallsAreBytes (found ++ asked) = both_calls found asked finding.0 (λ all. (getattr_is get.uid get.gid file words (handle all), λ o. tt)) in
-        let reads : AreBytes (found ++ asked) → MarksOfBytes (without_bytes (flat_map (mark_at ran.fed link) history)) =
-        (λ all. all_entries get.uid get.gid file attributes.size ran.fed link words (handle (first_bytes found asked all)) history shared.back.allowed) in
-        let marks = exchanged_then link (found ++ asked) (without_bytes ran.alone) (without_bytes (flat_map (mark_at ran.fed link) history)) ran.marks_are calls reads in
-        let parts : client_marks link both ≡ ran.alone ++ flat_map (mark_at ran.fed link) history = sides.client_side ∙ ran.run_is ∙ run_first ran.alone ran.fed link history in
-        let kept : filter (is_exchanged link) both ≡ without_bytes ran.alone ++ without_bytes (flat_map (mark_at ran.fed link) history) =
-        sym (exchanged_in link both) ∙ ap (λ (r : List Mark). without_bytes r) parts ∙ filter-append (λ (m : Mark). not (moves_bytes m)) ran.alone (flat_map (mark_at ran.fed link) history) in
-        typed_by setup journal opened link both tree (all_bytes setup J connection.over.more (of_calls_bytes setup [] J entries) connection.over.of_calls) b.far b.at_places
-        (subst (λ (r : List Mark). AllByRecursion (IsJobMark link) r) (sym sides.client_side) ran.own) (subst (λ (r : List Mark). MarksOfBytes r) (sym kept) marks) sides.no_others
+        let asked = Answered call outcome ∷ [] in
+        let reads : AreBytes (found ++ asked) → (k : ℕ) → MarksOfBytes (without_bytes (flat_map (mark_at k link) shared.back.history)) =
+        (λ all k. all_entries get.uid get.gid file attributes.size k link (of.uid, of.gid) (finding.1 (first_bytes found asked all)) shared.back.history shared.back.allowed) in
+        typed (found ++ asked) shared.back.history ran (both_calls found asked finding.0 (λ all. (asks all, λ o. tt))) reads both sides

@@ -1,4 +1,5 @@
 pub mod AnsweredCalls
+pub mod AnyInputs
 pub mod AnyReads
 pub mod AtPlace
 pub mod Bytes
@@ -19,6 +20,7 @@ pub mod JobTypes
 pub mod Kept
 pub mod LongerJournals
 pub mod Mounts
+pub mod Numbers
 pub mod Pairs
 pub mod Paths
 pub mod PlacedCalls
@@ -26,6 +28,10 @@ pub mod PutThenGet
 pub mod Putting
 pub mod ReadBack
 pub mod ReadResults
+pub mod RecordReads
+pub mod Refusals
+pub mod RefusedCalls
+pub mod RefusedGets
 pub mod Results
 pub mod ServerSide
 pub mod TypedPairs

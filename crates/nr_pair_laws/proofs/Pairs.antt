@@ -24,28 +24,31 @@ use Rattle.nr_laws.proofs.NeitherEnds.{links_stay}
 use Rattle.nr_laws.proofs.PlacedLinks.{placed_links_have_plain_replies}
 use Rattle.nr_tree.specs.Sane.{IsSane}
 use Rattle.nr_plain.specs.Added.{entries_of_call}
-use Rattle.nr_plain.specs.History.{AllPlaced, setup_in}
+use Rattle.nr_plain.specs.History.{AllPlaced, AreOfCalls, Opening, setup_in}
 use Rattle.nr_plain.specs.Replies.{plain_reply}
 use Rattle.nr_plain.specs.ReplyLaws.{plain_server}
 use Rattle.nr_plain.specs.Setup.{Setup}
 use Rattle.nr_plain.proofs.PlainServers.{server_is_plain}
+use Rattle.nr_byte_laws.specs.InBytes.{IsInBytes}
 use Rattle.nr_client.specs.declared.call_end.CallEnd.TheVariants as calls
 use Rattle.nr_client.specs.declared.client_end.ClientEnd.TheVariants as client
 use Rattle.nr_commands.specs.Running.Runs.{NotOpened, Opened}
-use Rattle.nr_host.specs.Connections.{answer_of, answers_of}
+use Rattle.nr_host.specs.Connections.{Outside, answer_of, answers_of}
 use Rattle.nr_host.specs.Ending.{IsCause}
+use Rattle.nr_host.specs.declared.connection_limits.ConnectionLimits.{ConnectionLimits}
 use Rattle.nr_host.specs.declared.conn_end.ConnEnd.{ConnEnd}
 use Rattle.nr_host_laws.specs.OwnMarks.{own_marks}
 use Rattle.nr_host_laws.proofs.Lawful.{keep_the_law}
 use Rattle.nr_host_laws.proofs.OwnMarks.{same_server}
 use Rattle.nr_host_laws.proofs.TypedMarks.{all_bytes, of_calls_bytes}
 use Rattle.nr_service_laws.specs.ClientMarks.{AreMarksOf, IsOwn, without_bytes}
-use Rattle.nr_service_laws.specs.Exchanges.{tells_text}
+use Rattle.nr_service_laws.specs.Exchanges.{Exchange, tells_text}
 use Rattle.nr_service_laws.specs.ServedCommands.{client_marks}
 use Rattle.nr_service_laws.proofs.ByteCommands.{command_calls}
+use Rattle.nr_service_laws.proofs.ByteExchanges.{CallsAreBytes}
 use Rattle.nr_service_laws.proofs.OpenLinks.{conveyed, not_revoked, own_each}
 use Rattle.nr_service_laws.proofs.ServedLaws.{ServerKeeps, matched_by, served_keep_laws_lem}
-use Rattle.nr_pair_laws.specs.Pairs.{AreSidesOf, ConnectionsHaveARun, PairsAreServed, PairsAreTyped}
+use Rattle.nr_pair_laws.specs.Pairs.{AreSidesOf, ConnectionsHaveARun, IsConnectionRun, PairsAreServed, PairsAreTyped}
 use Rattle.nr_pair_laws.proofs.AnsweredCalls.{exchanged_in, exchanges_answered}
 use Rattle.nr_pair_laws.proofs.PlacedCalls.{each_placed, served_calls}
 use Rattle.nr_pair_laws.proofs.ServerSide.{placed_in_both, served_in_both}
@@ -128,14 +131,21 @@ pairs_are_served_lem limits first J opened link outside outside' end connection 
     by clash (inl failed) = failed
     by clash (inr laws) = absurd (clash laws)
 
+-- a list with both sides is of its types, if each call of the command is of bytes
+pub sides_typed : (limits : ConnectionLimits) (first : Opening) (J : List Entry) (opened : LinkParameters) (link : ℕ) (outside outside' : Outside) (end : ConnEnd)
+    (connection : IsConnectionRun limits first J opened link outside outside' end) (run both : List Mark) (made : List Exchange) → AllByRecursion (IsOwn link) run → AskedSoFar opened link run
+    → AreMarksOf link made (without_bytes run) → AreSidesOf link run connection.ended.run both → IsInBytes (setup_in first).tree → AreOfCalls (setup_in first) [] J → CallsAreBytes made → IsTyped both
+sides_typed limits first J opened link outside outside' end connection run both made owns asked are sides tree entries words =
+    let setup = setup_in first in
+    let journal : List Entry = J ++ connection.over.more in
+    let b = both_sides setup journal (length J) opened link run connection.ended.run both owns asked sides connection.served connection.over.placed in
+    let are_both = subst (λ (r : List Mark). AreMarksOf link made (without_bytes r)) (sym sides.client_side) are in
+    pair_is_typed setup journal opened link both made tree (all_bytes setup J connection.over.more (of_calls_bytes setup [] J entries) connection.over.of_calls) b.far b.at_places b.owns
+    (subst (λ (r : List Mark). AreMarksOf link made r) (exchanged_in link both) are_both) words sides.no_others
+
 pub pairs_are_typed_lem : PairsAreTyped
 pairs_are_typed_lem limits first J opened link outside outside' end connection c before after input input' out out' result (NotOpened why is fails same_input same_out) of tree entries = tt
 pairs_are_typed_lem limits first J opened link outside outside' end connection c before after input input' out out' result (Opened dialed s s' opens prints closes) of tree entries = λ ran both sides.
-    let setup = setup_in first in
-    let journal : List Entry = J ++ connection.over.more in
-    let made = (tells_text c.uid c.gid c.export c.action input input' out prints.written s s' prints.text prints.made).made in
-    let b = both_sides setup journal (length J) opened link ran.run connection.ended.run both ran.own ran.asked sides connection.served connection.over.placed in
-    let are = subst (λ (r : List Mark). AreMarksOf link made (without_bytes r)) (sym sides.client_side) ran.marks_are in
-    let words = command_calls c.uid c.gid c.export c.action input input' out prints.written s s' prints.text prints.made (of.uid, of.gid) of.export of.names in
-    pair_is_typed setup journal opened link both made tree (all_bytes setup J connection.over.more (of_calls_bytes setup [] J entries) connection.over.of_calls) b.far b.at_places b.owns
-    (subst (λ (r : List Mark). AreMarksOf link made r) (exchanged_in link both) are) words sides.no_others
+    sides_typed limits first J opened link outside outside' end connection ran.run both
+    (tells_text c.uid c.gid c.export c.action input input' out prints.written s s' prints.text prints.made).made ran.own ran.asked ran.marks_are sides tree entries
+    (command_calls c.uid c.gid c.export c.action input input' out prints.written s s' prints.text prints.made (of.uid, of.gid) of.export of.names)

@@ -46,7 +46,7 @@ others_keep s J names bytes from to rises keeps h =
     record { file = h.file; leads = there.0; holds = there.1 }
 
 -- a file has fewer bytes than a READ can name
-file_few : (s : Setup) (J : List Entry) (place : ℕ) (file bytes : List ℕ) → IsSane s.tree → content_at (tree_at s J place) file ≡ Some (Regular bytes) → length bytes < 2 ^ 64
+pub file_few : (s : Setup) (J : List Entry) (place : ℕ) (file bytes : List ℕ) → IsSane s.tree → content_at (tree_at s J place) file ≡ Some (Regular bytes) → length bytes < 2 ^ 64
 file_few s J place file bytes sane holds =
     let v = content_node (tree_at s J place) file (Regular bytes) holds in
     let valid = (tree_sane s J place sane).contents (number_of_handle file) v.0 (got (tree_at s J place) file v.0 v.1.0) in

@@ -136,8 +136,7 @@ module _ (s : Setup) (J : List Entry) (names : List (List ℕ)) (last : ℕ) whe
   found uid gid export path dir name before after (inr (end, (first, wrong))) least rest k = absurd cc
 
   -- CREATE and WRITEs
-  pub record HasPut (uid gid : ℕ) (dir name : List ℕ) (input input' : SourceAt) (least : ℕ) : Type 0 where
-    pub bytes : List ℕ
+  pub record HasPut (uid gid : ℕ) (dir name bytes : List ℕ) (input input' : SourceAt) (least : ℕ) : Type 0 where
     pub hands_out : HandsOut input.left input.given input'.left input'.given bytes
     pub all : IsAtEnd input'.left
     pub writes : Done (writing uid gid dir name bytes) tt least []
@@ -145,30 +144,31 @@ module _ (s : Setup) (J : List Entry) (names : List (List ℕ)) (last : ℕ) whe
   file_written : (uid gid : ℕ) (dir name : List ℕ) (before after : SessionAt) (input input' : SourceAt) (least : ℕ)
       (w : WritesFile uid gid dir name before.bytes after.bytes before.requester after.requester input.left input.given input'.left input'.given (Ok tt))
       → IsKept least ((write_exchanges uid gid dir name before.bytes after.bytes before.requester after.requester input.left input.given input'.left input'.given (Ok tt) w).made ++ [])
-      → HasPut uid gid dir name input input' least
+      → HasPut uid gid dir name w.handed input input' least
   file_written uid gid dir name before after input input' least w k = by w.calls k
     where
       by : (calls : EndsWriting uid gid dir name w.handed w.rest before.bytes after.bytes before.requester after.requester (Ok tt))
-          → IsKept least ((write_exchanges_by uid gid dir name w.handed w.rest before.bytes after.bytes before.requester after.requester (Ok tt) calls).made ++ []) → HasPut uid gid dir name input input' least
+          → IsKept least ((write_exchanges_by uid gid dir name w.handed w.rest before.bytes after.bytes before.requester after.requester (Ok tt) calls).made ++ []) → HasPut uid gid dir name w.handed input input' least
       by (FollowsInput follows count ahead) k =
           let whole : w.handed ++ w.rest ≡ w.handed = ap (λ (l : List ℕ). w.handed ++ l) w.is_read ∙ append-nil w.handed in
           let d = followed (writing uid gid dir name (w.handed ++ w.rest)) before.bytes after.bytes before.requester after.requester tt follows least [] k in
-          record { bytes = w.handed; hands_out = w.hands_out; all = at_end input'.left w.rest w.is_rest w.is_read; writes = subst (λ (l : List ℕ). Done (writing uid gid dir name l) tt least []) whole d }
+          record { hands_out = w.hands_out; all = at_end input'.left w.rest w.is_rest w.is_read; writes = subst (λ (l : List ℕ). Done (writing uid gid dir name l) tt least []) whole d }
       by (InputFails outcomes wrong made ahead) k = absurd cc
 
   written : (uid gid : ℕ) (dir name : List ℕ) (before after : SessionAt) (input input' : SourceAt) (text : List ℕ) (least : ℕ) (is : WritesIn uid gid dir name input input' before after (Ok text))
-      → IsKept least ((tells_writes_in uid gid dir name input input' before after (Ok text) is).made ++ []) → HasPut uid gid dir name input input' least
+      → IsKept least ((tells_writes_in uid gid dir name input input' before after (Ok text) is).made ++ []) → HasPut uid gid dir name is.1.0.0.handed input input' least
   written uid gid dir name before after input input' text least (Ok done, ((writes, counts), silent)) k = file_written uid gid dir name before after input input' least writes k
   written uid gid dir name before after input input' text least (Err end, ((writes, counts), silent)) k = absurd silent
 
 pub puts_input : CommandsPutTheirInput
-puts_input s J uid gid export path names input input' before after text (inl (place, (mid, (finds, writes)))) least to answered sane fit ids names_are keeps =
+puts_input s J uid gid export path names input input' before after text (inl (place, (mid, (finds, (done, ((wrote, counts), silent)))))) least to answered sane fit ids names_are keeps =
+    let writes : WritesIn uid gid place.0 place.1 input input' mid after (Ok text) = (done, ((wrote, counts), silent)) in
     let first = (tells_finds_parent uid gid export path before mid (Ok place) finds).made in
     let second = (tells_writes_in uid gid place.0 place.1 input input' mid after (Ok text) writes).made in
     let k : IsKept s J names to least (first ++ second) = record { answered = answered; kept = keeps } in
     let f = found s J names to uid gid export path place.0 place.1 before mid finds least (second ++ []) (subst (λ (l : List Exchange). IsKept s J names to least (first ++ l)) (sym (append-nil second)) k) in
     let w = written s J names to uid gid place.0 place.1 mid after input input' text f.finds.part.to writes f.finds.part.later in
-    let p : PutsFile s J uid gid export path names w.bytes least w.writes.part.to = record {
+    let p : PutsFile s J uid gid export path names wrote.handed least w.writes.part.to = record {
       names_are = names_are;
       root = f.root;
       mounted = f.mount.outcome;
@@ -186,10 +186,9 @@ puts_input s J uid gid export path names input input' before after text (inl (pl
       done = w.writes.gives;
     } in
     record {
-      bytes = w.bytes;
       hands_out = w.hands_out;
       all = w.all;
       within = subst (λ (k : ℕ). k ≤ length J) (sym w.writes.part.later.kept) w.writes.part.later.answered;
-      holds = subst (λ (k : ℕ). HoldsFile s J names w.bytes k) (sym w.writes.part.later.kept) (put_leaves s J uid gid export path names w.bytes least w.writes.part.to sane fit ids p);
+      holds = subst (λ (k : ℕ). HoldsFile s J names wrote.handed k) (sym w.writes.part.later.kept) (put_leaves s J uid gid export path names wrote.handed least w.writes.part.to sane fit ids p);
     }
 puts_input s J uid gid export path names input input' before after text (inr (end, (finds, (wrong, same)))) least to answered sane fit ids names_are keeps = absurd cc

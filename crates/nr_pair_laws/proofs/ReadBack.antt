@@ -1,5 +1,5 @@
 -- What is read of arguments and results that were encoded.
-use Rattle.std.proofs.Common.{◌≡◌, ℕ, ◌+◌, ◌<◌, ◌^◌, List, [], ◌++◌, length, drop, Result, Ok, refl, sym, ap, subst, ◌∙◌, arith, append-nil}
+use Rattle.std.proofs.Common.{◌≡◌, ℕ, ◌<◌, ◌^◌, List, [], ◌++◌, length, drop, Result, Ok, refl, sym, ap, subst, ◌∙◌, arith, append-nil}
 use Rattle.std.proofs.lemmas.List.{drop_at}
 use Rattle.nr_xdr.specs.Items.{AllFit, encodings}
 use Rattle.nr_xdr.specs.Reading.{Cursor}
@@ -43,7 +43,7 @@ Succeeds results value = results ≡ Done value
 
 module _ (xid : ℕ) (xid_fits : xid < 2 ^ 32) where
   -- results that are read completely, with nothing after them
-  results_read : {A : Type 0} (codec : Codec A) (results : A) (P : A → Type 0) → IsRead codec (codec.items results) P → (v : A) × ((result_of_reply codec (results_reply xid codec results) ≡ Ok v) × P v)
+  pub results_read : {A : Type 0} (codec : Codec A) (results : A) (P : A → Type 0) → IsRead codec (codec.items results) P → (v : A) × ((result_of_reply codec (results_reply xid codec results) ≡ Ok v) × P v)
   results_read {A} codec results P reads =
       let bytes = encodings (codec.items results) in
       let head = reply_head (accepted xid 0) in

@@ -1,5 +1,5 @@
 -- A path that is walked by LOOKUPs leads to the handle of the last.
-use Rattle.std.proofs.Common.{◌≡◌, ℕ, ◌+◌, ◌≤◌, Bool, true, false, cond, ltb, List, [], ◌∷◌, ◌++◌, length, Some, Result, Ok, Err, refl, ap, sym, ◌∙◌, subst, arith, append_assoc, append-nil}
+use Rattle.std.proofs.Common.{◌≡◌, ℕ, ◌≤◌, Bool, true, false, cond, ltb, List, [], ◌∷◌, ◌++◌, length, Some, Result, Ok, Err, refl, ap, sym, ◌∙◌, subst, arith, append_assoc, append-nil}
 use Rattle.std.specs.Prelude.{⊤}
 use Rattle.std.proofs.lemmas.Bool.{ltb-false}
 use Rattle.nr_nfs_base.specs.Limits.{name_length_max}
@@ -58,7 +58,7 @@ module _ (s : Setup) (J : List Entry) (uid gid : ℕ) (ids : AreIds uid gid) (al
     pub whole : walked ++ name ∷ [] ≡ all
     pub above : IsAbove walked dir name place
 
-  step_leads : (walked rest : List (List ℕ)) (name dir g : List ℕ) (from place : ℕ) → walked ++ name ∷ rest ≡ all → handle_along (tree_at s J from) root_handle walked ≡ Some dir → from ≤ place
+  pub step_leads : (walked rest : List (List ℕ)) (name dir g : List ℕ) (from place : ℕ) → walked ++ name ∷ rest ≡ all → handle_along (tree_at s J from) root_handle walked ≡ Some dir → from ≤ place
       → KeepPath s J root_handle all from place → handle_in (tree_at s J place) dir name ≡ Some g → handle_along (tree_at s J place) root_handle (walked ++ name ∷ []) ≡ Some g
   step_leads walked rest name dir g from place whole leads rises keeps found =
       along_name (tree_at s J place) root_handle walked name dir g ((kept s J root_handle all from place rises keeps).leads walked (name ∷ rest) whole ∙ leads) found

@@ -1,4 +1,5 @@
--- What a path leads to in a tree, whoever asks: the rights of a caller are not looked at.
+-- What a path leads to in a tree, whoever asks. The rights of a caller are not looked at, nor whether a name stands after
+-- that of a directory: `.` leads from each node to itself.
 use Rattle.std.specs.Prelude.{◌≡◌, ℕ, suc, ◌<◌, ◌≤◌, ◌^◌, List, [], ◌∷◌, ◌++◌, Option, Some}
 use Rattle.std.specs.Option.{option_and_then, option_map}
 use Rattle.nr_reduce.specs.declared.mark.Entry.{Entry}

@@ -37,9 +37,10 @@ use Rattle.nr_pair_laws.specs.PutThenGet.{GetsFile, HoldsFile, root_handle}
 -- ===== what the calls are answered with
 
 -- The outcomes of these exchanges are the plain server's replies at places of this journal from a place on, and so is the
--- outcome of each call of a shared requester's history, whoever made it. Up to each entry of the history the journal was
--- used that far. The place of a call isn't below that at its Submit, and what the call adds is within that after its Done:
--- so it comes after the entry of each call of the history whose outcome was handed over before this call was submitted.
+-- outcome of each call of a shared requester's history, whoever made it. `used` gives a place of the journal for each entry
+-- of the history, in the same order. The place of a call isn't below that of its Submit, and what the call adds is within
+-- that of the entry after its Done: so it comes after the entry of each call of the history whose outcome was handed over
+-- before this call was submitted.
 pub record AreJobsAnsweredFrom (s : Setup) (J : List Entry) (from : ℕ) (made : List Exchange) (history : List SharedEntry) : Type 0 where
   pub alone : AreAnsweredFrom s J from [] made
   pub used : ℕ → ℕ
@@ -60,7 +61,7 @@ abbrev pub SaysOfJobPair : (limits : ConnectionLimits) (first : Opening) (J : Li
     (get : GetByJobs Text) (before after : DialerAt) (out out' : SinkAt) (result : Result (Unit {0}) ClientEnd) → GetsByJobs get before after out out' result → Type 0
 SaysOfJobPair limits first J opened link outside outside' end connection Says get before after out out' result gets =
     SaysOfJobs get before after out out' result (λ dialed s source sink made history.
-    (ran : IsJobsRun opened link s source sink dialed.ended after.ended made history) → (both : List Mark) → AreSidesOf link ran.run connection.ended.run both → Says ran.run both made history) gets
+    (ran : IsJobsRun opened link s source sink dialed.ended after.ended result made history) → (both : List Mark) → AreSidesOf link ran.run connection.ended.run both → Says ran.run both made history) gets
 
 -- Of such a pair, whose marks are of their types (`IsTyped`), over a server with a sane first tree, each outcome of the
 -- `get` is the plain server's reply to just its call, at a place of the journal that the connection's pass has seen at its

@@ -103,7 +103,7 @@ pub record OpenCall : Type 0 where
 
 -- Each outcome that these exchanges hand over is the plain server's reply to its call at a place of this journal. That
 -- place is at least `least`, and it comes after the entry of each call whose outcome was handed over before this call
--- was submitted. An outcome that is handed over by its xid is one of the calls that wait.
+-- was submitted. An outcome that is handed over by its xid is that of each call that waits under this xid.
 abbrev pub AreAnsweredFrom : Setup → List Entry → (least : ℕ) → List OpenCall → List Exchange → Type 0
 AreAnsweredFrom s J least waiting [] = least ≤ length J
 AreAnsweredFrom s J least waiting (Answered call outcome ∷ made) =

@@ -12,6 +12,7 @@ use Rattle.nr_commands.specs.Sessions.{SessionAt}
 use Rattle.nr_service_laws.specs.Exchanges.{Exchange, tells_put}
 use Rattle.nr_service_laws.specs.Exchanges.Exchange.{Answered, Forgotten, GivenUp, HandedOver, Submitted}
 use Rattle.nr_reply_laws.specs.Replies.{AreIds}
+use Rattle.nr_pair_laws.specs.AnyInputs.{input_read}
 use Rattle.nr_pair_laws.specs.FilesAt.{KeepPath, NumbersFit}
 use Rattle.nr_pair_laws.specs.Pairs.{AreAnsweredFrom, OpenCall, place_after}
 use Rattle.nr_pair_laws.specs.PutThenGet.{HoldsFile, root_handle}
@@ -29,19 +30,20 @@ OthersKeep s J names to least waiting (Forgotten call ∷ made) rest = OthersKee
 OthersKeep s J names to least waiting (GivenUp xid ∷ made) rest = OthersKeep s J names to least waiting made rest
 
 -- The input gave these bytes, all that it had, and the path leads to a file with just them, in the tree at this place of the journal.
-pub record PutsInput (s : Setup) (J : List Entry) (names : List (List ℕ)) (input input' : SourceAt) (to : ℕ) : Type 0 where
-  pub bytes : List ℕ
+pub record PutsInput (s : Setup) (J : List Entry) (names : List (List ℕ)) (bytes : List ℕ) (input input' : SourceAt) (to : ℕ) : Type 0 where
   pub hands_out : HandsOut input.left input.given input'.left input'.given bytes
   pub all : IsAtEnd input'.left
   pub within : to ≤ length J
   pub holds : HoldsFile s J names bytes to
 
 -- A `put` was done, and its calls were answered at places of a journal, as `pairs_are_served` says of one whose link is a pair. If the entries of others
--- between its calls don't change what the path leads to, the path leads to a file with the bytes of the input, at the place after its last call.
+-- between its calls don't change what the path leads to, the path leads to a file with the bytes that the `put` read of its input, at the place after its
+-- last call. These bytes are known by its own clause (`input_read`), also of an input that tells nothing, as standard input.
 abbrev pub CommandsPutTheirInput : Type 0
 CommandsPutTheirInput =
     (s : Setup) (J : List Entry) (uid gid : ℕ) (export path : List ℕ) (names : List (List ℕ)) (input input' : SourceAt) (before after : SessionAt) (text : List ℕ)
     (puts : Puts uid gid export path input input' before after (Ok text)) (least to : ℕ)
     (answered : AreAnsweredFrom s J least [] (tells_put uid gid export path input input' before after (Ok text) puts).made) →
     IsSane s.tree → NumbersFit s J → AreIds uid gid → path_names path ≡ Ok names →
-    OthersKeep s J names to least [] (tells_put uid gid export path input input' before after (Ok text) puts).made answered → PutsInput s J names input input' to
+    OthersKeep s J names to least [] (tells_put uid gid export path input input' before after (Ok text) puts).made answered →
+    PutsInput s J names (input_read uid gid export path input input' before after (Ok text) puts) input input' to

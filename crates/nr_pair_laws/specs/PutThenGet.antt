@@ -67,7 +67,7 @@ AnsweredSince s J Others request (o ∷ later) from =
 abbrev pub mounting : (uid gid : ℕ) → (export : List ℕ) → List Outcome → Next (List ℕ)
 mounting uid gid export = asking (mnt_call uid gid export) mnt_result (λ root later. Returns (Ok root))
 
--- the handle of the root of each export
+-- the handle of the root, which is what is exported
 abbrev pub root_handle : List ℕ
 root_handle = handle_of 1
 

@@ -7,6 +7,7 @@ mod laws;
 
 pub use laws::{
     answered_in_longer_journals, commands_get_the_file, commands_put_their_input,
-    connections_have_a_run, jobs_are_served, jobs_get_the_file, jobs_have_a_run, pairs_are_served,
-    put_then_get, results_are_read, roots_are_sane, sides_are_interleaved,
+    connections_have_a_run, files_refuse_for_rights, gets_end_for_a_cause, jobs_are_served,
+    jobs_get_the_file, jobs_have_a_run, numbers_fit_in_handles, pairs_are_served, put_then_get,
+    record_reads_give_the_file, results_are_read, roots_are_sane, sides_are_interleaved,
 };

@@ -215,7 +215,7 @@ module _ {D F S : Type 0} (number : S → ℕ) (all : List S) (not_ok : (s : S) 
   tag_is : (t : Option S) → IsRead (enumeration (status_tag_number number) (status_tags all)) ((enumeration (status_tag_number number) (status_tags all)).items t) (λ w. w ≡ t)
   tag_is t = enumeration_is (status_tag_number number) (status_tags all) t (each_status_tag number all not_ok each) (tag_fits t)
 
-  union_from : (t : Option S) (xs : List Item) (P : StatusUnion D F S → Type 0) → ((place : ℕ) (rest : List ℕ) → Found (status_union_read done failed t) place (encodings xs) rest P)
+  pub union_from : (t : Option S) (xs : List Item) (P : StatusUnion D F S → Type 0) → ((place : ℕ) (rest : List ℕ) → Found (status_union_read done failed t) place (encodings xs) rest P)
       → IsRead (status_union_codec number all done failed) ((enumeration (status_tag_number number) (status_tags all)).items t ++ xs) P
   unfolding status_union_codec
   union_from t xs P of_part = record {

@@ -15,7 +15,7 @@ use Rattle.nr_client.specs.declared.client_end.ClientEnd.TheVariants as client
 use Rattle.nr_client.specs.Listing.{list_next}
 use Rattle.nr_client.specs.Requests.{create_result, getattr_call, getattr_result, mkdir_call, mnt_call, mnt_result, readlink_call, readlink_result, remove_call, remove_result, symlink_call}
 use Rattle.nr_client.specs.Walking.{parent_next, walk_next}
-use Rattle.nr_commands.specs.Commands.{Finds, FindsParent, Gets, Lists, MakesDirectory, MakesSymlink, Mounts, MountsAndPrints, Puts, ReadsLink, Removes, Stats, Symlinks}
+use Rattle.nr_commands.specs.Commands.{Finds, FindsParent, Gets, Lists, MakesDirectory, MakesSymlink, Mounts, MountsAndPrints, Puts, ReadsLink, Removes, Stats, Symlinks, WritesIn}
 use Rattle.nr_commands.specs.Printed.{attributes_text, handle_text, names_text, path_text}
 use Rattle.nr_commands.specs.Running.{text_of}
 use Rattle.nr_commands.specs.Sessions.{Fails, Request, Requests, SessionAt, Text as Prints, Then}
@@ -48,7 +48,7 @@ finds_bytes uid gid export path words e p =
     then_bytes IsBytes IsBytes (Mounts uid gid export) (λ root. Requests (walk_next uid gid root path)) (tells_mounts uid gid export) (λ root. tells_requests (walk_next uid gid root path))
     (mounts_bytes uid gid export words e) (λ root r. requests_bytes IsBytes (walk_next uid gid root path) (walks uid gid root path words r p))
 
-parents_bytes : (uid gid : ℕ) (export path : List ℕ) → AreWords uid gid → IsBytes export → IsBytes path → PartBytes PairOfBytes (FindsParent uid gid export path) (tells_finds_parent uid gid export path)
+pub parents_bytes : (uid gid : ℕ) (export path : List ℕ) → AreWords uid gid → IsBytes export → IsBytes path → PartBytes PairOfBytes (FindsParent uid gid export path) (tells_finds_parent uid gid export path)
 parents_bytes uid gid export path words e p =
     then_bytes IsBytes PairOfBytes (Mounts uid gid export) (λ root. Requests (parent_next uid gid root path)) (tells_mounts uid gid export) (λ root. tells_requests (parent_next uid gid root path))
     (mounts_bytes uid gid export words e) (λ root r. requests_bytes PairOfBytes (parent_next uid gid root path) (walks_to_parent uid gid root path words r p))
@@ -126,16 +126,22 @@ all_input : (known : List ℕ) (after : Option (List ℕ)) (handed rest : List �
 all_input known None handed rest h takes is = absurd takes
 all_input known (Some left) handed rest h takes is = subst IsBytes (takes ∙ ap (λ (l : List ℕ). handed ++ l) (sym is)) h
 
-put_bytes : (uid gid : ℕ) (export path : List ℕ) (input input' : SourceAt) → AreWords uid gid → IsBytes export → IsBytes path → (known : List ℕ) → input.left ≡ Some known → IsBytes known → (s s' : SessionAt)
-    (text : Result (List ℕ) ClientEnd) (is : Puts uid gid export path input input' s s' text) → CallsAreBytes (tells_put uid gid export path input input' s s' text is).made
-put_bytes uid gid export path input input' words e p known is_known i s s' text (inl (place, (mid, (finds, (done, ((writes, counts), silent)))))) =
+-- the calls of a `put` that found its directory, if what it read of its input and what it left are bytes
+pub put_calls : (uid gid : ℕ) (export path : List ℕ) (input input' : SourceAt) → AreWords uid gid → IsBytes export → IsBytes path → (s s' : SessionAt) (text : Result (List ℕ) ClientEnd) (place : List ℕ × List ℕ) (mid : SessionAt)
+    (finds : FindsParent uid gid export path s mid (Ok place)) (writes : WritesIn uid gid place.0 place.1 input input' mid s' text) → IsBytes (writes.1.0.0.handed ++ writes.1.0.0.rest)
+    → CallsAreBytes (tells_put uid gid export path input input' s s' text (inl (place, (mid, (finds, writes))))).made
+put_calls uid gid export path input input' words e p s s' text place mid finds (done, ((writes, counts), silent)) input_is =
     let one = parents_bytes uid gid export path words e p s mid (Ok place) finds in
-    let input_is = all_input known input'.left writes.handed writes.rest i
-    (subst (λ (o : Option (List ℕ)). Consumes o input'.left writes.handed) is_known writes.hands_out.from_left) writes.is_rest in
     both_calls (tells_finds_parent uid gid export path s mid (Ok place) finds).made
     (write_exchanges uid gid place.0 place.1 mid.bytes s'.bytes mid.requester s'.requester input.left input.given input'.left input'.given done writes).made one.0
     (λ all. let pair = one.1 all place refl in
     write_calls uid gid place.0 place.1 writes.handed writes.rest words pair.0 pair.1 input_is mid.bytes s'.bytes mid.requester s'.requester done writes.calls)
+
+put_bytes : (uid gid : ℕ) (export path : List ℕ) (input input' : SourceAt) → AreWords uid gid → IsBytes export → IsBytes path → (known : List ℕ) → input.left ≡ Some known → IsBytes known → (s s' : SessionAt)
+    (text : Result (List ℕ) ClientEnd) (is : Puts uid gid export path input input' s s' text) → CallsAreBytes (tells_put uid gid export path input input' s s' text is).made
+put_bytes uid gid export path input input' words e p known is_known i s s' text (inl (place, (mid, (finds, (done, ((writes, counts), silent)))))) =
+    put_calls uid gid export path input input' words e p s s' text place mid finds (done, ((writes, counts), silent))
+    (all_input known input'.left writes.handed writes.rest i (subst (λ (o : Option (List ℕ)). Consumes o input'.left writes.handed) is_known writes.hands_out.from_left) writes.is_rest)
 put_bytes uid gid export path input input' words e p known is_known i s s' text (inr (end, (finds, same))) = (parents_bytes uid gid export path words e p s s' (Err end) finds).0
 
 pub command_calls : (uid gid : ℕ) (export : List ℕ) (action : Action Text) (input input' : SourceAt) (out out' : SinkAt) (s s' : SessionAt) (text : Result (List ℕ) ClientEnd)

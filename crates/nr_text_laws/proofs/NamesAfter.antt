@@ -1,9 +1,9 @@
 -- After a change that was done a name leads to the new node, or to nothing.
-use Rattle.std.proofs.Common.{◌≡◌, ℕ, suc, ◌+◌, ◌<◌, ◌^◌, Bool, true, false, cond, eqb, not, ◌||◌, List, [], ◌∷◌, length, take, Option, None, Some, Result, Ok, Err, refl, sym, ap, subst, ◌∙◌}
+use Rattle.std.proofs.Common.{◌≡◌, ℕ, ◌<◌, ◌^◌, Bool, true, false, cond, eqb, not, ◌||◌, List, [], length, take, Option, None, Some, Result, Ok, Err, refl, sym, ap, subst, ◌∙◌}
 use Rattle.std.specs.Prelude.{is_none, is_some, nat_le, nat_lt}
 use Rattle.std.specs.Option.{option_and_then, option_map, option_map_or}
 use Rattle.std.specs.Cmp.{nat_cmp_total}
-use Rattle.std.specs.Ordering.{nat_cmp, eq_by_cmp}
+use Rattle.std.specs.Ordering.{nat_cmp}
 use Rattle.std.specs.FinMap.{FinMap, get, get-insert, get-remove, insert, remove}
 use Rattle.nr_rpc.specs.declared.cred.Cred.TheVariants as creds
 use Rattle.nr_nfs_base.specs.Limits.{link_target_max}
@@ -12,19 +12,14 @@ use Rattle.nr_nfs_base.specs.declared.procedure.NfsProcedure.TheVariants as nfs
 use Rattle.nr_nfs_base.specs.declared.set_attributes.SetAttributes.{SetAttributes}
 use Rattle.nr_nfs_base.specs.declared.status.Status.{Status}
 use Rattle.nr_nfs_base.specs.declared.status.Status.TheVariants.{Exist, Inval, Isdir, Noent, Notdir}
-use Rattle.nr_nfs_base.specs.declared.status_union.StatusUnion.TheVariants.{Done}
 use Rattle.nr_nfs_base.specs.declared.time.Time.{Time}
-use Rattle.nr_nfs_base.specs.declared.weak_cache.WccData.{WccData}
 use Rattle.nr_nfs_args.specs.declared.create.MkdirArgs.{MkdirArgs}
 use Rattle.nr_nfs_args.specs.declared.remove.RemoveArgs.{RemoveArgs}
 use Rattle.nr_nfs_args.specs.declared.special.SymlinkArgs.{SymlinkArgs}
-use Rattle.nr_nfs_res.specs.declared.create.CreateOk.{CreateOk}
-use Rattle.nr_outside.specs.declared.moment.Moment.{Moment}
-use Rattle.nr_reduce.specs.declared.mark.Entry.{Entry as JournalEntry}
 use Rattle.nr_tree.specs.Changes.{node_with_entry, node_without_entry, node_without_link, nodes_with_name_dropped, tree_with_node, tree_without_entry}
-use Rattle.nr_tree.specs.Entries.{Entry, NamesAreValid, entry_of_name, list_without}
+use Rattle.nr_tree.specs.Entries.{Entry, NamesAreValid, entry_of_name}
 use Rattle.nr_tree.specs.Replies.{wcc_data}
-use Rattle.nr_tree.specs.Rules.{after, change_rules, first, handle_of, handle_rule, is_dot, is_dot_dot, is_dot_name, node_of_handle, number_of_handle, on}
+use Rattle.nr_tree.specs.Rules.{after, change_rules, first, handle_of, is_dot, is_dot_dot, is_dot_name, node_of_handle, number_of_handle, on}
 use Rattle.nr_tree.specs.Sane.{IsSane, IsValidContent}
 use Rattle.nr_tree.specs.Steps.{CanAddNode, is_dir_at}
 use Rattle.nr_tree.specs.Tree.{Tree, entries_in, entries_of, is_dir, is_directory, nodes_with_change, value_at}
@@ -36,26 +31,26 @@ use Rattle.nr_tree.proofs.Contents.{gone_without}
 use Rattle.nr_tree.proofs.NodeMaps.{get_changed, other_key}
 use Rattle.nr_tree.proofs.PassedRules.{AllClear, all_clear, clear, got, handled, on_some, there}
 use Rattle.nr_tree.proofs.SkeletonChanges.{one_less}
-use Rattle.nr_tree.proofs.StepLemmas.{next_free, not_next}
+use Rattle.nr_tree.proofs.StepLemmas.{not_next}
 use Rattle.nr_ops_dir.specs.Creation.{create_ok, empty_directory, mkdir_reply, mkdir_rules, mkdir_tree, new_directory, new_link, new_name_rules, symlink_reply, symlink_rules, symlink_tree}
-use Rattle.nr_ops_dir.specs.Entries.{directory_rule, entry_rules, is_taken, number_of_entry}
+use Rattle.nr_ops_dir.specs.Entries.{entry_rules, is_taken, number_of_entry}
 use Rattle.nr_ops_dir.specs.Removal.{remove_of as removal_rules, remove_reply, remove_rules, remove_tree, tree_without_name}
 use Rattle.nr_ops_dir.proofs.CanMake.{can_make_directory, can_make_link}
 use Rattle.nr_ops_dir.proofs.NamesAfter.{named_after_addition}
 use Rattle.nr_ops_list.specs.Lookup.{number_of_name}
 use Rattle.nr_plain.specs.Journal.{state_of, tree_at}
-use Rattle.nr_plain.specs.Setup.{Setup, caller_of, space_of, time_of}
+use Rattle.nr_plain.specs.Setup.{caller_of, space_of, time_of}
 use Rattle.nr_plain.proofs.SaneTrees.{tree_sane}
 use Rattle.nr_client.specs.declared.client_end.ClientEnd.{ClientEnd}
 use Rattle.nr_client.specs.declared.client_end.ClientEnd.TheVariants as client
 use Rattle.nr_client.specs.Requests.{machine}
-use Rattle.nr_pair_laws.specs.FilesAt.{NumbersFit, content_at, handle_in}
+use Rattle.nr_pair_laws.specs.FilesAt.{handle_in}
 use Rattle.nr_pair_laws.specs.ReadResults.{encoded_arguments, results_there}
 use Rattle.nr_pair_laws.proofs.Changed.{same_test}
 use Rattle.nr_pair_laws.proofs.Created.{entry_leads, handle_node}
 use Rattle.nr_pair_laws.proofs.Results.{answer_done}
-use Rattle.nr_text_laws.specs.CommandTexts.{mkdir_of, parent_of, remove_of, silent, symlink_of, tree_there, within_target}
-use Rattle.nr_text_laws.specs.NamesAfter.{HasNode, MadeDirectoriesAreThere, MadeLinksAreThere, OfParent, RemovedNamesAreGone}
+use Rattle.nr_text_laws.specs.CommandTexts.{mkdir_of, parent_of, remove_of, silent, symlink_of, within_target}
+use Rattle.nr_text_laws.specs.NamesAfter.{HasNode, MadeDirectoriesAreThere, MadeLinksAreThere, RemovedNamesAreGone}
 use Rattle.nr_text_laws.proofs.Finding.{value_on}
 use Rattle.nr_text_laws.proofs.MadeOf.{value_made}
 use Rattle.nr_text_laws.proofs.Replies.{none_of}
