@@ -1,25 +1,48 @@
 -- What a drill with `--log` prints is read back.
-use Rattle.std.proofs.Common.{◌≡◌, ◌⊎◌, ℕ, inl, inr, arith}
-use Rattle.nr_outside.specs.Streams.{SourceAt}
-use Rattle.nr_script.specs.Script.{ScriptLines}
-use Rattle.nr_capture_laws.specs.ReadBack.{IsMade, IsRead}
+use Rattle.std.proofs.Common.{◌≡◌, ℕ, ◌≤◌, true, inl, inr, arith}
+use Rattle.std.specs.Prelude.{◌&&◌, nat_le}
+use Rattle.std.proofs.lemmas.Bool.Decides.{nat_tests}
+use Rattle.nr_script.specs.Generator.{made_script}
+use Rattle.nr_script.specs.Limits.{calls_max}
+use Rattle.nr_texts.specs.Limits.{clients_max}
 use Rattle.nr_capture_laws.proofs.WritableRuns.{read_back}
 use Rattle.nr_drill.specs.DrillSetup.{drill_setup, server_of}
-use Rattle.nr_top.specs.Ends.{IsGiven}
-use Rattle.nr_top.specs.Sources.{HasRanges}
-use Rattle.nr_top.specs.declared.drill.ScriptSource.{ScriptSource}
-use Rattle.nr_top.specs.declared.drill.ScriptSource.TheVariants as sources
-use Rattle.nr_top_laws.specs.Logs.{LogsAreReadBack}
+use Rattle.nr_words.specs.Reads.{is_command}
+use Rattle.nr_words.specs.declared.commands.Command.TheVariants as commands
+use Rattle.nr_top.specs.Ends.{ReadsScript}
+use Rattle.nr_top_laws.specs.Logs.{MadeLogs, ReadLogs}
 
-given : (source : ScriptSource) (input input' : SourceAt) (script : ScriptLines) → HasRanges source → IsGiven source input input' script → IsRead script ⊎ IsMade script
-given sources.Input input input' script ranges g = inl (g.text, g.whole.within, g.reads)
-given (sources.Seed seed clients calls) input input' script ranges g = (let some = ranges.0 in inr (seed, clients, calls, omega (arith, some), ranges.1, ranges.2, g.1))
-
-pub logs_back : LogsAreReadBack
-logs_back source status input input' out out' err err' ranges ends is =
-    let d = (ends.done is).0 in
+pub read_logs : (O C : Type 0) → ReadLogs O C
+read_logs O C status before after ends is =
+    let d = (ends.0.done is).0 in
+    let given : ReadsScript before.input after.input d.ran.script = d.ran.given in
     record {
-      ran = d.ran;
+      script = d.ran.script;
+      tree = d.ran.tree;
+      run = d.ran.run;
+      given = given;
+      drill = d.ran.drill;
       prints = d.prints;
-      read = read_back (server_of (drill_setup d.ran.tree d.ran.script.opening)) d.ran.script d.ran.run (given source input input' d.ran.script ranges d.ran.given) d.ran.drill.keeps;
+      read = read_back (server_of (drill_setup d.ran.tree d.ran.script.opening)) d.ran.script d.ran.run (inl (given.text, given.whole.within, given.reads)) d.ran.drill.keeps;
+    }
+
+-- the ranges of a command that a line can ask for
+ranges : (seed clients calls : ℕ) → is_command (commands.GeneratedDrill seed clients calls true) ≡ true → (1 ≤ clients) × (clients ≤ clients_max) × (calls ≤ calls_max)
+ranges seed clients calls possible = grind (arith, nat_tests, possible)
+
+pub made_logs : (O C : Type 0) → MadeLogs O C
+made_logs O C seed clients calls status before after possible ends is =
+    let d = (ends.0.done is).0 in
+    let given : d.ran.script ≡ made_script seed clients calls = d.ran.given.1 in
+    let within = ranges seed clients calls possible in
+    record {
+      script = d.ran.script;
+      tree = d.ran.tree;
+      run = d.ran.run;
+      given = given;
+      drill = d.ran.drill;
+      prints = d.prints;
+      read =
+          read_back (server_of (drill_setup d.ran.tree d.ran.script.opening)) d.ran.script d.ran.run
+          (inr (seed, clients, calls, within.0, within.1, within.2, given)) d.ran.drill.keeps;
     }

@@ -2,7 +2,7 @@
 
 ghost use Rattle.nr_top_laws.specs.CommandStatuses.{ServedCommandsHaveStatuses};
 ghost use Rattle.nr_top_laws.specs.GatewayStatuses.{GatewayLinkFaults, GatewaysHaveStatuses};
-ghost use Rattle.nr_top_laws.specs.Logs.{LogsAreReadBack};
+ghost use Rattle.nr_top_laws.specs.Logs.{MadeLogs, ReadLogs};
 ghost use Rattle.nr_top_laws.specs.ServerStatuses.{ServersHaveStatuses};
 ghost use Rattle.nr_top_laws.specs.StatusCauses.{LinesAreRead, StatusesHaveCauses};
 
@@ -37,7 +37,9 @@ pub fn statuses_have_causes()
     ensures lines { LinesAreRead }
 {}
 
-/// What a drill with `--log` printed is the text of the capture of its run, and is read back as that capture, if the status is 0.
-pub fn logs_are_read_back()
-    ensures { LogsAreReadBack }
+/// What a drill with `--log` printed is the text of the capture of its run, and is read back as that capture, if the status is 0:
+/// of a script that was read (`read`), and of one that was made from a seed (`made`).
+pub fn logs_are_read_back<O, C>()
+    ensures read { ReadLogs O C }
+    ensures made { MadeLogs O C }
 {}

@@ -126,6 +126,19 @@ static ROWS: [Row; 12] = [
     (&[], 88, &[], &[], 172, &[1], Ended::RemoteWrite, &[], 0, 20),
 ];
 
+/// Reads of the remote link that fail, and the row: the read of the hello, before any call is written; and the one after the
+/// first reply.
+static READS: [(&'static [usize], Row); 2] = [
+    (
+        &[0],
+        (&[], 88, &[], &[], 172, &[], Ended::RemoteRead, &[], 0, 20),
+    ),
+    (
+        &[2],
+        (&[], 88, &[], &[], 172, &[], Ended::RemoteRead, &[], 28, 204),
+    ),
+];
+
 /// The first bytes of these words, or of the others if there are none.
 fn first_of(rt: &impl Abort, alloc: Global, words: &[u32], others: &[u32], len: usize) -> Vec<u8> {
     let mut bytes = Vec::new(alloc);
@@ -147,11 +160,18 @@ fn carried(rt: &(impl Abort + Wait), row: usize, lent: (Shared, Caller), want: u
     same(rt, row, sink.inner.bytes().len(), want);
 }
 
-/// The connection of a row.
-fn gated(rt: &(impl Abort + Wait), alloc: Global, row: usize, case: &Row) {
+/// The connection of a row, where these reads of the remote link fail.
+fn gated(
+    rt: &(impl Abort + Wait),
+    alloc: Global,
+    row: usize,
+    case: &Row,
+    remote_reads: &'static [usize],
+) {
     let (words, len, reads, writes, most, remote_writes, want, replies, written, sent) = *case;
     let link = Link {
         most,
+        reads: remote_reads,
         writes: remote_writes,
         ..good(&[1, 2])
     };
@@ -170,7 +190,14 @@ fn gated(rt: &(impl Abort + Wait), alloc: Global, row: usize, case: &Row) {
 #[test]
 fn connections_are_gated(rt: HostRuntime) {
     for (row, case) in ROWS.iter().enumerate() {
-        gated(&rt, rt.alloc(), row, case);
+        gated(&rt, rt.alloc(), row, case, &[]);
+    }
+}
+
+#[test]
+fn remote_reads_fail(rt: HostRuntime) {
+    for (row, (remote_reads, case)) in READS.iter().enumerate() {
+        gated(&rt, rt.alloc(), row, case, remote_reads);
     }
 }
 
