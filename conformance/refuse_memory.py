@@ -154,6 +154,24 @@ def refuse_over_links(program: str, library: str, folder: str) -> int:
     return wrong
 
 
+def refuse_drill(program: str, library: str, pool: ThreadPoolExecutor, words: list[str], name: str, script: bytes) -> int:
+    """Refuses each request of a drill: it ends with status 2 and prints nothing. Returns how many runs did otherwise."""
+    wrong, count, step = 0, 0, 64
+    good = run(program, library, words, script, 0)
+    while True:
+        got = list(pool.map(lambda at: run(program, library, words, script, at), range(count + 1, count + step + 1)))
+        refused = max((i + 1 for i, g in enumerate(got) if g[0] != FEWER), default=0)
+        for at, g in enumerate(got[:refused], count + 1):
+            if g != (2, b'', b'memory\n'):
+                wrong += 1
+                print('%s, %s, request %d: status %d, %r, %r' % (' '.join(words), name, at, g[0], g[1][:80], g[2][:80]))
+        count += refused
+        if refused < step:
+            break
+    print('%s, %s: status %d without refusals; %d requests refused' % (' '.join(words), name, good[0], count))
+    return wrong
+
+
 def main(argv: list[str]) -> int:
     p = argparse.ArgumentParser(description='Refuses each request for memory of the built nfsrdma, one at a time.')
     p.add_argument('--program', default=os.path.join(ROOT, 'crates/nfsrdma/out/nfsrdma'))
@@ -167,20 +185,9 @@ def main(argv: list[str]) -> int:
         with open(source, 'w', encoding='utf-8') as f:
             f.write(REFUSES)
         subprocess.run(['cc', '-shared', '-fPIC', '-O1', '-o', library, source, '-ldl'], check=True)
-        for name, script in SCRIPTS.items():
-            good = run(a.program, library, ['drill'], script.encode(), 0)
-            count, step = 0, 64
-            while True:
-                got = list(pool.map(lambda at: run(a.program, library, ['drill'], script.encode(), at), range(count + 1, count + step + 1)))
-                refused = max((i + 1 for i, g in enumerate(got) if g[0] != FEWER), default=0)
-                for at, g in enumerate(got[:refused], count + 1):
-                    if g != (2, b'', b'memory\n'):
-                        wrong += 1
-                        print('%s, request %d: status %d, %r, %r' % (name, at, g[0], g[1][:80], g[2][:80]))
-                count += refused
-                if refused < step:
-                    break
-            print('%s: status %d without refusals; %d requests refused' % (name, good[0], count))
+        for words in (['drill'], ['drill', '--log']):
+            for name, script in SCRIPTS.items():
+                wrong += refuse_drill(a.program, library, pool, words, name, script.encode())
         wrong += refuse_over_links(a.program, library, folder)
     print('some run did otherwise' if wrong else 'each ended as it may')
     return 1 if wrong else 0
