@@ -22,21 +22,21 @@ use Rattle.nr_words.specs.declared.commands.Action.TheVariants as actions
 use Rattle.nr_client.specs.declared.client_end.ClientEnd.{ClientEnd}
 use Rattle.nr_client.specs.declared.client_end.ClientEnd.TheVariants as client
 use Rattle.nr_client.specs.Requests.{create_result, getattr_call, getattr_result, machine, mkdir_call, readlink_call, readlink_result, remove_call, remove_result, symlink_call}
-use Rattle.nr_commands.specs.Commands.{Finds, FindsParent, MakesDirectory, MakesSymlink, MountsAndPrints, ReadsLink, Removes, Stats, Symlinks}
+use Rattle.nr_commands.specs.Commands.{Finds, FindsParent, Gets, MakesDirectory, MakesSymlink, MountsAndPrints, Puts, ReadsLink, Removes, Stats, Symlinks}
 use Rattle.nr_commands.specs.Printed.{attributes_text, handle_text, path_text}
 use Rattle.nr_commands.specs.Running.{text_of}
 use Rattle.nr_commands.specs.Running.Runs.{NotOpened, Opened}
 use Rattle.nr_commands.specs.Sessions.{Fails, Part, Request, SessionAt, Then}
 use Rattle.nr_commands.specs.Sessions.{Text as Shows}
-use Rattle.nr_service_laws.specs.Exchanges.{Tells, tells_finds, tells_finds_parent, tells_make_directory, tells_make_symlink, tells_mount, tells_mounts, tells_none, tells_read_link, tells_remove, tells_request, tells_stat, tells_symlinks, tells_text, tells_then, within_exchanges}
+use Rattle.nr_service_laws.specs.Exchanges.{Exchange, Tells, tells_finds, tells_finds_parent, tells_get, tells_make_directory, tells_make_symlink, tells_mount, tells_mounts, tells_none, tells_put, tells_read_link, tells_reads_out, tells_remove, tells_request, tells_stat, tells_symlinks, tells_text, tells_then, tells_writes_in, within_exchanges}
 use Rattle.nr_reply_laws.specs.Replies.{AreIds}
 use Rattle.nr_pair_laws.specs.Pairs.{AreAnsweredFrom, IsAnsweredAt}
 use Rattle.nr_pair_laws.specs.ReadResults.{results_there}
-use Rattle.nr_text_laws.specs.CommandTexts.{AttributesFit, ChangesTree, FitsText, IsOfTrees, IsUnanswered, TextIsOfTrees, TextsAreOfTheTrees, file_of, link_in, mkdir_of, on_value, parent_of, remove_of, root_of, silent, stat_in, symlink_of, tree_there, within_target}
-use Rattle.nr_text_laws.proofs.Ending.{IsCalled, IsLast, IsWhole, called, composed, nothing_more, shown}
+use Rattle.nr_text_laws.specs.CommandTexts.{AttributesFit, ChangesTree, FitsText, IsFound, IsOfTrees, IsUnanswered, TextIsOfTrees, TextsAreOfTheTrees, file_of, link_in, mkdir_of, on_value, parent_of, remove_of, root_of, silent, stat_in, symlink_of, tree_there, within_target}
+use Rattle.nr_text_laws.proofs.Ending.{IsCalled, IsLast, IsWhole, at_most, called, composed, nothing_more, shown}
 use Rattle.nr_text_laws.proofs.Finding.{IsShort, file_long, parent_is_short}
 use Rattle.nr_text_laws.proofs.MadeOf.{made}
-use Rattle.nr_text_laws.proofs.Parts.{IsAsked, IsMounted, asked, mounted, same_end}
+use Rattle.nr_text_laws.proofs.Parts.{IsAsked, IsMounted, IsPlaced, asked, mounted, same_end}
 use Rattle.nr_text_laws.proofs.Replies.{link_there, mkdir_there, none_of, remove_there, stat_there, symlink_there}
 use Rattle.nr_text_laws.proofs.Walks.{found, found_parent}
 
@@ -242,6 +242,38 @@ module _ (s : Setup) (J : List Entry) (uid gid : ℕ) (ids : AreIds uid gid) whe
       (λ at. tells_then (Symlinks uid gid at.0 at.1 target) (λ x. Shows []) (tells_symlinks uid gid at.0 at.1 target) (λ x. tells_none (Shows [])))
       (LinkAnswer target) (LinkTree target) (symlink_last target)
 
+  -- ---- `put` and `get`, up to their file
+
+  found_ok : {A : Type 0} (finds : (trees : ℕ → Tree) → Result A ClientEnd) (from : ℕ) (value : A) (rest : List Exchange) (result : Result (List ℕ) ClientEnd)
+      → IsUnanswered (Ok value) ⊎ IsPlaced s J finds from (Ok value) rest → IsUnanswered result ⊎ IsFound s J from finds result
+  found_ok finds from value rest result (inl un) = absurd un
+  found_ok finds from value rest result (inr p) =
+      inr (record { places = p.places; last = p.last; are = record { first = p.first; rise = p.rise; ends = p.ends; within = at_most s J rest p.last [] p.later }; is = inl (value, sym p.is) })
+
+  found_none : {A : Type 0} (finds : (trees : ℕ → Tree) → Result A ClientEnd) (from : ℕ) (end : ClientEnd) (result : Result (List ℕ) ClientEnd) → result ≡ Err end
+      → IsUnanswered {A = A} (Err end) ⊎ IsPlaced s J finds from (Err end) [] → IsUnanswered result ⊎ IsFound s J from finds result
+  found_none {A} finds from end result same (inl un) = inl (same_end A end result same un)
+  found_none finds from end result same (inr p) =
+      inr (record { places = p.places; last = p.last; are = record { first = p.first; rise = p.rise; ends = p.ends; within = p.later }; is = inr (end, (sym p.is, same)) })
+
+  put_text : (export path : List ℕ) (input input' : SourceAt) (t t' : SessionAt) (result : Result (List ℕ) ClientEnd) (is : Puts uid gid export path input input' t t' result) (from : ℕ)
+      → AreAnsweredFrom s J from [] (tells_put uid gid export path input input' t t' result is).made → IsUnanswered result ⊎ TextIsOfTrees s J from uid gid export (actions.Put path) result
+  put_text export path input input' t t' result (inl (at, (mid, (finds, writes)))) from are =
+      let rest = (tells_writes_in uid gid at.0 at.1 input input' mid t' result writes).made in
+      found_ok (parent_of s.parameters.export export path (caller_of (creds.Sys 0 machine uid gid []))) from at rest result (found_parent s J uid gid ids export path t mid (Ok at) finds from rest are)
+  put_text export path input input' t t' result (inr (end, (finds, (same, still)))) from are =
+      found_none (parent_of s.parameters.export export path (caller_of (creds.Sys 0 machine uid gid []))) from end result same
+      (found_parent s J uid gid ids export path t t' (Err end) finds from [] (nothing_more s J from (tells_finds_parent uid gid export path t t' (Err end) finds).made are))
+
+  get_text : (export path : List ℕ) (out out' : SinkAt) (t t' : SessionAt) (result : Result (List ℕ) ClientEnd) (is : Gets uid gid export path out out' t t' result) (from : ℕ)
+      → AreAnsweredFrom s J from [] (tells_get uid gid export path out out' t t' result is).made → IsUnanswered result ⊎ TextIsOfTrees s J from uid gid export (actions.Get path) result
+  get_text export path out out' t t' result (inl (file, (mid, (finds, reads)))) from are =
+      let rest = (tells_reads_out uid gid file out out' mid t' result reads).made in
+      found_ok (file_of s.parameters.export export path (caller_of (creds.Sys 0 machine uid gid []))) from file rest result (found s J uid gid ids export path t mid (Ok file) finds from rest are)
+  get_text export path out out' t t' result (inr (end, (finds, (same, still)))) from are =
+      found_none (file_of s.parameters.export export path (caller_of (creds.Sys 0 machine uid gid []))) from end result same
+      (found s J uid gid ids export path t t' (Err end) finds from [] (nothing_more s J from (tells_finds uid gid export path t t' (Err end) finds).made are))
+
   -- ---- Any command
 
   any_text : IsSane s.tree → (export : List ℕ) (action : Action Text) → FitsText s J action → (input input' : SourceAt) (out out' : SinkAt) (t t' : SessionAt) (result : Result (List ℕ) ClientEnd)
@@ -254,8 +286,8 @@ module _ (s : Setup) (J : List Entry) (uid gid : ℕ) (ids : AreIds uid gid) whe
   any_text sane export (actions.MakeDirectory path) fit input input' out out' t t' result is from are = mkdir_text export path t t' result is.0 from are
   any_text sane export (actions.Remove path) fit input input' out out' t t' result is from are = remove_text export path t t' result is.0 from are
   any_text sane export (actions.Link path target) fit input input' out out' t t' result is from are = symlink_text export path target t t' result is.0 from are
-  any_text sane export (actions.Put path) fit input input' out out' t t' result is from are = inr tt
-  any_text sane export (actions.Get path) fit input input' out out' t t' result is from are = inr tt
+  any_text sane export (actions.Put path) fit input input' out out' t t' result is from are = put_text export path input input' t t' result is.0 from are
+  any_text sane export (actions.Get path) fit input input' out out' t t' result is from are = get_text export path out out' t t' result is.0 from are
 
 pub texts_are_of_the_trees_lem : TextsAreOfTheTrees
 texts_are_of_the_trees_lem s J from c before after input input' out out' result (NotOpened end is fails same_input same_out) sane fit ids = tt

@@ -1,5 +1,5 @@
 -- The call after the LOOKUPs of a command, and what the whole command has then.
-use Rattle.std.proofs.Common.{◌≡◌, ℕ, ◌≤◌, List, [], ◌++◌, length, Result, Ok, Err, inl, inr, sym, ap, subst, ◌∙◌, arith, append-nil}
+use Rattle.std.proofs.Common.{◌≡◌, ℕ, ◌≤◌, List, [], ◌∷◌, ◌++◌, length, Result, Ok, Err, inl, inr, sym, ap, subst, ◌∙◌, arith, append-nil}
 use Rattle.std.specs.Prelude.{◌⊎◌, MatchResult}
 use Rattle.nr_outside.specs.declared.moment.Moment.{Moment}
 use Rattle.nr_reduce.specs.declared.call.Call.{Call}
@@ -11,8 +11,9 @@ use Rattle.nr_plain.specs.Setup.{Setup}
 use Rattle.nr_client.specs.declared.client_end.ClientEnd.{ClientEnd}
 use Rattle.nr_client.specs.declared.client_end.ClientEnd.TheVariants as client
 use Rattle.nr_commands.specs.Sessions.{Part, Request, SessionAt, Text, Then}
+use Rattle.nr_service_laws.specs.Exchanges.Exchange.{Answered, Forgotten, GivenUp, HandedOver, Submitted}
 use Rattle.nr_service_laws.specs.Exchanges.{Exchange, Tells, tells_none, tells_request, tells_then}
-use Rattle.nr_pair_laws.specs.Pairs.{AreAnsweredFrom, IsAnsweredAt}
+use Rattle.nr_pair_laws.specs.Pairs.{AreAnsweredFrom, IsAnsweredAt, OpenCall, place_after}
 use Rattle.nr_text_laws.specs.CommandTexts.{IsOfTrees, IsUnanswered, on_value}
 use Rattle.nr_text_laws.proofs.MadeOf.{made}
 use Rattle.nr_text_laws.proofs.Parts.{IsAsked, IsPlaced, asked, same_end}
@@ -27,6 +28,15 @@ shown text (Err end) is = inl (subst (λ (e : ClientEnd). IsUnanswered {A = List
 -- nothing more is exchanged
 pub nothing_more : (s : Setup) (J : List Entry) (from : ℕ) (made : List Exchange) → AreAnsweredFrom s J from [] made → AreAnsweredFrom s J from [] (made ++ [])
 nothing_more s J from made are = subst (λ (l : List Exchange). AreAnsweredFrom s J from [] l) (sym (append-nil made)) are
+
+-- what is answered from a place on is so within the journal
+pub at_most : (s : Setup) (J : List Entry) (made : List Exchange) (least : ℕ) (waiting : List OpenCall) → AreAnsweredFrom s J least waiting made → least ≤ length J
+at_most s J [] least waiting are = are
+at_most s J (Answered call outcome ∷ made) least waiting (place, (a, (low, are))) = let most = at_most s J made (place_after s J call outcome place a) waiting are in omega (arith, low, most)
+at_most s J (Submitted xid call ∷ made) least waiting are = at_most s J made least (record { xid = xid; call = call; least = least } ∷ waiting) are
+at_most s J (HandedOver xid outcome ∷ made) least waiting (next, (low, (all, are))) = let most = at_most s J made next waiting are in omega (arith, low, most)
+at_most s J (Forgotten call ∷ made) least waiting are = at_most s J made least waiting are
+at_most s J (GivenUp xid ∷ made) least waiting are = at_most s J made least waiting are
 
 -- a call and the text of its results
 pub record IsCalled {B : Type 0} (s : Setup) (J : List Entry) (reads : Outcome → Result B ClientEnd) (call : Call) (text : B → List ℕ) (from : ℕ) (result : Result (List ℕ) ClientEnd) : Type 0 where

@@ -6,6 +6,7 @@ pub mod ListingNames
 pub mod ListingReplies
 pub mod ListingWalks
 pub mod MadeOf
+pub mod NamesAfter
 pub mod Nodes
 pub mod Parts
 pub mod Replies

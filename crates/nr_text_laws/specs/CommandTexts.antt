@@ -153,11 +153,18 @@ pub record ChangesTree {A : Type 0} (s : Setup) (J : List Entry) (from : ℕ) (f
   pub of_trees : IsOfTrees s J from finds answer result
   pub changed : (value : A) (text : List ℕ) → finds (λ i. tree_at s J (of_trees.places i)) ≡ Ok value → result ≡ Ok text → tree_at s J (suc of_trees.last) ≡ tree of_trees.last of_trees.moment value
 
+-- The LOOKUPs of a command found what this function gives of the trees at their places, or the command ended with the end that it gives.
+pub record IsFound {A : Type 0} (s : Setup) (J : List Entry) (from : ℕ) (finds : (trees : ℕ → Tree) → Result A ClientEnd) (result : Result (List ℕ) ClientEnd) : Type 0 where
+  pub places : ℕ → ℕ
+  pub last : ℕ
+  pub are : ArePlaces J from places last
+  pub is : ((value : A) × (finds (λ i. tree_at s J (places i)) ≡ Ok value)) ⊎ ((end : ClientEnd) × ((finds (λ i. tree_at s J (places i)) ≡ Err end) × (result ≡ Err end)))
+
 -- `ln`: a target of more than 1024 bytes is not sent
 abbrev pub within_target : (target : List ℕ) → Result (List ℕ) ClientEnd → Result (List ℕ) ClientEnd
 within_target target result = if nat_lt link_target_max (length target) then Err (client.Budget link_target_max) else result
 
--- What each command prints; nothing is said here of `ls`, `put` and `get`.
+-- What each command prints. Of `put` and `get`, what their LOOKUPs find, and nothing of the calls after them; `ls` stands in Listings.
 abbrev pub TextIsOfTrees : Setup → List Entry → (from : ℕ) → (uid gid : ℕ) → (export : List ℕ) → Action Text → Result (List ℕ) ClientEnd → Type 0
 TextIsOfTrees s J from uid gid export actions.Mount result = result ≡ on_value (root_of s.parameters.export export) (λ root. Ok (handle_text root))
 TextIsOfTrees s J from uid gid export (actions.List path) result = ⊤
@@ -174,8 +181,8 @@ TextIsOfTrees s J from uid gid export (actions.Remove path) result =
 TextIsOfTrees s J from uid gid export (actions.Link path target) result =
     ChangesTree s J from (parent_of s.parameters.export export path (caller_of (creds.Sys 0 machine uid gid [])))
     (λ place m at. within_target target (silent (results_there s J place m uid gid nfs.Symlink (symlink_of target at)))) (λ place m at. tree_there s J place m uid gid nfs.Symlink (symlink_of target at)) result
-TextIsOfTrees s J from uid gid export (actions.Put path) result = ⊤
-TextIsOfTrees s J from uid gid export (actions.Get path) result = ⊤
+TextIsOfTrees s J from uid gid export (actions.Put path) result = IsFound s J from (parent_of s.parameters.export export path (caller_of (creds.Sys 0 machine uid gid []))) result
+TextIsOfTrees s J from uid gid export (actions.Get path) result = IsFound s J from (file_of s.parameters.export export path (caller_of (creds.Sys 0 machine uid gid []))) result
 
 -- ===== the laws
 

@@ -1,2 +1,3 @@
 pub mod CommandTexts
 pub mod Listings
+pub mod NamesAfter

@@ -2,6 +2,7 @@
 
 ghost use Rattle.nr_text_laws.specs.CommandTexts.{FoundFilesAreThere, FoundParentsAreThere, LinksAreOfTheNode, PathsInOneTree, StatsAreOfTheNode, TextsAreOfTheTrees, TextsInOneTree};
 ghost use Rattle.nr_text_laws.specs.Listings.{ListsAreOfTheDirectory, ListsAreOfTheTrees};
+ghost use Rattle.nr_text_laws.specs.NamesAfter.{MadeDirectoriesAreThere, MadeLinksAreThere, RemovedNamesAreGone};
 
 /// What a command prints, or the refusal with its status, is a function of the server's trees at the places of its calls, unless a call has no answer or
 /// memory ran out: of `mount`, `stat`, `readlink`, `mkdir`, `rm` and `ln`. For the last three the tree after the entry of a change that was done is the
@@ -34,4 +35,12 @@ pub fn texts_are_of_the_node()
 pub fn lists_are_of_the_trees()
     ensures trees { ListsAreOfTheTrees }
     ensures names { ListsAreOfTheDirectory }
+{}
+
+/// After a `mkdir` or an `ln` that was done the last name of its path leads, in the directory that was found, to a directory without entries
+/// (`directory`), or to a symbolic link with the target (`link`); after an `rm` it leads to nothing (`removed`).
+pub fn changed_names_lead_there()
+    ensures directory { MadeDirectoriesAreThere }
+    ensures link { MadeLinksAreThere }
+    ensures removed { RemovedNamesAreGone }
 {}
