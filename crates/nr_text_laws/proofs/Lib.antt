@@ -2,6 +2,8 @@ pub mod Commands
 pub mod Encoded
 pub mod Ending
 pub mod Finding
+pub mod Fitting
+pub mod GivenWords
 pub mod ListingNames
 pub mod ListingReplies
 pub mod ListingWalks
@@ -11,3 +13,4 @@ pub mod Nodes
 pub mod Parts
 pub mod Replies
 pub mod Walks
+pub mod Words

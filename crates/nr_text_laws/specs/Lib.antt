@@ -1,3 +1,4 @@
 pub mod CommandTexts
+pub mod Fitting
 pub mod Listings
 pub mod NamesAfter

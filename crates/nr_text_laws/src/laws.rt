@@ -1,6 +1,7 @@
 //! Laws of the texts that commands print.
 
 ghost use Rattle.nr_text_laws.specs.CommandTexts.{FoundFilesAreThere, FoundParentsAreThere, LinksAreOfTheNode, PathsInOneTree, StatsAreOfTheNode, TextsAreOfTheTrees, TextsInOneTree};
+ghost use Rattle.nr_text_laws.specs.Fitting.{AttributesOfCallsFit, EntriesOfCallsFit, RootsAreInWords};
 ghost use Rattle.nr_text_laws.specs.Listings.{ListsAreOfTheDirectory, ListsAreOfTheTrees};
 ghost use Rattle.nr_text_laws.specs.NamesAfter.{MadeDirectoriesAreThere, MadeLinksAreThere, RemovedNamesAreGone};
 
@@ -43,4 +44,13 @@ pub fn changed_names_lead_there()
     ensures directory { MadeDirectoriesAreThere }
     ensures link { MadeLinksAreThere }
     ensures removed { RemovedNamesAreGone }
+{}
+
+/// At each place of a journal whose entries are those of calls, the attributes of each node (`attributes`), and the cookies and the numbers of the entries
+/// of each directory (`entries`), fit their fields (RFC 1813 sections 2.5 and 3.3.16), if those of the first tree are small. Those of a root alone are
+/// (`roots`).
+pub fn numbers_fit_in_fields()
+    ensures attributes { AttributesOfCallsFit }
+    ensures entries { EntriesOfCallsFit }
+    ensures roots { RootsAreInWords }
 {}
