@@ -217,9 +217,14 @@ module _ (s : Setup) (J : List Entry) (uid gid : ℕ) (ids : AreIds uid gid) (na
           let f = (refused_at place rises keeps).lookups walked rest name dir whole here o answered end found in
           let both : client.Nfs f.0 ≡ client.Nfs status = sym f.1.0 ∙ nfs in
           let same : f.0 ≡ status = cc in
-          let told_so : IsAnsweredBy made (lookup_call uid gid dir name) o = same_call {A = List ℕ} (IsAnsweredBy made) (lookup_call uid gid dir name) call o is by_call in
-          (place, (rises, OfLookup walked rest name dir o told_so (found ∙ ap (λ (e : ClientEnd). Err e) nfs) answered whole here f.1.1.0 f.1.1.1.0
-          (subst (λ (k : Status). IsLookupRefusal (command_caller uid gid) f.1.1.0 name k) same f.1.1.1.1)))
+          let told_so : IsAnsweredBy made (lookup_call uid gid dir name) o = same_call {A = List ℕ} (IsAnsweredBy made) (lookup_call uid gid dir name) call o is by_call in (
+            place,
+            (
+              rises,
+              OfLookup walked rest name dir o told_so (found ∙ ap (λ (e : ClientEnd). Err e) nfs) answered whole here f.1.1.0 f.1.1.1.0
+                  (subst (λ (k : Status). IsLookupRefusal (command_caller uid gid) f.1.1.0 name k) same f.1.1.1.1),
+            ),
+          )
       by (Ok g) found good calls others rest_of =
           let at = looked_up s J uid gid ids dir name o place (omega (arith, long)) few.0 answered g found in
           let back = (kept s J root_handle names from place rises keeps).leads (walked ++ name ∷ []) rest (append_assoc walked (name ∷ []) rest ∙ whole) in
