@@ -12,8 +12,8 @@ use Rattle.nr_pair_laws.specs.PutThenGet.{HoldsFile, IsReadCall, ReadsOf, root_h
 
 -- The place of a call is at least `least`. If the call is a READ of a file to which a path led at a place not after its
 -- own, and no entry up to its place changes what the path leads to, its reply has what READ answers to its caller over the
--- tree at its place: with status 0 the bytes of the file. For what READ answers another status, `files_refuse_for_rights`
--- says.
+-- tree at its place: with status 0 the bytes of the file. `files_refuse_for_rights` says for which cause it has another
+-- status.
 pub record AnswersReads (s : Setup) (J : List Entry) (least : ℕ) (x : Answered) : Type 0 where
   pub low : least ≤ x.place
   pub within : x.place ≤ length J
