@@ -32,7 +32,7 @@ use Rattle.nr_service_laws.specs.Exchanges.{Exchange, Tells, tells_finds, tells_
 use Rattle.nr_reply_laws.specs.Replies.{AreIds}
 use Rattle.nr_pair_laws.specs.Pairs.{AreAnsweredFrom, IsAnsweredAt}
 use Rattle.nr_pair_laws.specs.ReadResults.{results_there}
-use Rattle.nr_text_laws.specs.CommandTexts.{AttributesFit, ChangesTree, FitsText, IsFound, IsOfTrees, IsUnanswered, TextIsOfTrees, TextsAreOfTheTrees, file_of, link_in, mkdir_of, on_value, parent_of, remove_of, root_of, silent, stat_in, symlink_of, tree_there, within_target}
+use Rattle.nr_text_laws.specs.CommandTexts.{AttributesFit, ChangesTree, FitsText, IsFound, IsOfTrees, IsUnanswered, TextIsOfTrees, TextsAreOfTheTrees, file_of, found_by_get, found_by_put, link_in, mkdir_of, on_value, parent_of, remove_of, root_of, silent, stat_in, symlink_of, tree_there, within_target}
 use Rattle.nr_text_laws.proofs.Ending.{IsCalled, IsLast, IsWhole, at_most, called, composed, nothing_more, shown}
 use Rattle.nr_text_laws.proofs.Finding.{IsShort, file_long, parent_is_short}
 use Rattle.nr_text_laws.proofs.MadeOf.{made}
@@ -98,11 +98,11 @@ module _ (s : Setup) (J : List Entry) (uid gid : ℕ) (ids : AreIds uid gid) whe
       by (inr w) = inr w.of_trees
 
   stat_text : AttributesFit s J → (export path : List ℕ) (t t' : SessionAt) (result : Result (List ℕ) ClientEnd) (is : Stats uid gid export path t t' result) (from : ℕ)
-      → AreAnsweredFrom s J from [] (tells_stat uid gid export path t t' result is).made → IsUnanswered result ⊎ TextIsOfTrees s J from uid gid export (actions.Stat path) result
+      → AreAnsweredFrom s J from [] (tells_stat uid gid export path t t' result is).made → IsUnanswered result ⊎ IsOfTrees s J from (file_of s.parameters.export export path (caller_of (creds.Sys 0 machine uid gid []))) (λ place m file. stat_in (tree_at s J place) file) result
   stat_text fit export path = read_text export path getattr_result (getattr_call uid gid) attributes_text stat_in (λ file o place short a. stat_there s J uid gid ids file o place short (fit place file) a)
 
   link_text : IsSane s.tree → (export path : List ℕ) (t t' : SessionAt) (result : Result (List ℕ) ClientEnd) (is : ReadsLink uid gid export path t t' result) (from : ℕ)
-      → AreAnsweredFrom s J from [] (tells_read_link uid gid export path t t' result is).made → IsUnanswered result ⊎ TextIsOfTrees s J from uid gid export (actions.ReadLink path) result
+      → AreAnsweredFrom s J from [] (tells_read_link uid gid export path t t' result is).made → IsUnanswered result ⊎ IsOfTrees s J from (file_of s.parameters.export export path (caller_of (creds.Sys 0 machine uid gid []))) (λ place m file. link_in (tree_at s J place) file) result
   link_text sane export path =
       read_text export path readlink_result (readlink_call uid gid) (λ (link : ReadlinkOk). path_text link.path) link_in (λ file o place short a. link_there s J uid gid ids file o place sane short a)
 
@@ -155,7 +155,8 @@ module _ (s : Setup) (J : List Entry) (uid gid : ℕ) (ids : AreIds uid gid) whe
           })
 
   mkdir_text : (export path : List ℕ) (t t' : SessionAt) (result : Result (List ℕ) ClientEnd) (is : MakesDirectory uid gid export path t t' result) (from : ℕ)
-      → AreAnsweredFrom s J from [] (tells_make_directory uid gid export path t t' result is).made → IsUnanswered result ⊎ TextIsOfTrees s J from uid gid export (actions.MakeDirectory path) result
+      → AreAnsweredFrom s J from [] (tells_make_directory uid gid export path t t' result is).made → IsUnanswered result
+      ⊎ ChangesTree s J from (parent_of s.parameters.export export path (caller_of (creds.Sys 0 machine uid gid []))) (λ place m at. silent (results_there s J place m uid gid nfs.Mkdir (mkdir_of at))) (λ place m at. tree_there s J place m uid gid nfs.Mkdir (mkdir_of at)) result
   mkdir_text export path =
       change_text export path (λ at. Then (Request create_result (mkdir_call uid gid at.0 at.1)) (λ x. Shows []))
       (λ at. tells_then (Request create_result (mkdir_call uid gid at.0 at.1)) (λ x. Shows []) (tells_request create_result (mkdir_call uid gid at.0 at.1)) (λ x. tells_none (Shows [])))
@@ -164,7 +165,8 @@ module _ (s : Setup) (J : List Entry) (uid gid : ℕ) (ids : AreIds uid gid) whe
       (λ place m at. tree_there s J place m uid gid nfs.Mkdir (mkdir_of at)) (mkdir_there s J uid gid ids))
 
   remove_text : (export path : List ℕ) (t t' : SessionAt) (result : Result (List ℕ) ClientEnd) (is : Removes uid gid export path t t' result) (from : ℕ)
-      → AreAnsweredFrom s J from [] (tells_remove uid gid export path t t' result is).made → IsUnanswered result ⊎ TextIsOfTrees s J from uid gid export (actions.Remove path) result
+      → AreAnsweredFrom s J from [] (tells_remove uid gid export path t t' result is).made → IsUnanswered result
+      ⊎ ChangesTree s J from (parent_of s.parameters.export export path (caller_of (creds.Sys 0 machine uid gid []))) (λ place m at. silent (results_there s J place m uid gid nfs.Remove (remove_of at))) (λ place m at. tree_there s J place m uid gid nfs.Remove (remove_of at)) result
   remove_text export path =
       change_text export path (λ at. Then (Request remove_result (remove_call uid gid at.0 at.1)) (λ x. Shows []))
       (λ at. tells_then (Request remove_result (remove_call uid gid at.0 at.1)) (λ x. Shows []) (tells_request remove_result (remove_call uid gid at.0 at.1)) (λ x. tells_none (Shows [])))
@@ -236,7 +238,8 @@ module _ (s : Setup) (J : List Entry) (uid gid : ℕ) (ids : AreIds uid gid) whe
       by (inr l) = inr (as_made target at from r (Err end) same l)
 
   symlink_text : (export path target : List ℕ) (t t' : SessionAt) (result : Result (List ℕ) ClientEnd) (is : MakesSymlink uid gid export path target t t' result) (from : ℕ)
-      → AreAnsweredFrom s J from [] (tells_make_symlink uid gid export path target t t' result is).made → IsUnanswered result ⊎ TextIsOfTrees s J from uid gid export (actions.Link path target) result
+      → AreAnsweredFrom s J from [] (tells_make_symlink uid gid export path target t t' result is).made → IsUnanswered result
+      ⊎ ChangesTree s J from (parent_of s.parameters.export export path (caller_of (creds.Sys 0 machine uid gid []))) (LinkAnswer target) (LinkTree target) result
   symlink_text export path target =
       change_text export path (λ at. Then (Symlinks uid gid at.0 at.1 target) (λ x. Shows []))
       (λ at. tells_then (Symlinks uid gid at.0 at.1 target) (λ x. Shows []) (tells_symlinks uid gid at.0 at.1 target) (λ x. tells_none (Shows [])))
@@ -245,19 +248,19 @@ module _ (s : Setup) (J : List Entry) (uid gid : ℕ) (ids : AreIds uid gid) whe
   -- ---- `put` and `get`, up to their file
 
   found_ok : {A : Type 0} (finds : (trees : ℕ → Tree) → Result A ClientEnd) (from : ℕ) (value : A) (rest : List Exchange) (result : Result (List ℕ) ClientEnd)
-      → IsUnanswered (Ok value) ⊎ IsPlaced s J finds from (Ok value) rest → IsUnanswered result ⊎ IsFound s J from finds result
+      → IsUnanswered (Ok value) ⊎ IsPlaced s J finds from (Ok value) rest → IsUnanswered result ⊎ IsFound s J from finds (Ok value)
   found_ok finds from value rest result (inl un) = absurd un
   found_ok finds from value rest result (inr p) =
-      inr (record { places = p.places; last = p.last; are = record { first = p.first; rise = p.rise; ends = p.ends; within = at_most s J rest p.last [] p.later }; is = inl (value, sym p.is) })
+      inr (record { places = p.places; last = p.last; are = record { first = p.first; rise = p.rise; ends = p.ends; within = at_most s J rest p.last [] p.later }; is = p.is })
 
   found_none : {A : Type 0} (finds : (trees : ℕ → Tree) → Result A ClientEnd) (from : ℕ) (end : ClientEnd) (result : Result (List ℕ) ClientEnd) → result ≡ Err end
-      → IsUnanswered {A = A} (Err end) ⊎ IsPlaced s J finds from (Err end) [] → IsUnanswered result ⊎ IsFound s J from finds result
+      → IsUnanswered {A = A} (Err end) ⊎ IsPlaced s J finds from (Err end) [] → IsUnanswered result ⊎ IsFound s J from finds (Err end)
   found_none {A} finds from end result same (inl un) = inl (same_end A end result same un)
   found_none finds from end result same (inr p) =
-      inr (record { places = p.places; last = p.last; are = record { first = p.first; rise = p.rise; ends = p.ends; within = p.later }; is = inr (end, (sym p.is, same)) })
+      inr (record { places = p.places; last = p.last; are = record { first = p.first; rise = p.rise; ends = p.ends; within = p.later }; is = p.is })
 
   put_text : (export path : List ℕ) (input input' : SourceAt) (t t' : SessionAt) (result : Result (List ℕ) ClientEnd) (is : Puts uid gid export path input input' t t' result) (from : ℕ)
-      → AreAnsweredFrom s J from [] (tells_put uid gid export path input input' t t' result is).made → IsUnanswered result ⊎ TextIsOfTrees s J from uid gid export (actions.Put path) result
+      → AreAnsweredFrom s J from [] (tells_put uid gid export path input input' t t' result is).made → IsUnanswered result ⊎ IsFound s J from (parent_of s.parameters.export export path (caller_of (creds.Sys 0 machine uid gid []))) (found_by_put uid gid export path input input' t t' result is)
   put_text export path input input' t t' result (inl (at, (mid, (finds, writes)))) from are =
       let rest = (tells_writes_in uid gid at.0 at.1 input input' mid t' result writes).made in
       found_ok (parent_of s.parameters.export export path (caller_of (creds.Sys 0 machine uid gid []))) from at rest result (found_parent s J uid gid ids export path t mid (Ok at) finds from rest are)
@@ -266,7 +269,7 @@ module _ (s : Setup) (J : List Entry) (uid gid : ℕ) (ids : AreIds uid gid) whe
       (found_parent s J uid gid ids export path t t' (Err end) finds from [] (nothing_more s J from (tells_finds_parent uid gid export path t t' (Err end) finds).made are))
 
   get_text : (export path : List ℕ) (out out' : SinkAt) (t t' : SessionAt) (result : Result (List ℕ) ClientEnd) (is : Gets uid gid export path out out' t t' result) (from : ℕ)
-      → AreAnsweredFrom s J from [] (tells_get uid gid export path out out' t t' result is).made → IsUnanswered result ⊎ TextIsOfTrees s J from uid gid export (actions.Get path) result
+      → AreAnsweredFrom s J from [] (tells_get uid gid export path out out' t t' result is).made → IsUnanswered result ⊎ IsFound s J from (file_of s.parameters.export export path (caller_of (creds.Sys 0 machine uid gid []))) (found_by_get uid gid export path out out' t t' result is)
   get_text export path out out' t t' result (inl (file, (mid, (finds, reads)))) from are =
       let rest = (tells_reads_out uid gid file out out' mid t' result reads).made in
       found_ok (file_of s.parameters.export export path (caller_of (creds.Sys 0 machine uid gid []))) from file rest result (found s J uid gid ids export path t mid (Ok file) finds from rest are)
@@ -278,7 +281,7 @@ module _ (s : Setup) (J : List Entry) (uid gid : ℕ) (ids : AreIds uid gid) whe
 
   any_text : IsSane s.tree → (export : List ℕ) (action : Action Text) → FitsText s J action → (input input' : SourceAt) (out out' : SinkAt) (t t' : SessionAt) (result : Result (List ℕ) ClientEnd)
       (is : text_of uid gid export action input input' out out' t t' result) (from : ℕ) → AreAnsweredFrom s J from [] (tells_text uid gid export action input input' out out' t t' result is).made
-      → IsUnanswered result ⊎ TextIsOfTrees s J from uid gid export action result
+      → IsUnanswered result ⊎ TextIsOfTrees s J from uid gid export action input input' out out' t t' result is
   any_text sane export actions.Mount fit input input' out out' t t' result is from are = mount_text export t t' result is.0 from are
   any_text sane export (actions.List path) fit input input' out out' t t' result is from are = inr tt
   any_text sane export (actions.Stat path) fit input input' out out' t t' result is from are = stat_text fit export path t t' result is.0 from are

@@ -2,6 +2,7 @@
 -- so is the call after them.
 use Rattle.std.specs.Prelude.{◌≡◌, ⊤, ℕ, suc, ◌<◌, ◌≤◌, ◌^◌, ◌⊎◌, if◌then◌else◌, List, [], ◌∷◌, ◌++◌, length, take, nat_eq, nat_lt, None, Some, Result, Ok, Err}
 use Rattle.std.specs.Cmp.Lexicographic.{pointwise}
+use mathlib.Core.Logic.{inl, inr}
 use Rattle.nr_outside.specs.Streams.{SinkAt, SourceAt}
 use Rattle.nr_outside.specs.declared.moment.Moment.{Moment}
 use Rattle.nr_rpc.specs.declared.cred.Cred.TheVariants as creds
@@ -43,9 +44,11 @@ use Rattle.nr_client.specs.declared.client_end.ClientEnd.TheVariants as client
 use Rattle.nr_client.specs.Dialing.{DialerAt}
 use Rattle.nr_client.specs.Paths.{path_names}
 use Rattle.nr_client.specs.Requests.{directory_mode, machine, only_mode}
+use Rattle.nr_commands.specs.Commands.{Gets, Puts}
 use Rattle.nr_commands.specs.Printed.{attributes_text, handle_text, path_text}
-use Rattle.nr_commands.specs.Running.{Runs}
+use Rattle.nr_commands.specs.Running.{Runs, text_of}
 use Rattle.nr_commands.specs.Running.Runs.{NotOpened, Opened}
+use Rattle.nr_commands.specs.Sessions.{SessionAt}
 use Rattle.nr_service_laws.specs.Exchanges.{tells_text}
 use Rattle.nr_reply_laws.specs.Replies.{AreIds}
 use Rattle.nr_pair_laws.specs.FilesAt.{KeepPath, handle_along}
@@ -153,36 +156,50 @@ pub record ChangesTree {A : Type 0} (s : Setup) (J : List Entry) (from : ℕ) (f
   pub of_trees : IsOfTrees s J from finds answer result
   pub changed : (value : A) (text : List ℕ) → finds (λ i. tree_at s J (of_trees.places i)) ≡ Ok value → result ≡ Ok text → tree_at s J (suc of_trees.last) ≡ tree of_trees.last of_trees.moment value
 
--- The LOOKUPs of a command found what this function gives of the trees at their places, or the command ended with the end that it gives.
-pub record IsFound {A : Type 0} (s : Setup) (J : List Entry) (from : ℕ) (finds : (trees : ℕ → Tree) → Result A ClientEnd) (result : Result (List ℕ) ClientEnd) : Type 0 where
+-- What the LOOKUPs of a command found, or the end with which they ended, is what this function gives of the trees at their places.
+pub record IsFound {A : Type 0} (s : Setup) (J : List Entry) (from : ℕ) (finds : (trees : ℕ → Tree) → Result A ClientEnd) (found : Result A ClientEnd) : Type 0 where
   pub places : ℕ → ℕ
   pub last : ℕ
   pub are : ArePlaces J from places last
-  pub is : ((value : A) × (finds (λ i. tree_at s J (places i)) ≡ Ok value)) ⊎ ((end : ClientEnd) × ((finds (λ i. tree_at s J (places i)) ≡ Err end) × (result ≡ Err end)))
+  pub is : found ≡ finds (λ i. tree_at s J (places i))
+
+-- what the LOOKUPs of a `get` found, by its own clause: the file, or the end with which they ended
+abbrev pub found_by_get : (uid gid : ℕ) (export path : List ℕ) (out out' : SinkAt) (t t' : SessionAt) (result : Result (List ℕ) ClientEnd) → Gets uid gid export path out out' t t' result → Result (List ℕ) ClientEnd
+found_by_get uid gid export path out out' t t' result (inl (file, rest)) = Ok file
+found_by_get uid gid export path out out' t t' result (inr (end, rest)) = Err end
+
+-- those of a `put`: the directory that has the last name, and that name, or the end
+abbrev pub found_by_put : (uid gid : ℕ) (export path : List ℕ) (input input' : SourceAt) (t t' : SessionAt) (result : Result (List ℕ) ClientEnd) → Puts uid gid export path input input' t t' result → Result (List ℕ × List ℕ) ClientEnd
+found_by_put uid gid export path input input' t t' result (inl (at, rest)) = Ok at
+found_by_put uid gid export path input input' t t' result (inr (end, rest)) = Err end
 
 -- `ln`: a target of more than 1024 bytes is not sent
 abbrev pub within_target : (target : List ℕ) → Result (List ℕ) ClientEnd → Result (List ℕ) ClientEnd
 within_target target result = if nat_lt link_target_max (length target) then Err (client.Budget link_target_max) else result
 
--- What each command prints. Of `put` and `get`, what their LOOKUPs find, and nothing of the calls after them; `ls` stands in Listings.
-abbrev pub TextIsOfTrees : Setup → List Entry → (from : ℕ) → (uid gid : ℕ) → (export : List ℕ) → Action Text → Result (List ℕ) ClientEnd → Type 0
-TextIsOfTrees s J from uid gid export actions.Mount result = result ≡ on_value (root_of s.parameters.export export) (λ root. Ok (handle_text root))
-TextIsOfTrees s J from uid gid export (actions.List path) result = ⊤
-TextIsOfTrees s J from uid gid export (actions.Stat path) result =
+-- What each command prints. Of `put` and `get`, what their LOOKUPs found, or the end with which these ended, and nothing of the calls after them; `ls` stands
+-- in Listings.
+abbrev pub TextIsOfTrees : Setup → List Entry → (from : ℕ) → (uid gid : ℕ) (export : List ℕ) (action : Action Text) (input input' : SourceAt) (out out' : SinkAt) (t t' : SessionAt) (result : Result (List ℕ) ClientEnd)
+    → text_of uid gid export action input input' out out' t t' result → Type 0
+TextIsOfTrees s J from uid gid export actions.Mount input input' out out' t t' result is = result ≡ on_value (root_of s.parameters.export export) (λ root. Ok (handle_text root))
+TextIsOfTrees s J from uid gid export (actions.List path) input input' out out' t t' result is = ⊤
+TextIsOfTrees s J from uid gid export (actions.Stat path) input input' out out' t t' result is =
     IsOfTrees s J from (file_of s.parameters.export export path (caller_of (creds.Sys 0 machine uid gid []))) (λ place m file. stat_in (tree_at s J place) file) result
-TextIsOfTrees s J from uid gid export (actions.ReadLink path) result =
+TextIsOfTrees s J from uid gid export (actions.ReadLink path) input input' out out' t t' result is =
     IsOfTrees s J from (file_of s.parameters.export export path (caller_of (creds.Sys 0 machine uid gid []))) (λ place m file. link_in (tree_at s J place) file) result
-TextIsOfTrees s J from uid gid export (actions.MakeDirectory path) result =
+TextIsOfTrees s J from uid gid export (actions.MakeDirectory path) input input' out out' t t' result is =
     ChangesTree s J from (parent_of s.parameters.export export path (caller_of (creds.Sys 0 machine uid gid [])))
     (λ place m at. silent (results_there s J place m uid gid nfs.Mkdir (mkdir_of at))) (λ place m at. tree_there s J place m uid gid nfs.Mkdir (mkdir_of at)) result
-TextIsOfTrees s J from uid gid export (actions.Remove path) result =
+TextIsOfTrees s J from uid gid export (actions.Remove path) input input' out out' t t' result is =
     ChangesTree s J from (parent_of s.parameters.export export path (caller_of (creds.Sys 0 machine uid gid [])))
     (λ place m at. silent (results_there s J place m uid gid nfs.Remove (remove_of at))) (λ place m at. tree_there s J place m uid gid nfs.Remove (remove_of at)) result
-TextIsOfTrees s J from uid gid export (actions.Link path target) result =
+TextIsOfTrees s J from uid gid export (actions.Link path target) input input' out out' t t' result is =
     ChangesTree s J from (parent_of s.parameters.export export path (caller_of (creds.Sys 0 machine uid gid [])))
     (λ place m at. within_target target (silent (results_there s J place m uid gid nfs.Symlink (symlink_of target at)))) (λ place m at. tree_there s J place m uid gid nfs.Symlink (symlink_of target at)) result
-TextIsOfTrees s J from uid gid export (actions.Put path) result = IsFound s J from (parent_of s.parameters.export export path (caller_of (creds.Sys 0 machine uid gid []))) result
-TextIsOfTrees s J from uid gid export (actions.Get path) result = IsFound s J from (file_of s.parameters.export export path (caller_of (creds.Sys 0 machine uid gid []))) result
+TextIsOfTrees s J from uid gid export (actions.Put path) input input' out out' t t' result is =
+    IsFound s J from (parent_of s.parameters.export export path (caller_of (creds.Sys 0 machine uid gid []))) (found_by_put uid gid export path input input' t t' result is.0)
+TextIsOfTrees s J from uid gid export (actions.Get path) input input' out out' t t' result is =
+    IsFound s J from (file_of s.parameters.export export path (caller_of (creds.Sys 0 machine uid gid []))) (found_by_get uid gid export path out out' t t' result is.0)
 
 -- ===== the laws
 
@@ -223,7 +240,7 @@ abbrev pub SaysText : Setup → List Entry → (from : ℕ) → (c : Client Text
 SaysText s J from c before after input input' out out' result (NotOpened end is fails same_input same_out) = ⊤
 SaysText s J from c before after input input' out out' result (Opened dialed t t' opens prints closes) =
     AreAnsweredFrom s J from [] (tells_text c.uid c.gid c.export c.action input input' out prints.written t t' prints.text prints.made).made →
-    IsUnanswered prints.text ⊎ TextIsOfTrees s J from c.uid c.gid c.export c.action prints.text
+    IsUnanswered prints.text ⊎ TextIsOfTrees s J from c.uid c.gid c.export c.action input input' out prints.written t t' prints.text prints.made
 
 -- What a command prints, or the refusal with its status, are these functions of the trees at the places of its calls, if each call has an answer, at a
 -- place of the journal as `pairs_are_served` gives it.
