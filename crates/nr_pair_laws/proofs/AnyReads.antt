@@ -1,5 +1,5 @@
 -- Any READ of a file reads its bytes.
-use Rattle.std.proofs.Common.{◌≡◌, ℕ, ◌+◌, List, length, take, drop, Option, Some, Result, ap, sym, ◌∙◌}
+use Rattle.std.proofs.Common.{◌≡◌, ℕ, ◌+◌, List, length, take, drop, Option, Some, Result, ap, refl, sym, ◌∙◌}
 use Rattle.std.specs.Prelude.{nat_le}
 use Rattle.std.specs.Option.{option_map}
 use Rattle.std.proofs.lemmas.Option.{same_Some}
@@ -42,6 +42,7 @@ any_read s J names bytes from place h rises keeps m payload reply xid a c same e
     record {
       results = read_reply (tree_at s J place) (caller_of c.cred) a;
       is = read_replied s J place m payload reply xid a c e;
+      results_are = refl;
       given = λ ok done.
           let r = read_is (tree_at s J place) (caller_of c.cred) a ok bytes holds done in
           (r.0, r.1 ∙ ap (λ (l : List ℕ). nat_le (length bytes) (a.offset + length l)) (sym r.0));

@@ -1,14 +1,12 @@
 -- A client's marks and a server's are put into one order: the next mark of either that receives only what was sent, until
 -- there is none.
-use Rattle.std.proofs.Common.{◌≡◌, ℕ, ◌+◌, ◌<◌, ◌≤◌, Bool, true, false, cond, ◌&&◌, ◌||◌, eqb, suc, List, [], ◌∷◌, ◌++◌, length, refl, sym, ap, subst, ◌∙◌, append_assoc, append-nil, length-append, inl, inr, ◌⊎◌, arith}
+use Rattle.std.proofs.Common.{◌≡◌, ℕ, ◌+◌, ◌<◌, ◌≤◌, Bool, true, false, cond, ◌&&◌, ◌||◌, eqb, suc, List, [], ◌∷◌, ◌++◌, length, refl, sym, ap, subst, ◌∙◌, append_assoc, append-nil, length-append, inl, inr, ◌⊎◌, arith, eqb-true}
 use Rattle.std.proofs.lemmas.Grind.{flat_map-append}
 use Rattle.std.proofs.lemmas.List.Elements.{filter-append}
 use Rattle.std.specs.Prelude.{⊤}
 use Rattle.std.specs.List.{AllByRecursion, filter}
 use Rattle.nr_wire.specs.declared.hello.Side.{Side}
 use Rattle.nr_wire.specs.declared.hello.Side.TheVariants.{Initiator, Responder}
-use Rattle.nr_reduce.specs.declared.call.Form.TheVariants as forms
-use Rattle.nr_reduce.specs.declared.call.Submission.TheVariants as submissions
 use Rattle.nr_reduce.specs.declared.mark.Mark.{Mark}
 use Rattle.nr_reduce.specs.declared.mark.Mark.TheVariants as marks
 use Rattle.nr_reduce.specs.AtEachMark.{AtEachMark}
@@ -17,9 +15,8 @@ use Rattle.nr_reduce.specs.Matched.{IsPrefixOf, MatchedMark}
 use Rattle.nr_reduce.proofs.Standing.{AtEachMark_more, itself, received_one, sent_one}
 use Rattle.nr_host.specs.Connections as connections
 use Rattle.nr_host_laws.specs.OwnMarks.{is_own}
-use Rattle.nr_service_laws.specs.ClientMarks as commands
 use Rattle.nr_service_laws.specs.ServedCommands.{is_client_mark}
-use Rattle.nr_pair_laws.specs.Interleaving.{BothWait, SidesAreInterleaved}
+use Rattle.nr_pair_laws.specs.Interleaving.{BothWait}
 use Rattle.nr_pair_laws.specs.Pairs.{AreSidesOf, IsOfSide}
 
 -- ---- Two beginnings of one list
@@ -119,7 +116,7 @@ unfolding bytes_received
 received_all link side run mark left =
     flat_map-append (fed_at link side) run (mark ∷ left) ∙ sym (append_assoc (bytes_received link side run) (fed_at link side mark) (bytes_received link side left))
 
-sent_all : (link : ℕ) (side : Side) (run left : List Mark) → bytes_sent link side (run ++ left) ≡ bytes_sent link side run ++ bytes_sent link side left
+pub sent_all : (link : ℕ) (side : Side) (run left : List Mark) → bytes_sent link side (run ++ left) ≡ bytes_sent link side run ++ bytes_sent link side left
 unfolding bytes_sent
 sent_all link side run left = flat_map-append (written_at link side) run left
 
@@ -213,25 +210,19 @@ record IsServers (link : ℕ) (mark : Mark) : Type 0 where
 here : (link l : ℕ) → l ≡ link → eqb l link ≡ true
 here link l is = ap (λ (k : ℕ). eqb k link) is ∙ itself link
 
-clients : (link : ℕ) (mark : Mark) → commands.IsOwn link mark → IsClients link mark
-clients link (marks.Wrote l Initiator bytes) is = record { only = (is, refl); is = ap (λ (b : Bool). b && true) (here link l is); not_own = refl }
-clients link (marks.Fed l Initiator bytes) is = record { only = (is, refl); is = ap (λ (b : Bool). b && true) (here link l is); not_own = refl }
-clients link (marks.Submit l call forms.Auto (submissions.Accepted xid)) is = record { only = tt; is = here link l is; not_own = refl }
-clients link (marks.Done l xid outcome) is = record { only = tt; is = here link l is; not_own = refl }
-clients link (marks.Forget l xid) is = record { only = tt; is = here link l is; not_own = refl }
-clients link (marks.Wrote l Responder bytes) is = absurd is
-clients link (marks.Fed l Responder bytes) is = absurd is
-clients link (marks.Submit l call forms.Auto (submissions.Refused why)) is = absurd is
-clients link (marks.Submit l call forms.Auto submissions.Dropped) is = absurd is
-clients link (marks.Submit l call forms.Inline answer) is = absurd is
-clients link (marks.Submit l call forms.Chunk answer) is = absurd is
-clients link (marks.Submit l call forms.Long answer) is = absurd is
-clients link (marks.Submit l call (forms.Given offer) answer) is = absurd is
-clients link (marks.Lost l xid) is = absurd is
-clients link (marks.Revoke l xid bytes) is = absurd is
-clients link (marks.Drop l) is = absurd is
-clients link (marks.Told l what) is = absurd is
-clients link (marks.Execute l xid moment payload place reply) is = absurd is
+clients : (link : ℕ) (mark : Mark) → is_client_mark link mark ≡ true → IsClients link mark
+clients link (marks.Wrote l Initiator bytes) is = record { only = (eqb-true l link (and_true (eqb l link) is), refl); is = is; not_own = refl }
+clients link (marks.Fed l Initiator bytes) is = record { only = (eqb-true l link (and_true (eqb l link) is), refl); is = is; not_own = refl }
+clients link (marks.Wrote l Responder bytes) is = absurd (and_false (eqb l link) is)
+clients link (marks.Fed l Responder bytes) is = absurd (and_false (eqb l link) is)
+clients link (marks.Submit l call form answer) is = record { only = tt; is = is; not_own = refl }
+clients link (marks.Done l xid outcome) is = record { only = tt; is = is; not_own = refl }
+clients link (marks.Lost l xid) is = record { only = tt; is = is; not_own = refl }
+clients link (marks.Forget l xid) is = record { only = tt; is = is; not_own = refl }
+clients link (marks.Revoke l xid bytes) is = record { only = tt; is = is; not_own = refl }
+clients link (marks.Drop l) is = absurd cc
+clients link (marks.Told l what) is = absurd cc
+clients link (marks.Execute l xid moment payload place reply) is = absurd cc
 
 servers : (link : ℕ) (mark : Mark) → connections.IsOwn link mark → IsServers link mark
 servers link (marks.Wrote l Responder bytes) is = record { only = (is, refl); is = here link l is; not_client = never_true (eqb l link) }
@@ -247,7 +238,7 @@ servers link (marks.Revoke l xid bytes) is = absurd is
 servers link (marks.Drop l) is = absurd is
 servers link (marks.Told l what) is = absurd is
 
-all_clients : (link : ℕ) (run : List Mark) → AllByRecursion (commands.IsOwn link) run → AllByRecursion (IsClients link) run
+all_clients : (link : ℕ) (run : List Mark) → AllByRecursion (λ mark. is_client_mark link mark ≡ true) run → AllByRecursion (IsClients link) run
 all_clients link [] own = tt
 all_clients link (mark ∷ run) own = (clients link mark own.0, all_clients link run own.1)
 
@@ -425,7 +416,7 @@ interleaved (m ∷ steps) link client_done (mark ∷ client_left) server_done (m
     by (inr w) (inl goes) rest rest' = subst (λ (run : List Mark). Interleaves link (client_done ++ mark ∷ client_left) run) (append_assoc server_done (mark' ∷ []) server_left) (rest' goes)
     by (inr w) (inr w') rest rest' = inr (waiting link client_done mark client_left server_done mark' server_left both b.done w w')
 
--- ===== the law
+-- ---- From the first marks on
 
 nothing_done : (link : ℕ) → IsScheduled link [] [] []
 nothing_done link =
@@ -435,8 +426,10 @@ nothing_done link =
       server = record { sent = refl; received = refl };
     }
 
-pub sides_are_interleaved_lem : SidesAreInterleaved
-sides_are_interleaved_lem link client_run server_run own own' p p' =
+pub runs_interleave : (link : ℕ) (client_run server_run : List Mark) → AllByRecursion (λ mark. is_client_mark link mark ≡ true) client_run → AtEachMark (λ earlier mark. connections.IsOwn link mark) [] server_run
+    → IsPrefixOf (bytes_received link Initiator client_run) (bytes_sent link Responder server_run) → IsPrefixOf (bytes_received link Responder server_run) (bytes_sent link Initiator client_run)
+    → Interleaves link client_run server_run
+runs_interleave link client_run server_run own own' p p' =
     let b : AreBegun link [] client_run [] server_run [] = record {
       done = nothing_done link;
       clients = all_clients link client_run own;

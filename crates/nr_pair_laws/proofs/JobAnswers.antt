@@ -67,10 +67,11 @@ use Rattle.nr_pair_laws.specs.Pairs.{AreAnsweredFrom, AreSidesOf, IsAnsweredBetw
 use Rattle.nr_pair_laws.specs.PutThenGet.{GetsFile, mounting, root_handle}
 use Rattle.nr_pair_laws.proofs.AnsweredCalls.{exchanges_answered, one_outcome}
 use Rattle.nr_pair_laws.proofs.Getting.{AnsweredAfter, followed, judged, mounted, since}
-use Rattle.nr_pair_laws.proofs.JobMarks.{job_asked_in_both, kept_at, parts_at, two_at}
-use Rattle.nr_pair_laws.proofs.JobOrder.{begins_after, begins_before, begins_run, begins_upto, bound_begins, marks_rise, upto}
+use Rattle.nr_pair_laws.proofs.JobMarks.{job_asked_in_both, kept_at, two_at}
+use Rattle.nr_pair_laws.proofs.JobOrder.{begins_after, begins_before, begins_run, begins_upto, bound_begins, kept_upto, marks_rise, upto}
+use Rattle.nr_pair_laws.proofs.LongerJournals.{answered_in_all}
 use Rattle.nr_pair_laws.proofs.Pairs.{placed_of, plain_replies}
-use Rattle.nr_pair_laws.proofs.PlacedCalls.{bound, calls_more, each_placed, placed_first, served_calls}
+use Rattle.nr_pair_laws.proofs.PlacedCalls.{bound, calls_more, each_placed, placed_first, placed_in_first, served_calls}
 use Rattle.nr_pair_laws.proofs.PutThenGet.{get_gives, others_keep}
 use Rattle.nr_pair_laws.proofs.ServerSide.{placed_in_both, served_in_both}
 
@@ -145,20 +146,23 @@ more_marks alone x y a b kept made is count =
     omega (arith, count, kept_count, first, inner, second, last)
 
 module _ (s : Setup) (sane : IsSane s.tree) (J : List Entry) (n : ℕ) (opened : LinkParameters) (link : ℕ) (both : List Mark) (typed : IsTyped both) (b : JobSides s J n opened link both) where
-  -- the marks of the session alone are the first ones of its side
-  alone_answered : (alone rest : List Mark) (made : List Exchange) → client_marks link both ≡ alone ++ rest → AreMarksOf link made (without_bytes alone) → AreAnsweredFrom s J n [] made
+  -- the marks of the session alone are the first ones of its side, and their calls come first in the journal
+  alone_answered : (alone rest : List Mark) (made : List Exchange) → client_marks link both ≡ alone ++ rest → AreMarksOf link made (without_bytes alone)
+      → AreAnsweredFrom s (take (bound s J link n both b.placed (upto (is_client_mark link) (length alone) both)) J) n [] made
   alone_answered alone rest made is are =
-      let parts = parts_at (is_client_mark link) both alone rest is in
-      let first = parts.first in
-      let calls = ap (λ (r : List Mark). served_calls link r) parts.is ∙ calls_more link first parts.last in
-      let placed = placed_first s J n (served_calls link first) (served_calls link parts.last) (subst (λ (l : List AnsweredCall). AllPlaced s J n l) calls b.placed) in
-      exchanges_answered s sane J n opened link first (each_first TypedMark both first parts.last parts.is typed)
+      let first = upto (is_client_mark link) (length alone) both in
+      let whole = begins_run (is_client_mark link) (length alone) both in
+      let kept : client_marks link first ≡ alone = kept_upto (is_client_mark link) both alone rest is in
+      let calls = ap (λ (r : List Mark). served_calls link r) whole.1 ∙ calls_more link first whole.0 in
+      let placed = placed_first s J n (served_calls link first) (served_calls link whole.0) (subst (λ (l : List AnsweredCall). AllPlaced s J n l) calls b.placed) in
+      exchanges_answered s sane (take (bound s J link n both b.placed first) J) n opened link first (each_first TypedMark both first whole.0 whole.1 typed)
       (record {
-        asked = each_first (AskedMark IsPrefixOf opened link) both first parts.last parts.is b.far.asked;
-        served = each_first (ServedMark IsPrefixOf opened link) both first parts.last parts.is b.far.served;
-        matched = each_first (MatchedMark link) both first parts.last parts.is b.far.matched;
+        asked = each_first (AskedMark IsPrefixOf opened link) both first whole.0 whole.1 b.far.asked;
+        served = each_first (ServedMark IsPrefixOf opened link) both first whole.0 whole.1 b.far.served;
+        matched = each_first (MatchedMark link) both first whole.0 whole.1 b.far.matched;
       })
-      (each_first (PlainReplyMark (plain_server s) link) both first parts.last parts.is b.plain) placed made (subst (λ (r : List Mark). AreMarksOf link made (without_bytes r)) (sym parts.kept_first) are)
+      (each_first (PlainReplyMark (plain_server s) link) both first whole.0 whole.1 b.plain) (placed_in_first s J n (served_calls link first) placed) made
+      (subst (λ (r : List Mark). AreMarksOf link made (without_bytes r)) (sym kept) are)
 
   module _ (alone : List Mark) (fed : ℕ) (history : List SharedEntry) (is : client_marks link both ≡ run_of alone fed link history) where
     -- how many marks the client made up to an entry of the shared requester's history, and how far the journal was used then
@@ -167,6 +171,13 @@ module _ (s : Setup) (sane : IsSane s.tree) (J : List Entry) (n : ℕ) (opened :
 
     used_upto : ℕ → ℕ
     used_upto k = bound s J link n both b.placed (upto (is_client_mark link) (made_upto k) both)
+
+    alone_first : (made : List Exchange) → AreMarksOf link made (without_bytes alone) → AreAnsweredFrom s (take (used_upto 0) J) n [] made
+    unfolding made_upto used_upto
+    alone_first made are =
+        let count : length alone ≡ length alone + 0 = omega arith in
+        subst (λ (k : ℕ). AreAnsweredFrom s (take (bound s J link n both b.placed (upto (is_client_mark link) k both)) J) n [] made) count
+        (alone_answered alone (flat_map (mark_at fed link) history) made (is ∙ run_first alone fed link history) are)
 
     used_rises : (i j : ℕ) → i ≤ j → used_upto i ≤ used_upto j
     unfolding made_upto used_upto
@@ -246,9 +257,10 @@ job_served setup sane J more opened link own law placed s source sink log log' r
     let marks_are : client_marks link both ≡ run_of ran.alone ran.fed link history = sides.client_side ∙ ran.run_is in
     record {
       served = record { client_side = sides.client_side; typed = typed; served = b.served; matched = sides.matched; plain = b.plain };
+      so_far = b.far;
       at_places = b.at_places;
       answered = record {
-        alone = alone_answered setup sane (J ++ more) (length J) opened link both typed b ran.alone (flat_map (mark_at ran.fed link) history) made (marks_are ∙ run_first ran.alone ran.fed link history) ran.marks_are;
+        alone = alone_first setup sane (J ++ more) (length J) opened link both typed b ran.alone ran.fed history marks_are made ran.marks_are;
         used = used_upto setup sane (J ++ more) (length J) opened link both typed b ran.alone ran.fed history marks_are;
         first = used_first setup sane (J ++ more) (length J) opened link both typed b ran.alone ran.fed history marks_are;
         rises = used_rises setup sane (J ++ more) (length J) opened link both typed b ran.alone ran.fed history marks_are;
@@ -389,9 +401,10 @@ shared_read : (s : Setup) (J : List Entry) (uid gid : ℕ) (export path file : L
     → ReadsWhole s J uid gid export path names from taken taken'
 shared_read s J uid gid export path file names from at mid finds outcome size link source sink taken taken' shared are_names keep answered =
     let R = AnsweredAfter s J from in
-    let alone = alone_judged s J uid gid export path file names from at mid finds outcome answered.alone in
+    let made = (tells_finds uid gid export path at mid (Ok file) finds).made ++ Answered (getattr_call uid gid file) outcome ∷ [] in
+    let alone = alone_judged s J uid gid export path file names from at mid finds outcome (answered_in_all s J (answered.used 0) from made answered.alone) in
     let judge : (call : Call) (o : Outcome) → IsExchange shared.seen shared.mine call o → R call o =
-    (λ call o exchange. shared_after s J from ((tells_finds uid gid export path at mid (Ok file) finds).made ++ Answered (getattr_call uid gid file) outcome ∷ []) shared.back.history answered shared.mine call o (exchange_more shared.seen shared.back.history shared.mine call o shared.back.begins exchange)) in
+    (λ call o exchange. shared_after s J from made shared.back.history answered shared.mine call o (exchange_more shared.seen shared.back.history shared.mine call o shared.back.begins exchange)) in
     let answers = all_answers R uid gid file shared.seen shared.mine judge (outcome ∷ []) shared.reads.outcomes ((getattr_call uid gid file, (refl, alone.first)), tt) shared.reads.made in
     whole_read s J uid gid export path file names from at mid finds outcome alone are_names keep shared.reads.outcomes taken taken' answers
     (has_read uid gid file shared.seen (outcome ∷ shared.reads.outcomes) taken taken' shared.reads.ends)
@@ -420,7 +433,8 @@ jobs_give_the_file_lem s J get before after out out' (Found dialed at mid file o
         (tells_finds get.uid get.gid get.export get.path at mid (Ok file) finds).made get.uid get.gid file mid hangs.source hangs.sink out.taken out'.taken (Ok tt) reads
     by (NoAttributes link why gets is same none) = λ answered. absurd (let wrong = is in cc)
     by (Shared link outcome attributes gets shared) = λ answered.
-        let alone = alone_judged s J get.uid get.gid get.export get.path file names from at mid finds outcome answered.alone in
+        let made = (tells_finds get.uid get.gid get.export get.path at mid (Ok file) finds).made ++ Answered (getattr_call get.uid get.gid file) outcome ∷ [] in
+        let alone = alone_judged s J get.uid get.gid get.export get.path file names from at mid finds outcome (answered_in_all s J (answered.used 0) from made answered.alone) in
         let within = within_journal s J from (getattr_call get.uid get.gid file) outcome alone.first in
         let until : KeepPath s J root_handle names to from = (λ k lo hi. keep k lo (omega (arith, hi, within))) in
         let later : KeepPath s J root_handle names from (length J) = (λ k lo hi. keep k (omega (arith, low, lo)) hi) in

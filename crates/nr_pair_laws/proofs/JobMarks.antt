@@ -112,42 +112,6 @@ client_each P link before (m ∷ rest) all = by (is_client_mark link m) refl all
 
 -- ---- Places
 
--- a run in two parts, of which these marks are kept
-pub record PartsAt (f : Mark → Bool) (run xs ys : List Mark) : Type 0 where
-  pub first : List Mark
-  pub last : List Mark
-  pub is : run ≡ first ++ last
-  pub kept_first : filter f first ≡ xs
-  pub kept_last : filter f last ≡ ys
-
-pub parts_at : (f : Mark → Bool) (run xs ys : List Mark) → filter f run ≡ xs ++ ys → PartsAt f run xs ys
-parts_at f run [] ys is = record { first = []; last = run; is = refl; kept_first = refl; kept_last = is }
-parts_at f [] (x ∷ xs) ys is = absurd cc
-parts_at f (m ∷ run) (x ∷ xs) ys is = by (f m) refl is (parts_at f run xs ys) (parts_at f run (x ∷ xs) ys)
-  where
-    by : (b : Bool) → f m ≡ b → cond b (m ∷ filter f run) (filter f run) ≡ x ∷ (xs ++ ys) → (filter f run ≡ xs ++ ys → PartsAt f run xs ys) → (filter f run ≡ x ∷ (xs ++ ys) → PartsAt f run (x ∷ xs) ys)
-        → PartsAt f (m ∷ run) (x ∷ xs) ys
-    by true same is goes stays =
-        let head : m ≡ x = cc in
-        let rest : filter f run ≡ xs ++ ys = cc in
-        let parts = goes rest in
-        record {
-          first = m ∷ parts.first;
-          last = parts.last;
-          is = ap (λ (l : List Mark). m ∷ l) parts.is;
-          kept_first = ap (λ (b : Bool). cond b (m ∷ filter f parts.first) (filter f parts.first)) same ∙ ap (λ (y : Mark). y ∷ filter f parts.first) head ∙ ap (λ (l : List Mark). x ∷ l) parts.kept_first;
-          kept_last = parts.kept_last;
-        }
-    by false same is goes stays =
-        let parts = stays is in
-        record {
-          first = m ∷ parts.first;
-          last = parts.last;
-          is = ap (λ (l : List Mark). m ∷ l) parts.is;
-          kept_first = ap (λ (b : Bool). cond b (m ∷ filter f parts.first) (filter f parts.first)) same ∙ parts.kept_first;
-          kept_last = parts.kept_last;
-        }
-
 -- a mark that is kept stands in the run
 pub record KeptAt (f : Mark → Bool) (run xs : List Mark) (m : Mark) (rest : List Mark) : Type 0 where
   pub before : List Mark

@@ -65,6 +65,24 @@ begins_after f (suc n) (x ∷ before) m after less =
     by true less goes = goes n (omega (arith, less))
     by false less goes = goes (suc n) less
 
+-- of the first marks up to the nth that is kept, n are kept
+pub kept_upto : (f : Mark → Bool) (run xs ys : List Mark) → filter f run ≡ xs ++ ys → filter f (upto f (length xs) run) ≡ xs
+unfolding upto
+kept_upto f run [] ys is = refl
+kept_upto f [] (x ∷ xs) ys is = absurd cc
+kept_upto f (m ∷ run) (x ∷ xs) ys is = by (f m) refl is (kept_upto f run xs ys) (kept_upto f run (x ∷ xs) ys)
+  where
+    front : Bool → List Mark
+    front b = cond b (upto f (length xs) run) (upto f (suc (length xs)) run)
+
+    by : (b : Bool) → f m ≡ b → cond b (m ∷ filter f run) (filter f run) ≡ x ∷ (xs ++ ys) → (filter f run ≡ xs ++ ys → filter f (upto f (length xs) run) ≡ xs)
+        → (filter f run ≡ x ∷ (xs ++ ys) → filter f (upto f (suc (length xs)) run) ≡ x ∷ xs) → cond (f m) (m ∷ filter f (front (f m))) (filter f (front (f m))) ≡ x ∷ xs
+    by true same is goes stays =
+        let head : m ≡ x = cc in
+        let rest : filter f run ≡ xs ++ ys = cc in
+        ap (λ (b : Bool). cond b (m ∷ filter f (front b)) (filter f (front b))) same ∙ ap (λ (y : Mark). y ∷ filter f (upto f (length xs) run)) head ∙ ap (λ (l : List Mark). x ∷ l) (goes rest)
+    by false same is goes stays = ap (λ (b : Bool). cond b (m ∷ filter f (front b)) (filter f (front b))) same ∙ stays is
+
 -- ---- The places of calls along a run
 
 module _ (s : Setup) (J : List Entry) (link n : ℕ) (both : List Mark) (placed : AllPlaced s J n (served_calls link both)) where

@@ -35,4 +35,5 @@ pub mod RefusedGets
 pub mod Results
 pub mod ServerSide
 pub mod TypedPairs
+pub mod Waiting
 pub mod Walked

@@ -1,5 +1,5 @@
 -- Each entry of a call costs at least entry_cost, and raises the next number by one at most.
-use Rattle.std.proofs.Common.{◌≡◌, ℕ, zero, suc, ◌+◌, ◌*◌, ◌≤◌, ◌^◌, Bool, true, false, cond, eqb, ltb, List, [], ◌∷◌, ◌++◌, length, take, drop, Option, None, Some, Result, Ok, Err, refl, ap, sym, ◌∙◌, subst, arith, append_assoc, append-nil, length-append}
+use Rattle.std.proofs.Common.{◌≡◌, ℕ, zero, suc, ◌+◌, ◌*◌, ◌≤◌, ◌<◌, ◌^◌, Bool, true, false, cond, eqb, ltb, List, [], ◌∷◌, ◌++◌, length, take, drop, Option, None, Some, Result, Ok, Err, refl, ap, sym, ◌∙◌, subst, arith, append_assoc, append-nil, length-append}
 use Rattle.std.proofs.Math.Seq.{take-length}
 use Rattle.std.proofs.lemmas.Bool.{ltb-false}
 use Rattle.std.proofs.lemmas.Option.{same_Some}
@@ -24,7 +24,7 @@ use Rattle.nr_tree.proofs.DrillLemmas.{below_root_only}
 use Rattle.nr_tree.proofs.PassedRules.{clear}
 use Rattle.nr_plain.specs.Added.{entries_of_call}
 use Rattle.nr_plain.specs.History.{AreOfCalls, IsOfCall}
-use Rattle.nr_plain.specs.Journal.{first_state, next_state, nfs_procedure_of, state_of, tree_by_arguments, tree_by_procedure}
+use Rattle.nr_plain.specs.Journal.{first_state, next_state, nfs_procedure_of, state_of, tree_at, tree_by_arguments, tree_by_procedure}
 use Rattle.nr_plain.specs.Programs.{is_change, nfs_results}
 use Rattle.nr_plain.specs.Replies.{Answer, accepted, answer_by, answer_to, call_by_cred, cred_refusal, entries_if, mount_call, nfs_by_arguments, nfs_by_procedure, nfs_call, plain_answer, program_call, refusal}
 use Rattle.nr_plain.specs.Setup.{Parameters, Setup, State, caller_of, space_of, time_of}
@@ -146,15 +146,19 @@ module _ (s : Setup) where
       let later = counted_at (J ++ e ∷ []) more k rest (one_more J e one is) in
       (later.0, subst (λ (l : List Entry). IsCounted s.parameters later.0 (state_of s l)) (append_assoc J (e ∷ []) (take k more)) later.1)
 
-pub numbers_of_calls_fit_lem : NumbersOfCallsFit
-numbers_of_calls_fit_lem s J calls below few k =
+-- the next number and the next cookies, at each place
+pub below_at : (s : Setup) (J : List Entry) → AreOfCalls s [] J → IsBelow (2 ^ 62) s.tree → s.parameters.capacity < 2 ^ 63 → (k : ℕ) → IsBelow (2 ^ 63) (tree_at s J k)
+below_at s J calls below few k =
     let first : IsCounted s.parameters 0 (state_of s []) = record {
       below = below_mono (2 ^ 62) (2 ^ 62 + 0) s.tree (omega arith) below;
       counted = omega arith;
       within = omega arith;
     } in
     let there = counted_at s [] J k calls first in
-    omega (arith, there.1.below.next, there.1.counted, there.1.within, few)
+    below_mono (2 ^ 62 + there.0) (2 ^ 63) (tree_at s J k) (omega (arith, there.1.counted, there.1.within, few)) there.1.below
+
+pub numbers_of_calls_fit_lem : NumbersOfCallsFit
+numbers_of_calls_fit_lem s J calls below few k = let there = below_at s J calls below few k in omega (arith, there.next)
 
 pub roots_are_below_lem : RootsAreBelow
 roots_are_below_lem now = below_mono 3 (2 ^ 62) (root_only now) (omega arith) (below_root_only now)

@@ -1,8 +1,9 @@
 -- Where the calls of a connection stand in the journal, in the order of its marks.
-use Rattle.std.proofs.Common.{◌≡◌, ℕ, zero, suc, ◌+◌, ◌≤◌, cond, List, [], ◌∷◌, ◌++◌, length, take, drop, Some, refl, sym, ap, subst, ◌∙◌, arith, length-drop}
+use Rattle.std.proofs.Common.{◌≡◌, ℕ, zero, suc, ◌+◌, ◌≤◌, cond, List, [], ◌∷◌, ◌++◌, length, take, drop, Some, refl, sym, ap, subst, ◌∙◌, arith, length-drop, append-nil, take-append-drop}
 use Rattle.std.specs.List.{flat_map}
 use Rattle.std.specs.Option.{option_map}
 use Rattle.std.proofs.lemmas.Grind.{flat_map-append}
+use Rattle.std.proofs.lemmas.List.{drop-append-le, length-take-le, take-append-le}
 use Rattle.nr_outside.specs.declared.moment.Moment.{Moment}
 use Rattle.nr_reduce.specs.declared.mark.Entry.{Entry}
 use Rattle.nr_reduce.specs.declared.mark.Mark.{Mark}
@@ -99,6 +100,33 @@ at_place_later s J more moment payload place reply at =
     let within = at.within in
     let placed : AllPlaced s J place (a ∷ []) = ((omega arith), (reply_in s J place moment payload reply at.replied, (at.entry, (let m : place + length (entries_in a) ≤ length J = omega (arith, room, left, within) in m)))) in
     at_place_of s (J ++ more) place a [] (grow s J more place (a ∷ []) placed)
+
+-- calls whose places and entries are in the beginning of a journal have these places there
+placed_shorter : (s : Setup) (J more : List Entry) (n : ℕ) (calls : List Answered) → AllPlaced s (J ++ more) n calls → place_after_all n calls ≤ length J → AllPlaced s J n calls
+placed_shorter s J more n [] h within = within
+placed_shorter s J more n (a ∷ calls) (from, (replied, (there, rest))) within =
+    let next = a.place + length (entries_in a) in
+    let rest' = placed_shorter s J more next calls rest within in
+    let end = low s J next calls rest' in
+    let here : a.place ≤ length J = omega (arith, end) in
+    let room = length-drop a.place J in
+    let fits : length (entries_in a) ≤ length (drop a.place J) = omega (arith, room, end, here) in (
+      from,
+      (
+        ap (λ (K : List Entry). option_map (λ (x : Answer). x.reply) (plain_answer s.parameters (state_of s K) a.moment a.payload)) (sym (take-append-le a.place J more here)) ∙ replied,
+        (
+          sym (ap (λ (K : List Entry). take (length (entries_in a)) K) (drop-append-le a.place J more here) ∙ take-append-le (length (entries_in a)) (drop a.place J) more fits) ∙ there,
+          rest',
+        ),
+      ),
+    )
+
+pub placed_in_first : (s : Setup) (J : List Entry) (n : ℕ) (calls : List Answered) → AllPlaced s J n calls → AllPlaced s (take (place_after_all n calls) J) n calls
+placed_in_first s J n calls h =
+    let k = place_after_all n calls in
+    let within : k ≤ length J = (placed_last s J n calls [] (subst (λ (l : List Answered). AllPlaced s J n l) (sym (append-nil calls)) h)) in
+    let long : length (take k J) ≡ k = length-take-le k J within in
+    placed_shorter s (take k J) (drop k J) n calls (subst (λ (K : List Entry). AllPlaced s K n calls) (sym (take-append-drop k J)) h) (omega (arith, long))
 
 -- ---- In a run of both sides
 

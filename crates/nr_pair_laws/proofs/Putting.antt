@@ -136,7 +136,8 @@ module _ (s : Setup) (J : List Entry) (names : List (List ℕ)) (last : ℕ) whe
   found uid gid export path dir name before after (inr (end, (first, wrong))) least rest k = absurd cc
 
   -- CREATE and WRITEs
-  pub record HasPut (uid gid : ℕ) (dir name bytes : List ℕ) (input input' : SourceAt) (least : ℕ) : Type 0 where
+  pub record HasPut (uid gid : ℕ) (dir name bytes rest : List ℕ) (input input' : SourceAt) (least : ℕ) : Type 0 where
+    pub all_read : rest ≡ []
     pub hands_out : HandsOut input.left input.given input'.left input'.given bytes
     pub all : IsAtEnd input'.left
     pub writes : Done (writing uid gid dir name bytes) tt least []
@@ -144,19 +145,19 @@ module _ (s : Setup) (J : List Entry) (names : List (List ℕ)) (last : ℕ) whe
   file_written : (uid gid : ℕ) (dir name : List ℕ) (before after : SessionAt) (input input' : SourceAt) (least : ℕ)
       (w : WritesFile uid gid dir name before.bytes after.bytes before.requester after.requester input.left input.given input'.left input'.given (Ok tt))
       → IsKept least ((write_exchanges uid gid dir name before.bytes after.bytes before.requester after.requester input.left input.given input'.left input'.given (Ok tt) w).made ++ [])
-      → HasPut uid gid dir name w.handed input input' least
+      → HasPut uid gid dir name w.handed w.rest input input' least
   file_written uid gid dir name before after input input' least w k = by w.calls k
     where
       by : (calls : EndsWriting uid gid dir name w.handed w.rest before.bytes after.bytes before.requester after.requester (Ok tt))
-          → IsKept least ((write_exchanges_by uid gid dir name w.handed w.rest before.bytes after.bytes before.requester after.requester (Ok tt) calls).made ++ []) → HasPut uid gid dir name w.handed input input' least
+          → IsKept least ((write_exchanges_by uid gid dir name w.handed w.rest before.bytes after.bytes before.requester after.requester (Ok tt) calls).made ++ []) → HasPut uid gid dir name w.handed w.rest input input' least
       by (FollowsInput follows count ahead) k =
           let whole : w.handed ++ w.rest ≡ w.handed = ap (λ (l : List ℕ). w.handed ++ l) w.is_read ∙ append-nil w.handed in
           let d = followed (writing uid gid dir name (w.handed ++ w.rest)) before.bytes after.bytes before.requester after.requester tt follows least [] k in
-          record { hands_out = w.hands_out; all = at_end input'.left w.rest w.is_rest w.is_read; writes = subst (λ (l : List ℕ). Done (writing uid gid dir name l) tt least []) whole d }
+          record { all_read = w.is_read; hands_out = w.hands_out; all = at_end input'.left w.rest w.is_rest w.is_read; writes = subst (λ (l : List ℕ). Done (writing uid gid dir name l) tt least []) whole d }
       by (InputFails outcomes wrong made ahead) k = absurd cc
 
   written : (uid gid : ℕ) (dir name : List ℕ) (before after : SessionAt) (input input' : SourceAt) (text : List ℕ) (least : ℕ) (is : WritesIn uid gid dir name input input' before after (Ok text))
-      → IsKept least ((tells_writes_in uid gid dir name input input' before after (Ok text) is).made ++ []) → HasPut uid gid dir name is.1.0.0.handed input input' least
+      → IsKept least ((tells_writes_in uid gid dir name input input' before after (Ok text) is).made ++ []) → HasPut uid gid dir name is.1.0.0.handed is.1.0.0.rest input input' least
   written uid gid dir name before after input input' text least (Ok done, ((writes, counts), silent)) k = file_written uid gid dir name before after input input' least writes k
   written uid gid dir name before after input input' text least (Err end, ((writes, counts), silent)) k = absurd silent
 
@@ -188,6 +189,7 @@ puts_input s J uid gid export path names input input' before after text (inl (pl
     record {
       hands_out = w.hands_out;
       all = w.all;
+      all_read = w.all_read;
       within = subst (λ (k : ℕ). k ≤ length J) (sym w.writes.part.later.kept) w.writes.part.later.answered;
       holds = subst (λ (k : ℕ). HoldsFile s J names wrote.handed k) (sym w.writes.part.later.kept) (put_leaves s J uid gid export path names wrote.handed least w.writes.part.to sane fit ids p);
     }

@@ -1,5 +1,5 @@
 -- A `get` by several jobs and a connection of a server as the two sides of one link.
-use Rattle.std.specs.Prelude.{◌≡◌, ℕ, suc, ◌≤◌, List, [], ◌++◌, length, Result, Ok}
+use Rattle.std.specs.Prelude.{◌≡◌, ℕ, suc, ◌≤◌, List, [], ◌++◌, length, take, Result, Ok}
 use Rattle.std.specs.Io.KnownBytes.{Appends}
 use Rattle.nr_outside.specs.Streams.{SinkAt}
 use Rattle.nr_reduce.specs.declared.call.Call.{Call}
@@ -7,6 +7,7 @@ use Rattle.nr_reduce.specs.declared.call.Outcome.{Outcome}
 use Rattle.nr_reduce.specs.declared.mark.Entry.{Entry}
 use Rattle.nr_reduce.specs.declared.mark.LinkParameters.{LinkParameters}
 use Rattle.nr_reduce.specs.declared.mark.Mark.{Mark}
+use Rattle.nr_laws.specs.MatchedSoFar.{MatchedSoFar}
 use Rattle.nr_laws.specs.PlainLinks.{AtPlacesOn}
 use Rattle.nr_laws.specs.Typed.{IsTyped}
 use Rattle.nr_shared.specs.declared.entry.Entry.{Entry as SharedEntry}
@@ -38,20 +39,22 @@ use Rattle.nr_pair_laws.specs.PutThenGet.{GetsFile, HoldsFile, root_handle}
 
 -- The outcomes of these exchanges are the plain server's replies at places of this journal from a place on, and so is the
 -- outcome of each call of a shared requester's history, whoever made it. `used` gives a place of the journal for each entry
--- of the history, in the same order. The place of a call isn't below that of its Submit, and what the call adds is within
--- that of the entry after its Done: so it comes after the entry of each call of the history whose outcome was handed over
--- before this call was submitted.
+-- of the history, in the same order. The exchanges and what they add come before the first of these places (`alone`): so
+-- each call of the history comes after them. The place of a call of the history isn't below that of its Submit, and what
+-- the call adds is within that of the entry after its Done: so it comes after the entry of each call of the history whose
+-- outcome was handed over before this call was submitted.
 pub record AreJobsAnsweredFrom (s : Setup) (J : List Entry) (from : ℕ) (made : List Exchange) (history : List SharedEntry) : Type 0 where
-  pub alone : AreAnsweredFrom s J from [] made
   pub used : ℕ → ℕ
+  pub alone : AreAnsweredFrom s (take (used 0) J) from [] made
   pub first : from ≤ used 0
   pub rises : (i j : ℕ) → i ≤ j → used i ≤ used j
   pub shared : (mine : List ℕ) (call : Call) (outcome : Outcome) (e : IsExchange history mine call outcome) → IsAnsweredBetween s J call outcome (used e.at) (used (suc e.done))
 
--- What follows for such a `get` and a connection that are the sides of this list. The first two fields are the premises of the
--- laws of nr_laws on matched links.
+-- What follows for such a `get` and a connection that are the sides of this list. The first three fields are the premises of
+-- the laws of nr_laws on matched links.
 pub record IsServedJobs (s : Setup) (J more : List Entry) (opened : LinkParameters) (link : ℕ) (run both : List Mark) (made : List Exchange) (history : List SharedEntry) : Type 0 where
   pub served : IsServedPlainly s opened link run both
+  pub so_far : MatchedSoFar opened link both
   pub at_places : AtPlacesOn (plain_server s) (J ++ more) link both
   pub answered : AreJobsAnsweredFrom s (J ++ more) (length J) made history
 

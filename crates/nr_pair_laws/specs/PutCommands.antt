@@ -12,7 +12,7 @@ use Rattle.nr_commands.specs.Sessions.{SessionAt}
 use Rattle.nr_service_laws.specs.Exchanges.{Exchange, tells_put}
 use Rattle.nr_service_laws.specs.Exchanges.Exchange.{Answered, Forgotten, GivenUp, HandedOver, Submitted}
 use Rattle.nr_reply_laws.specs.Replies.{AreIds}
-use Rattle.nr_pair_laws.specs.AnyInputs.{input_read}
+use Rattle.nr_pair_laws.specs.AnyInputs.{input_left, input_read}
 use Rattle.nr_pair_laws.specs.FilesAt.{KeepPath, NumbersFit}
 use Rattle.nr_pair_laws.specs.Pairs.{AreAnsweredFrom, OpenCall, place_after}
 use Rattle.nr_pair_laws.specs.PutThenGet.{HoldsFile, root_handle}
@@ -29,10 +29,12 @@ OthersKeep s J names to least waiting (HandedOver xid outcome ∷ made) (next, (
 OthersKeep s J names to least waiting (Forgotten call ∷ made) rest = OthersKeep s J names to least waiting made rest
 OthersKeep s J names to least waiting (GivenUp xid ∷ made) rest = OthersKeep s J names to least waiting made rest
 
--- The input gave these bytes, all that it had, and the path leads to a file with just them, in the tree at this place of the journal.
-pub record PutsInput (s : Setup) (J : List Entry) (names : List (List ℕ)) (bytes : List ℕ) (input input' : SourceAt) (to : ℕ) : Type 0 where
+-- The input gave these bytes, all that it had, also an input that tells nothing of what it has: what was left of it is nothing. The path leads to a file
+-- with just these bytes, in the tree at this place of the journal.
+pub record PutsInput (s : Setup) (J : List Entry) (names : List (List ℕ)) (bytes left : List ℕ) (input input' : SourceAt) (to : ℕ) : Type 0 where
   pub hands_out : HandsOut input.left input.given input'.left input'.given bytes
   pub all : IsAtEnd input'.left
+  pub all_read : left ≡ []
   pub within : to ≤ length J
   pub holds : HoldsFile s J names bytes to
 
@@ -46,4 +48,4 @@ CommandsPutTheirInput =
     (answered : AreAnsweredFrom s J least [] (tells_put uid gid export path input input' before after (Ok text) puts).made) →
     IsSane s.tree → NumbersFit s J → AreIds uid gid → path_names path ≡ Ok names →
     OthersKeep s J names to least [] (tells_put uid gid export path input input' before after (Ok text) puts).made answered →
-    PutsInput s J names (input_read uid gid export path input input' before after (Ok text) puts) input input' to
+    PutsInput s J names (input_read uid gid export path input input' before after (Ok text) puts) (input_left uid gid export path input input' before after (Ok text) puts) input input' to

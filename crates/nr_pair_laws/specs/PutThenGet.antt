@@ -7,6 +7,7 @@ use Rattle.nr_rpc.specs.declared.head.CallHead.TheVariants as heads
 use Rattle.nr_nfs_base.specs.Codec.{read_all}
 use Rattle.nr_nfs_base.specs.Procedures.{nfs_procedure_number, nfs_program, nfs_version}
 use Rattle.nr_nfs_base.specs.declared.attributes.Attributes.{Attributes}
+use Rattle.nr_nfs_base.specs.declared.caller.Caller.{Caller}
 use Rattle.nr_nfs_base.specs.declared.procedure.NfsProcedure.TheVariants as nfs
 use Rattle.nr_nfs_base.specs.declared.status.Status.{Status}
 use Rattle.nr_nfs_base.specs.declared.status_union.StatusUnion.{StatusUnion}
@@ -20,11 +21,12 @@ use Rattle.nr_reduce.specs.declared.call.Outcome.{Outcome}
 use Rattle.nr_reduce.specs.declared.mark.Entry.{Entry}
 use Rattle.nr_tree.specs.Rules.{handle_of}
 use Rattle.nr_tree.specs.Sane.{IsSane}
+use Rattle.nr_tree.specs.Tree.{Tree}
 use Rattle.nr_tree.specs.declared.node.Content.TheVariants.{Regular}
-use Rattle.nr_ops_file.specs.Bytes.{piece_read}
+use Rattle.nr_ops_file.specs.Bytes.{piece_read, read_reply}
 use Rattle.nr_plain.specs.Journal.{tree_at}
 use Rattle.nr_plain.specs.Replies.{cred_refusal, plain_reply, results_reply}
-use Rattle.nr_plain.specs.Setup.{Setup}
+use Rattle.nr_plain.specs.Setup.{Setup, caller_of}
 use Rattle.nr_client.specs.Following.{Next, asking}
 use Rattle.nr_client.specs.Following.Next.{Calls, Returns}
 use Rattle.nr_client.specs.Paths.{path_names}
@@ -143,18 +145,20 @@ pub record IsReadCall (payload : List ℕ) (xid : ℕ) (a : ReadArgs) : Type 0 w
   pub accepted : cred_refusal cred ≡ None
   pub args : read_all read_args_codec (drop args_at payload) ≡ Ok a
 
--- These are the results in the reply. If their status is 0, the data are the bytes asked for, as many as one READ moves and the file has, and eof says
--- whether they reach the end of the file.
-pub record ReadsOf (bytes : List ℕ) (xid : ℕ) (a : ReadArgs) (reply : List ℕ) : Type 0 where
+-- These are the results in the reply: what READ answers to this caller over this tree (RFC 1813 section 3.3.6), whatever its status. If their status is 0,
+-- the data are the bytes asked for, as many as one READ moves and the file has, and eof says whether they reach the end of the file.
+pub record ReadsOf (t : Tree) (c : Caller) (bytes : List ℕ) (xid : ℕ) (a : ReadArgs) (reply : List ℕ) : Type 0 where
   pub results : StatusUnion ReadOk (Option Attributes) Status
   pub is : reply ≡ results_reply xid read_res_codec results
+  pub results_are : results ≡ read_reply t c a
   pub given : (ok : ReadOk) → results ≡ Done ok → (ok.bytes ≡ piece_read bytes a.offset a.count) × (ok.eof ≡ nat_le (length bytes) (a.offset + length ok.bytes))
 
 -- Each READ of the file reads its bytes, also one that came over a record-marked connection.
 abbrev pub ReadsGiveTheFile : Type 0
 ReadsGiveTheFile =
     (s : Setup) (J : List Entry) (names : List (List ℕ)) (bytes : List ℕ) (from place : ℕ) (h : HoldsFile s J names bytes from) → from ≤ place → KeepPath s J root_handle names from place →
-    (m : Moment) (payload reply : List ℕ) (xid : ℕ) (a : ReadArgs) → IsReadCall payload xid a → a.file ≡ h.file → plain_reply s J place m payload ≡ Some reply → ReadsOf bytes xid a reply
+    (m : Moment) (payload reply : List ℕ) (xid : ℕ) (a : ReadArgs) (call : IsReadCall payload xid a) → a.file ≡ h.file → plain_reply s J place m payload ≡ Some reply →
+    ReadsOf (tree_at s J place) (caller_of call.cred) bytes xid a reply
 
 -- So a `get` after a `put` of the same path gives the input, whoever makes either.
 abbrev pub GetsGiveWhatWasPut : Type 0

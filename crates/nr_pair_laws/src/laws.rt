@@ -3,7 +3,7 @@
 ghost use Rattle.nr_pair_laws.specs.AnyInputs.{PairsOverAnyInputAreTyped};
 ghost use Rattle.nr_pair_laws.specs.FirstTrees.{RootsAreSane};
 ghost use Rattle.nr_pair_laws.specs.Getting.{GetsReadTheFile};
-ghost use Rattle.nr_pair_laws.specs.Interleaving.{SidesAreInterleaved};
+ghost use Rattle.nr_pair_laws.specs.Interleaving.{CommandsMakeClientMarks, JobsMakeClientMarks, SidesAreInterleaved};
 ghost use Rattle.nr_pair_laws.specs.JobPairs.{JobsAreServed, JobsAreTyped, JobsGiveTheFile, JobsReadTheFile};
 ghost use Rattle.nr_pair_laws.specs.JobRuns.{JobsHaveARun};
 ghost use Rattle.nr_pair_laws.specs.Numbers.{NumbersOfCallsFit, RootsAreBelow};
@@ -35,9 +35,12 @@ pub fn pairs_are_served()
 {}
 
 /// Of a client's marks and a server's, each of which received a beginning of what the other sent, either there is a list that has both as its sides, in
-/// which each receives only what the other has sent before, or there are two marks, one of each, that wait for each other.
+/// which each receives only what the other has sent before, or there are two marks, one of each, that wait for each other, and never both (`lists`). The
+/// marks of a command are marks of its link's client (`of_commands`), and so are those of a `get` by several jobs (`of_jobs`).
 pub fn sides_are_interleaved()
-    ensures { SidesAreInterleaved }
+    ensures lists { SidesAreInterleaved }
+    ensures of_commands { CommandsMakeClientMarks }
+    ensures of_jobs { JobsMakeClientMarks }
 {}
 
 /// What was answered at a place of a journal was answered at that place of each journal that goes on from it (`answered`), and a file to which a path
@@ -91,8 +94,9 @@ pub fn commands_get_the_file()
     ensures { GetsReadTheFile }
 {}
 
-/// A READ that came as a record of a connection with record marks (RFC 5531 section 11), of a file to which a path leads, is answered with the bytes of the
-/// file, if no entry up to its place changes what the path leads to; and the places of the calls of such a connection are those of its pass.
+/// A READ that came as a record of a connection with record marks (RFC 5531 section 11), of a file to which a path leads, is answered with what READ
+/// answers to its caller over the tree at its place, with status 0 the bytes of the file, if no entry up to its place changes what the path leads to; and
+/// the places of the calls of such a connection are those of its pass.
 pub fn record_reads_give_the_file()
     ensures { RecordReadsGiveTheFile }
 {}
@@ -107,8 +111,8 @@ pub fn files_refuse_for_rights()
 {}
 
 /// A `get` of a path that leads to a regular file, whose calls are answered as `pairs_are_served` says, ends with a status of NFS only if a LOOKUP of a name of
-/// the path or a READ of the file has a cause in the tree at its place: the caller's rights, or one of those that `files_refuse_for_rights` lists, if no entry
-/// changes what the path leads to.
+/// the path or a READ of the file was answered with this status, and has a cause in the tree at its place: the caller's rights, or one of those that
+/// `files_refuse_for_rights` lists, if no entry changes what the path leads to.
 pub fn gets_end_for_a_cause()
     ensures { GetsEndForACause }
 {}
