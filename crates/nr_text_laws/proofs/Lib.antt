@@ -1,5 +1,6 @@
 pub mod Commands
 pub mod Encoded
+pub mod EndedGets
 pub mod Ending
 pub mod Finding
 pub mod Fitting

@@ -1,4 +1,5 @@
 pub mod CommandTexts
+pub mod EndedGets
 pub mod Fitting
 pub mod Listings
 pub mod NamesAfter

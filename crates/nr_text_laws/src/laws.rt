@@ -1,6 +1,7 @@
 //! Laws of the texts that commands print.
 
 ghost use Rattle.nr_text_laws.specs.CommandTexts.{FoundFilesAreThere, FoundParentsAreThere, LinksAreOfTheNode, PathsInOneTree, StatsAreOfTheNode, TextsAreOfTheTrees, TextsInOneTree};
+ghost use Rattle.nr_text_laws.specs.EndedGets.{EndsOfGetsHaveCauses};
 ghost use Rattle.nr_text_laws.specs.Fitting.{AttributesOfCallsFit, EntriesOfCallsFit, RootsAreInWords};
 ghost use Rattle.nr_text_laws.specs.Listings.{ListsAreOfTheDirectory, ListsAreOfTheTrees};
 ghost use Rattle.nr_text_laws.specs.NamesAfter.{MadeDirectoriesAreThere, MadeLinksAreThere, RemovedNamesAreGone};
@@ -53,4 +54,10 @@ pub fn numbers_fit_in_fields()
     ensures attributes { AttributesOfCallsFit }
     ensures entries { EntriesOfCallsFit }
     ensures roots { RootsAreInWords }
+{}
+
+/// If the path of a `get` leads to a regular file, and no entry of the journal changes that, and it ends without its value, then a call has no answer or
+/// memory ran out, the output failed, its export is not the server's, or a call was refused with a status of NFS for a cause in the tree at its place.
+pub fn ends_of_gets_have_causes()
+    ensures { EndsOfGetsHaveCauses }
 {}
