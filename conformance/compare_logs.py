@@ -107,8 +107,7 @@ def compared(script: Recorded) -> str | None:
     found = unlike(run(program, [], script['script']), 0, text, '')
     if found is None and 'seed' in script:
         words = [w for name in ('seed', 'clients', 'calls') for w in ('--' + name, str(script[name]))]
-        start = text.split('\n', 1)
-        seeded = unlike(run(program, words, ''), 0, start[0] + '\n' + start[1], '')
+        seeded = unlike(run(program, words, ''), 0, text, '')
         return None if seeded is None else 'from its seed: ' + seeded
     return found
 
