@@ -4,7 +4,7 @@ use Rattle.std.specs.Prelude.{get_or, remove, nat_lt}
 use Rattle.std.specs.List.{AllByRecursion}
 use Rattle.std.proofs.lemmas.Bool.{lt-ltb}
 use Rattle.std.proofs.lemmas.List.{length-take}
-use Rattle.nr_regions.specs.RegisteredMemory.{RegisteredMemory, Claim, Region, IsHeld, bytes_in}
+use Rattle.nr_regions.specs.RegisteredMemory.{RegisteredMemory, Claim, Region, IsHeld, bytes_in, AreHeldFrom}
 use Rattle.nr_endpoint.specs.EndpointState.{EndpointState}
 use Rattle.nr_endpoint.specs.LinkState.{LinkState, LinkSide}
 use Rattle.nr_reduce.specs.declared.call.Call.{Call}
@@ -15,7 +15,7 @@ use Rattle.nr_requester.specs.declared.outstanding.OutstandingCall.{OutstandingC
 use Rattle.nr_requester.specs.declared.replies.Found.{Found}
 use Rattle.nr_requester.specs.declared.replies.Found.TheVariants as founds
 use Rattle.nr_requester.specs.RequesterState.{stags_of, awaited_call}
-use Rattle.nr_requester.specs.HeldClaims.{AreHeldFrom, call_claims}
+use Rattle.nr_requester.specs.HeldClaims.{call_claims}
 use Rattle.nr_requester.specs.AfterPiece.{answered_as, buffer_under, buffers_under}
 use Rattle.nr_requester.specs.Buffers.{with_memory}
 use Rattle.nr_requester.specs.Judged.{SameCalls, outcome_by}
