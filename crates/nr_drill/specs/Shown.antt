@@ -12,6 +12,7 @@ use Rattle.nr_link.specs.declared.end.End.{End}
 use Rattle.nr_link.specs.declared.end.End.TheVariants as ends
 use Rattle.nr_reduce.specs.declared.call.Outcome.{Outcome}
 use Rattle.nr_reduce.specs.declared.call.Outcome.TheVariants as outcomes
+use Rattle.nr_reduce.specs.ClientMessages.{outcome_bytes}
 use Rattle.nr_reduce.specs.declared.call.Refused.{Refused}
 use Rattle.nr_reduce.specs.declared.call.Refused.TheVariants as refusals
 use Rattle.nr_reduce.specs.declared.mark.Mark.{Mark}
@@ -120,12 +121,6 @@ is_refused states.Forgotten = false
 is_refused (states.Revoked bytes) = false
 is_refused (states.Refused why) = true
 is_refused states.Dropped = true
-
--- the bytes of a reply's payload that was handed over
-abbrev pub outcome_bytes : Outcome → ℕ
-outcome_bytes (outcomes.Reply payload) = length payload
-outcome_bytes outcomes.Chunk = 0
-outcome_bytes (outcomes.Version low high) = 0
 
 abbrev pub reply_bytes : CallState → ℕ
 reply_bytes (states.Open xid) = 0

@@ -21,7 +21,8 @@ use Rattle.nr_requester.specs.Buffers.{with_memory}
 use Rattle.nr_requester.specs.Judged.{SameCalls, outcome_by}
 use Rattle.nr_requester.specs.Fed.{CallsSound}
 use Rattle.nr_requester.specs.Views.{IsAnswered, stored_view}
-use Rattle.nr_requester.specs.HeldBytes.{NothingOutside, call_bytes, stored_bytes, outcome_bytes, buffer_len, buffers_len, LinkFits, IsCount, RegionsHave, AreRisingBy, send_of, CountsFit, unsent, in_bytes, claims_size, claims_len, claims_total, CallFits, AnswerFits, AreDistinct, RequesterBounds, IsBounded, reply_room, segments_offered}
+use Rattle.nr_reduce.specs.ClientMessages.{outcome_bytes}
+use Rattle.nr_requester.specs.HeldBytes.{NothingOutside, call_bytes, stored_bytes, buffer_len, buffers_len, LinkFits, IsCount, RegionsHave, AreRisingBy, send_of, CountsFit, unsent, in_bytes, claims_size, claims_len, claims_total, CallFits, AnswerFits, AreDistinct, RequesterBounds, IsBounded, reply_room, segments_offered}
 use Rattle.nr_requester.proofs.ChangedCalls.{nth_of, not_found}
 use Rattle.nr_requester.proofs.Taken.{same_rising}
 use Rattle.nr_requester.proofs.RegionBounds.{Both, bytes_count, released_both}
