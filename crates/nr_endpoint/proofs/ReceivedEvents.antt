@@ -16,7 +16,8 @@ use Rattle.nr_endpoint.specs.LinkState.{LinkState, LinkSide, has_ended, initial_
 use Rattle.nr_endpoint.specs.Judging.{segment_end, next_frame, with_frame, next_segment}
 use Rattle.nr_endpoint.specs.Calls.{Call, after_call, after_calls}
 use Rattle.nr_endpoint.specs.Calls.Call.{Feed, FeedOne, NextEvent, Post, Stop, OutOfMemory, Send, WriteRemote, ReadRemote, Drain, Register, Release, SendInvalidate, Invalidate}
-use Rattle.nr_endpoint.specs.Laws.{frames_made_whole, bytes_in_call, bytes_fed, deliveries_of, QueuedEvent, made_at, segment_deliveries, fpdu_deliveries, frame_deliveries, deliveries_of_frames, call_deliveries, deliveries_made, DeliveriesRise}
+use Rattle.nr_endpoint.specs.DeliveryLaws.{deliveries_of, QueuedEvent, made_at, segment_deliveries, fpdu_deliveries, frame_deliveries, deliveries_of_frames, call_deliveries, deliveries_made, DeliveriesRise}
+use Rattle.nr_endpoint.specs.Laws.{frames_made_whole, bytes_in_call, bytes_fed}
 use Rattle.nr_endpoint.specs.ReceivedLaws.{EventsOfReceivedBytes}
 use Rattle.nr_endpoint.proofs.Pieces.{frame_place}
 use Rattle.nr_endpoint.proofs.DeliveryLaws.{frames_make, ended_deliveries, events_are_in_order}
