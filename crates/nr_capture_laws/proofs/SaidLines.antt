@@ -1,13 +1,12 @@
 -- What the lines of a script say that is read or made: its forms are those that a word can say, its credentials are those of a drill.
-use Rattle.std.specs.Prelude.{codes, length}
+use Rattle.std.specs.Prelude.{codes}
 use Rattle.std.specs.List.{AllByRecursion}
 use Rattle.std.specs.Str.{bytes_eq}
 use Rattle.std.proofs.Common.{◌≡◌, ℕ, zero, suc, ◌+◌, Bool, true, false, cond, eqb, List, [], ◌∷◌, ◌++◌, Option, None, Some, Result, Ok, Err, refl, subst}
 use Rattle.nr_rpc.specs.declared.cred.Cred.TheVariants as creds
 use Rattle.nr_texts.specs.declared.opening.Opening.{Opening}
-use Rattle.nr_texts.specs.declared.program.Program.{Program}
 use Rattle.nr_texts.specs.Words.{◌>>=◌, number_in, bytes_in, arguments_in, parts, one_number, two_numbers, space, newline}
-use Rattle.nr_texts.specs.Forms.{form_in, program_in, IsWritableForm}
+use Rattle.nr_texts.specs.Forms.{form_in, IsWritableForm}
 use Rattle.nr_texts.specs.Openings.{opening_in, sys_cred}
 use Rattle.nr_texts.proofs.TypedTexts.{If, then_if, if_if, all_more, IsAny, any_if, writable_form_if, PairSmall, two_if}
 use Rattle.nr_capture.specs.Writable.{IsWritableCred}

@@ -1,7 +1,7 @@
 -- The capture of a drill's run can be written, mark by mark: each link keeps the laws of both of its ends.
-use Rattle.std.specs.Prelude.{◌&&◌, Contains, length, drop, ◌⊎◌, slice_get}
+use Rattle.std.specs.Prelude.{◌&&◌}
 use Rattle.std.specs.List.{AllByRecursion, flat_map}
-use Rattle.std.proofs.Common.{◌≡◌, ℕ, ◌<◌, ◌≤◌, Bool, true, false, cond, eqb, eqb-true, leb, List, [], ◌∷◌, ◌++◌, append_assoc, append-nil, Option, None, Some, Result, Ok, Err, inl, inr, refl, sym, ap, subst, ◌∙◌, arith}
+use Rattle.std.proofs.Common.{◌≡◌, ℕ, ◌≤◌, Bool, true, false, cond, eqb, eqb-true, leb, List, [], ◌∷◌, ◌++◌, append_assoc, Option, None, Some, inl, inr, refl, sym, subst, ◌∙◌, arith}
 use Rattle.std.proofs.lemmas.Bool.{le-leb}
 use Rattle.std.proofs.lemmas.List.Elements.{All-contains, All-from_recursion}
 use Rattle.nr_xdr.specs.Item.{IsBytes}
@@ -11,11 +11,9 @@ use Rattle.nr_wire.specs.declared.hello.Side.TheVariants.{Initiator, Responder}
 use Rattle.nr_rpc.specs.declared.head.CallHead.{CallHead}
 use Rattle.nr_rpc.specs.declared.head.CallHead.TheVariants as calls
 use Rattle.nr_rpc.specs.Call.{BeginsCall}
-use Rattle.nr_rpc.specs.Reading.{call_of}
+use Rattle.nr_rpc.specs.Reading.{head_xid}
 use Rattle.nr_rpc.proofs.Calls.{call_begins}
 use Rattle.nr_link.specs.declared.end.End.{End as Stop}
-use Rattle.nr_outside.specs.Whole.{input_max}
-use Rattle.nr_outside.specs.declared.moment.Moment.{Moment}
 use Rattle.nr_reduce.specs.declared.call.Call.{Call}
 use Rattle.nr_reduce.specs.declared.call.Form.{Form}
 use Rattle.nr_reduce.specs.declared.call.Outcome.{Outcome}
@@ -28,12 +26,11 @@ use Rattle.nr_reduce.specs.declared.mark.Told.{Told}
 use Rattle.nr_reduce.specs.declared.mark.Told.TheVariants.{Granted}
 use Rattle.nr_reduce.specs.declared.mark.LinkParameters.{LinkParameters}
 use Rattle.nr_reduce.specs.Limits.{credits_max}
-use Rattle.nr_reduce.specs.History.{AcceptedCall, CompletedCall, accepted_as, accepted_at, accepted_calls, bytes_sent}
-use Rattle.nr_reduce.specs.Run.{client, server, output_due}
+use Rattle.nr_reduce.specs.History.{AcceptedCall, accepted_as, accepted_at, accepted_calls, bytes_sent}
+use Rattle.nr_reduce.specs.Run.{client, server}
 use Rattle.nr_reduce.specs.ServerState.{ReadyCall}
-use Rattle.nr_reduce.specs.ServerMessages.{call_xid}
 use Rattle.nr_reduce.specs.AtEachMark.{AtEachMark}
-use Rattle.nr_reduce.specs.Asked.{AskedMark, AskedSoFar, IsAccepted, IsAll, IsAwaited, IsCompleted}
+use Rattle.nr_reduce.specs.Asked.{AskedMark, AskedSoFar, IsAll, IsAwaited}
 use Rattle.nr_reduce.specs.Served.{ServedMark, IsExecuted, first_ready, next_call}
 use Rattle.nr_reduce.specs.Matched.{IsPrefixOf}
 use Rattle.nr_reduce.proofs.Calls.{executed_head}
@@ -45,22 +42,21 @@ use Rattle.nr_byte_laws.specs.DueBytes.{CompletedInBytes, OutcomeIsBytes}
 use Rattle.nr_byte_laws.proofs.ByteClients.{client_due, outcome_bytes}
 use Rattle.nr_byte_laws.proofs.ByteServers.{ReadyOfBytes, ready_bytes, server_due}
 use Rattle.nr_texts.specs.Words.{IsWord}
-use Rattle.nr_texts.specs.Openings.{IsOpening}
-use Rattle.nr_script.specs.Script.{ScriptLines, IsScript, script_of}
+use Rattle.nr_script.specs.Script.{ScriptLines, IsScript}
 use Rattle.nr_script.proofs.TypedScripts.{script_is}
 use Rattle.nr_script.proofs.MadeScripts.{made_is}
 use Rattle.nr_capture.specs.declared.capture.CapturedMark.{CapturedMark}
 use Rattle.nr_capture.specs.declared.capture.CapturedMark.TheVariants as marks
-use Rattle.nr_capture.specs.Capture.{capture_of, is_link, link_of}
-use Rattle.nr_capture.specs.Captured.{Captured, captured, captured_mark, captured_piece, captured_submit, captured_told}
-use Rattle.nr_capture.specs.Writable.{IsPiece, IsWritable, IsWritableMark, IsWritableOutcome}
+use Rattle.nr_capture.specs.Capture.{is_link, link_of}
+use Rattle.nr_capture.specs.Captured.{captured, captured_mark, captured_piece, captured_submit, captured_told}
+use Rattle.nr_capture.specs.Writable.{IsWritable, IsWritableMark, IsWritableOutcome}
 use Rattle.nr_capture.proofs.WrittenCaptures.{capture_back}
 use Rattle.nr_drill.specs.Drill.{SerialServer, link_of as mark_link}
 use Rattle.nr_drill.specs.Follows.{parameters_of}
 use Rattle.nr_drill.specs.Headline.{IsDrillRun, KeepsLaws}
 use Rattle.nr_drill.specs.private.Drafts.{NumberedMark}
 use Rattle.nr_drill.proofs.Numbering.{drill_numbered}
-use Rattle.nr_capture_laws.specs.ReadBack.{IsMade, IsRead, RunsAreReadBack, RunsAreWritable}
+use Rattle.nr_capture_laws.specs.ReadBack.{RunsAreReadBack, RunsAreWritable}
 use Rattle.nr_capture_laws.proofs.SaidLines.{AreSaid, made_is_said, read_is_said}
 use Rattle.nr_capture_laws.proofs.SaidSteps.{AreSaidMarks, IsSaidMark, follows_said}
 use Rattle.nr_capture_laws.proofs.CompletedWords.{OutcomeOfWords, outcome_words}
@@ -110,7 +106,7 @@ awaited_word opened link before xid h w =
     subst IsWord w.own own
 
 -- the xid of an executed call is in its payload, which is bytes
-head_word : (payload : List ℕ) (head : CallHead) → BeginsCall head payload → IsWord (call_xid head)
+head_word : (payload : List ℕ) (head : CallHead) → BeginsCall head payload → IsWord (head_xid head)
 head_word payload (calls.Version2 xid prog vers proc cred args_at) (front, behind, (auth, verifier, auth_within, verifier_within, reads, (first, rest, xid_read, others, parts), place), e) = xid_read.fits
 head_word payload (calls.Other xid rpcvers) (front, behind, (apart, (first, rest, xid_read, others, parts)), e) = xid_read.fits
 

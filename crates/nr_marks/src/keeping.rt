@@ -1,12 +1,12 @@
 //! Marks that are put into the form in which they are kept.
 
-ghost use Rattle.std.specs.Prelude.{◌≡◌, ℕ, ◌+◌, ◌≤◌, List, length, IfOk, IfSome, OnOk, IsTrue};
+ghost use Rattle.std.specs.Prelude.{◌≡◌, ◌+◌, ◌≤◌, length, IfOk, IfSome, OnOk, IsTrue};
 ghost use Rattle.nr_rpc.specs.declared.cred.Cred.TheVariants as creds;
 ghost use Rattle.nr_reduce.specs.declared.call.Form.TheVariants as forms;
 ghost use Rattle.nr_reduce.specs.declared.call.Outcome.TheVariants as outcomes;
 ghost use Rattle.nr_reduce.specs.declared.call.Submission.TheVariants as submissions;
 ghost use Rattle.nr_reduce.specs.declared.mark.Mark.TheVariants as marks;
-ghost use Rattle.nr_marks.specs.Pieces.{Grows, Holds, stored_len, stores_max};
+ghost use Rattle.nr_marks.specs.Pieces.{Grows, Holds, stored_len};
 ghost use Rattle.nr_marks.specs.Views.{mark_len, is_written_next};
 ghost use Rattle.nr_marks.specs.KeptMarks.{Keeps, AddsFew, own_len};
 

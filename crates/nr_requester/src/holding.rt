@@ -1,6 +1,6 @@
 //! How many bytes a requester keeps.
 
-ghost use Rattle.std.specs.Prelude.{◌≡◌, ℕ, ◌+◌, ◌*◌, ◌^◌, ◌≤◌, length, map, max};
+ghost use Rattle.std.specs.Prelude.{◌≡◌, ◌+◌, ◌*◌, ◌^◌, ◌≤◌, length, map, max};
 ghost use Rattle.std.specs.List.{AllByRecursion};
 ghost use Rattle.nr_reduce.specs.Limits.{credits_max};
 ghost use Rattle.nr_reduce.specs.ClientMessages.{outcome_bytes};

@@ -1,6 +1,6 @@
 //! The regions of a call are released.
 
-ghost use Rattle.std.specs.Prelude.{◌≡◌, ◌≤◌, ℕ, IfSome};
+ghost use Rattle.std.specs.Prelude.{◌≡◌, ◌≤◌, IfSome};
 ghost use Rattle.nr_regions.specs.RegisteredMemory.{IsHeld, AreHeldFrom};
 ghost use Rattle.nr_reduce.specs.KeptClient.{released_all};
 ghost use Rattle.nr_requester.specs.RequesterState.{stag_of, stags_of};

@@ -1,6 +1,6 @@
 //! The memory of a call is revoked.
 
-ghost use Rattle.std.specs.Prelude.{◌≡◌, ◌≢◌, ℕ, ◌<◌, List, true, is_some, length, Some, None, get_or, set, IfSome};
+ghost use Rattle.std.specs.Prelude.{◌≡◌, ◌≢◌, ℕ, ◌<◌, true, is_some, length, Some, None, get_or, set, IfSome};
 ghost use Rattle.nr_reduce.specs.KeptClient.{released_all};
 ghost use Rattle.nr_reduce.specs.declared.mark.Mark.TheVariants as marks;
 ghost use Rattle.nr_requester.specs.RequesterState.{stags_of};

@@ -1,5 +1,5 @@
 -- A text that is a script says one that is of its types: what is read as a number is a word, and what is read as bytes are bytes.
-use Rattle.std.specs.Prelude.{◌&&◌, ◌-◌, ◌==◌, codes, length, count_by}
+use Rattle.std.specs.Prelude.{◌-◌, ◌==◌, codes, length, count_by}
 use Rattle.std.specs.List.{AllByRecursion}
 use Rattle.std.specs.Str.{bytes_eq}
 use Rattle.std.proofs.Common.{◌≡◌, ℕ, ◌+◌, ◌≤◌, Bool, true, false, cond, List, [], ◌∷◌, ◌++◌, Option, None, Some, Result, Ok, Err, refl, sym, subst, arith, append-nil, append_assoc}

@@ -1,12 +1,11 @@
 //! Nodes by number: changes of one node, and of a node with its entry.
 
-ghost use Rattle.std.specs.Prelude.{◌≡◌, ◌≢◌, ◌+◌, ◌^◌, ◌<◌, ◌≤◌, ℕ, IsTrue, IfSome, length, OnOk, OnErr, None, Some};
+ghost use Rattle.std.specs.Prelude.{◌≡◌, ◌≢◌, ◌+◌, ◌^◌, ◌<◌, ◌≤◌, IsTrue, IfSome, length, OnOk, OnErr, None, Some};
 ghost use Rattle.std.specs.Option.{option_copied};
 ghost use Rattle.std.specs.FinMap as map;
 ghost use Rattle.nr_tree.specs.Tree.{nodes_of, nodes_with_change, value_at, is_dir as is_directory_node, is_regular as is_regular_node};
 ghost use Rattle.std.specs.Prelude.{false};
 ghost use Rattle.nr_tree.specs.Changes.{nodes_with_entry_moved, nodes_without_entry, node_with_entry, node_without_entry, node_without_link, nodes_with_name_dropped, node_with_bytes, node_with_size, node_with_link, node_with_metadata, node_with_new_name};
-ghost use Rattle.nr_tree.specs.DirectoryGraph.{one_if};
 ghost use Rattle.nr_tree.specs.private.Room.{HasRoomFor, HasEntryFor, IsSource};
 ghost use Rattle.nr_tree.specs.Entries.{entry_of_name};
 ghost use Rattle.nr_tree.specs.Tree.{entries_in};
