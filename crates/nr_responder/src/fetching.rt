@@ -126,7 +126,10 @@ impl ServerEnd {
     {
         match chunk_positions(self.alloc, read) {
             Ok(chunks) => self.fetch_into(call, chunks.as_slice(), read),
-            Err(_) => self.run_out(),
+            Err(_) => {
+                drop(call);
+                self.run_out();
+            }
         }
     }
 
@@ -145,15 +148,18 @@ impl ServerEnd {
         ensures staging { self.new.endpoint.staging ≡ self.old.endpoint.staging }
     {
         if chunks.len() as u64 > self.endpoint.regions().stags_left() {
+            drop(call);
             self.end_for(REASON_STAGS);
             return;
         }
         // A read list with bytes has such a chunk, and no other call and no sink has the number of its Send.
         if chunks.is_empty() || has_number(self.calls.as_slice(), call.number) {
+            drop(call);
             self.run_out();
             return;
         }
         if has_sink(self.sinks.as_slice(), call.number) {
+            drop(call);
             self.run_out();
             return;
         }
@@ -259,7 +265,10 @@ impl ServerEnd {
     {
         match judge_at_once(&call, read) {
             None => self.push(call, None),
-            Some(reason) => self.end_for(reason),
+            Some(reason) => {
+                drop(call);
+                self.end_for(reason);
+            }
         }
     }
 }
