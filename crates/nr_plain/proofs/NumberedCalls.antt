@@ -1,11 +1,10 @@
 -- The replies of the entries of a journal, and what one call more adds to them; and that no change of a numbered client takes effect twice.
 use Rattle.std.proofs.Common.{◌≡◌, ℕ, ◌+◌, suc, Bool, true, false, cond, eqb, List, [], ◌∷◌, ◌++◌, length, map, Option, None, Some, Result, Ok, Err, ◌⊎◌, inl, inr, ⊎_elim, refl, ap, sym, subst, ◌∙◌, arith, append_assoc}
-use Rattle.std.specs.Prelude.{◌≢◌}
-use Rattle.std.specs.FinMap.{empty}
+use Rattle.std.specs.Prelude.{◌≢◌, ◌&&◌, unwrap_or}
 use Rattle.std.proofs.lemmas.Bool.{eqb-true, eqb-false}
 use Rattle.std.proofs.lemmas.List.{append-nil, length-map, map-append}
 use Rattle.nr_outside.specs.declared.moment.Moment.{Moment}
-use Rattle.nr_rpc.specs.Reading.{call_of, head_xid}
+use Rattle.nr_rpc.specs.Reading.{call_of, head_xid, xid_of_call}
 use Rattle.nr_rpc.specs.declared.head.CallHead.{CallHead}
 use Rattle.nr_rpc.specs.declared.head.CallHead.TheVariants as calls
 use Rattle.nr_nfs_base.specs.Procedures.{nfs_program, nfs_version, mount_program}
@@ -13,17 +12,17 @@ use Rattle.nr_nfs_base.specs.declared.procedure.NfsProcedure.{NfsProcedure}
 use Rattle.nr_nfs_base.specs.Codec.{read_all}
 use Rattle.nr_nfs_args.specs.Arguments.{NfsArguments, nfs_arguments_codec}
 use Rattle.nr_reduce.specs.declared.mark.Entry.{Entry}
-use Rattle.nr_cache.specs.Entries.{KeptEntry, Finding, entries_of, found_for, found_in, top_of}
-use Rattle.nr_cache.specs.Entries.Finding.{NewCall}
-use Rattle.nr_cache.specs.Caches.{Clients, RemembersAll, found_by}
+use Rattle.nr_cache.specs.Entries.{KeptEntry}
+use Rattle.nr_cache.specs.Caches.{RemembersAll}
 use Rattle.nr_plain.specs.Setup.{Parameters, Setup, State}
 use Rattle.nr_plain.specs.Journal.{first_state, next_state, state_after, state_of, nfs_procedure_of}
-use Rattle.nr_plain.specs.Replies.{Answer, answer_to, call_by_cred, cred_refusal, entries_if, mount_call, nfs_by_arguments, nfs_by_procedure, nfs_call, program_call, refusal}
+use Rattle.nr_plain.specs.Replies.{Answer, answer_by, answer_to, call_by_cred, cred_refusal, entries_if, mount_call, nfs_by_arguments, nfs_by_procedure, nfs_call, program_call, refusal}
 use Rattle.nr_plain.specs.History.{entries_added, entries_alone, tagged, xid_in}
-use Rattle.nr_plain.specs.Added.{entries_of_call}
+use Rattle.nr_plain.specs.Added.{entries_by_call, entries_by_cred, entries_by_procedure, entries_of_call, has_succeeded}
 use Rattle.nr_plain.specs.Stands.{PlainServerState, RepresentsJournal, ExecutesCall}
-use Rattle.nr_plain.specs.Numbered.{ExecutesTagged, answer_of_entry, kept_entry, kept_from, kept_replies}
+use Rattle.nr_plain.specs.Numbered.{ExecutesTagged, answer_of_entry, is_changing, kept_entry, kept_from, kept_replies, may_change}
 use Rattle.nr_plain.specs.declared.history_entry.TaggedEntry.{TaggedEntry}
+use Rattle.nr_plain.proofs.ReplyHeads.{same_answer}
 use Rattle.nr_plain.proofs.Serving.{mount_none}
 use Rattle.nr_plain.proofs.Histories.{tagged_alone}
 
@@ -94,22 +93,41 @@ by_cred : (o : Option ℕ) (prm : Parameters) (st : State) (xid prog vers : ℕ)
 by_cred None prm st xid prog vers e0 e is = by_program prm st xid prog vers e0 e is
 by_cred (Some stat) prm st xid prog vers e0 e is = not_one e is
 
-pub change_answer : (prm : Parameters) (st : State) (m : Moment) (payload : List ℕ) (head : CallHead) (e : Entry) → (answer_to prm st m payload head).entries ≡ e ∷ [] →
+change_answer : (prm : Parameters) (st : State) (m : Moment) (payload : List ℕ) (head : CallHead) (e : Entry) → (answer_to prm st m payload head).entries ≡ e ∷ [] →
     answer_to prm st m payload head ≡ answer_of_entry prm st (head_xid head) e
 change_answer prm st m payload (calls.Version2 xid prog vers proc cred args_at) e is =
     let own = by_cred (cred_refusal cred) prm st xid prog vers _ e is in
     (λ i. call_by_cred (cred_refusal cred) xid (program_call prm st xid (own.0 i) (own.1 i) _)) ∙ ap (answer_of_entry prm st xid) (sym own.2)
 change_answer prm st m payload (calls.Other xid rpcvers) e is = not_one e is
 
--- ===== a cache that wasn't made yet
+-- by the answer of a call
+pub entry_answer : (prm : Parameters) (st : State) (m : Moment) (payload : List ℕ) (r : Result CallHead ℕ) (a : Answer) (e : Entry) → answer_by prm st m payload r ≡ Some a → a.entries ≡ e ∷ [] →
+    a ≡ answer_of_entry prm st (unwrap_or (xid_of_call r) 0) e
+entry_answer prm st m payload (Ok head) a e found one =
+    let same : answer_to prm st m payload head ≡ a = same_answer (answer_to prm st m payload head) a found in
+    sym same ∙ change_answer prm st m payload head e (ap (λ (x : Answer). x.entries) same ∙ one)
+entry_answer prm st m payload (Err at) a e found one = absurd cc
 
-remembers_none : (E : List KeptEntry) → RemembersAll E empty → E ≡ []
-remembers_none [] is = refl
-remembers_none (e ∷ E) is = absurd (own (eqb e.client e.client) refl (is e.client))
-  where
-    own : (b : Bool) → eqb e.client e.client ≡ b → cond b (e ∷ entries_of e.client E) (entries_of e.client E) ≡ [] → ⊥
-    own true same none = cc
-    own false same none = eqb-false e.client e.client same refl
+-- ===== a call that may not change the tree adds no entry
+
+none_by_procedure : (a b : Bool) (o : Option NfsProcedure) (reply : List ℕ) (e : Entry) → (a && (b && is_changing o)) ≡ false → cond (a && b) (entries_by_procedure o reply e) [] ≡ []
+none_by_procedure false b o reply e is = refl
+none_by_procedure true false o reply e is = refl
+none_by_procedure true true None reply e is = refl
+none_by_procedure true true (Some p) reply e is = ap (λ (c : Bool). entries_if (c && has_succeeded reply) e) is
+
+none_by_cred : (o : Option ℕ) (es : List Entry) → es ≡ [] → entries_by_cred o es ≡ []
+none_by_cred None es is = is
+none_by_cred (Some stat) es is = refl
+
+none_by_call : (m : Moment) (payload reply : List ℕ) (r : Result CallHead ℕ) → may_change r ≡ false → entries_by_call m payload reply r ≡ []
+none_by_call m payload reply (Ok (calls.Version2 xid prog vers proc cred args_at)) is =
+    none_by_cred (cred_refusal cred) _ (none_by_procedure (eqb prog nfs_program) (eqb vers nfs_version) (nfs_procedure_of proc) reply _ is)
+none_by_call m payload reply (Ok (calls.Other xid rpcvers)) is = refl
+none_by_call m payload reply (Err at) is = refl
+
+pub unchanging : (m : Moment) (payload reply : List ℕ) → may_change (call_of payload) ≡ false → entries_of_call m payload reply ≡ []
+unchanging m payload reply is = none_by_call m payload reply (call_of payload) is
 
 -- ===== one call more
 
@@ -157,15 +175,3 @@ kept_one_added s T client m payload reply e numbered one is =
     by false same =
         ap (λ (b : Bool). cond b [] (record { client = client; xid = xid_in payload; place = length T; reply = (answer_of_entry s.parameters (state_of s (entries_alone T)) (xid_in payload) e).reply } ∷ []) ++ []) same
         ∙ ap (λ (r : List ℕ). record { client = client; xid = xid_in payload; place = length T; reply = r } ∷ []) (sym is)
-
--- nothing is found in it, and that is what no entries say
-pub none_found : (E : List KeptEntry) (client xid : ℕ) → RemembersAll E empty → found_by empty client xid ≡ found_for E client xid
-unfolding found_by found_for found_in top_of
-none_found E client xid is = subst (λ (F : List KeptEntry). found_by empty client xid ≡ found_for F client xid) (sym (remembers_none E is)) refl
-
-pub none_new : (C : Clients) (client xid : ℕ) → C ≡ empty → found_by C client xid ≡ NewCall
-unfolding found_by
-none_new C client xid is = ap (λ (D : Clients). found_by D client xid) is
-
-pub none_found_at : (C : Clients) (E : List KeptEntry) (client xid : ℕ) → C ≡ empty → RemembersAll E C → found_by C client xid ≡ found_for E client xid
-none_found_at C E client xid is remembers = ap (λ (D : Clients). found_by D client xid) is ∙ none_found E client xid (subst (RemembersAll E) is remembers)

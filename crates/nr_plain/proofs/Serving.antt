@@ -87,11 +87,12 @@ module _ (k : PlainServerState) (e : Entry) (xid : ℕ) (p : NfsProcedure) where
         counted = omega (arith, is.counted, costing);
         within = omega (arith, costs is_entry, costing);
         capacity = is.capacity;
+        remembers = is.remembers;
       }
 
       pub serving_same : b ≡ false → IsServing k → IsServing (record { tree = tree; count = k.count; cost = k.cost; parameters = k.parameters; cache = k.cache })
       serving_same no_entry is = subst (λ (u : Tree). IsServing (record { tree = u; count = k.count; cost = k.cost; parameters = k.parameters; cache = k.cache })) (sym (same no_entry))
-          (record { sane = is.sane; below = is.below; counted = is.counted; within = is.within; capacity = is.capacity })
+          (record { sane = is.sane; below = is.below; counted = is.counted; within = is.within; capacity = is.capacity; remembers = is.remembers })
 
       entries_are : (x : Bool) → b ≡ x → answer.entries ≡ entries_if x e
       entries_are x is = entries_by arguments ∙ ap (λ (y : Bool). entries_if y e) (sym (changes_is b entry) ∙ is)
@@ -124,6 +125,10 @@ state_is s J k is =
     let all : state_kept k ≡ state_of s (take (length J) J) = λ i. record { tree = is.tree i; cost = is.cost i } in
     all ∙ ap (state_of s) (take-length J)
 
+none_before : (J es : List Entry) → J ++ es ≡ [] → J ≡ []
+none_before [] es none = refl
+none_before (e ∷ J) es none = absurd cc
+
 pub stands_after : (s : Setup) (J : List Entry) (k : PlainServerState) (es : List Entry) → RepresentsJournal s J k → RepresentsJournal s (J ++ es) (state_after_answer k es)
 stands_after s J k es is =
     let state : state_kept k ≡ state_of s J = state_is s J k is in
@@ -134,6 +139,7 @@ stands_after s J k es is =
       cost = ap (λ (st : State). st.cost) all;
       count = omega (arith, is.count, length-append J es);
       parameters = is.parameters;
+      cache = λ none. is.cache (none_before J es none);
     }
 
 pub kept_none : (k : PlainServerState) → k ≡ state_after_answer k []

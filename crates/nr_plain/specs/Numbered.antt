@@ -1,6 +1,6 @@
 -- The calls of clients that have a number: what a call is by the journal, and what the server makes of it. Each change of such a client takes
 -- effect once (own; RFC 1813 section 4.5 says why a server needs it).
-use Rattle.std.specs.Prelude.{◌≡◌, ◌≢◌, ⊤, ℕ, ◌+◌, Bool, false, not, ◌&&◌, ◌==◌, if◌then◌else◌, List, [], ◌∷◌, ◌++◌, length, Option, None, Some, Result, Ok, Err, All}
+use Rattle.std.specs.Prelude.{◌≡◌, ◌≢◌, ⊤, ℕ, ◌+◌, Bool, false, not, ◌&&◌, ◌==◌, if◌then◌else◌, List, [], ◌∷◌, ◌++◌, length, Option, None, Some, Result, Ok, Err, IsOk, All}
 use Rattle.nr_outside.specs.declared.moment.Moment.{Moment}
 use Rattle.nr_rpc.specs.Reading.{call_of}
 use Rattle.nr_rpc.specs.declared.head.CallHead.{CallHead}
@@ -19,7 +19,6 @@ use Rattle.nr_plain.specs.Stands.{PlainServerState, RepresentsJournal}
 use Rattle.nr_plain.specs.History.{entries_added, entries_alone, xid_in}
 use Rattle.nr_plain.specs.declared.history_entry.TaggedEntry.{TaggedEntry}
 use Rattle.nr_plain.specs.declared.numbered.NumberedFault.{NumberedFault}
-use Rattle.nr_plain.specs.declared.server.Reply.{Reply}
 use Rattle.nr_plain.specs.declared.numbered.NumberedFault.TheVariants as faults
 
 -- ---- The replies of a journal
@@ -51,7 +50,8 @@ pub record RepresentsTagged (s : Setup) (T : List TaggedEntry) (kept : PlainServ
   pub journal : RepresentsJournal s (entries_alone T) kept
   pub remembers : RemembersAll (kept_replies s T) kept.cache
 
--- Two servers are the same but for the room that was made for the replies of a client.
+-- Two servers are the same but for the room that was made for the replies of a client: they stand for the same journals, and remember the same
+-- replies.
 pub record IsSameButRoom (before after : PlainServerState) : Type 0 where
   pub rest : record after { cache = before.cache } ≡ before
   pub replies : (E : List KeptEntry) → RemembersAll E before.cache → RemembersAll E after.cache
@@ -65,7 +65,7 @@ pub record ExecutesTagged (s : Setup) (T : List TaggedEntry) (client : ℕ) (m :
 -- A call was answered after the entries T: a new one is executed; a kept one has the reply and the place of its entry, and changes nothing.
 abbrev pub AnswersBy : Setup → List TaggedEntry → (client : ℕ) → Moment → (payload reply : List ℕ) → (place : ℕ) → (before after : PlainServerState) → Finding → Type 0
 AnswersBy s T client m payload reply place before after (OldCall top) = ⊥
-AnswersBy s T client m payload reply place before after (KeptCall at given) = (place ≡ at) × (reply ≡ given) × IsSameButRoom before after
+AnswersBy s T client m payload reply place before after (KeptCall at given) = (place ≡ at) × (reply ≡ given) × (after ≡ before)
 AnswersBy s T client m payload reply place before after NewCall = ExecutesTagged s T client m payload reply place after
 
 abbrev pub AnswersFor : Setup → List TaggedEntry → (client : ℕ) → Moment → (payload reply : List ℕ) → (place : ℕ) → (before after : PlainServerState) → Type 0
@@ -75,17 +75,15 @@ AnswersFor s T client m payload reply place before after = AnswersBy s T client 
 abbrev pub IsNumberedCause : Setup → List TaggedEntry → (client : ℕ) → (payload : List ℕ) → NumberedFault → Type 0
 IsNumberedCause s T client payload (faults.NotCall at) = call_of payload ≡ Err at
 IsNumberedCause s T client payload faults.Memory = ⊤
-IsNumberedCause s T client payload (faults.Old top) = finding s T client (xid_in payload) ≡ OldCall top
+IsNumberedCause s T client payload (faults.Old top) = IsOk (call_of payload) × (finding s T client (xid_in payload) ≡ OldCall top)
 
--- what is given of a call that is kept, and that nothing is given of a new one
-abbrev pub IsFound : Option Reply → Finding → Type 0
-IsFound None found = found ≡ NewCall
-IsFound (Some r) found = found ≡ KeptCall r.place r.payload
+-- The server as such a fault leaves it: as before, but that memory may have run out after room was made for the replies of a client.
+abbrev pub LeavesServer : NumberedFault → (before after : PlainServerState) → Type 0
+LeavesServer (faults.NotCall at) before after = after ≡ before
+LeavesServer faults.Memory before after = IsSameButRoom before after
+LeavesServer (faults.Old top) before after = after ≡ before
 
-abbrev pub IsRefusedBy : NumberedFault → Finding → Type 0
-IsRefusedBy (faults.NotCall at) found = ⊥
-IsRefusedBy faults.Memory found = ⊤
-IsRefusedBy (faults.Old top) found = found ≡ OldCall top
+-- ---- Procedures that change the tree
 
 -- a call of NFS version 3 whose procedure changes the tree (RFC 1813 section 3.3)
 abbrev pub is_changing : Option NfsProcedure → Bool
@@ -93,7 +91,7 @@ is_changing None = false
 is_changing (Some p) = not (only_reads p)
 
 abbrev pub may_change_by : CallHead → Bool
-may_change_by (calls.Version2 xid prog vers proc cred args_at) = prog == nfs_program && vers == nfs_version && is_changing (nfs_procedure_of proc)
+may_change_by (calls.Version2 xid prog vers proc cred args_at) = prog == nfs_program && (vers == nfs_version && is_changing (nfs_procedure_of proc))
 may_change_by (calls.Other xid rpcvers) = false
 
 abbrev pub may_change : Result CallHead ℕ → Bool

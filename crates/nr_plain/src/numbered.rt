@@ -1,16 +1,17 @@
 //! Calls of clients that have a number: each change takes effect once.
 
-ghost use Rattle.std.specs.Prelude.{◌≡◌, ◌≢◌, ◌≤◌, ◌<◌, ℕ, List, [], ◌++◌, ◌∷◌, false, length, vec_capacity, IsOk, IfOk, IfErr, OnOk, OnErr};
-ghost use Rattle.nr_cache.specs.Caches.{HasClient, RemembersAll, found_by};
-ghost use Rattle.nr_cache.specs.Entries.{Finding, KeptEntry};
+ghost use Rattle.std.specs.Prelude.{◌≡◌, ◌≢◌, ◌≤◌, ℕ, List, [], false, length, vec_capacity, Result, IsOk, IfOk, IfErr, OnErr};
+ghost use Rattle.nr_cache.specs.Caches.{found_by};
 ghost use Rattle.nr_cache.specs.Entries.Finding.{NewCall};
 ghost use Rattle.nr_rpc.specs.Reading.{call_of, head_xid};
 ghost use Rattle.nr_plain.specs.Setup.{Setup};
 ghost use Rattle.nr_plain.specs.History.{xid_in};
-ghost use Rattle.nr_plain.specs.Numbered.{AnswersFor, ChangesOnce, IsNumberedCause, IsSameButRoom, RepresentsTagged, is_changing, may_change, may_change_by};
+ghost use Rattle.nr_rpc.specs.declared.head.CallHead.{CallHead};
+ghost use Rattle.nr_plain.specs.Numbered.{AnswersFor, ChangesOnce, IsNumberedCause, IsSameButRoom, LeavesServer, RepresentsTagged, is_changing, may_change, may_change_by};
+ghost use Rattle.nr_plain.specs.private.Executing.{ExecutedNow, IsPlainCause};
 ghost use Rattle.nr_plain.specs.Journal.{nfs_procedure_of};
-ghost use Rattle.nr_plain.specs.Stands.{ExecutesCall, IsCause, RepresentsJournal};
-ghost use Rattle.nr_reduce.specs.declared.mark.Entry.{Entry};
+ghost use Rattle.nr_plain.specs.ReplySizes.{any_reply_max};
+ghost use Rattle.nr_plain.specs.Stands.{IsCause};
 ghost use Rattle.nr_plain.specs.declared.history_entry.TaggedEntry.{TaggedEntry};
 ghost use Rattle.nr_plain.specs.declared.numbered.NumberedFault.TheVariants as faults;
 
@@ -45,7 +46,7 @@ impl From<Memory> for NumberedFault {
 
 /// A fault of a call of any client.
 fn fault_of(fault: Fault) -> NumberedFault
-    ensures { (s : Setup) (T : List TaggedEntry) (client : ℕ) (payload : List ℕ) → IsCause fault (call_of payload) → IsNumberedCause s T client payload result }
+    ensures { (read : Result CallHead ℕ) → IsCause fault read → IsPlainCause result read }
 {
     match fault {
         Fault::NotCall { at } => NumberedFault::NotCall { at },
@@ -101,7 +102,7 @@ fn read_asked(alloc: Global, payload: &[u8]) -> Result<Asked, NumberedFault>
     ensures xid { IfOk result (λ a. a.xid ≡ xid_in payload.now) }
     ensures changes { IfOk result (λ a. a.changes ≡ may_change (call_of payload.now)) }
     ensures call { IfOk result (λ _. IsOk (call_of payload.now)) }
-    ensures cause { IfErr result (λ e. (s : Setup) (T : List TaggedEntry) (client : ℕ) → IsNumberedCause s T client payload.now e) }
+    ensures cause { IfErr result (λ e. IsPlainCause e (call_of payload.now)) }
 {
     let head = match read_call(alloc, payload) {
         Ok(head) => head,
@@ -132,13 +133,13 @@ fn filled(mut room: Vec<u8>, reply: &[u8]) -> Octets
 
 impl Server {
     /// Answers a call of the client with this number, 0 if it has none. A call without a number, and one that is new, is
-    /// executed, as [`Server::execute`] does; of a change that was made under its xid before, the reply and the place are
-    /// given again, and nothing changes. So each change of a client with a number takes effect once.
+    /// executed, as [`Server::execute`] does. Of a change that was made under the call's xid before, the reply and the place
+    /// are given again, and nothing changes. So each change of a client with a number takes effect once.
     ///
     /// # Errors
     ///
-    /// [`NumberedFault::NotCall`] only if the payload has no call head; [`NumberedFault::Old`] if and only if its xid is 64
-    /// or more below the largest one of the client's changes; [`NumberedFault::Memory`].
+    /// [`NumberedFault::NotCall`] only if the payload has no call head; [`NumberedFault::Old`] only if it has one whose xid
+    /// is 64 or more below the largest one of the client's changes; [`NumberedFault::Memory`].
     pub fn execute_for(
         &mut self,
         alloc: Global,
@@ -146,11 +147,12 @@ impl Server {
         now: Moment,
         payload: &[u8],
     ) -> Result<Reply, NumberedFault>
+        // So an old call gets no reply.
         ensures answered { IfOk result (λ r. (s : Setup) (T : List TaggedEntry) → RepresentsTagged s T self.old → AnswersFor s T client now payload.now r.payload r.place self.old self.new) }
         ensures call { IfOk result (λ _. IsOk (call_of payload.now)) }
+        ensures limit { IfOk result (λ r. length r.payload ≤ any_reply_max) }
         ensures cause { IfErr result (λ e. (s : Setup) (T : List TaggedEntry) → RepresentsTagged s T self.old → IsNumberedCause s T client payload.now e) }
-        // With an error there may be room for the replies of one client more.
-        ensures err { OnErr result (IsSameButRoom self.old self.new) }
+        ensures err { IfErr result (λ e. LeavesServer e self.old self.new) }
         // Room for the replies of a client is made for a change alone.
         ensures room { may_change (call_of payload.now) ≡ false → self.new.cache ≡ self.old.cache }
     {
@@ -158,9 +160,6 @@ impl Server {
             return self.execute_plain(alloc, now, payload);
         }
         let asked = read_asked(alloc, payload)?;
-        if asked.changes {
-            self.make_ready(alloc, client)?;
-        }
         if let Some(reply) = self.remembered(alloc, client, asked.xid)? {
             return Ok(reply);
         }
@@ -170,26 +169,26 @@ impl Server {
         self.execute_change(alloc, client, asked.xid, now, payload)
     }
 
-    /// Executes a call of a client without a number, or one that is no change.
+    /// Executes a call, whoever sent it.
     fn execute_plain(
         &mut self,
         alloc: Global,
         now: Moment,
         payload: &[u8],
     ) -> Result<Reply, NumberedFault>
-        ensures executed { IfOk result (λ r. (s : Setup) (J : List Entry) → RepresentsJournal s J self.old → ExecutesCall s J now payload.now r.payload r.place self.new) }
+        ensures executed { IfOk result (λ r. ExecutedNow self.old now payload.now r.payload r.place self.new) }
         ensures call { IfOk result (λ _. IsOk (call_of payload.now)) }
-        ensures cause { IfErr result (λ e. (s : Setup) (T : List TaggedEntry) (client : ℕ) → IsNumberedCause s T client payload.now e) }
-        ensures cache { self.new.cache ≡ self.old.cache }
+        ensures limit { IfOk result (λ r. length r.payload ≤ any_reply_max) }
+        ensures cause { IfErr result (λ e. IsPlainCause e (call_of payload.now)) }
         ensures err { OnErr result (self.new ≡ self.old) }
     {
-        match self.execute(alloc, now, payload) {
+        match self.execute_now(alloc, now, payload) {
             Ok(reply) => Ok(reply),
             Err(fault) => Err(fault_of(fault)),
         }
     }
 
-    /// Executes a new call of a numbered client, which may be a change, and keeps its reply then.
+    /// Executes a new call of a client with a number, which may be a change, and keeps its reply then.
     fn execute_change(
         &mut self,
         alloc: Global,
@@ -199,17 +198,18 @@ impl Server {
         payload: &[u8],
     ) -> Result<Reply, NumberedFault>
         requires number { client ≢ 0 }
+        requires call { IsOk (call_of payload.now) }
         requires xid { xid ≡ xid_in payload.now }
-        requires room { HasClient self.old.cache client }
         requires new { found_by self.old.cache client xid ≡ NewCall }
-        ensures executed { IfOk result (λ r. (s : Setup) (T : List TaggedEntry) → RepresentsTagged s T self.old → AnswersFor s T client now payload.now r.payload r.place self.old self.new) }
-        ensures call { IfOk result (λ _. IsOk (call_of payload.now)) }
-        ensures cause { IfErr result (λ e. (s : Setup) (T : List TaggedEntry) → IsNumberedCause s T client payload.now e) }
-        ensures err { OnErr result (self.new ≡ self.old) }
+        ensures answered { IfOk result (λ r. (s : Setup) (T : List TaggedEntry) → RepresentsTagged s T self.old → AnswersFor s T client now payload.now r.payload r.place self.old self.new) }
+        ensures limit { IfOk result (λ r. length r.payload ≤ any_reply_max) }
+        ensures cause { IfErr result (λ e. e ≡ faults.Memory) }
+        ensures err { OnErr result (IsSameButRoom self.old self.new) }
     {
+        self.make_ready(alloc, client)?;
         let room = reply_room(alloc)?;
         let reply = self.execute_plain(alloc, now, payload)?;
-        if self.journal_len() > reply.place {
+        if self.count() > reply.place {
             let kept = filled(room, reply.payload.as_slice());
             self.keep(client, xid, reply.place, kept);
         }

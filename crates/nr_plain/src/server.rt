@@ -12,11 +12,12 @@ ghost use Rattle.nr_plain.specs.Setup.{Setup, Parameters, caller_of, space_of, t
 ghost use Rattle.nr_plain.specs.private.Code.{IsHeadWithin, changes_from, entry_of, reply_from, tree_from};
 ghost use Rattle.nr_plain.specs.Journal.{nfs_procedure_of, cost_of};
 ghost use Rattle.nr_plain.specs.Replies.{nfs_by_procedure, nfs_call, mount_call, program_call, call_by_cred, cred_refusal, answer_to};
-ghost use Rattle.nr_plain.specs.ReplySizes.{any_reply_max};
-ghost use Rattle.nr_plain.specs.Stands.{RepresentsJournal, ExecutesCall, IsCause, state_kept, state_after_answer};
-ghost use Rattle.nr_plain.specs.Numbered.{IsFound, IsRefusedBy, IsSameButRoom};
+ghost use Rattle.nr_plain.specs.Stands.{RepresentsJournal, ExecutesCall, IsCause, cache_kept, state_kept, state_after_answer};
+ghost use Rattle.nr_plain.specs.ReplySizes.{any_reply_max, reply_max};
+ghost use Rattle.nr_plain.specs.Numbered.{IsSameButRoom};
+ghost use Rattle.nr_plain.specs.private.Executing.{ExecutedNow, IsFound, IsRefusedBy, IsShort};
 ghost use Rattle.nr_cache.specs.Caches.{HasClient, RemembersAll, found_by};
-ghost use Rattle.nr_cache.specs.Entries.{KeptEntry, found_for};
+ghost use Rattle.nr_cache.specs.Entries.{KeptEntry};
 ghost use Rattle.nr_cache.specs.Entries.Finding.{NewCall};
 ghost use Rattle.nr_cache.specs.Windows.{finding_of};
 
@@ -124,13 +125,29 @@ impl Server {
     }
 
     /// Executes a call. The reply is that of the plain server over the journal; a change that succeeds is then its next
-    /// entry. After an `Err` the server is as before.
+    /// entry. After an `Err` the server is as before. The replies that it remembers stay the same.
     pub fn execute(&mut self, alloc: Global, now: Moment, payload: &[u8]) -> Result<Reply, Fault>
         ensures executed { IfOk result (λ r. (s : Setup) (J : List Entry) → RepresentsJournal s J self.old → ExecutesCall s J now payload.now r.payload r.place self.new) }
         ensures call { IfOk result (λ _. IsOk (call_of payload.now)) }
         ensures limit { IfOk result (λ r. length r.payload ≤ any_reply_max) }
         ensures cause { IfErr result (λ e. IsCause e (call_of payload.now)) }
         ensures cache { self.new.cache ≡ self.old.cache }
+        ensures err { OnErr result (self.new ≡ self.old) }
+    {
+        self.execute_now(alloc, now, payload)
+    }
+
+    /// Executes a call.
+    pub(crate) fn execute_now(
+        &mut self,
+        alloc: Global,
+        now: Moment,
+        payload: &[u8],
+    ) -> Result<Reply, Fault>
+        ensures executed { IfOk result (λ r. ExecutedNow self.old now payload.now r.payload r.place self.new) }
+        ensures call { IfOk result (λ _. IsOk (call_of payload.now)) }
+        ensures limit { IfOk result (λ r. length r.payload ≤ any_reply_max) }
+        ensures cause { IfErr result (λ e. IsCause e (call_of payload.now)) }
         ensures err { OnErr result (self.new ≡ self.old) }
     {
         let place = self.count;
@@ -147,19 +164,11 @@ impl Server {
         })
     }
 
-    /// Makes the room for the replies of a client.
-    pub(crate) fn make_ready(&mut self, alloc: Global, client: u64) -> Result<(), Memory>
-        requires { client ≢ 0 }
-        ensures room { OnOk result (HasClient self.new.cache client) }
-        ensures same { IsSameButRoom self.old self.new }
+    /// How many entries the journal has.
+    pub(crate) fn count(&self) -> u64
+        ensures { result ≡ self.now.count }
     {
-        if self.cache.is_none() {
-            self.cache = Some(Cache::new(alloc));
-        }
-        match &mut self.cache {
-            Some(cache) => cache.ready(client),
-            None => unreachable!(),
-        }
+        self.count
     }
 
     /// The reply of a call that is kept, with its place; `None` for a new one.
@@ -171,8 +180,8 @@ impl Server {
     ) -> Result<Option<Reply>, NumberedFault>
         requires { client ≢ 0 }
         ensures found { IfOk result (λ r. IsFound r (found_by self.now.cache client xid)) }
+        ensures short { IfOk result (λ r. IsShort r) }
         ensures refused { IfErr result (λ e. IsRefusedBy e (found_by self.now.cache client xid)) }
-        ensures exact { (E : List KeptEntry) → RemembersAll E self.now.cache → found_by self.now.cache client xid ≡ found_for E client xid }
     {
         match &self.cache {
             None => Ok(None),
@@ -180,11 +189,22 @@ impl Server {
         }
     }
 
+    /// Makes the room for the replies of a client.
+    pub(crate) fn make_ready(&mut self, alloc: Global, client: u64) -> Result<(), Memory>
+        requires { client ≢ 0 }
+        ensures room { OnOk result (HasClient self.new.cache client) }
+        ensures same { IsSameButRoom self.old self.new }
+        ensures new { (xid : ℕ) → found_by self.old.cache client xid ≡ NewCall → found_by self.new.cache client xid ≡ NewCall }
+    {
+        make_room(alloc, &mut self.cache, client)
+    }
+
     /// Keeps the reply of a new call of a client.
     pub(crate) fn keep(&mut self, client: u64, xid: u32, place: u64, reply: Octets)
         requires number { client ≢ 0 }
         requires room { HasClient self.old.cache client }
         requires new { found_by self.old.cache client xid ≡ NewCall }
+        requires short { length reply ≤ reply_max }
         ensures rest { record self.new { cache = self.old.cache } ≡ self.old }
         ensures kept { (E : List KeptEntry) → RemembersAll E self.old.cache →
             RemembersAll (E ++ record { client = client; xid = xid; place = place; reply = reply } ∷ []) self.new.cache }
@@ -376,6 +396,21 @@ fn reply_found(alloc: Global, found: Found<'_>) -> Result<Option<Reply>, Numbere
             place,
         })),
     }
+}
+
+/// Makes the room for the replies of a client in a cache, which is made for the first one.
+fn make_room(alloc: Global, cache: &mut Option<Cache>, client: u64) -> Result<(), Memory>
+    requires { client ≢ 0 }
+    ensures room { OnOk result (HasClient (cache_kept cache.new) client) }
+    ensures same { (E : List KeptEntry) → RemembersAll E (cache_kept cache.old) → RemembersAll E (cache_kept cache.new) }
+{
+    if let Some(made) = cache {
+        return made.ready(client);
+    }
+    let mut made = Cache::new(alloc);
+    made.ready(client)?;
+    *cache = Some(made);
+    Ok(())
 }
 
 /// Executes a procedure of NFS over a tree. After an `Err` the tree is as before.
