@@ -48,6 +48,10 @@ same_stands s T before after same is = record {
   remembers = same.replies (kept_replies s T) is.remembers;
 }
 
+-- a server that was just opened
+pub opened_tagged : (s : Setup) (kept : PlainServerState) → RepresentsJournal s [] kept → RepresentsTagged s [] kept
+opened_tagged s kept is = record { journal = is; remembers = is.cache refl }
+
 -- ===== a call that is executed
 
 module _ (m : Moment) (payload reply : List ℕ) (place : ℕ) (before mid : PlainServerState) (x : ExecutedNow before m payload reply place mid) where

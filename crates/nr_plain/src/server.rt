@@ -385,8 +385,8 @@ impl Server {
 
 /// The reply of a call that is found so, if it is kept.
 fn reply_found(alloc: Global, found: Found<'_>) -> Result<Option<Reply>, NumberedFault>
-    ensures found { IfOk result (λ r. IsFound r (finding_of found)) }
-    ensures refused { IfErr result (λ e. IsRefusedBy e (finding_of found)) }
+    ensures found { IfOk result (λ r. IsFound r (finding_of found.entry)) }
+    ensures refused { IfErr result (λ e. IsRefusedBy e (finding_of found.entry)) }
 {
     match found {
         Found::Old { top } => Err(NumberedFault::Old { top }),
