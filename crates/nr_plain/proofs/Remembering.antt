@@ -4,16 +4,18 @@ use Rattle.std.specs.Prelude.{All}
 use Rattle.std.specs.FinMap.{empty, get}
 use Rattle.std.specs.List.{find}
 use Rattle.std.proofs.lemmas.Bool.{eqb-false, lt-leb, ne_eqb}
-use Rattle.std.proofs.lemmas.List.Elements.{All-filter, All-head, All-tail}
+use Rattle.std.proofs.lemmas.List.Elements.{All-append, All-cons, All-filter, All-head, All-nil, All-tail}
 use Rattle.nr_cache.specs.Entries.{KeptEntry, Finding, entries_of, found_for, found_in, kept_or_new, top_of, window}
 use Rattle.nr_cache.specs.Entries.Finding.{KeptCall, OldCall, NewCall}
 use Rattle.nr_cache.specs.Windows.{Replies}
 use Rattle.nr_cache.specs.Caches.{Clients, RemembersAll, RemembersBy, found_by, found_if}
 use Rattle.nr_plain.specs.ReplySizes.{reply_max}
 use Rattle.nr_plain.specs.Setup.{Setup}
-use Rattle.nr_plain.specs.Stands.{PlainServerState, RemembersChanges}
+use Rattle.nr_plain.specs.Stands.{IsServing, PlainServerState, RemembersChanges}
 use Rattle.nr_plain.specs.Numbered.{RepresentsTagged, finding, kept_replies}
+use Rattle.nr_plain.specs.private.Executing.{IsFound, IsShort}
 use Rattle.nr_plain.specs.declared.history_entry.TaggedEntry.{TaggedEntry}
+use Rattle.nr_plain.specs.declared.server.Reply.{Reply}
 
 -- ===== what is found is what the entries say
 
@@ -90,3 +92,33 @@ unfolding found_for
 found_short C client xid place reply is found =
     short_in (entries_of client is.entries) xid place reply (All-filter (λ (e : KeptEntry). eqb e.client client) IsShortEntry is.entries is.short)
     (sym (found_exact is.entries C client xid is.are) ∙ found)
+
+pub found_is_short : (C : Clients) (client xid : ℕ) (r : Option Reply) → RemembersChanges C → IsFound r (found_by C client xid) → IsShort r
+found_is_short C client xid None is found = tt
+found_is_short C client xid (Some r) is found = found_short C client xid r.place r.payload is found
+
+-- ===== some changes are remembered
+
+pub none_changes : RemembersChanges empty
+none_changes = record { entries = []; are = none_remembered; short = All-nil IsShortEntry }
+
+pub changes_more : (C D : Clients) → ((E : List KeptEntry) → RemembersAll E C → RemembersAll E D) → RemembersChanges C → RemembersChanges D
+changes_more C D more is = record { entries = is.entries; are = more is.entries is.are; short = is.short }
+
+pub changes_kept : (C D : Clients) (e : KeptEntry) → length e.reply ≤ reply_max → ((E : List KeptEntry) → RemembersAll E C → RemembersAll (E ++ e ∷ []) D) → RemembersChanges C → RemembersChanges D
+changes_kept C D e short keeps is = record {
+  entries = is.entries ++ e ∷ [];
+  are = keeps is.entries is.are;
+  short = All-append IsShortEntry is.entries (e ∷ []) is.short (All-cons IsShortEntry e [] short (All-nil IsShortEntry));
+}
+
+-- the server with another cache
+pub serving_cache : (k : PlainServerState) (C : Clients) → IsServing k → RemembersChanges C → IsServing (record k { cache = C })
+serving_cache k C is changes = record {
+  sane = is.sane;
+  below = is.below;
+  counted = is.counted;
+  within = is.within;
+  capacity = is.capacity;
+  remembers = changes;
+}
