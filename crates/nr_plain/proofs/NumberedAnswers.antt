@@ -152,7 +152,7 @@ plain_cause faults.Memory s T client payload is = tt
 plain_cause (faults.Old top) s T client payload is = absurd is
 
 pub memory_alone : (e : NumberedFault) (r : Result CallHead ℕ) → IsOk r → IsPlainCause e r → e ≡ faults.Memory
-memory_alone (faults.NotCall at) r ok is = absurd (subst IsOk is ok)
+memory_alone (faults.NotCall at) r ok is = absurd (subst (λ (q : Result CallHead ℕ). IsOk q) is ok)
 memory_alone faults.Memory r ok is = refl
 memory_alone (faults.Old top) r ok is = absurd is
 

@@ -72,12 +72,12 @@ found_all p [] k all is = absurd cc
 found_all p (e ∷ E) k all is = by (p e) is
   where
     by : (b : Bool) → cond b (Some e) (find p E) ≡ Some k → IsShortEntry k
-    by true here = subst IsShortEntry (let same : e ≡ k = cc in same) (All-head IsShortEntry e E all)
+    by true here = let same : e ≡ k = cc in subst IsShortEntry same (All-head IsShortEntry e E all)
     by false later = found_all p E k (All-tail IsShortEntry e E all) later
 
 short_if : (o : Option KeptEntry) (place : ℕ) (reply : List ℕ) → ((k : KeptEntry) → o ≡ Some k → IsShortEntry k) → kept_or_new o ≡ KeptCall place reply → length reply ≤ reply_max
 short_if None place reply all is = absurd cc
-short_if (Some k) place reply all is = subst (λ (r : List ℕ). length r ≤ reply_max) (let same : k.reply ≡ reply = cc in same) (all k refl)
+short_if (Some k) place reply all is = let same : k.reply ≡ reply = cc in subst (λ (r : List ℕ). length r ≤ reply_max) same (all k refl)
 
 short_in : (E : List KeptEntry) (xid place : ℕ) (reply : List ℕ) → All IsShortEntry E → found_in E xid ≡ KeptCall place reply → length reply ≤ reply_max
 unfolding found_in

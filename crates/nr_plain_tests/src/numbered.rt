@@ -114,12 +114,22 @@ fn changes_take_effect_once(rt: HostRuntime) {
             Executed(place, after) => same(&rt, row, (outcome(&got), len), (Ok(place), after)),
             Again(_, place) => same(&rt, row, (outcome(&got), len), (Ok(place), before)),
             Old(top) => {
-                same(&rt, row, (outcome(&got), len), (Err(NumberedFault::Old { top }), before));
+                same(
+                    &rt,
+                    row,
+                    (outcome(&got), len),
+                    (Err(NumberedFault::Old { top }), before),
+                );
             }
         }
         let payload = payload_of(rt.alloc(), got);
         if let Again(earlier, _) = *want {
-            same(&rt, row, Some(payload.as_slice()), replies.get(earlier).map(|reply| reply.as_slice()));
+            same(
+                &rt,
+                row,
+                Some(payload.as_slice()),
+                replies.get(earlier).map(|reply| reply.as_slice()),
+            );
         }
         replies.push(payload).expect(&rt, "memory");
     }
