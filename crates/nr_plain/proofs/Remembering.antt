@@ -1,5 +1,5 @@
 -- What a cache remembers, and what is found in it.
-use Rattle.std.proofs.Common.{◌≡◌, ◌≢◌, ℕ, ◌+◌, ◌≤◌, Bool, true, false, cond, eqb, leb, List, [], ◌∷◌, ◌++◌, length, Option, None, Some, refl, sym, ap, subst, ◌∙◌, arith}
+use Rattle.std.proofs.Common.{◌≡◌, ◌≢◌, ℕ, ◌+◌, ◌<◌, ◌≤◌, ◌^◌, Bool, true, false, cond, eqb, leb, List, [], ◌∷◌, ◌++◌, length, Option, None, Some, refl, sym, ap, subst, ◌∙◌, arith}
 use Rattle.std.specs.Prelude.{All}
 use Rattle.std.specs.FinMap.{empty, get}
 use Rattle.std.specs.List.{find}
@@ -10,7 +10,10 @@ use Rattle.nr_cache.specs.Entries.Finding.{KeptCall, OldCall, NewCall}
 use Rattle.nr_cache.specs.Windows.{Replies}
 use Rattle.nr_cache.specs.Caches.{Clients, RemembersAll, RemembersBy, found_by, found_if}
 use Rattle.nr_plain.specs.ReplySizes.{reply_max}
-use Rattle.nr_plain.specs.Setup.{Setup}
+use Rattle.nr_tree.specs.Sane.{IsSane}
+use Rattle.nr_tree.specs.Steps.{IsBelow}
+use Rattle.nr_tree.specs.Tree.{Tree}
+use Rattle.nr_plain.specs.Setup.{Parameters, Setup}
 use Rattle.nr_plain.specs.Stands.{IsServing, PlainServerState, RemembersChanges}
 use Rattle.nr_plain.specs.Numbered.{RepresentsTagged, finding, kept_replies}
 use Rattle.nr_plain.specs.private.Executing.{IsFound, IsShort}
@@ -121,4 +124,16 @@ serving_cache k C is changes = record {
   within = is.within;
   capacity = is.capacity;
   remembers = changes;
+}
+
+-- a server that was just opened
+pub opened_serving : (tree : Tree) (prm : Parameters) → IsSane tree → IsBelow (2 ^ 62) tree → prm.capacity < 2 ^ 63
+    → IsServing (record { tree = tree; count = 0; cost = 0; parameters = prm; cache = empty })
+opened_serving tree prm sane below capacity = record {
+  sane = sane;
+  below = let none : 2 ^ 62 ≡ 2 ^ 62 + 0 = omega arith in subst (λ (l : ℕ). IsBelow l tree) none below;
+  counted = omega arith;
+  within = omega arith;
+  capacity = capacity;
+  remembers = none_changes;
 }
