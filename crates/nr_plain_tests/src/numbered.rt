@@ -101,6 +101,27 @@ fn outcome(got: &Result<(u64, Vec<u8>), NumberedFault>) -> Result<u64, NumberedF
     }
 }
 
+/// What a row asks for: the place or the fault, and the length of the journal after it.
+fn wanted(want: Want, before: u64) -> (Result<u64, NumberedFault>, u64) {
+    match want {
+        Executed(place, after) => (Ok(place), after),
+        Again(_, place) => (Ok(place), before),
+        Old(top) => (Err(NumberedFault::Old { top }), before),
+    }
+}
+
+/// Whether a reply is that of the earlier row which a row names, if it names one.
+fn is_again(want: Want, replies: &[Vec<u8>], payload: &[u8]) -> bool {
+    match want {
+        Again(row, _) => match replies.get(row) {
+            Some(reply) => reply.as_slice() == payload,
+            None => false,
+        },
+        Executed(_, _) => true,
+        Old(_) => true,
+    }
+}
+
 #[test]
 fn changes_take_effect_once(rt: HostRuntime) {
     let mut server = opened(&rt, rt.alloc(), AMPLE);
@@ -110,28 +131,11 @@ fn changes_take_effect_once(rt: HostRuntime) {
         let before = server.journal_len();
         let got = answered(rt.alloc(), &mut server, *client, payload.as_slice());
         let len = server.journal_len();
-        match *want {
-            Executed(place, after) => same(&rt, row, (outcome(&got), len), (Ok(place), after)),
-            Again(_, place) => same(&rt, row, (outcome(&got), len), (Ok(place), before)),
-            Old(top) => {
-                same(
-                    &rt,
-                    row,
-                    (outcome(&got), len),
-                    (Err(NumberedFault::Old { top }), before),
-                );
-            }
-        }
-        let payload = payload_of(rt.alloc(), got);
-        if let Again(earlier, _) = *want {
-            same(
-                &rt,
-                row,
-                Some(payload.as_slice()),
-                replies.get(earlier).map(|reply| reply.as_slice()),
-            );
-        }
-        replies.push(payload).expect(&rt, "memory");
+        same(&rt, row, (outcome(&got), len), wanted(*want, before));
+        let reply = payload_of(rt.alloc(), got);
+        let again = is_again(*want, replies.as_slice(), reply.as_slice());
+        same(&rt, row, again, true);
+        replies.push(reply).expect(&rt, "memory");
     }
 }
 
