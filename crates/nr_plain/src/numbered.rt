@@ -153,8 +153,9 @@ impl Server {
         ensures limit { IfOk result (λ r. length r.payload ≤ any_reply_max) }
         ensures cause { IfErr result (λ e. (s : Setup) (T : List TaggedEntry) → RepresentsTagged s T self.old → IsNumberedCause s T client payload.now e) }
         ensures err { IfErr result (λ e. LeavesServer e self.old self.new) }
-        // Room for the replies of a client is made for a change alone.
+        // Room for the replies of a client is made for a change alone, and only if the client has a number.
         ensures room { may_change (call_of payload.now) ≡ false → self.new.cache ≡ self.old.cache }
+        ensures unnumbered { client ≡ 0 → self.new.cache ≡ self.old.cache }
     {
         if client == 0 {
             return self.execute_plain(alloc, now, payload);
