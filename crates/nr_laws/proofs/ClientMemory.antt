@@ -16,8 +16,8 @@ use Rattle.nr_reduce.specs.Events.RunEvent.{FrameReceived, CallSubmitted, Memory
 use Rattle.nr_reduce.specs.EndRules.{EndState, next_end_state, next_end_state_by, next_end_state_in, end_state_after}
 use Rattle.nr_reduce.specs.OfferedRegions.{Region, region_grants, closed_if, regions_closed}
 use Rattle.nr_reduce.specs.Plans.{Buffer, buffers}
-use Rattle.nr_reduce.specs.ClientState.{ClientState, OutstandingCall, plan_for}
-use Rattle.nr_reduce.specs.Client.{client_segment, client_rules, client_end, client_state_after, outstanding_of, region_of, with_message, with_request, with_segment, revoked_call, initial_client, with_hello, due_with_response}
+use Rattle.nr_reduce.specs.ClientState.{ClientState, OutstandingCall, plan_for, region_of}
+use Rattle.nr_reduce.specs.Client.{client_segment, client_rules, client_end, client_state_after, outstanding_of, with_message, with_request, with_segment, revoked_call, initial_client, with_hello, due_with_response}
 use Rattle.nr_reduce.specs.Server.{tagged_accesses}
 use Rattle.nr_reduce.proofs.Touches.{client_touched}
 use Rattle.nr_reduce.proofs.OwnStags.{AreNumbered, numbered_buffers, ClientNumbers, client_numbers}

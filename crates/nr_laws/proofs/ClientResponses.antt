@@ -22,8 +22,8 @@ use Rattle.nr_reduce.specs.OfferedRegions.{Region, closed_if, regions_closed, re
 use Rattle.nr_reduce.specs.Events.{RunEvent}
 use Rattle.nr_reduce.specs.Events.RunEvent.{FrameReceived, CallSubmitted, MemoryRevoked, CallExecuted, QueueWritten, ServerTold}
 use Rattle.nr_reduce.specs.EndRules.{EndState, next_end_state, next_end_state_by, next_end_state_in, end_state_after}
-use Rattle.nr_reduce.specs.ClientState.{ClientState, OutstandingCall, client_memory_at}
-use Rattle.nr_reduce.specs.Client.{client_segment, client_rules, client_end, client_state_after, initial_client, with_message, with_segment, outstanding_of, region_of, segment_request, with_hello, due_with_response}
+use Rattle.nr_reduce.specs.ClientState.{ClientState, OutstandingCall, client_memory_at, region_of}
+use Rattle.nr_reduce.specs.Client.{client_segment, client_rules, client_end, client_state_after, initial_client, with_message, with_segment, outstanding_of, segment_request, with_hello, due_with_response}
 use Rattle.nr_reduce.specs.Plans.{buffers}
 use Rattle.nr_reduce.proofs.OwnStags.{ClientNumbers, own_stags, client_numbers}
 use Rattle.nr_reduce.proofs.Steps.{end_state_after_append}

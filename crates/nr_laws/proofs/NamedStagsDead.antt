@@ -22,10 +22,10 @@ use Rattle.nr_reduce.specs.Events.{RunEvent}
 use Rattle.nr_reduce.specs.Events.RunEvent.{FrameReceived, CallSubmitted, MemoryRevoked, CallExecuted, QueueWritten, ServerTold}
 use Rattle.nr_reduce.specs.EndRules.{EndState, next_end_state, next_end_state_by, next_end_state_in, end_state_after}
 use Rattle.nr_reduce.specs.OfferedRegions.{Region, region_grants, until_at, closed_if, regions_closed}
-use Rattle.nr_reduce.specs.ClientState.{ClientState, OutstandingCall, is_sent}
+use Rattle.nr_reduce.specs.ClientState.{ClientState, OutstandingCall, is_sent, region_of}
 use Rattle.nr_reduce.specs.ClientMessages.{reply_verdict, reply_by_header, by_call, answered_call, is_given, call_in, names_another, message_verdict}
 use Rattle.nr_reduce.specs.ClientMessages.ReplyVerdict.{EndsLink}
-use Rattle.nr_reduce.specs.Client.{client_segment, client_rules, client_end, client_readiness, client_state_after, initial_client, outstanding_of, region_of, with_message, with_request, with_segment, with_hello, due_with_response, revoked_call, or_message_end, client_message_end, end_of_verdict, segment_message, segment_names}
+use Rattle.nr_reduce.specs.Client.{client_segment, client_rules, client_end, client_readiness, client_state_after, initial_client, outstanding_of, with_message, with_request, with_segment, with_hello, due_with_response, revoked_call, or_message_end, client_message_end, end_of_verdict, segment_message, segment_names}
 use Rattle.nr_reduce.proofs.OwnStags.{AreNumbered, client_numbers, kept_after}
 use Rattle.nr_laws.specs.Invalidated.{IsInvalidated, NamedStagsAreDead}
 use Rattle.nr_laws.proofs.Basics.{each_all, each_append, each_kept}

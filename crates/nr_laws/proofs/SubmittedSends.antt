@@ -26,8 +26,8 @@ use Rattle.nr_reduce.specs.Events.{RunEvent, events_at, if_own}
 use Rattle.nr_reduce.specs.Events.RunEvent.{FrameReceived, CallSubmitted, MemoryRevoked, CallExecuted, QueueWritten, ServerTold}
 use Rattle.nr_reduce.specs.EndRules.{EndState, end_state_after, next_end_state_in}
 use Rattle.nr_reduce.specs.OfferedRegions.{Region, closed_if, regions_closed}
-use Rattle.nr_reduce.specs.ClientState.{ClientState, call_payload, plan_for}
-use Rattle.nr_reduce.specs.Client.{client_segment, client_rules, client_end, client_state_after, outstanding_of, plan_or, region_of, with_segment, with_hello}
+use Rattle.nr_reduce.specs.ClientState.{ClientState, call_payload, plan_for, region_of}
+use Rattle.nr_reduce.specs.Client.{client_segment, client_rules, client_end, client_state_after, outstanding_of, plan_or, with_segment, with_hello}
 use Rattle.nr_reduce.specs.Matched.{IsPrefixOf}
 use Rattle.nr_reduce.specs.Asked.{AskedMark, IsAccepted}
 use Rattle.nr_reduce.specs.Run.{client, grants_of, placed_bytes}

@@ -28,8 +28,8 @@ use Rattle.nr_reduce.specs.OfferedRegions.{Region, region_grants, closed_if, reg
 use Rattle.nr_reduce.specs.Events.{RunEvent, if_own, events_at}
 use Rattle.nr_reduce.specs.Events.RunEvent.{FrameReceived, CallSubmitted, MemoryRevoked, CallExecuted, QueueWritten, ServerTold}
 use Rattle.nr_reduce.specs.EndRules.{EndState, next_end_state_in, end_state_after}
-use Rattle.nr_reduce.specs.ClientState.{ClientState, call_payload, plan_for}
-use Rattle.nr_reduce.specs.Client.{client_rules, client_end, client_state_after, plan_or, outstanding_of, region_of, with_message, with_request, with_segment, with_hello, due_with_response, client_segment}
+use Rattle.nr_reduce.specs.ClientState.{ClientState, call_payload, plan_for, region_of}
+use Rattle.nr_reduce.specs.Client.{client_rules, client_end, client_state_after, plan_or, outstanding_of, with_message, with_request, with_segment, with_hello, due_with_response, client_segment}
 use Rattle.nr_reduce.specs.Run.{client, grants_of, placed_bytes}
 use Rattle.nr_reduce.specs.Asked.{IsAccepted}
 use Rattle.nr_reduce.proofs.Steps.{client_one}

@@ -16,8 +16,8 @@ use Rattle.nr_reduce.specs.OfferedRegions.{Region}
 use Rattle.nr_reduce.specs.OfferedMemory.{region_at}
 use Rattle.nr_reduce.specs.Written.{ends_written}
 use Rattle.nr_reduce.specs.Events.RunEvent.{CallSubmitted}
-use Rattle.nr_reduce.specs.ClientState.{OutstandingCall, ClientState, call_payload, plan_for}
-use Rattle.nr_reduce.specs.Client.{client_end, client_state_after, outstanding_of, plan_or, region_of, with_hello, call_ends, submitted_ends}
+use Rattle.nr_reduce.specs.ClientState.{OutstandingCall, ClientState, call_payload, plan_for, region_of}
+use Rattle.nr_reduce.specs.Client.{client_end, client_state_after, outstanding_of, plan_or, with_hello, call_ends, submitted_ends}
 use Rattle.nr_reduce.specs.KeptCalls.{KeptCall, IsKeptCall, AreKept}
 use Rattle.nr_reduce.specs.Hellos.{client_agreement}
 use Rattle.nr_reduce.specs.KeptClient.{kept_greeted, CallsKeep, MemoryKeeps, HoldsFor, IsOwned, IsRegionOpen, IsAmong, AreRising, AreBelow, OpensFor, registered_all, kept_placed, sent_kept, kept_sent, kept_of, kept_submitted}

@@ -1,5 +1,5 @@
 -- The law of a link's client: which calls it accepts, what it writes, and what it hands to its callers.
-use Rattle.std.specs.Prelude.{◌≡◌, ◌≢◌, ℕ, ◌+◌, ◌<◌, ◌≤◌, ◌==◌, false, List, [], ◌++◌, map, slice_get, Option, None, Some, Ok, Contains}
+use Rattle.std.specs.Prelude.{◌≡◌, ◌≢◌, ℕ, ◌+◌, ◌<◌, ◌≤◌, ◌==◌, false, List, [], ◌∷◌, ◌++◌, map, None, Some, Ok, Contains}
 use Rattle.std.specs.List.{flat_map, filter}
 use Rattle.nr_wire.specs.declared.hello.Side.TheVariants.{Initiator, Responder}
 use Rattle.nr_reduce.specs.declared.call.Call.{Call}
@@ -15,23 +15,39 @@ use Rattle.nr_rpc.specs.Credential.{CanWriteCred}
 use Rattle.nr_reduce.specs.Limits.{numbers_end}
 use Rattle.nr_reduce.specs.declared.outline.Plan.{Plan}
 use Rattle.nr_reduce.specs.declared.mark.ResumedCall.{ResumedCall}
-use Rattle.nr_reduce.specs.ClientState.{WaitingCall, plan_for, stags_taken}
-use Rattle.nr_reduce.specs.SubmitAnswer.{next_sent_xid, next_resend}
+use Rattle.nr_link.specs.Agreement.{IsSendLimit}
+use Rattle.nr_reduce.specs.Plans.{plan_of}
+use Rattle.nr_reduce.specs.ClientState.{WaitingCall, call_payload, plan_for, stags_taken}
+use Rattle.nr_reduce.specs.SubmitAnswer.{first_xid_or, next_sent_xid, calls_to_resend}
 use Rattle.nr_reduce.specs.Run.{client, output_due, placed_bytes, HasWritten}
 use Rattle.nr_reduce.specs.Matched.{IsPrefixOf}
 use Rattle.nr_reduce.specs.AtEachMark.{AtEachMark}
 
--- a call that is sent again is the one that was submitted, in the same form
-abbrev pub IsAsSubmitted : Option WaitingCall → Call → Form → Type 0
-IsAsSubmitted None call form = Unit {0}
-IsAsSubmitted (Some w) call form = (call ≡ w.call) × (form ≡ w.form)
+-- A plan of a call in a form: the one for some lengths of Sends that may be agreed on.
+pub record IsPlannedAs (xid : ℕ) (call : Call) (form : Form) (plan : Plan) : Type 0 where
+  pub up : ℕ
+  pub down : ℕ
+  pub up_fits : IsSendLimit up
+  pub down_fits : IsSendLimit down
+  pub planned : plan_of (call_payload xid call) form up down ≡ Ok plan
+
+-- A call that is sent again is the one that was submitted, in the same form, by a plan of that form. The next xid is larger.
+pub record IsAsSubmitted (w : WaitingCall) (next : ℕ) (call : Call) (form : Form) : Type 0 where
+  pub call_is : call ≡ w.call
+  pub form_is : form ≡ w.form
+  pub planned : IsPlannedAs w.xid w.call w.form w.plan
+  pub rises : w.xid < next
+
+abbrev pub IsResent : (next : ℕ) → List WaitingCall → Call → Form → Type 0
+IsResent next [] call form = Unit {0}
+IsResent next (w ∷ waiting) call form = IsAsSubmitted w (first_xid_or next waiting) call form
 
 -- A call is accepted under the next xid, with a plan, on a link that hasn't ended, while xids and STags are left for it. Its
 -- credential can be encoded. While calls wait to be sent again, it is the first of these.
 pub record IsAccepted (opened : LinkParameters) (link : ℕ) (before : List Mark) (call : Call) (form : Form) (xid : ℕ) : Type 0 where
   pub stays : (client opened link before).ended ≡ None
   pub next : xid ≡ next_sent_xid (client opened link before).state
-  pub submitted : IsAsSubmitted (slice_get (client opened link before).state.waiting 0) call form
+  pub resent : IsResent (client opened link before).state.next_xid (client opened link before).state.waiting call form
   pub plan : Plan
   pub planned : plan_for (client opened link before).state xid call form ≡ Ok plan
   pub xids : xid < numbers_end
@@ -100,7 +116,7 @@ AskedMark Relates opened link before (marks.Told l what) = Unit {0}
 
 -- a call that can be sent again is sent before the client writes next
 abbrev pub ResentMark : LinkParameters → ℕ → List Mark → Mark → Type 0
-ResentMark opened link before (marks.Wrote l Initiator bytes) = l ≡ link → next_resend (client opened link before) ≡ None
+ResentMark opened link before (marks.Wrote l Initiator bytes) = l ≡ link → calls_to_resend (client opened link before) ≡ []
 ResentMark opened link before mark = Unit {0}
 
 -- In full: each Wrote writes all output that is due by then, and in the end all is written. Calls are sent again as soon as the grant allows.
@@ -111,7 +127,7 @@ pub record Asked (opened : LinkParameters) (link : ℕ) (run : List Mark) : Type
   pub each : AtEachMark (AskedMark IsAll opened link) [] run
   pub written : HasWritten opened link Initiator run
   pub resent : AtEachMark (ResentMark opened link) [] run
-  pub none_left : next_resend (client opened link run) ≡ None
+  pub none_left : calls_to_resend (client opened link run) ≡ []
 
 -- so far: what is written is a prefix of the output due
 abbrev pub AskedSoFar : LinkParameters → ℕ → List Mark → Type 0

@@ -24,7 +24,7 @@ use Rattle.nr_reduce.specs.Events.{RunEvent}
 use Rattle.nr_reduce.specs.Hellos.{client_agreement, agreement_with}
 use Rattle.nr_reduce.specs.EndRules.{EndMachine, EndState}
 use Rattle.nr_reduce.specs.Events.RunEvent.{FrameReceived, CallSubmitted, MemoryRevoked, CallExecuted, QueueWritten, ServerTold}
-use Rattle.nr_reduce.specs.ClientState.{OutstandingCall, WaitingCall, ClientState, initial_client_state, region_of, responses_owed, waiting_call, call_payload, plan_for, stag_for, stags_taken, client_memory_at}
+use Rattle.nr_reduce.specs.ClientState.{OutstandingCall, WaitingCall, ClientState, initial_client_state, region_of, responses_owed, waiting_call, others_than, call_payload, plan_for, stag_for, stags_taken, client_memory_at}
 use Rattle.nr_reduce.specs.ClientMessages.{ReplyVerdict, reply_verdict, message_verdict}
 use Rattle.nr_reduce.specs.ClientMessages.ReplyVerdict.{EndsLink, GivesOutcome}
 use Rattle.nr_xdr.specs.Fields.{word_at}
@@ -215,7 +215,7 @@ client_state_after opened k (CallSubmitted place a) = record k {
   sends = k.sends + 1;
   stag = k.stag + stags_taken k a.xid (outstanding_of k a).plan;
   outstanding = k.outstanding ++ outstanding_of k a ∷ [];
-  waiting = filter (λ w. not (w.xid == a.xid)) k.waiting;
+  waiting = others_than k.waiting a.xid;
   regions = k.regions ++ regions_unless_waiting (waiting_call k a.xid) place (outstanding_of k a);
   due = k.due + length (submitted_output opened k a);
   send_ends = k.send_ends ++ submitted_ends opened k a;

@@ -1,5 +1,5 @@
 -- What a client answers to a call that it is given.
-use Rattle.std.specs.Prelude.{Bool, true, false, not, ◌&&◌, ℕ, ◌+◌, ◌-◌, ◌==◌, nat_lt, nat_le, if◌then◌else◌, List, [], ◌∷◌, length, slice_get, Option, None, Some, is_none, Result, Ok, Err}
+use Rattle.std.specs.Prelude.{Bool, true, false, not, ◌&&◌, ℕ, ◌+◌, ◌-◌, ◌==◌, nat_lt, nat_le, if◌then◌else◌, List, [], ◌∷◌, length, take, Option, None, Some, is_none, Result, Ok, Err}
 use Rattle.nr_reduce.specs.declared.call.Call.{Call}
 use Rattle.nr_link.specs.declared.end.End.{End}
 use Rattle.nr_reduce.specs.declared.call.Form.{Form}
@@ -17,21 +17,17 @@ use Rattle.nr_reduce.specs.Run.{client}
 use Rattle.nr_reduce.specs.History.{is_dropped}
 
 -- The xid of the call that is sent next: the first that waits to be sent again, else a new call.
-abbrev pub xid_or : ℕ → Option WaitingCall → ℕ
-xid_or xid None = xid
-xid_or xid (Some w) = w.xid
+abbrev pub first_xid_or : (next : ℕ) → List WaitingCall → ℕ
+first_xid_or next [] = next
+first_xid_or next (w ∷ waiting) = w.xid
 
 abbrev pub next_sent_xid : ClientState → ℕ
-next_sent_xid k = xid_or k.next_xid (slice_get k.waiting 0)
+next_sent_xid k = first_xid_or k.next_xid k.waiting
 
--- The call that is to be sent again now, if any: the first that waits, once the server's hello was received, while fewer are outstanding than
--- granted.
-abbrev pub call_if : Bool → Option WaitingCall → Option WaitingCall
-call_if true call = call
-call_if false call = None
-
-unfoldable pub next_resend : EndState ClientState → Option WaitingCall
-next_resend r = call_if (is_none r.ended && (r.state.has_hello && nat_lt (length r.state.outstanding) r.state.grant)) (slice_get r.state.waiting 0)
+-- The calls that are to be sent again now: once the server's hello was received, as many of those that wait as the grant allows beside the
+-- outstanding ones.
+unfoldable pub calls_to_resend : EndState ClientState → List WaitingCall
+calls_to_resend r = if is_none r.ended && r.state.has_hello then take (r.state.grant - length r.state.outstanding) r.state.waiting else []
 
 -- how many calls count for the grant at a Submit: those that are outstanding, and those that wait
 abbrev pub calls_counted : ClientState → ℕ

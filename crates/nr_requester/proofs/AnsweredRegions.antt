@@ -20,8 +20,8 @@ use Rattle.nr_reduce.specs.OfferedMemory.{region_at, AreOffered, AreReceived}
 use Rattle.nr_reduce.specs.Events.{RunEvent}
 use Rattle.nr_reduce.specs.Events.RunEvent.{FrameReceived, CallSubmitted, MemoryRevoked, CallExecuted, QueueWritten, ServerTold}
 use Rattle.nr_reduce.specs.EndRules.{EndState, live, next_end_state, next_end_state_by, next_end_state_in, end_state_after}
-use Rattle.nr_reduce.specs.ClientState.{ClientState, client_memory_at}
-use Rattle.nr_reduce.specs.Client.{client_rules, client_segment, client_end, client_state_after, outstanding_of, region_of, with_message, with_request, with_segment, with_hello, due_with_response}
+use Rattle.nr_reduce.specs.ClientState.{ClientState, client_memory_at, region_of}
+use Rattle.nr_reduce.specs.Client.{client_rules, client_segment, client_end, client_state_after, outstanding_of, with_message, with_request, with_segment, with_hello, due_with_response}
 use Rattle.nr_reduce.specs.StandingLaws.{StagsFrom}
 use Rattle.nr_reduce.proofs.OfferedMemory.{found, grants_from, none_found_lem, contents_same}
 use Rattle.nr_reduce.proofs.Placing.{segment_next}
