@@ -15,6 +15,7 @@ pub mod Compared
 pub mod CountedBytes
 pub mod OutcomesStay
 pub mod XidsFollow
+pub mod Unresumed
 pub mod Unconcerned
 pub mod OutputItems
 pub mod ServerItems

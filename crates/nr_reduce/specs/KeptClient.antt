@@ -108,11 +108,9 @@ HasRegionsOf c (Some o) = HasRegions c o
 abbrev pub IsWaiting : List OutstandingCall → KeptCall → Type 0
 IsWaiting outstanding c = HasRegionsOf c (find (λ o. o.xid == c.xid) outstanding)
 
--- No call waits to be sent again, no earlier hello agreed on anything, and the client has no number.
-pub record IsUnresumed (k : ClientState) : Type 0 where
-  pub waiting : k.waiting ≡ []
-  pub agreed : k.agreed ≡ None
-  pub number : k.terms.number ≡ 0
+-- no call waits to be sent again, no earlier hello agreed on anything, and the client has no number
+abbrev pub IsUnresumed : ClientState → Type 0
+IsUnresumed k = (k.waiting ≡ []) × ((k.agreed ≡ None) × (k.terms.number ≡ 0))
 
 -- It is kept of a client in this state, after `count` bytes were received. Of a client that has ended its calls are some of those that
 -- were outstanding, and the memory counts by what it holds for them.

@@ -211,10 +211,10 @@ ServerAllows = (opened : LinkParameters) (events : List RunEvent) (f : Frame) (s
 abbrev pub StagsAreNumbers : Type 0
 StagsAreNumbers = (opened : LinkParameters) (link : ℕ) (run : List Mark) → IsOpened opened → AskedSoFar opened link run → (client opened link run).state.stag ≤ numbers_end
 
--- A call that a client accepts keeps the law of its side, and fewer calls are outstanding than are granted.
+-- A call that a client accepts while none waits to be sent again keeps the law of its side, and fewer calls are outstanding than are granted.
 abbrev pub AcceptedKeepsLaw : Type 0
 AcceptedKeepsLaw = (opened : LinkParameters) (link : ℕ) (run : List Mark) (call : Call) (form : Form) (xid : ℕ) →
-    submit_answer (client opened link run) call form ≡ submissions.Accepted xid → IsOpened opened → AskedSoFar opened link run → CanWriteCred call.cred →
+    submit_answer (client opened link run) call form ≡ submissions.Accepted xid → (client opened link run).state.waiting ≡ [] → IsOpened opened → AskedSoFar opened link run → CanWriteCred call.cred →
     IsAccepted opened link run call form xid × (calls_outstanding opened link run < credits_granted opened link run)
 
 -- The Send of an accepted call is due at its Submit, by its plan, once the server's hello was received. Before, nothing is due.
