@@ -120,7 +120,9 @@ waiting_xids stag (r ∷ rs) = ap (λ (xids : List ℕ). r.xid ∷ xids) (waitin
 
 begins_next : (opened : LinkParameters) → ComesNext opened opened.first_xid 0 (waiting_from opened.first_stag opened.resumed)
 unfolding xid_of_send
-begins_next opened = λ n. ap (λ (xids : List ℕ). xid_after xids opened.first_xid n) (waiting_xids opened.first_stag opened.resumed)
+begins_next opened = λ n.
+    ap (λ (xids : List ℕ). xid_after xids opened.first_xid n) (waiting_xids opened.first_stag opened.resumed)
+    ∙ ap (λ (m : ℕ). xid_after (map (λ (r : ResumedCall). r.xid) opened.resumed) opened.first_xid m) (let e : n ≡ 0 + n = omega arith in e)
 
 -- ---- The outstanding calls
 

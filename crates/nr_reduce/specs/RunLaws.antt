@@ -243,15 +243,15 @@ HelloSendsCalls = (opened : LinkParameters) (k : ClientState) (f : Frame) → is
 abbrev pub numbered_on : ClientState → AcceptedCall → ClientState
 numbered_on k a = record k { sends = k.sends + 1; stag = k.stag + stags_taken k a.xid (outstanding_of k a).plan; waiting = others_than k.waiting a.xid }
 
+-- a call that is outstanding, whether or not its memory was revoked
+abbrev pub as_submitted : OutstandingCall → OutstandingCall
+as_submitted o = record o { is_revoked = false }
+
 -- These calls as a client in this state has them outstanding, in their order: each with the plan of its form, and with the numbers of Sends and
 -- the STags from those on that it gives next.
 abbrev pub outstanding_from : ClientState → List AcceptedCall → List OutstandingCall
 outstanding_from k [] = []
-outstanding_from k (a ∷ accepted) = outstanding_of k a ∷ outstanding_from (numbered_on k a) accepted
-
--- a call that is outstanding, whether or not its memory was revoked
-abbrev pub as_submitted : OutstandingCall → OutstandingCall
-as_submitted o = record o { is_revoked = false }
+outstanding_from k (a ∷ accepted) = as_submitted (outstanding_of k a) ∷ outstanding_from (numbered_on k a) accepted
 
 -- Until the server's hello is received, the calls that are outstanding are all that were accepted, in the order of their Submits, and
 -- no Send of them is written. So for the hello, if it doesn't end the client, a Send of each accepted call is due, in this order.
