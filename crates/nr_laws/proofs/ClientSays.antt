@@ -29,7 +29,7 @@ use Rattle.nr_reduce.specs.EndRules.{EndState, next_end_state, end_state_after}
 use Rattle.nr_reduce.specs.OfferedRegions.{region_grants}
 use Rattle.nr_reduce.specs.Plans.{regions_needed}
 use Rattle.nr_reduce.specs.ClientState.{ClientState, OutstandingCall, call_payload, plan_for, client_memory_at}
-use Rattle.nr_reduce.specs.Client.{client_segment, client_rules, client_end, client_readiness, initial_client, or_message_end, outstanding_of, revoked_call}
+use Rattle.nr_reduce.specs.Client.{client_segment, client_rules, client_end, client_readiness, initial_client, or_message_end, outstanding_of, revoked_call, or_other_sizes}
 use Rattle.nr_reduce.specs.RunLaws.{as_submitted}
 use Rattle.nr_laws.specs.Typed.{IsTypedForm}
 use Rattle.nr_laws.proofs.Outputs.{Output, IsShort, CallsShort, message_of_call, response_outputs}
@@ -215,7 +215,7 @@ pub client_has_no_fault : (k : ClientState) (f : Frame) (segment : Segment) → 
 unfolding client_end
 client_has_no_fault k f segment behind is e =
     let others : or_message_end k f (frame_end_by (client_readiness k) (region_grants f.end k.regions) f (client_segment k f)) ≡ None =
-    ap (λ (b : Bool). cond b (hello_end (hello_of Responder f.bytes)) (or_message_end k f (frame_end_by (client_readiness k) (region_grants f.end k.regions) f (client_segment k f)))) (sym behind) ∙ e in
+    ap (λ (b : Bool). cond b (or_other_sizes k f (hello_end (hello_of Responder f.bytes))) (or_message_end k f (frame_end_by (client_readiness k) (region_grants f.end k.regions) f (client_segment k f)))) (sym behind) ∙ e in
     let none : frame_end_by (client_readiness k) (region_grants f.end k.regions) f (client_segment k f) ≡ None = by_end (frame_end_by (client_readiness k) (region_grants f.end k.regions) f (client_segment k f)) others in
     let by_segment : end_of_fault f segment (segment_reason (client_readiness k (missing_access (region_grants f.end k.regions) f segment)) segment) ≡ None =
     ap (λ (r : Result Segment ℕ). frame_end_by (client_readiness k) (region_grants f.end k.regions) f r) (sym is) ∙ none in

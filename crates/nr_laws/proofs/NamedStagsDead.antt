@@ -25,7 +25,7 @@ use Rattle.nr_reduce.specs.OfferedRegions.{Region, region_grants, until_at, clos
 use Rattle.nr_reduce.specs.ClientState.{ClientState, OutstandingCall, is_sent, region_of}
 use Rattle.nr_reduce.specs.ClientMessages.{reply_verdict, reply_by_header, by_call, answered_call, is_given, call_in, names_another, message_verdict}
 use Rattle.nr_reduce.specs.ClientMessages.ReplyVerdict.{EndsLink}
-use Rattle.nr_reduce.specs.Client.{client_segment, client_rules, client_end, client_readiness, client_state_after, initial_client, outstanding_of, with_message, with_request, with_segment, with_hello, due_with_response, revoked_call, or_message_end, client_message_end, end_of_verdict, segment_message, segment_names}
+use Rattle.nr_reduce.specs.Client.{client_segment, client_rules, client_end, client_readiness, client_state_after, initial_client, outstanding_of, with_message, with_request, with_segment, with_hello, due_with_response, revoked_call, or_message_end, client_message_end, end_of_verdict, segment_message, segment_names, or_other_sizes}
 use Rattle.nr_reduce.proofs.OwnStags.{AreNumbered, client_numbers, kept_after}
 use Rattle.nr_laws.specs.Invalidated.{IsInvalidated, NamedStagsAreDead}
 use Rattle.nr_laws.proofs.Basics.{each_all, each_append, each_kept}
@@ -298,7 +298,7 @@ named_stags_are_dead opened link run earlier later f segment message stag is liv
         ready = frame_end_by (client_readiness k) (region_grants f.end k.regions) f (client_segment k f)
 
         judged : or_message_end k f ready ≡ None
-        judged = ap (λ (b : Bool). cond b (hello_end (hello_of Responder f.bytes)) (or_message_end k f ready)) (sym behind) ∙ e
+        judged = ap (λ (b : Bool). cond b (or_other_sizes k f (hello_end (hello_of Responder f.bytes))) (or_message_end k f ready)) (sym behind) ∙ e
 
         stays : end_of_verdict f (message_verdict k f.end (Some stag) message) ≡ None
         stays =
