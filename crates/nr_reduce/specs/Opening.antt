@@ -1,5 +1,5 @@
 -- What the two ends of a link are opened with.
-use Rattle.std.specs.Prelude.{◌≡◌, ℕ, ◌+◌, ◌<◌, ◌≤◌, List, [], ◌∷◌, None}
+use Rattle.std.specs.Prelude.{◌≡◌, ℕ, ◌+◌, ◌<◌, ◌≤◌, List, [], ◌∷◌, Option, None, Some}
 use Rattle.nr_rpc.specs.Credential.{CanWriteCred}
 use Rattle.nr_link.specs.declared.agreement.SideTerms.{SideTerms}
 use Rattle.nr_reduce.specs.declared.mark.LinkParameters.{LinkParameters}
@@ -7,16 +7,24 @@ use Rattle.nr_reduce.specs.declared.mark.ResumedCall.{ResumedCall}
 use Rattle.nr_reduce.specs.Limits.{numbers_end, credits_max}
 use Rattle.nr_reduce.specs.ClientState.{stag_after}
 use Rattle.nr_reduce.specs.Asked.{IsPlannedAs}
+use Rattle.nr_link.specs.declared.agreement.Agreement.{Agreement}
+use Rattle.nr_link.specs.Agreement.{default_agreement}
 
--- The xids of calls that are sent again rise, and are below the first new one. Each goes out by a plan of its form, and its credential can be
--- encoded.
-pub record IsResumed (r : ResumedCall) : Type 0 where
+-- The xids of calls that are sent again rise, and are below the first new one. Each goes out by a plan of its form, for lengths of Sends up to
+-- those that an earlier hello agreed on, and its credential can be encoded.
+abbrev pub lengths_before : Option Agreement → Agreement
+lengths_before None = default_agreement
+lengths_before (Some agreed) = agreed
+
+pub record IsResumed (agreed : Agreement) (r : ResumedCall) : Type 0 where
   pub planned : IsPlannedAs r.xid r.call r.form r.plan
+  pub up : planned.up ≤ agreed.up
+  pub down : planned.down ≤ agreed.down
   pub writable : CanWriteCred r.call.cred
 
-abbrev pub AreResumed : (first : ℕ) → List ResumedCall → (next : ℕ) → Type 0
-AreResumed first [] next = first ≤ next
-AreResumed first (r ∷ calls) next = (first ≤ r.xid) × (IsResumed r × AreResumed (r.xid + 1) calls next)
+abbrev pub AreResumed : Agreement → (first : ℕ) → List ResumedCall → (next : ℕ) → Type 0
+AreResumed agreed first [] next = first ≤ next
+AreResumed agreed first (r ∷ calls) next = (first ≤ r.xid) × (IsResumed agreed r × AreResumed agreed (r.xid + 1) calls next)
 
 -- First numbers are from 1 on and at most numbers_end, also after calls that are sent again have their STags. Credits are from 1 to credits_max,
 -- and the server has a receive for each credit that it grants.
@@ -25,7 +33,7 @@ pub record IsOpened (opened : LinkParameters) : Type 0 where
   pub xid_fits : opened.first_xid ≤ numbers_end
   pub stag : 0 < opened.first_stag
   pub stag_fits : stag_after opened.first_stag opened.resumed ≤ numbers_end
-  pub resumed : AreResumed 1 opened.resumed opened.first_xid
+  pub resumed : AreResumed (lengths_before opened.agreed) 1 opened.resumed opened.first_xid
   pub wished : 0 < opened.wished
   pub wished_fits : opened.wished ≤ credits_max
   pub granted : 0 < opened.granted
