@@ -16,8 +16,10 @@ use Rattle.nr_reduce.specs.ClientState.{WaitingCall, ClientState, others_than, w
 use Rattle.nr_reduce.specs.Client.{client_rules, client_state_after, initial_client, revoked_waiting, with_message, with_request, with_segment, with_hello, due_with_response, client_segment}
 use Rattle.nr_reduce.specs.Run.{client}
 use Rattle.nr_reduce.specs.SubmitAnswer.{calls_to_resend}
-use Rattle.nr_reduce.specs.Asked.{ResentMark}
+use Rattle.nr_reduce.specs.Asked.{ResentMark, IsAwaited, IsAwaitedOrWaits, as_accepted}
 use Rattle.nr_reduce.proofs.OwnStags.{kept_after}
+use Rattle.nr_reduce.specs.History.{accepted_calls}
+use Rattle.std.proofs.lemmas.List.Elements.{Contains-append_right}
 
 -- ---- What is kept
 
@@ -118,3 +120,15 @@ resent_from opened link before (mark ∷ run) none = (by mark, resent_from opene
 
 pub resent_marks : (opened : LinkParameters) (link : ℕ) (run : List Mark) → opened.resumed ≡ [] → AtEachMark (ResentMark opened link) [] run
 resent_marks opened link run none = resent_from opened link [] run none
+
+-- ---- Calls of the client
+
+-- an accepted call that is awaited is one of the client's
+pub awaited_or_waits : (opened : LinkParameters) (link : ℕ) (run : List Mark) (xid : ℕ) → IsAwaited link run xid → IsAwaitedOrWaits opened link run xid
+awaited_or_waits opened link run xid h = record {
+  asked = h.asked;
+  is_asked = Contains-append_right (map as_accepted opened.resumed) (accepted_calls link run) h.asked h.is_asked;
+  own = h.own;
+  first = h.first;
+  kept = h.kept;
+}

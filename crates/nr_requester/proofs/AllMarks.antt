@@ -47,8 +47,8 @@ no_frames_if false es h = tt
 
 pub begins : Begins
 unfolding opened_as events completed_calls accepted_calls marks_of
-begins opened link staging = record {
-  keeps = begins_client opened link staging;
+begins opened link staging first number = record {
+  keeps = begins_client opened link staging first number;
   answers = record { outcomes = refl; hands_back = tt; holds = tt; calls = tt; awaited = tt; submitted = tt; tickets = tt; to_come = λ xid le. refl; regions = record { before = tt; calls = tt } };
   counted = refl;
 }
@@ -281,6 +281,7 @@ forget_client : (opened : LinkParameters) (link : ℕ) (h : RequesterSide) (run 
 unfolding after_forget
 forget_client opened link h run xid s = record {
   wished = s.wished;
+  first = s.first;
   kept = subst (λ (x : KeptClient). ClientRepresents opened link x (input_kept h) (queue_of h.state) run) (kept_after_forget h xid) s.kept;
   sent = s.sent;
   side = s.side;

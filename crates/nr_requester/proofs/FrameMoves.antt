@@ -111,6 +111,7 @@ kept_dead opened kept e end count m is same k = record {
   up = k.up;
   down = k.down;
   invalidates = k.invalidates;
+  first = k.first;
   outstanding = k.outstanding;
   calls = k.calls;
   memory = λ none. absurd (let wrong : Some end ≡ None = sym is ∙ none in cc);

@@ -22,6 +22,7 @@ use Rattle.nr_requester.specs.Laws.{OpenIsAwaited, OpenOut, AwaitedIsOpen, Await
 use Rattle.nr_requester.proofs.DueAnswers.{Among, from_among, to_among, in_filter, of_filter}
 use Rattle.nr_requester.proofs.FoundAnswers.{found_own}
 use Rattle.nr_requester.proofs.FoundCalls.{found_one, found_xid}
+use Rattle.nr_reduce.proofs.Unresumed.{awaited_or_waits}
 
 -- ---- What is due
 
@@ -200,7 +201,7 @@ lost_keeps_law opened link h run xid end s ended is_open none asked grant =
     let mark : Mark = marks.Lost link xid in
     let awaited : IsAwaited link run xid = open_is_awaited opened link h run xid s is_open in
     let is : IsLost opened link run xid = record {
-      awaited = awaited;
+      awaited = awaited_or_waits opened link run xid awaited;
       ended = end;
       is_ended = sym s.keeps.kept.keeps.ended ∙ ended;
       none = λ c there own. of_answer xid c h.state.answered
