@@ -156,7 +156,7 @@ forget_keeps : (opened : LinkParameters) (link : ℕ) (h : RequesterSide) (run :
     AskedSoFar opened link (run ++ marks.Forget link xid ∷ []) × KeepsGrant opened link (run ++ marks.Forget link xid ∷ [])
 forget_keeps opened link h run xid k is_open asked grant =
     let mark : Mark = marks.Forget link xid in
-    (AtEachMark_more (AskedMark IsPrefixOf opened link) [] run mark asked (λ same. open_awaits opened link h run xid k is_open), AtEachMark_more (WithinGrant opened link) [] run mark grant tt)
+    (AtEachMark_more (AskedMark IsPrefixOf opened link) [] run mark asked (λ same. awaited_or_waits opened link run xid (open_awaits opened link h run xid k is_open)), AtEachMark_more (WithinGrant opened link) [] run mark grant tt)
 
 pub forget_keeps_law : ForgetKeepsLaw
 forget_keeps_law opened link h run xid s is_open asked grant = forget_keeps opened link h run xid s.answers is_open asked grant
