@@ -1,5 +1,5 @@
 -- A call that a client accepts keeps the law of its side and the last grant.
-use Rattle.std.proofs.Common.{◌≡◌, ℕ, ◌-◌, ◌<◌, ◌≤◌, Bool, true, false, cond, leb, ltb, List, [], length, Option, None, Some, Result, Ok, Err, refl, sym, ap, subst, ◌∙◌, arith}
+use Rattle.std.proofs.Common.{◌≡◌, ℕ, ◌-◌, ◌<◌, ◌≤◌, Bool, true, false, cond, leb, ltb, List, [], length, Option, None, Some, Result, Ok, Err, refl, sym, ap, subst, ◌∙◌, arith, eqb}
 use Rattle.std.proofs.lemmas.Bool.{ltb-false, leb-false}
 use Rattle.nr_rpc.specs.Credential.{CanWriteCred}
 use Rattle.nr_link.specs.declared.end.End.{End as Stop}
