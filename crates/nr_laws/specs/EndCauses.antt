@@ -49,7 +49,7 @@ IsDenied end = (stag : ℕ) × (offset : ℕ) × (why : Denied) × (end ≡ ends
 
 -- the server was told that a call is old
 abbrev pub NotOldMark : ℕ → List Mark → Mark → Type 0
-NotOldMark link before (marks.Told l (Old xid)) = l ≢ link
+NotOldMark link before (marks.Told l (Old xid at)) = l ≢ link
 NotOldMark link before mark = Unit {0}
 
 abbrev pub HasNoOldCall : ℕ → List Mark → Type 0

@@ -34,7 +34,7 @@ ServerGrantsInRange = (opened : LinkParameters) (link : ℕ) (run : List Mark) �
 -- the credits that the owner of a link's server set last, at first these
 abbrev pub granted_at : ℕ → ℕ → Mark → ℕ
 granted_at link credits (marks.Told l (Granted n)) = if l == link then n else credits
-granted_at link credits (marks.Told l (Old xid)) = credits
+granted_at link credits (marks.Told l (Old xid at)) = credits
 granted_at link credits mark = credits
 
 abbrev pub last_granted : ℕ → ℕ → List Mark → ℕ

@@ -11,10 +11,9 @@ use Rattle.nr_reduce.specs.declared.mark.LinkParameters.{LinkParameters}
 use Rattle.nr_reduce.specs.declared.mark.Mark.{Mark}
 use Rattle.nr_reduce.specs.declared.mark.Mark.TheVariants as marks
 use Rattle.nr_reduce.specs.PlainJournal.{PlainServer}
-use Rattle.nr_reduce.specs.Run.{server}
 use Rattle.nr_reduce.specs.ClientState.{call_payload}
 use Rattle.nr_reduce.specs.declared.mark.TaggedEntry.{TaggedEntry}
-use Rattle.nr_reduce.specs.NumberedJournal.{tagged_journal, JournaledByNumber, IsReplyOf}
+use Rattle.nr_reduce.specs.NumberedJournal.{tagged_journal, number_heard, JournaledByNumber, IsReplyOf}
 use Rattle.nr_reduce.specs.Reopening.{IsReopened}
 use Rattle.nr_reduce.specs.KeepsReplyLimits.{KeepsReplyLimits}
 use Rattle.nr_laws.specs.MarkAt.{MarkAt}
@@ -22,10 +21,6 @@ use Rattle.nr_laws.specs.MatchedSoFar.{MatchedSoFar}
 use Rattle.nr_laws.specs.Payloads.{HasPlan, form_conveyed}
 use Rattle.nr_laws.specs.PlainLinks.{server_with}
 use Rattle.nr_laws.specs.Typed.{IsTyped}
-
--- the number that the server of each link heard
-abbrev pub number_heard : (ℕ → LinkParameters) → List Mark → ℕ → ℕ
-number_heard opened run link = (server (opened link) link run).state.number
 
 -- ---- The links of one client
 
@@ -40,7 +35,7 @@ MatchedWithEarlier opened run link = (earlier : ℕ) → IsEarlier opened run ea
 
 -- One number names one client: of two links whose servers heard the same number, one goes on from the other.
 abbrev pub OneClientEach : (ℕ → LinkParameters) → List Mark → Type 0
-OneClientEach opened run = (link other : ℕ) → number_heard opened run link ≢ 0 → number_heard opened run link ≡ number_heard opened run other →
+OneClientEach opened run = (link other : ℕ) → number_heard run link ≢ 0 → number_heard run link ≡ number_heard run other →
     IsEarlier opened run link other ⊎ IsEarlier opened run other link
 
 -- ---- The theorem
@@ -80,7 +75,7 @@ pub record IsAskedFor (opened : ℕ → LinkParameters) (link : ℕ) (run : List
 abbrev pub CompletedChangesHaveEntries : Type 0
 CompletedChangesHaveEntries = (reply_to : List Entry → Moment → List ℕ → Option (List ℕ)) (adds : Moment → List ℕ → List ℕ → List Entry)
     (opened : ℕ → LinkParameters) (link : ℕ) (T : List TaggedEntry) (run before : List Mark) (xid : ℕ) (call : Call) (form : Form) (moment : Moment) (payload reply : List ℕ) →
-    IsTyped run → JournaledByNumber (server_with reply_to adds) (number_heard opened run) T run → AddsOneAtMost adds → KeepsReplyLimits (server_with reply_to adds) →
+    IsTyped run → JournaledByNumber (server_with reply_to adds) (number_heard run) T run → AddsOneAtMost adds → KeepsReplyLimits (server_with reply_to adds) →
     OneClientEach opened run → MatchedWithEarlier opened run link → (opened link).client.number ≢ 0 →
     IsAskedFor opened link run xid call form →
     MarkAt run before (marks.Done link xid (outcomes.Reply reply)) → form_conveyed form (call_payload xid call) ≡ Some payload → adds moment payload reply ≢ [] →

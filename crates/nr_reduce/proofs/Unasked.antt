@@ -85,7 +85,7 @@ lives_after opened k (MemoryRevoked place xid) none u = refl
 lives_after opened k (CallExecuted call) none u = refl
 lives_after opened k (QueueWritten taken) none u = refl
 lives_after opened k (ServerTold (Granted credits)) none u = refl
-lives_after opened k (ServerTold (Old xid)) none u = ap (old_end k.last_at) u.ready
+lives_after opened k (ServerTold (Old xid at)) none u = ap (old_end at) u.ready
 
 quiet_event : (opened : LinkParameters) (e : EndState ServerState) (event : RunEvent) → BringsNoFrame event → IsQuiet e → IsQuiet (next_end_state (server_rules opened) e event)
 quiet_event opened e event none q =

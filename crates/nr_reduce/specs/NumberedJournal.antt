@@ -11,6 +11,11 @@ use Rattle.nr_reduce.specs.declared.mark.Mark.TheVariants as marks
 use Rattle.nr_reduce.specs.declared.mark.Told.TheVariants as told
 use Rattle.nr_reduce.specs.declared.mark.Entry.{Entry}
 use Rattle.nr_reduce.specs.declared.mark.TaggedEntry.{TaggedEntry}
+use Rattle.nr_wire.specs.declared.hello.Side.TheVariants.{Initiator, Responder}
+use Rattle.nr_link.specs.Agreement.{client_number}
+use Rattle.nr_link.specs.Frames.{Frame, frames_of}
+use Rattle.nr_reduce.specs.Hellos.{private_of}
+use Rattle.nr_reduce.specs.History.{bytes_received}
 use Rattle.nr_reduce.specs.Limits.{window}
 use Rattle.nr_reduce.specs.PlainJournal.{PlainServer}
 use Rattle.nr_reduce.specs.AtEachMark.{AtEachMark}
@@ -60,7 +65,14 @@ abbrev pub standing_for : List TaggedEntry → ℕ → ℕ → Standing
 standing_for T client xid = if client == 0 then New else standing T client xid
 
 -- ---- The journal of a run: each Execute of a new call adds what its call adds. `number` gives the number of each link's client, as its server
--- heard it.
+-- heard it: that of the client's hello, or 0.
+
+abbrev pub number_in_frames : List Frame → ℕ
+number_in_frames [] = 0
+number_in_frames (f ∷ frames) = client_number (private_of f)
+
+unfoldable pub number_heard : List Mark → (link : ℕ) → ℕ
+number_heard run link = number_in_frames (frames_of Initiator (bytes_received link Responder run))
 
 abbrev pub added_by : Standing → List TaggedEntry → List TaggedEntry
 added_by (Old top) entries = []
@@ -109,7 +121,7 @@ IsOld New = ⊥
 abbrev pub NumberedMark : PlainServer → (ℕ → ℕ) → List Mark → Mark → Type 0
 NumberedMark plain number before (marks.Execute l xid moment payload place reply) =
     IsExecutedBy plain (tagged_journal plain number before) (standing_for (tagged_journal plain number before) (number l) xid) moment payload place reply
-NumberedMark plain number before (marks.Told l (told.Old xid)) = IsOld (standing_for (tagged_journal plain number before) (number l) xid)
+NumberedMark plain number before (marks.Told l (told.Old xid at)) = IsOld (standing_for (tagged_journal plain number before) (number l) xid)
 NumberedMark plain number before mark = Unit {0}
 
 -- a run whose calls are executed so, and its journal
