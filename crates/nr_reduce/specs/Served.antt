@@ -50,8 +50,12 @@ pub record IsRefusedAsOld (opened : LinkParameters) (link : ℕ) (before : List 
   pub own : xid ≡ call.xid
   pub last : at ≡ last_frame_at link before
 
--- Its owner sets credits up to those that the link was opened with: it has a receive for each of these. Whether a call is old is said with the
--- one journal (NumberedJournal).
+-- Its owner sets credits up to those that the link was opened with: it has a receive for each of these.
+abbrev pub ToldInRange : LinkParameters → Told → Type 0
+ToldInRange opened (Granted credits) = CreditsInRange opened.granted credits
+ToldInRange opened (Old xid at) = Unit {0}
+
+-- Whether a call is old is said with the one journal (NumberedJournal).
 abbrev pub IsTold : LinkParameters → ℕ → List Mark → Told → Type 0
 IsTold opened link before (Granted credits) = CreditsInRange opened.granted credits
 IsTold opened link before (Old xid at) = IsRefusedAsOld opened link before xid at
