@@ -16,6 +16,7 @@ pub mod CountedBytes
 pub mod OutcomesStay
 pub mod XidsFollow
 pub mod Unresumed
+pub mod RisingXids
 pub mod ToldCredits
 pub mod Unconcerned
 pub mod OutputItems
