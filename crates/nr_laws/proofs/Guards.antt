@@ -13,7 +13,7 @@ use Rattle.nr_link.specs.Output.{segment_count}
 use Rattle.nr_reduce.proofs.OwnLimits.{ServerLimits}
 use Rattle.nr_reduce.specs.declared.mark.LinkParameters.{LinkParameters}
 use Rattle.nr_reduce.specs.declared.mark.Told.{Told}
-use Rattle.nr_reduce.specs.declared.mark.Told.TheVariants.{Granted}
+use Rattle.nr_reduce.specs.declared.mark.Told.TheVariants.{Granted, Old}
 use Rattle.nr_reduce.specs.Served.{ToldInRange}
 use Rattle.nr_reduce.specs.Holds.{Answer, answer_message, first_chunk, no_segments, chunk_error}
 use Rattle.nr_reduce.specs.History.{ExecutedCall}
@@ -39,6 +39,7 @@ use Rattle.nr_laws.proofs.Basics.{each_append}
 use Rattle.nr_laws.proofs.AgreedSizes.{SizesAgree, matched_up, matched_down, matched_invalidates}
 use Rattle.nr_laws.proofs.Outputs.{message_of_call}
 use Rattle.nr_laws.proofs.SendFrames.{each_send}
+use Rattle.nr_reduce.specs.StandingLaws.{xid_of_send}
 
 -- a message of a client has the size of one, by what both sides agree on, version 1, a kind that a client sends, and at most one read chunk;
 -- and it names no STag
@@ -86,10 +87,10 @@ pub record Guards (opened : LinkParameters) (k : ClientState) (s : ServerState) 
   pub calls : AreSized opened k.outstanding
   pub within : AreWithin s.reads s.regions
   pub sinks : length s.regions ≤ s.received.sends
-  pub xids : XidsFrom opened.first_xid all_up
-  pub no_hello_numbered : k.has_hello ≡ false → NumberedCalls opened.first_xid k.outstanding
-  pub numbers : AllByRecursion (IsNumbered opened.first_xid) s.calls
-  pub answered : Answered opened.first_xid k s u d all_down w
+  pub xids : XidsFrom (xid_of_send opened) 0 all_up
+  pub no_hello_numbered : k.has_hello ≡ false → NumberedCalls (xid_of_send opened) 0 k.outstanding
+  pub numbers : AllByRecursion (IsNumbered (xid_of_send opened)) s.calls
+  pub answered : Answered (xid_of_send opened) k s u d all_down w
   pub reached : (es : List RunEvent) × (end_state_after (client_rules opened) (initial_client opened) es ≡ live k)
 
 -- ---- What is granted
@@ -103,8 +104,9 @@ word_most k = by (is_busy k)
     by true = min-le_right k.low k.credit
     by false = omega arith
 
-pub told_most : (opened : LinkParameters) (what : Told) → ToldInRange opened what → credit_told what ≤ opened.granted
-told_most opened (Granted credits) h = h.1
+pub told_most : (opened : LinkParameters) (credits : ℕ) (what : Told) → ToldInRange opened what → credits ≤ opened.granted → credit_told credits what ≤ opened.granted
+told_most opened credits (Granted granted) h le = h.1
+told_most opened credits (Old xid at) h le = le
 
 one_less : (most n m : ℕ) → n ≤ m → (p : FrameContent) → ServerContent most n p → ServerContent most m p
 one_less most n m le HelloFrame h = tt

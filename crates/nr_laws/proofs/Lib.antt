@@ -14,6 +14,7 @@ pub mod ReceivedMessages
 pub mod Outputs
 pub mod TaggedSegments
 pub mod OnceByXid
+pub mod EntriesApart
 pub mod ServerOutputs
 pub mod ServerEnds
 pub mod ServerAlong
