@@ -50,7 +50,7 @@ first_good opened link before (marks.Submit l call form (submissions.Accepted xi
     by false is = tt
     by true is =
         let goes = h.0 (eqb-true l link is) in
-        record { stays = goes.stays; next = goes.next; plan = goes.plan; planned = goes.planned; xids = goes.xids; stags = goes.stags; writable = goes.writable; bytes = h.1.0; form = h.1.1; limits = client_limits_of opened link before }
+        record { stays = goes.stays; next = goes.next; resent = goes.resent; plan = goes.plan; planned = goes.planned; xids = goes.xids; stags = goes.stags; writable = goes.writable; bytes = h.1.0; form = h.1.1; limits = client_limits_of opened link before }
 first_good opened link before (marks.Submit l call form (submissions.Refused why)) h = tt
 first_good opened link before (marks.Submit l call form submissions.Dropped) h = tt
 first_good opened link before (marks.Fed l s bytes) h = by (eqb l link && same_side s Initiator) (frames_completed Responder (bytes_received link Initiator before) bytes)

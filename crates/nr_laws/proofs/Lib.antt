@@ -15,6 +15,7 @@ pub mod Outputs
 pub mod TaggedSegments
 pub mod OnceByXid
 pub mod EntriesApart
+pub mod WaitingCalls
 pub mod ServerOutputs
 pub mod ServerEnds
 pub mod ServerAlong

@@ -130,10 +130,10 @@ abbrev next_sent_at : LinkParameters → ℕ → List Mark → ℕ
 next_sent_at opened link run = next_sent_xid (client opened link run).state
 
 -- the one after a call of this xid, which is the one that is sent next
-abbrev sent_after : (xid next : ℕ) → List WaitingCall → ℕ
+abbrev pub sent_after : (xid next : ℕ) → List WaitingCall → ℕ
 sent_after xid next ws = first_xid_or (xid_unless_waiting (first_of ws xid) next) (others_than ws xid)
 
-submit_rises : (xid next : ℕ) (ws : List WaitingCall) (call : Call) (form : Form) → xid ≡ first_xid_or next ws → IsResent next ws call form → xid < sent_after xid next ws
+pub submit_rises : (xid next : ℕ) (ws : List WaitingCall) (call : Call) (form : Form) → xid ≡ first_xid_or next ws → IsResent next ws call form → xid < sent_after xid next ws
 submit_rises xid next [] call form own h = omega (arith, own)
 submit_rises xid next (w ∷ ws) call form own h = by (eqb w.xid xid) (eq-eqb w.xid xid (sym own))
   where
@@ -141,7 +141,7 @@ submit_rises xid next (w ∷ ws) call form own h = by (eqb w.xid xid) (eq-eqb w.
     by true is = (let lt = h.rises in omega (arith, own, lt))
     by false is = absurd cc
 
-revoked_first : (xid next : ℕ) (ws : List WaitingCall) → first_xid_or next (map (revoked_waiting xid) ws) ≡ first_xid_or next ws
+pub revoked_first : (xid next : ℕ) (ws : List WaitingCall) → first_xid_or next (map (revoked_waiting xid) ws) ≡ first_xid_or next ws
 revoked_first xid next [] = refl
 revoked_first xid next (w ∷ ws) = by (eqb w.xid xid)
   where
