@@ -20,7 +20,7 @@ use Rattle.nr_reduce.specs.History.{AcceptedCall, ExecutedCall, bytes_sent, byte
 use Rattle.nr_reduce.specs.Events.{RunEvent, events_at}
 use Rattle.nr_reduce.specs.Events.RunEvent.{FrameReceived, CallSubmitted, MemoryRevoked, CallExecuted, QueueWritten, ServerTold}
 use Rattle.nr_reduce.specs.EndRules.{EndMachine, EndState, live, next_end_state_by, end_state_after, output_for_by, output_for_all}
-use Rattle.nr_reduce.specs.ClientState.{ClientState, plan_for}
+use Rattle.nr_reduce.specs.ClientState.{ClientState, plan_for, stag_for}
 use Rattle.nr_reduce.specs.Limits.{numbers_end}
 use Rattle.nr_reduce.specs.Plans.{regions_needed}
 use Rattle.nr_reduce.specs.ServerState.{ServerState, ReadyCall}
@@ -31,7 +31,7 @@ use Rattle.nr_reduce.proofs.WholeWrotes.{ClientEnds, ServerEnds}
 use Rattle.nr_reduce.proofs.CountedBytes.{client_bytes_written, client_bytes_due, client_ends_within, server_bytes_written, server_bytes_due, server_ends_within}
 use Rattle.nr_reduce.specs.Opening.{IsOpened}
 use Rattle.nr_reduce.specs.Credits.{WithinGrant, calls_outstanding, credits_granted}
-use Rattle.nr_reduce.specs.Asked.{IsAccepted}
+use Rattle.nr_reduce.specs.Asked.{IsAccepted, IsResent}
 use Rattle.nr_reduce.specs.Served.{IsExecuted, ToldInRange, first_ready, next_call}
 use Rattle.nr_laws.proofs.FrameContents.{FrameContent, output_bytes, total_of, sends_in, requests_in, hellos_in}
 use Rattle.nr_laws.proofs.FrameContents.FrameContent.{HelloFrame, PartFrame, SendFrame, RequestFrame, TaggedFrame}
@@ -50,6 +50,8 @@ use Rattle.nr_laws.proofs.AccessesAtServer.{accessed_execute, accessed_written_d
 use Rattle.nr_laws.proofs.AccessSteps.{pending_unanswered}
 use Rattle.nr_laws.proofs.GuardsAtEvents.{guards_submit, guards_revoke, guards_written_up, guards_execute, guards_written_down, guards_told}
 use Rattle.nr_laws.proofs.AgreeingRuns.{RunAgrees, MarkAgrees, place_of, guards_up, guards_down, same_up_lem, same_down_lem, accesses_up, accesses_down, own_bytes, other_bytes, own_events, other_events}
+use Rattle.nr_reduce.specs.SubmitAnswer.{next_sent_xid}
+use Rattle.nr_laws.proofs.WaitingCalls.{accepted_stags}
 
 pub record OneEvent {S : Type 0} (rules : EndMachine S) (s : S) (event : RunEvent) : Type 0 where
   pub state : end_state_after rules (live s) (event ∷ []) ≡ live (rules.state_after s event)
@@ -161,19 +163,20 @@ pub submit_preserves : (opened : LinkParameters) (link : ℕ) (run : List Mark) 
 submit_preserves opened link run call form xid j h =
     let a : AcceptedCall = record { xid = xid; call = call; form = form } in
     let place = length (bytes_received link Initiator run) in
-    let own : xid ≡ j.k.next_xid = h.next ∙ ap (λ (r : EndState ClientState). r.state.next_xid) j.client_is in
+    let own : xid ≡ next_sent_xid j.k = h.next ∙ ap (λ (r : EndState ClientState). next_sent_xid r.state) j.client_is in
+    let again : IsResent j.k.next_xid j.k.waiting call form = subst (λ (r : EndState ClientState). IsResent r.state.next_xid r.state.waiting call form) j.client_is h.resent in
     let planned = ap (λ (r : EndState ClientState). plan_for r.state xid call form) (sym j.client_is) ∙ h.planned in
     let limits : ClientLimits j.k = subst (λ (r : EndState ClientState). ClientLimits r.state) j.client_is (client_limits_of opened link run) in
-    let m = submitted opened j.k j.s j.u j.d j.all_up j.all_down j.w place a h.plan j.linked own planned limits in
+    let m = submitted opened j.k j.s j.u j.d j.all_up j.all_down j.w place a h.plan j.linked own again planned limits in
     client_preserves opened link run (marks.Submit link call form (submissions.Accepted xid)) j (CallSubmitted place a) m.said (up_more j.w m.said) (λ f e. absurd cc) m.linked m.output
     (own_events link (CallSubmitted place a ∷ [])) (other_events (eqb link link) (CallSubmitted (length (bytes_received link Responder run)) a ∷ [])) refl refl refl
     (append-nil (bytes_sent link Initiator run) ∙ j.sent_up) refl
     (λ o within g.
     let room : length j.k.outstanding < j.k.grant = room_of opened link run j (within refl) in
     subst (λ (ps : List FrameContent). Guards opened (client_state_after opened j.k (CallSubmitted place a)) j.s j.u j.d (j.all_up ++ ps) j.all_down (up_more j.w ps) (place_of opened j.u)) (sym m.said_is)
-    (guards_submit opened j.k j.s j.u j.d j.all_up j.all_down j.w (place_of opened j.u) place a h.plan j.linked g planned own h.xids room))
+    (guards_submit opened j.k j.s j.u j.d j.all_up j.all_down j.w (place_of opened j.u) place a h.plan j.linked g planned own again h.xids room))
     (λ typed kept agree.
-    let stags : j.k.stag + regions_needed h.plan ≤ numbers_end = subst (λ (r : EndState ClientState). r.state.stag + regions_needed h.plan ≤ numbers_end) j.client_is h.stags in
+    let stags : stag_for j.k xid + regions_needed h.plan ≤ numbers_end = subst (λ (r : EndState ClientState). stag_for r.state xid + regions_needed h.plan ≤ numbers_end) j.client_is (accepted_stags opened link run call form xid h) in
     subst (λ (ps : List FrameContent). AccessesAgree opened (client_state_after opened j.k (CallSubmitted place a)) j.s j.d (j.all_up ++ ps) j.all_down place) (sym m.said_is)
     (accessed_submit opened j.k j.s j.d j.all_up j.all_down place a h.plan agree planned h.xids stags typed.0 typed.1 limits))
 
@@ -275,7 +278,7 @@ execute_preserves opened link run xid moment payload place reply j h =
     (guards_execute opened j.k j.s j.u j.d j.all_up j.all_down j.w (place_of opened j.u) e h.call first.0 o j.linked g j.linked.fits first.1 h.own))
     (λ g agree.
     subst (λ (ps : List FrameContent). AccessesAgree opened j.k (server_state_after opened j.s (CallExecuted e)) j.d j.all_up (j.all_down ++ ps) (length (bytes_received link Initiator run))) (sym m.said_is)
-    (accessed_execute opened j.k j.s j.d j.all_up j.all_down (length (bytes_received link Initiator run)) e h.call first.0 agree first.1 h.own j.linked.waits.whole_calls g.numbers
+    (accessed_execute opened j.k j.s j.d j.all_up j.all_down (length (bytes_received link Initiator run)) e h.call first.0 agree first.1 h.own j.linked.waits.whole_calls g.answered.rise g.numbers
     (pending_unanswered xid j.all_down j.s.calls g.answered.once there)))
 
 pub told_preserves : (opened : LinkParameters) (link : ℕ) (run : List Mark) (what : Told) (j : RunAgrees opened link run) → ToldInRange opened what → MarkAgrees opened link run (marks.Told link what) j

@@ -1,8 +1,8 @@
 -- The Sends of a client have the xids of its calls, one after the other; so no call that is pending at the server has the xid of a Send
 -- that is received.
-use Rattle.std.proofs.Common.{◌≡◌, ℕ, ◌+◌, Bool, false, not, ◌||◌, eqb, List, [], ◌∷◌, ◌++◌, length, map, Ok, refl, subst, ◌∙◌, arith, None, ◌<◌, ap}
+use Rattle.std.proofs.Common.{◌≡◌, ℕ, ◌+◌, Bool, false, not, ◌||◌, eqb, List, [], ◌∷◌, ◌++◌, length, map, Ok, refl, subst, ◌∙◌, arith, None, ◌<◌, ap, ◌≤◌, ◌⊎◌, inl, inr, zero, suc}
 use Rattle.std.specs.List.{AllByRecursion, list_any, range_with_len}
-use Rattle.std.proofs.lemmas.Bool.{ne_eqb}
+use Rattle.std.proofs.lemmas.Bool.{ne_eqb, cases_lt}
 use Rattle.nr_xdr.specs.Fields.{word_at}
 use Rattle.nr_wire.specs.Segment.Segment.{Tagged}
 use Rattle.nr_link.specs.Frames.{Frame}
@@ -85,6 +85,19 @@ xids_asked opened xid n (o ∷ os) h own =
 -- the xids of a client rise in the order of its Sends
 abbrev pub Rise : (ℕ → ℕ) → Type 0
 Rise xid = (n m : ℕ) → n < m → xid n < xid m
+
+pub one_send : (xid : ℕ → ℕ) (n m : ℕ) → Rise xid → xid n ≡ xid m → n ≡ m
+one_send xid n m rise same = by (cases_lt n m) (cases_lt m n)
+  where
+    by : (n < m) ⊎ (m ≤ n) → (m < n) ⊎ (n ≤ m) → n ≡ m
+    by (inl lt) other = (let less = rise n m lt in absurd (omega (arith, same, less)))
+    by (inr le) (inl lt) = (let less = rise m n lt in absurd (omega (arith, same, less)))
+    by (inr le) (inr ge) = omega (arith, le, ge)
+
+-- from 1 on
+pub above_sends : (xid : ℕ → ℕ) (n : ℕ) → Rise xid → 1 ≤ xid 0 → n + 1 ≤ xid n
+above_sends xid zero rise one = omega (arith, one)
+above_sends xid (suc n) rise one = (let before = above_sends xid n rise one in let less = rise n (suc n) (omega arith) in omega (arith, before, less))
 
 -- a pending call has the xid of its Send
 abbrev pub IsNumbered : (ℕ → ℕ) → PendingCall → Type 0

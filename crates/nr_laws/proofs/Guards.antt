@@ -19,7 +19,7 @@ use Rattle.nr_reduce.specs.Holds.{Answer, answer_message, first_chunk, no_segmen
 use Rattle.nr_reduce.specs.History.{ExecutedCall}
 use Rattle.nr_reduce.specs.Events.{RunEvent}
 use Rattle.nr_reduce.specs.EndRules.{live, end_state_after}
-use Rattle.nr_reduce.specs.ClientState.{ClientState, OutstandingCall}
+use Rattle.nr_reduce.specs.ClientState.{ClientState, OutstandingCall, WaitingCall}
 use Rattle.nr_reduce.specs.Client.{client_rules, initial_client}
 use Rattle.nr_reduce.specs.ServerState.{ServerState, PendingRead, credit_word, credit_told, is_busy}
 use Rattle.nr_reduce.specs.ServerFrames.{FrameEffect}
@@ -40,6 +40,7 @@ use Rattle.nr_laws.proofs.AgreedSizes.{SizesAgree, matched_up, matched_down, mat
 use Rattle.nr_laws.proofs.Outputs.{message_of_call}
 use Rattle.nr_laws.proofs.SendFrames.{each_send}
 use Rattle.nr_reduce.specs.StandingLaws.{xid_of_send}
+use Rattle.nr_reduce.specs.Plans.{call_message}
 
 -- a message of a client has the size of one, by what both sides agree on, version 1, a kind that a client sends, and at most one read chunk;
 -- and it names no STag
@@ -76,6 +77,13 @@ IsAsked opened o = ClientMessage opened (message_of_call opened o) × HasOwnXid 
 abbrev pub AreSized : LinkParameters → List OutstandingCall → Type 0
 AreSized opened os = AllByRecursion (IsAsked opened) os
 
+-- the message of a call that waits to be sent again has the size of one too, whatever its STags are
+abbrev pub IsSizedResend : LinkParameters → WaitingCall → Type 0
+IsSizedResend opened w = (wished stag : ℕ) → (16 ≤ length (call_message w.xid wished stag w.plan)) × (length (call_message w.xid wished stag w.plan) ≤ matched_up opened)
+
+abbrev pub AreSizedResends : LinkParameters → List WaitingCall → Type 0
+AreSizedResends opened ws = AllByRecursion (IsSizedResend opened) ws
+
 pub record Guards (opened : LinkParameters) (k : ClientState) (s : ServerState) (u d all_up all_down : List FrameContent) (w : Transit) (up : ℕ) : Type 0 where
   pub server : ServerAgrees opened k s w up
   pub window : WithinWindow opened k
@@ -85,6 +93,7 @@ pub record Guards (opened : LinkParameters) (k : ClientState) (s : ServerState) 
   pub names : AllByRecursion (IsTaken (matched_invalidates opened)) all_down
   pub credit : s.credit ≤ opened.granted
   pub calls : AreSized opened k.outstanding
+  pub resends : AreSizedResends opened k.waiting
   pub within : AreWithin s.reads s.regions
   pub sinks : length s.regions ≤ s.received.sends
   pub xids : XidsFrom (xid_of_send opened) 0 all_up

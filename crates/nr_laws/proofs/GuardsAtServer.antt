@@ -79,6 +79,7 @@ guards_up opened k s t u d all_up all_down w place end p rest said g server down
   names = each_append (IsTaken (matched_invalidates opened)) all_down said g.names names;
   credit = omega (arith, credit, g.credit);
   calls = g.calls;
+  resends = g.resends;
   within = within;
   sinks = sinks;
   xids = g.xids;

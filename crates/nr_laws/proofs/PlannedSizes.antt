@@ -4,7 +4,7 @@ use Rattle.nr_reduce.specs.declared.call.Call.{Call}
 use Rattle.nr_reduce.specs.declared.call.Form.{Form}
 use Rattle.nr_reduce.specs.declared.mark.LinkParameters.{LinkParameters}
 use Rattle.nr_reduce.specs.declared.outline.Plan.{Plan}
-use Rattle.nr_reduce.specs.Plans.{TooLarge, call_message, plan_size}
+use Rattle.nr_reduce.specs.Plans.{TooLarge, call_message, plan_of, plan_size}
 use Rattle.nr_reduce.specs.History.{AcceptedCall}
 use Rattle.nr_reduce.specs.ClientState.{ClientState, call_payload, plan_for, stag_for}
 use Rattle.nr_reduce.specs.Client.{outstanding_of, plan_or}
@@ -23,13 +23,17 @@ planned_size xid call form plan p =
     omega (arith, size, most)
 
 -- its message has the fixed words of a header, and fits too
-pub planned_message : (xid wished stag : ℕ) (call : Call) (form : Form) (plan : Plan) (p : IsPlannedAs xid call form plan) →
-    (16 ≤ length (call_message xid wished stag plan)) × (length (call_message xid wished stag plan) ≤ p.up)
+pub sized_message : (xid wished stag up down : ℕ) (call : Call) (form : Form) (plan : Plan) → plan_of (call_payload xid call) form up down ≡ Ok plan →
+    (16 ≤ length (call_message xid wished stag plan)) × (length (call_message xid wished stag plan) ≤ up)
 unfolding plan_size
-planned_message xid wished stag call form plan p =
-    let message = message_size (call_payload xid call) form p.up p.down xid wished stag plan p.planned in
+sized_message xid wished stag up down call form plan is =
+    let message = message_size (call_payload xid call) form up down xid wished stag plan is in
     let size = message.0 in
     (omega (arith, size), message.1)
+
+pub planned_message : (xid wished stag : ℕ) (call : Call) (form : Form) (plan : Plan) (p : IsPlannedAs xid call form plan) →
+    (16 ≤ length (call_message xid wished stag plan)) × (length (call_message xid wished stag plan) ≤ p.up)
+planned_message xid wished stag call form plan p = sized_message xid wished stag p.up p.down call form plan p.planned
 
 pub short_call : (opened : LinkParameters) (k : ClientState) (a : AcceptedCall) (plan : Plan) → a.xid ≡ next_sent_xid k → IsResent k.next_xid k.waiting a.call a.form → plan_for k a.xid a.call a.form ≡ Ok plan → ClientLimits k → IsShort (message_of_call opened (outstanding_of k a))
 short_call opened k a plan own again is limits =

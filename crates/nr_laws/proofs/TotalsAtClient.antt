@@ -317,7 +317,7 @@ totals_accepts opened k s w place a c =
     one = call_output opened (k.sends + 1) (outstanding_of k a)
 
     submitted_waits : (b : Bool) → ends_waiting k.written (cond b ((k.due + length (cond b one [])) ∷ []) []) ≡ hello_bit b
-    submitted_waits true = one_waiting k.written (k.due + length one) (omega (arith, c.within_up, send_some (k.sends + 1) (call_message a.xid opened.wished k.stag (outstanding_of k a).plan)))
+    submitted_waits true = one_waiting k.written (k.due + length one) (omega (arith, c.within_up, send_some (k.sends + 1) (message_of_call opened (outstanding_of k a))))
     submitted_waits false = refl
 
     submitted_length : (b : Bool) → length (cond b ((k.due + length (cond b one [])) ∷ []) []) ≡ hello_bit b

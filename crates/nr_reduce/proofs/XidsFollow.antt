@@ -102,7 +102,7 @@ comes_next opened xid next sends (w ∷ ws) own h = by (eqb w.xid xid) (eq-eqb w
     by true is = λ n. one_more opened next sends n (w ∷ ws) h
     by false is = absurd cc
 
-comes_first : (opened : LinkParameters) (next sends : ℕ) (ws : List WaitingCall) → ComesNext opened next sends ws → first_xid_or next ws ≡ xid_of_send opened sends
+pub comes_first : (opened : LinkParameters) (next sends : ℕ) (ws : List WaitingCall) → ComesNext opened next sends ws → first_xid_or next ws ≡ xid_of_send opened sends
 comes_first opened next sends [] h = (let e : next ≡ next + 0 = omega arith in e) ∙ h 0 ∙ ap (λ (m : ℕ). xid_of_send opened m) (let e : sends + 0 ≡ sends = omega arith in e)
 comes_first opened next sends (w ∷ ws) h = h 0 ∙ ap (λ (m : ℕ). xid_of_send opened m) (let e : sends + 0 ≡ sends = omega arith in e)
 
