@@ -38,6 +38,7 @@ use Rattle.nr_laws.proofs.PlannedSizes.{planned_message}
 use Rattle.nr_reduce.specs.Plans.{regions_needed}
 use Rattle.nr_reduce.proofs.RisingXids.{xids_rise}
 use Rattle.nr_laws.proofs.OwnXids.{own_xids_begin}
+use Rattle.nr_reduce.proofs.ToldCredits.{told_in_range}
 
 -- ---- A side that has ended stays so
 
@@ -226,7 +227,7 @@ mark_preserves opened link run (marks.Told l what) j asked served matched typed 
     by : (b : Bool) → eqb l link ≡ b → MarkAgrees opened link run (marks.Told l what) j
     by true e =
         let same = eqb-true l link e in
-        subst (λ (n : ℕ). MarkAgrees opened link run (marks.Told n what) j) (sym same) (told_preserves opened link run what j (served same))
+        subst (λ (n : ℕ). MarkAgrees opened link run (marks.Told n what) j) (sym same) (told_preserves opened link run what j (told_in_range opened link run what (served same)) (ap (λ (n : ℕ). (server opened link (run ++ marks.Told n what ∷ [])).ended) (sym same) ∙ down))
     by false e = none_preserve opened link run (marks.Told l what) j (no_events_lem (eqb l link) false _ e) (no_events_lem (eqb l link) true _ e) refl refl refl refl
 
 -- ---- Each run

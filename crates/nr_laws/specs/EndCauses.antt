@@ -55,17 +55,17 @@ NotOldMark link before mark = Unit {0}
 abbrev pub HasNoOldCall : ℕ → List Mark → Type 0
 HasNoOldCall link run = AtEachMark (NotOldMark link) [] run
 
+-- What the hellos of both sides agree on is what an earlier hello to the client agreed on, if there was one.
+abbrev pub AgreesAgain : LinkParameters → Type 0
+AgreesAgain opened = has_same_sizes opened.agreed (agreement (client_private opened) (responder_private opened.server (client_private opened))) ≡ true
+
 -- On a matched link whose client hasn't ended, and whose server wasn't told that a call is old, the server ends only if a call conveys a payload
 -- without an RPC call head: no segment of the
 -- client breaks a rule of the link, finds no receive, or is denied by the server's memory; each message is of a kind that a client sends,
 -- none has the xid of a call that is pending, and a payload with a head has the xid of its message.
 abbrev pub ServerEndsForCalls : Type 0
-ServerEndsForCalls = (opened : LinkParameters) (link : ℕ) (run : List Mark) → IsOpened opened → IsTyped run → KeepLaws opened link run → HasNoOldCall link run →
+ServerEndsForCalls = (opened : LinkParameters) (link : ℕ) (run : List Mark) → IsOpened opened → AgreesAgain opened → IsTyped run → KeepLaws opened link run → HasNoOldCall link run →
     end_of_side opened link Initiator run ≡ None → (end : End) → end_of_side opened link Responder run ≡ Some end → IsCallEnd end
-
--- What the hellos of both sides agree on is what an earlier hello to the client agreed on, if there was one.
-abbrev pub AgreesAgain : LinkParameters → Type 0
-AgreesAgain opened = has_same_sizes opened.agreed (agreement (client_private opened) (responder_private opened.server (client_private opened))) ≡ true
 
 -- On a matched link whose server hasn't ended, the client ends only for what a reply is, or for an access that its memory denies: no segment
 -- of the server breaks a rule of the link, each message can be read, it answers a call that is outstanding and whose Send is written, and
