@@ -553,8 +553,9 @@ class Link:
         arrived = all(joined('Wrote', s) == joined('Fed', t) for s, t in (('client', 'server'), ('server', 'client')))
         settled = not stops and arrived
         waits = self.names.ask('waits', self.ends['server']['state'], self.ends['server']['ended']).n == 'Some'
-        if settled and not waits:
-            out = self.run['out'][str(self.number)]
+        # of a link that was left the record doesn't say how many calls are out
+        out = self.run['out'].get(str(self.number))
+        if settled and not waits and out is not None:
             given_up = {m['xid'] for m in mine if m['mark'] in ('Forget', 'Revoke', 'Lost')}
             none_waits = not self.ends['client']['state']['waiting']
             self.note('calls_complete', out == 0 and none_waits and all(x in self.dones for x in self.submits if x not in given_up), kinds)
