@@ -15,7 +15,7 @@ use Rattle.nr_reduce.specs.Events.{RunEvent, events}
 use Rattle.nr_reduce.specs.Events.RunEvent.{FrameReceived, CallSubmitted, MemoryRevoked, CallExecuted, QueueWritten, ServerTold}
 use Rattle.nr_reduce.specs.EndRules.{EndState, next_end_state, next_end_state_by, next_end_state_in}
 use Rattle.nr_reduce.specs.OfferedRegions.{Region, until_at, closed_if, regions_closed}
-use Rattle.nr_reduce.specs.ClientState.{ClientState, region_of, WaitingCall, waiting_call}
+use Rattle.nr_reduce.specs.ClientState.{ClientState, region_of, WaitingCall, waiting_call, waiting_from, waiting_regions}
 use Rattle.nr_reduce.specs.Client.{client_segment, client_rules, client_end, client_state_after, initial_client, outstanding_of, with_message, with_segment, with_hello, due_with_response, regions_unless_waiting}
 use Rattle.nr_reduce.specs.Run.{client}
 use Rattle.nr_reduce.proofs.Steps.{end_state_after_append}
@@ -136,10 +136,15 @@ all_events opened front (e ∷ es) h =
     let one = subst (λ (r : EndState ClientState). AllByRecursion (IsClosed opened (front ++ e ∷ [])) r.state.regions) (sym (end_state_after_append (client_rules opened) (initial_client opened) front (e ∷ []))) (one_event opened front e h) in
     subst (λ (xs : List RunEvent). AllByRecursion (IsClosed opened xs) (client_by opened xs).state.regions) (append_assoc front (e ∷ []) es) (all_events opened (front ++ e ∷ []) es one)
 
+-- those of calls that wait to be sent again are open at first
+waiting_open : (opened : LinkParameters) (es : List RunEvent) (ws : List WaitingCall) → AllByRecursion (IsClosed opened es) (waiting_regions ws)
+waiting_open opened es [] = tt
+waiting_open opened es (w ∷ ws) = each_append (IsClosed opened es) (map (region_of w.xid 0) (buffers w.stag w.plan)) (waiting_regions ws) (new_open opened es w.xid 0 (buffers w.stag w.plan)) (waiting_open opened es ws)
+
 pub client_regions_close_with_calls : ClientRegionsCloseWithCalls
 unfolding client
 client_regions_close_with_calls opened link run r place there is =
-    region_of_list (IsClosed opened (events link Initiator run)) _ r (all_events opened [] (events link Initiator run) tt) there place is
+    region_of_list (IsClosed opened (events link Initiator run)) _ r (all_events opened [] (events link Initiator run) (waiting_open opened [] (waiting_from opened.first_stag opened.resumed))) there place is
 
 pub calls_add_chunks : CallsAddChunks
 unfolding client_state_after client_end

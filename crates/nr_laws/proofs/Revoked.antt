@@ -18,7 +18,7 @@ use Rattle.nr_reduce.specs.Events.RunEvent.{FrameReceived, CallSubmitted, Memory
 use Rattle.nr_reduce.specs.EndRules.{EndState, next_end_state, next_end_state_by, next_end_state_in, end_state_after}
 use Rattle.nr_reduce.specs.OfferedRegions.{Region, until_or, until_at, region_grant, closed_if, regions_closed}
 use Rattle.nr_reduce.specs.Plans.{Buffer, buffers}
-use Rattle.nr_reduce.specs.ClientState.{ClientState, region_of, WaitingCall, waiting_call}
+use Rattle.nr_reduce.specs.ClientState.{ClientState, region_of, WaitingCall, waiting_call, waiting_from, waiting_regions}
 use Rattle.nr_reduce.specs.Client.{client_segment, client_rules, client_end, client_state_after, outstanding_of, with_message, with_request, with_segment, with_hello, due_with_response, regions_unless_waiting}
 use Rattle.nr_reduce.specs.Run.{client}
 use Rattle.nr_reduce.proofs.OwnStags.{AreNumbered}
@@ -211,6 +211,10 @@ until_from opened link before (mark ∷ run) h =
     subst (λ (b : List Mark). UntilBy (length (bytes_received link Initiator b)) (client opened link b).state.regions) (append_assoc before (mark ∷ []) run) (until_from opened link (before ++ mark ∷ []) run next)
 
 -- each lifetime that ended had ended by then
+until_first : (n : ℕ) (ws : List WaitingCall) → UntilBy n (waiting_regions ws)
+until_first n [] = tt
+until_first n (w ∷ ws) = until_append n (map (region_of w.xid 0) (buffers w.stag w.plan)) (waiting_regions ws) (until_new n w.xid 0 (buffers w.stag w.plan)) (until_first n ws)
+
 pub until_run : (opened : LinkParameters) (link : ℕ) (run : List Mark) → UntilBy (length (bytes_received link Initiator run)) (client opened link run).state.regions
 unfolding client events
-until_run opened link run = until_from opened link [] run tt
+until_run opened link run = until_from opened link [] run (until_first (length (bytes_received link Initiator [])) (waiting_from opened.first_stag opened.resumed))

@@ -1,5 +1,5 @@
 -- The calls that wait to be sent again have STags below the one that is given next; so each accepted call has room for its STags.
-use Rattle.std.proofs.Common.{◌≡◌, ℕ, ◌+◌, ◌≤◌, Bool, true, false, cond, eqb, List, [], ◌∷◌, map, Option, None, Some, Result, Ok, Err, refl, sym, ap, subst, arith}
+use Rattle.std.proofs.Common.{◌≡◌, ℕ, ◌+◌, ◌≤◌, Bool, true, false, cond, eqb, List, [], ◌∷◌, map, Option, None, Some, Result, Ok, Err, refl, sym, ap, subst, arith, eqb-true, ◌∙◌}
 use Rattle.std.specs.List.{AllByRecursion}
 use Rattle.nr_wire.specs.declared.hello.Side.TheVariants.{Initiator}
 use Rattle.nr_link.specs.Frames.{is_hello, Frame}
@@ -15,7 +15,7 @@ use Rattle.nr_reduce.specs.Events.{RunEvent, events}
 use Rattle.nr_reduce.specs.Events.RunEvent.{FrameReceived, CallSubmitted, MemoryRevoked, CallExecuted, QueueWritten, ServerTold}
 use Rattle.nr_reduce.specs.EndRules.{end_state_after}
 use Rattle.nr_reduce.specs.ClientState.{WaitingCall, ClientState, first_of, others_than, waiting_call, waiting_from, stag_after, call_payload, plan_unless, plan_for, stag_unless, stag_for, stags_unless_waiting, stags_taken}
-use Rattle.nr_reduce.specs.Client.{client_rules, client_state_after, initial_client, client_segment, with_segment, with_hello, outstanding_of, revoked_waiting, with_message, with_request, due_with_response}
+use Rattle.nr_reduce.specs.Client.{client_rules, client_state_after, initial_client, client_segment, with_segment, with_hello, outstanding_of, revoked_waiting, with_message, with_request, due_with_response, plan_or}
 use Rattle.nr_reduce.specs.Run.{client}
 use Rattle.nr_reduce.specs.Asked.{IsAccepted, IsPlannedAs}
 use Rattle.nr_reduce.proofs.OwnLimits.{client_limits_of, planned_as}
@@ -23,6 +23,7 @@ use Rattle.nr_reduce.proofs.OwnStags.{kept_after}
 use Rattle.nr_reduce.proofs.Placing.{segment_waiting}
 use Rattle.nr_wire.specs.Segment.{Segment}
 use Rattle.nr_link.specs.ReceiveState.{ReadRequest, message_completed, read_request_of}
+use Rattle.nr_reduce.specs.History.{AcceptedCall}
 
 abbrev StagsFit : (stag : ℕ) → List WaitingCall → Type 0
 StagsFit stag ws = AllByRecursion (λ (w : WaitingCall). w.stag + regions_needed w.plan ≤ stag) ws
@@ -110,3 +111,43 @@ accepted_stags opened link before call form xid a = stags_of (client opened link
 -- and by which lengths it is planned
 pub accepted_plan : (opened : LinkParameters) (link : ℕ) (before : List Mark) (call : Call) (form : Form) (xid : ℕ) (plan : Plan) → IsAccepted opened link before call form xid → plan_for (client opened link before).state xid call form ≡ Ok plan → IsPlannedAs xid call form plan
 accepted_plan opened link before call form xid plan a planned = planned_as (client opened link before).state xid call form plan (client_limits_of opened link before) a.next a.resent planned
+
+-- ---- The call that is sent again is the first that waits
+
+pub first_there : (Q : WaitingCall → Type 0) (ws : List WaitingCall) (xid : ℕ) (w : WaitingCall) → AllByRecursion Q ws → first_of ws xid ≡ Some w → Q w
+first_there Q [] xid w h is = absurd cc
+first_there Q (v ∷ ws) xid w h is = by (eqb v.xid xid) is
+  where
+    by : (b : Bool) → cond b (Some v) None ≡ Some w → Q w
+    by true is = (let same : v ≡ w = cc in subst Q same h.0)
+    by false is = absurd cc
+
+first_xid : (ws : List WaitingCall) (xid : ℕ) (w : WaitingCall) → first_of ws xid ≡ Some w → xid ≡ w.xid
+first_xid [] xid w is = absurd cc
+first_xid (v ∷ ws) xid w is = by (eqb v.xid xid) refl is
+  where
+    by : (b : Bool) → eqb v.xid xid ≡ b → cond b (Some v) None ≡ Some w → xid ≡ w.xid
+    by true e is = (let same : v ≡ w = cc in sym (eqb-true v.xid xid e) ∙ ap (λ (x : WaitingCall). x.xid) same)
+    by false e is = absurd cc
+
+-- so it is outstanding as it waited
+pub record IsSentAgain (k : ClientState) (a : AcceptedCall) (w : WaitingCall) : Type 0 where
+  pub stag : (outstanding_of k a).stag ≡ w.stag
+  pub plan : (outstanding_of k a).plan ≡ w.plan
+  pub xid : a.xid ≡ w.xid
+
+pub sent_again : (k : ClientState) (a : AcceptedCall) (w : WaitingCall) → waiting_call k a.xid ≡ Some w → IsSentAgain k a w
+unfolding plan_for
+sent_again k a w is = record {
+  stag = ap (λ (o : Option WaitingCall). stag_unless o k.stag) is;
+  plan = ap (λ (o : Option WaitingCall). plan_or (call_payload a.xid a.call) (plan_unless o (plan_of (call_payload a.xid a.call) a.form k.up_max k.down_max))) is;
+  xid = first_xid k.waiting a.xid w is;
+}
+
+pub others_there : (Q : WaitingCall → Type 0) (ws : List WaitingCall) (xid : ℕ) → AllByRecursion Q ws → AllByRecursion Q (others_than ws xid)
+others_there Q [] xid h = tt
+others_there Q (w ∷ ws) xid h = by (eqb w.xid xid)
+  where
+    by : (b : Bool) → AllByRecursion Q (cond b ws (w ∷ ws))
+    by true = h.1
+    by false = h
