@@ -210,11 +210,12 @@ until_from opened link before (mark ∷ run) h =
     subst (λ (r : EndState ClientState). UntilBy n r.state.regions) (sym (client_one opened link before mark)) (until_all opened n (client opened link before) (events_at link Initiator before mark) (mark_by link before mark) more) in
     subst (λ (b : List Mark). UntilBy (length (bytes_received link Initiator b)) (client opened link b).state.regions) (append_assoc before (mark ∷ []) run) (until_from opened link (before ++ mark ∷ []) run next)
 
--- each lifetime that ended had ended by then
+-- those of calls that wait to be sent again are open at first
 until_first : (n : ℕ) (ws : List WaitingCall) → UntilBy n (waiting_regions ws)
 until_first n [] = tt
 until_first n (w ∷ ws) = until_append n (map (region_of w.xid 0) (buffers w.stag w.plan)) (waiting_regions ws) (until_new n w.xid 0 (buffers w.stag w.plan)) (until_first n ws)
 
+-- each lifetime that ended had ended by then
 pub until_run : (opened : LinkParameters) (link : ℕ) (run : List Mark) → UntilBy (length (bytes_received link Initiator run)) (client opened link run).state.regions
 unfolding client events
 until_run opened link run = until_from opened link [] run (until_first (length (bytes_received link Initiator [])) (waiting_from opened.first_stag opened.resumed))
