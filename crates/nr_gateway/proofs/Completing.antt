@@ -29,11 +29,13 @@ module _ {O C : Type 0} (settings : GateSettings Text) (before : Around) (mid ac
   gates_with ends t = record {
     first = first;
     last = t.last;
+    after_jobs = t.after_jobs;
     listens = subst (λ (a : Option (List (List ℕ))). Asks before.acceptor.asked a settings.listen) (sym t.asked) listens.asked;
     dials = dials;
     opens = opens;
     gates = subst (λ (n : ℕ). GatesLinks (accept.between before.acceptor.ended n before.spawner.started first) ends (accept.between acceptor'.ended acceptor'.lost spawner'.started t.last)) listens.lost
         (subst (λ (log : Option LinkLog). GatesLinks (accept.between log mid.lost before.spawner.started first) ends (accept.between acceptor'.ended acceptor'.lost spawner'.started t.last)) listens.ended t.gates);
+    turn = t.turn;
     law = t.law;
     waited = t.waited;
   }

@@ -11,6 +11,7 @@ use Rattle.nr_turnstile.specs.Passes.{mine_of, seen_by}
 use Rattle.nr_turnstile.specs.declared.turnstile.Pass.{Pass}
 use Rattle.nr_words.specs.declared.gate_settings.GateSettings.{GateSettings}
 use Rattle.nr_words.specs.Lines.{Text}
+use Rattle.nr_shared.specs.Adding.{Adds}
 use Rattle.nr_shared.specs.Callers.{KeepsLaw}
 use Rattle.nr_shared.specs.declared.entry.Entry.{Entry}
 use Rattle.nr_shared.specs.declared.entry.Entry.TheVariants as entries
@@ -54,16 +55,18 @@ pub record OpensRemote (history : List Entry) (mine : List ℕ) : Type 0 where
 
 -- The acceptor listened at the address of the configuration, and the remote server was dialled once. Links were taken
 -- then: of each a job was started, or its connection was served here, and these are the ends of those. All jobs that were
--- started have ended. `first` is the gateway's own pass as the requester was shared, `last` after the links: the marks of what it
--- has seen keep the law of the client's side.
+-- started have ended. `first` is the gateway's own pass as the requester was shared, `last` after the links. Then it had one turn
+-- more, which added no entry of its own (`after_jobs`): the marks of what it saw keep the law of the client's side.
 pub record GatesWith (O C : Type 0) (settings : GateSettings Text) (before after : Around) (ends : List GateEnd) : Type 0 where
   pub first : Pass (RequesterWithSink O C) Entry
   pub last : Pass (RequesterWithSink O C) Entry
+  pub after_jobs : Pass (RequesterWithSink O C) Entry
   pub listens : Asks before.acceptor.asked after.acceptor.asked settings.listen
   pub dials : Dials settings.remote before.dialer after.dialer
   pub opens : OpensRemote (seen_by first) (mine_of first)
   pub gates : GatesLinks (accept.between before.acceptor.ended before.acceptor.lost before.spawner.started first) ends (accept.between after.acceptor.ended after.acceptor.lost after.spawner.started last)
-  pub law : KeepsLaw (seen_by last)
+  pub turn : Adds last after_jobs []
+  pub law : KeepsLaw (seen_by after_jobs)
   pub waited : after.spawner.ended ≡ after.spawner.started
 
 -- All connections that a configuration asks for were taken.

@@ -1,5 +1,5 @@
 -- Why a gateway stopped, and what was done until then.
-use Rattle.std.specs.Prelude.{◌≡◌, ℕ, ◌+◌, ◌<◌, ◌≤◌, List, length, IfSome, None, Some}
+use Rattle.std.specs.Prelude.{◌≡◌, ℕ, ◌+◌, ◌<◌, ◌≤◌, List, [], length, IfSome, None, Some}
 use Rattle.nr_outside.specs.Faults.{Rises}
 use Rattle.nr_outside.specs.Streams.{SourceAt, SinkAt, ReadsAll, ReadsWithin, ReadsBeyond, Writes}
 use Rattle.nr_outside.specs.Whole.{input_max}
@@ -10,6 +10,7 @@ use Rattle.nr_words.specs.Limits.{connections_max}
 use Rattle.nr_words.specs.Lines.{Text}
 use Rattle.nr_turnstile.specs.Passes.{seen_by}
 use Rattle.nr_turnstile.specs.declared.turnstile.Pass.{Pass}
+use Rattle.nr_shared.specs.Adding.{Adds}
 use Rattle.nr_shared.specs.Callers.{KeepsLaw}
 use Rattle.nr_shared.specs.declared.entry.Entry.{Entry}
 use Rattle.nr_shared.specs.declared.requester_with_sink.RequesterWithSink.{RequesterWithSink}
@@ -91,12 +92,14 @@ pub data Stopped (O C : Type 0) (stop : ServeStop) (input input' : SourceAt) (ou
 
 -- ===== for the code
 
--- Links were taken by a pass that knew this at first, after the acceptor had listened.
+-- Links were taken by a pass that knew this at first, after the acceptor had listened. Then the pass had one turn more.
 pub record TakesLinks {O C : Type 0} (acceptor acceptor' : AcceptorAt) (spawner spawner' : SpawnerAt) (first : Pass (RequesterWithSink O C) Entry) (ends : List GateEnd) : Type 0 where
   pub last : Pass (RequesterWithSink O C) Entry
+  pub after_jobs : Pass (RequesterWithSink O C) Entry
   pub asked : acceptor'.asked ≡ acceptor.asked
   pub gates : GatesLinks (accept.between acceptor.ended acceptor.lost spawner.started first) ends (accept.between acceptor'.ended acceptor'.lost spawner'.started last)
-  pub law : KeepsLaw (seen_by last)
+  pub turn : Adds last after_jobs []
+  pub law : KeepsLaw (seen_by after_jobs)
   pub waited : spawner'.ended ≡ spawner'.started
 
 -- all that the configuration asks for

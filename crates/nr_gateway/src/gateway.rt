@@ -43,7 +43,7 @@ fn read_gate_settings<I: Source>(alloc: Global, input: &mut I) -> Result<GateCon
     }
 }
 
-/// Serves the connections of the configuration over the remote link.
+/// Serves the connections of the configuration over the remote link. After the jobs the gateway's own pass has one turn more.
 fn gate_links<
     A: Acceptor,
     J: LinkSource + Drop + Send + 'static,
@@ -70,7 +70,7 @@ where
         (λ stop. TakesFewer stop (gate_config_settings config.now) (acceptor_at (A.asked accept.old) (A.ended accept.old) (A.lost accept.old) (A.faults accept.old)) (acceptor_at (A.asked accept.new) (A.ended accept.new) (A.lost accept.new) (A.faults accept.new)) (spawner_at (P.started spawn.old) (P.ended spawn.old) (P.faults spawn.old)) (spawner_at (P.started spawn.new) (P.ended spawn.new) (P.faults spawn.new)) pass.main) }
 {
     let mut pass = pass;
-    match gate::<A, J, K, P, R>(
+    let gated = gate::<A, J, K, P, R>(
         rt,
         alloc,
         accept,
@@ -78,7 +78,10 @@ where
         &remote,
         &mut pass,
         config.connections as u32,
-    ) {
+    );
+    // The jobs have ended: a turn more sees what their calls added to the history.
+    let _ = remote.has_credit(&rt, &mut pass);
+    match gated {
         Ok(gated) => {
             drop(gated);
             Ok(())
