@@ -1,5 +1,5 @@
 -- Each end of a `get` by several jobs whose path leads to a regular file.
-use Rattle.std.proofs.Common.{◌≡◌, ◌⊎◌, ℕ, zero, suc, ◌+◌, ◌≤◌, ◌<◌, ◌^◌, Bool, true, false, cond, ltb, List, [], ◌∷◌, ◌++◌, length, Option, Some, Result, Ok, Err, inl, inr, refl, ap, sym, ◌∙◌, subst, arith, append_assoc, append-nil}
+use Rattle.std.proofs.Common.{◌≡◌, ◌⊎◌, ℕ, zero, suc, ◌≤◌, ◌<◌, ◌^◌, Bool, true, false, cond, ltb, List, [], ◌∷◌, ◌++◌, length, Option, Result, Ok, Err, inl, inr, refl, ap, sym, ◌∙◌, subst, arith, append_assoc, append-nil}
 use Rattle.std.proofs.lemmas.Bool.{ltb-true}
 use mathlib.Core.Option.{some, some-ne-none}
 use lib.ListN.{get_elem?}
@@ -19,21 +19,18 @@ use Rattle.nr_tree.specs.Sane.{IsSane}
 use Rattle.nr_tree.specs.declared.node.Content.TheVariants.{Regular}
 use Rattle.nr_plain.specs.Journal.{tree_at}
 use Rattle.nr_plain.specs.Setup.{Setup}
-use Rattle.nr_words.specs.Lines.{Text}
-use Rattle.nr_words.specs.declared.commands.GetByJobs.{GetByJobs}
 use Rattle.nr_client.specs.declared.client_end.ClientEnd.{ClientEnd}
 use Rattle.nr_client.specs.declared.client_end.ClientEnd.TheVariants as client
-use Rattle.nr_client.specs.Dialing.{DialerAt}
 use Rattle.nr_client.specs.Following.{Next}
 use Rattle.nr_client.specs.Following.Next.{Calls, Returns}
 use Rattle.nr_client.specs.Jobs.{AreExchanges, EndsByJobs, IsExchange, LinkAt, ReadsFileByJobs, ReadsShared, bytes_at}
 use Rattle.nr_client.specs.Jobs.ReadsFileByJobs.{NoAttributes, Shared}
 use Rattle.nr_client.specs.Paths.{path_names}
-use Rattle.nr_client.specs.Reading.{FileRead, offset_after, piece_left, read_call, read_result, reading, with_data, with_size}
-use Rattle.nr_client.specs.Reading.FileRead.{NothingKnown, ReadEnds, SizeKnown}
+use Rattle.nr_client.specs.Reading.{offset_after, piece_left, read_call, read_result, reading, with_data, with_size}
+use Rattle.nr_client.specs.Reading.FileRead.{NothingKnown, SizeKnown}
 use Rattle.nr_client.specs.Requests.{Asks, getattr_call, getattr_result}
 use Rattle.nr_client.specs.Shared.{shared_end}
-use Rattle.nr_commands.specs.ByJobs.{GetsByJobs, link_of}
+use Rattle.nr_commands.specs.ByJobs.{link_of}
 use Rattle.nr_commands.specs.ByJobs.GetsByJobs.{Found, NotFound, NotOpened}
 use Rattle.nr_commands.specs.Commands.{Finds}
 use Rattle.nr_commands.specs.Sessions.{SessionAt}
@@ -41,7 +38,7 @@ use Rattle.nr_service_laws.specs.Exchanges.{Exchange, asked_exchanges, tells_fin
 use Rattle.nr_service_laws.specs.Exchanges.Exchange.{Answered, Forgotten, GivenUp, HandedOver, Submitted}
 use Rattle.nr_service_laws.specs.ReplyEnds.{AreAnswers, IsAnsweredBy}
 use Rattle.nr_service_laws.proofs.Judged.{answers_more}
-use Rattle.nr_service_laws.proofs.JudgedParts.{AreJudged, judged_both, reads_after}
+use Rattle.nr_service_laws.proofs.JudgedParts.{judged_both}
 use Rattle.nr_reply_laws.specs.Replies.{AreIds}
 use Rattle.nr_pair_laws.specs.FilesAt.{KeepPath}
 use Rattle.nr_pair_laws.specs.JobPairs.{AreJobsAnsweredFrom}
@@ -223,7 +220,7 @@ module _ (s : Setup) (J : List Entry) (uid gid : ℕ) (ids : AreIds uid gid) (na
         same = cc
 
         by : IsUnanswered {A = Attributes} (Err why) ⊎ (Err why ≡ getattr_result o) → Ends made end
-        by (inl un) = Unanswered (subst (λ (e : ClientEnd). IsUnanswered {A = List ℕ} (Err e)) (sym same) (same_end Attributes why (Err why) refl un))
+        by (inl un) = Unanswered (subst (λ (e : ClientEnd). IsUnanswered {A = List ℕ} (Err e)) (sym same) (same_end Attributes {B = List ℕ} why (Err why) refl un))
         by (inr refused) =
             let found = (tells_finds uid gid export path at mid (Ok file) finds).made in
             let call = getattr_call uid gid file in
