@@ -1,5 +1,5 @@
 -- Each end of a `get` whose path leads to a regular file.
-use Rattle.std.proofs.Common.{◌≡◌, ◌⊎◌, ℕ, suc, ◌+◌, ◌≤◌, ◌<◌, ◌^◌, Bool, true, false, cond, ltb, List, [], ◌∷◌, ◌++◌, length, Option, Some, Result, Ok, Err, inl, inr, refl, ap, sym, ◌∙◌, subst, arith}
+use Rattle.std.proofs.Common.{◌≡◌, ◌⊎◌, ℕ, suc, ◌≤◌, ◌<◌, ◌^◌, Bool, true, false, cond, ltb, List, [], ◌∷◌, ◌++◌, length, Option, Some, Result, Ok, Err, inl, inr, refl, ap, sym, ◌∙◌, subst, arith}
 use Rattle.std.specs.Prelude.{nat_lt}
 use Rattle.std.specs.List.{fold}
 use Rattle.std.proofs.lemmas.Bool.{ltb-true}
@@ -66,7 +66,7 @@ use Rattle.nr_text_laws.proofs.Walks.{found}
 abbrev IsStatus : ClientEnd → Type 0
 IsStatus end = (status : Status) × (end ≡ client.Nfs status)
 
-abbrev EndsAt : ClientEnd → Next (Unit {0}) → Type 0
+abbrev pub EndsAt : ClientEnd → Next (Unit {0}) → Type 0
 EndsAt end next = next ≡ Returns (Err end)
 
 -- ---- LOOKUPs
@@ -82,12 +82,12 @@ objects_end (name ∷ names) trees c dir end is =
     by (Failed status part) ends rest_of = (status, (let same : end ≡ client.Nfs status = cc in same))
 
 module _ (s : Setup) (J : List Entry) (uid gid : ℕ) (ids : AreIds uid gid) (names : List (List ℕ)) (bytes : List ℕ) (from : ℕ) (h : HoldsFile s J names bytes from) (sane : IsSane s.tree) where
-  refused_at : (place : ℕ) → from ≤ place → KeepPath s J root_handle names from place → GetsAreRefused s J uid gid names h.file place
+  pub refused_at : (place : ℕ) → from ≤ place → KeepPath s J root_handle names from place → GetsAreRefused s J uid gid names h.file place
   refused_at place rises keeps = gets_are_refused_for_rights_lem s J uid gid names bytes from place h sane ids rises keeps
 
   -- ---- READs
 
-  read_end : (why : ClientEnd) (taken : List ℕ) (os : List Outcome) (end : ClientEnd) → EndsAt end (request_after uid gid h.file (ReadEnds why taken) os) → why ≡ end
+  pub read_end : (why : ClientEnd) (taken : List ℕ) (os : List Outcome) (end : ClientEnd) → EndsAt end (request_after uid gid h.file (ReadEnds why taken) os) → why ≡ end
   read_end why taken os end e =
       let stays : fold after_reply (ReadEnds why taken) os ≡ ReadEnds why taken = fold_stays after_reply (ReadEnds why taken) (λ o. refl) os in
       let is : EndsAt end (Returns (Err why)) = sym (ap (λ (w : FileRead). next_read uid gid h.file w) stays) ∙ e in
@@ -146,7 +146,7 @@ module _ (s : Setup) (J : List Entry) (uid gid : ℕ) (ids : AreIds uid gid) (na
     Answers = AnsweredAfter s J from
 
     -- the file that was found is the one to which the path leads
-    file_is : (before mid : SessionAt) (file : List ℕ) (finds : Finds uid gid export path before mid (Ok file)) → AreJudged Answers [] (tells_finds uid gid export path before mid (Ok file) finds).made → file ≡ h.file
+    pub file_is : (before mid : SessionAt) (file : List ℕ) (finds : Finds uid gid export path before mid (Ok file)) → AreJudged Answers [] (tells_finds uid gid export path before mid (Ok file) finds).made → file ≡ h.file
     file_is before mid file (inl (root, (m, (mounts, walks)))) are =
         let mounts_made = (tells_mounts uid gid export before m (Ok root) mounts).made in
         let walks_made = (followed_exchanges (walk_next uid gid root path) m.bytes mid.bytes m.requester mid.requester (Ok file) walks.0).made in

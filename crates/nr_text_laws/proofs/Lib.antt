@@ -1,6 +1,7 @@
 pub mod Commands
 pub mod Encoded
 pub mod EndedGets
+pub mod EndedJobs
 pub mod Ending
 pub mod Finding
 pub mod Fitting

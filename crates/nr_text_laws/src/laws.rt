@@ -2,6 +2,7 @@
 
 ghost use Rattle.nr_text_laws.specs.CommandTexts.{FoundFilesAreThere, FoundParentsAreThere, LinksAreOfTheNode, PathsInOneTree, StatsAreOfTheNode, TextsAreOfTheTrees, TextsInOneTree};
 ghost use Rattle.nr_text_laws.specs.EndedGets.{EndsOfGetsHaveCauses};
+ghost use Rattle.nr_text_laws.specs.EndedJobs.{EndsOfJobsHaveCauses};
 ghost use Rattle.nr_text_laws.specs.Fitting.{AttributesOfCallsFit, EntriesOfCallsFit, RootsAreInWords};
 ghost use Rattle.nr_text_laws.specs.Listings.{ListsAreOfTheDirectory, ListsAreOfTheTrees};
 ghost use Rattle.nr_text_laws.specs.NamesAfter.{MadeDirectoriesAreThere, MadeLinksAreThere, RemovedNamesAreGone};
@@ -60,4 +61,10 @@ pub fn numbers_fit_in_fields()
 /// memory ran out, the output failed, its export is not the server's, or a call was refused with a status of NFS for a cause in the tree at its place.
 pub fn ends_of_gets_have_causes()
     ensures { EndsOfGetsHaveCauses }
+{}
+
+/// So it is of a `get` by several jobs, whose path leads to a regular file, if no entry of the journal changes that, and it opened a session: a READ of a
+/// job that was refused with a status of NFS has its cause too, in the tree at the place of that READ.
+pub fn ends_of_jobs_have_causes()
+    ensures { EndsOfJobsHaveCauses }
 {}

@@ -6,7 +6,7 @@
 mod laws;
 
 pub use laws::{
-    changed_names_lead_there, ends_of_gets_have_causes, found_files_are_there,
-    lists_are_of_the_trees, numbers_fit_in_fields, paths_in_one_tree, texts_are_of_the_node,
-    texts_are_of_the_trees,
+    changed_names_lead_there, ends_of_gets_have_causes, ends_of_jobs_have_causes,
+    found_files_are_there, lists_are_of_the_trees, numbers_fit_in_fields, paths_in_one_tree,
+    texts_are_of_the_node, texts_are_of_the_trees,
 };
