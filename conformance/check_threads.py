@@ -245,8 +245,8 @@ class Tries:
         again = resident(server.pid)
         own = CONNECTIONS * 16 * PIECE / (1 << 20)
         files = own + rounds * 3 * len(large) / (2 << 20)
-        # the allocator keeps some of what each of its arenas had at its most
-        self.same('resident memory after the work, %.1f MiB, is within bounds' % after, after <= before + files + 4 * ROOM, True)
+        # the allocator keeps what each of its arenas had at its most: some 0.8 MiB a connection if all are at work at the same time
+        self.same('resident memory after the work, %.1f MiB, is within bounds' % after, after <= before + files + CONNECTIONS, True)
         self.same('resident memory after more work, %.1f MiB, is within bounds' % again, again <= after + own + ROOM / 2, True)
         silent.close()
         self.ends('64 connections at work', server, total, journal + changes)
