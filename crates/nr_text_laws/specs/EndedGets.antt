@@ -19,15 +19,15 @@ use Rattle.nr_pair_laws.specs.RefusedGets.{HasCause}
 use Rattle.nr_text_laws.specs.CommandTexts.{IsUnanswered, root_of}
 
 -- A `get` with these calls ended so: a call has no answer, or memory ran out; a write to the output failed; MNT was refused, or not sent, since the path isn't
--- that of the server's export; or a call was refused with a status of NFS, for a cause in the tree at its place.
+-- that of the server's export or is too long; or a call was refused with a status of NFS, for a cause in the tree at a place at which the server answers it so.
 pub data EndsForACause (s : Setup) (J : List Entry) (from uid gid : ℕ) (export : List ℕ) (made : List Exchange) (names : List (List ℕ)) (file : List ℕ) (end : ClientEnd) : Type 0 where
   Unanswered : IsUnanswered {A = List ℕ} (Err end) → EndsForACause s J from uid gid export made names file end
   OutputFailed : end ≡ client.OutputFault → EndsForACause s J from uid gid export made names file end
   NotMounted : root_of s.parameters.export export ≡ Err end → EndsForACause s J from uid gid export made names file end
   Refused : (status : Status) → end ≡ client.Nfs status → (place : ℕ) → from ≤ place → HasCause s J uid gid made names file status place → EndsForACause s J from uid gid export made names file end
 
--- Premises as those of `gets_end_for_a_cause` of nr_pair_laws. So a `get` does not end with an RPC refusal, a bad path, a reply that can't be read, or for a
--- limit, but for that of the export's path.
+-- Premises as those of `gets_end_for_a_cause` of nr_pair_laws. So a `get` does not end with an RPC refusal, a bad path, or a reply that can't be read. For which
+-- cause a call has no answer is not said here.
 abbrev pub EndsOfGetsHaveCauses : Type 0
 EndsOfGetsHaveCauses =
     (s : Setup) (J : List Entry) (uid gid : ℕ) (export path : List ℕ) (names : List (List ℕ)) (bytes : List ℕ) (out out' : SinkAt) (before after : SessionAt) (end : ClientEnd) (from : ℕ)

@@ -43,7 +43,7 @@ reads_of_jobs get before after out out' result (Found dialed s s' file opens fin
     reads_of_file get.uid get.gid file (link_of s') hangs.source hangs.sink out.taken out'.taken result hangs.reads
 
 -- The same ends, and no other, for a `get` by jobs that opened a session and whose calls are answered at places of a journal (`AreJobsAnsweredFrom`, which
--- `jobs_are_served` of nr_pair_laws gives). Its calls are those that were made before the requester was shared, and the READs of the jobs.
+-- `jobs_are_served` of nr_pair_laws gives). Its calls are those that were made before the requester was shared, and the READs whose outcomes were used.
 abbrev pub EndsOfJobsHaveCauses : Type 0
 EndsOfJobsHaveCauses =
     (s : Setup) (J : List Entry) (get : GetByJobs Text) (before after : DialerAt) (out out' : SinkAt) (end : ClientEnd) (gets : GetsByJobs get before after out out' (Err end))

@@ -58,13 +58,14 @@ pub fn numbers_fit_in_fields()
 {}
 
 /// If the path of a `get` leads to a regular file, and no entry of the journal changes that, and it ends without its value, then a call has no answer or
-/// memory ran out, the output failed, its export is not the server's, or a call was refused with a status of NFS for a cause in the tree at its place.
+/// memory ran out, the output failed, its export is not the server's or too long, or a call was refused with a status of NFS for a cause in the tree at a
+/// place at which the server answers it so.
 pub fn ends_of_gets_have_causes()
     ensures { EndsOfGetsHaveCauses }
 {}
 
 /// So it is of a `get` by several jobs, whose path leads to a regular file, if no entry of the journal changes that, and it opened a session: a READ of a
-/// job that was refused with a status of NFS has its cause too, in the tree at the place of that READ.
+/// job that was refused with a status of NFS has its cause too, in the tree at a place at which the server answers it so.
 pub fn ends_of_jobs_have_causes()
     ensures { EndsOfJobsHaveCauses }
 {}
