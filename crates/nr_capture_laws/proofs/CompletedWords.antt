@@ -6,7 +6,7 @@ use Rattle.nr_xdr.specs.Fields.{word_at}
 use Rattle.nr_xdr.specs.Reading.{Cursor}
 use Rattle.nr_xdr.specs.Sequencing.{◌>>=◌}
 use Rattle.nr_wire.specs.Segment.{Segment}
-use Rattle.nr_wire.specs.declared.hello.Side.TheVariants.{Initiator, Responder}
+use Rattle.nr_wire.specs.declared.hello.Side.TheVariants.{Initiator}
 use Rattle.nr_rpc.specs.declared.head.ReplyHead.{ReplyHead}
 use Rattle.nr_rpc.specs.Reading.{reply_of}
 use Rattle.nr_header.specs.declared.header.Header.{Header}
@@ -39,7 +39,7 @@ use Rattle.nr_reduce.specs.Client.{client_segment, client_rules, client_end, cli
 use Rattle.nr_reduce.specs.Run.{client}
 use Rattle.nr_reduce.specs.Asked.{AskedSoFar}
 use Rattle.nr_laws.specs.Typed.{IsTyped}
-use Rattle.nr_laws.proofs.EventOutputs.{IsNext, GoesOn, place_after, places_after, first_preserve, later_preserve}
+use Rattle.nr_laws.proofs.EventOutputs.{IsNext, GoesOn, place_after, first_preserve, later_preserve}
 use Rattle.nr_laws.proofs.ClientSays.{ClientGood}
 use Rattle.nr_laws.proofs.ClientRun.{client_goes}
 use Rattle.nr_laws.proofs.Outcomes.{WasGiven, outcome_given}

@@ -1,4 +1,4 @@
-pub mod SaidLines
-pub mod SaidSteps
+pub mod WritableLines
+pub mod WritableSteps
 pub mod CompletedWords
 pub mod WritableRuns

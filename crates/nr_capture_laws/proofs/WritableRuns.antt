@@ -1,7 +1,7 @@
 -- The capture of a drill's run can be written, mark by mark: each link keeps the laws of both of its ends.
-use Rattle.std.specs.Prelude.{◌&&◌, Contains, length, drop, ◌⊎◌, slice_get}
+use Rattle.std.specs.Prelude.{◌&&◌}
 use Rattle.std.specs.List.{AllByRecursion, flat_map}
-use Rattle.std.proofs.Common.{◌≡◌, ℕ, ◌<◌, ◌≤◌, Bool, true, false, cond, eqb, eqb-true, leb, List, [], ◌∷◌, ◌++◌, append_assoc, append-nil, Option, None, Some, Result, Ok, Err, inl, inr, refl, sym, ap, subst, ◌∙◌, arith}
+use Rattle.std.proofs.Common.{◌≡◌, ℕ, ◌≤◌, Bool, true, false, cond, eqb, eqb-true, leb, List, [], ◌∷◌, ◌++◌, append_assoc, Option, None, Some, inl, inr, refl, sym, subst, ◌∙◌, arith}
 use Rattle.std.proofs.lemmas.Bool.{le-leb}
 use Rattle.std.proofs.lemmas.List.Elements.{All-contains, All-from_recursion}
 use Rattle.nr_xdr.specs.Item.{IsBytes}
@@ -11,11 +11,8 @@ use Rattle.nr_wire.specs.declared.hello.Side.TheVariants.{Initiator, Responder}
 use Rattle.nr_rpc.specs.declared.head.CallHead.{CallHead}
 use Rattle.nr_rpc.specs.declared.head.CallHead.TheVariants as calls
 use Rattle.nr_rpc.specs.Call.{BeginsCall}
-use Rattle.nr_rpc.specs.Reading.{call_of}
 use Rattle.nr_rpc.proofs.Calls.{call_begins}
 use Rattle.nr_link.specs.declared.end.End.{End as Stop}
-use Rattle.nr_outside.specs.Whole.{input_max}
-use Rattle.nr_outside.specs.declared.moment.Moment.{Moment}
 use Rattle.nr_reduce.specs.declared.call.Call.{Call}
 use Rattle.nr_reduce.specs.declared.call.Form.{Form}
 use Rattle.nr_reduce.specs.declared.call.Outcome.{Outcome}
@@ -28,12 +25,12 @@ use Rattle.nr_reduce.specs.declared.mark.Told.{Told}
 use Rattle.nr_reduce.specs.declared.mark.Told.TheVariants.{Granted}
 use Rattle.nr_reduce.specs.declared.mark.LinkParameters.{LinkParameters}
 use Rattle.nr_reduce.specs.Limits.{credits_max}
-use Rattle.nr_reduce.specs.History.{AcceptedCall, CompletedCall, accepted_as, accepted_at, accepted_calls, bytes_sent}
-use Rattle.nr_reduce.specs.Run.{client, server, output_due}
+use Rattle.nr_reduce.specs.History.{AcceptedCall, accepted_as, accepted_at, accepted_calls, bytes_sent}
+use Rattle.nr_reduce.specs.Run.{client, server}
 use Rattle.nr_reduce.specs.ServerState.{ReadyCall}
 use Rattle.nr_reduce.specs.ServerMessages.{call_xid}
 use Rattle.nr_reduce.specs.AtEachMark.{AtEachMark}
-use Rattle.nr_reduce.specs.Asked.{AskedMark, AskedSoFar, IsAccepted, IsAll, IsAwaited, IsCompleted}
+use Rattle.nr_reduce.specs.Asked.{AskedMark, AskedSoFar, IsAll, IsAwaited}
 use Rattle.nr_reduce.specs.Served.{ServedMark, IsExecuted, first_ready, next_call}
 use Rattle.nr_reduce.specs.Matched.{IsPrefixOf}
 use Rattle.nr_reduce.proofs.Calls.{executed_head}
@@ -45,24 +42,23 @@ use Rattle.nr_byte_laws.specs.DueBytes.{CompletedInBytes, OutcomeIsBytes}
 use Rattle.nr_byte_laws.proofs.ByteClients.{client_due, outcome_bytes}
 use Rattle.nr_byte_laws.proofs.ByteServers.{ReadyOfBytes, ready_bytes, server_due}
 use Rattle.nr_texts.specs.Words.{IsWord}
-use Rattle.nr_texts.specs.Openings.{IsOpening}
-use Rattle.nr_script.specs.Script.{ScriptLines, IsScript, script_of}
+use Rattle.nr_script.specs.Script.{ScriptLines, IsScript}
 use Rattle.nr_script.proofs.TypedScripts.{script_is}
 use Rattle.nr_script.proofs.MadeScripts.{made_is}
 use Rattle.nr_capture.specs.declared.capture.CapturedMark.{CapturedMark}
 use Rattle.nr_capture.specs.declared.capture.CapturedMark.TheVariants as marks
-use Rattle.nr_capture.specs.Capture.{capture_of, is_link, link_of}
-use Rattle.nr_capture.specs.Captured.{Captured, captured, captured_mark, captured_piece, captured_submit, captured_told}
-use Rattle.nr_capture.specs.Writable.{IsPiece, IsWritable, IsWritableMark, IsWritableOutcome}
+use Rattle.nr_capture.specs.Capture.{is_link, link_of}
+use Rattle.nr_capture.specs.Captured.{captured, captured_mark, captured_piece, captured_submit, captured_told}
+use Rattle.nr_capture.specs.Writable.{IsWritable, IsWritableMark, IsWritableOutcome}
 use Rattle.nr_capture.proofs.WrittenCaptures.{capture_back}
 use Rattle.nr_drill.specs.Drill.{SerialServer, link_of as mark_link}
 use Rattle.nr_drill.specs.Follows.{parameters_of}
 use Rattle.nr_drill.specs.Headline.{IsDrillRun, KeepsLaws}
 use Rattle.nr_drill.specs.private.Drafts.{NumberedMark}
 use Rattle.nr_drill.proofs.Numbering.{drill_numbered}
-use Rattle.nr_capture_laws.specs.ReadBack.{IsMade, IsRead, RunsAreReadBack, RunsAreWritable}
-use Rattle.nr_capture_laws.proofs.SaidLines.{AreSaid, made_is_said, read_is_said}
-use Rattle.nr_capture_laws.proofs.SaidSteps.{AreSaidMarks, IsSaidMark, follows_said}
+use Rattle.nr_capture_laws.specs.ReadBack.{RunsAreReadBack, RunsAreWritable}
+use Rattle.nr_capture_laws.proofs.WritableLines.{AreWritable, made_is_writable, read_is_writable}
+use Rattle.nr_capture_laws.proofs.WritableSteps.{CanWriteMarks, CanWriteMark, follows_writable}
 use Rattle.nr_capture_laws.proofs.CompletedWords.{OutcomeOfWords, outcome_words}
 
 both_each : {A : Type 0} (P : A → Type 0) (xs ys : List A) → AllByRecursion P xs → AllByRecursion P ys → AllByRecursion P (xs ++ ys)
@@ -136,7 +132,7 @@ writable_outcome (outcomes.Version low high) b w = w
 
 -- ===== the marks of a run
 
-module _ (server : SerialServer) (script : ScriptLines) (run : List Mark) (is : IsScript script) (said : AreSaid script) (d : IsDrillRun server script run) where
+module _ (server : SerialServer) (script : ScriptLines) (run : List Mark) (is : IsScript script) (writable : AreWritable script) (d : IsDrillRun server script run) where
   abbrev Right : CapturedMark → Type 0
   Right mark = (is_link script.opening (link_of mark) ≡ true) × IsWritableMark mark
 
@@ -172,7 +168,7 @@ module _ (server : SerialServer) (script : ScriptLines) (run : List Mark) (is : 
         served = AtEachMark_at (ServedMark IsAll opened link) [] before mark after served;
       }
 
-  submit_right : (before : List Mark) (link : ℕ) (call : Call) (form : Form) (answer : Submission) → IsSaidMark (runs.Submit link call form answer) → AtMark before (runs.Submit link call form answer) link
+  submit_right : (before : List Mark) (link : ℕ) (call : Call) (form : Form) (answer : Submission) → CanWriteMark (runs.Submit link call form answer) → AtMark before (runs.Submit link call form answer) link
       → AllByRecursion Right (captured_submit link call form answer)
   submit_right before link call form (submissions.Accepted xid) s a = ((a.is_link_of, ((a.asked refl).xids, s.0, s.1)), tt)
   submit_right before link call form (submissions.Refused why) s a = tt
@@ -207,7 +203,7 @@ module _ (server : SerialServer) (script : ScriptLines) (run : List Mark) (is : 
       let few : script.opening.credits ≤ credits_max = is.few_credits in
       (a.is_link_of, omega (arith, most, few))
 
-  mark_right : (before : List Mark) (mark : Mark) (after : List Mark) → run ≡ before ++ mark ∷ after → IsSaidMark mark → AllByRecursion Right (captured_mark mark)
+  mark_right : (before : List Mark) (mark : Mark) (after : List Mark) → run ≡ before ++ mark ∷ after → CanWriteMark mark → AllByRecursion Right (captured_mark mark)
   mark_right before (runs.Submit link call form answer) after e s = submit_right before link call form answer s (at_mark before (runs.Submit link call form answer) after e)
   mark_right before (runs.Wrote link side bytes) after e s = wrote_right before link side bytes (at_mark before (runs.Wrote link side bytes) after e)
   mark_right before (runs.Fed link side bytes) after e s = fed_right before link side bytes (at_mark before (runs.Fed link side bytes) after e)
@@ -227,7 +223,7 @@ module _ (server : SerialServer) (script : ScriptLines) (run : List Mark) (is : 
   mark_right before (runs.Drop link) after e s = (((at_mark before (runs.Drop link) after e).is_link_of, tt), tt)
   mark_right before (runs.Told link what) after e s = (told_right before link what (at_mark before (runs.Told link what) after e), tt)
 
-  all_right : (before rest : List Mark) → run ≡ before ++ rest → AreSaidMarks rest → AllByRecursion Right (flat_map captured_mark rest)
+  all_right : (before rest : List Mark) → run ≡ before ++ rest → CanWriteMarks rest → AllByRecursion Right (flat_map captured_mark rest)
   all_right before [] e s = tt
   all_right before (mark ∷ rest) e s =
       both_each Right (captured_mark mark) (flat_map captured_mark rest) (mark_right before mark rest e s.0) (all_right (before ++ mark ∷ []) rest (e ∙ sym (append_assoc before (mark ∷ []) rest)) s.1)
@@ -240,10 +236,10 @@ module _ (server : SerialServer) (script : ScriptLines) (run : List Mark) (is : 
   marks_of_all [] h = tt
   marks_of_all (mark ∷ all) h = (h.0.1, marks_of_all all h.1)
 
-run_writable : (server : SerialServer) (script : ScriptLines) (run : List Mark) → IsScript script → AreSaid script → IsDrillRun server script run → IsWritable (captured script.opening run)
+run_writable : (server : SerialServer) (script : ScriptLines) (run : List Mark) → IsScript script → AreWritable script → IsDrillRun server script run → IsWritable (captured script.opening run)
 unfolding captured
-run_writable server script run is said d =
-    let all = all_right server script run is said d [] run refl (follows_said server script run is said d.follows) in
+run_writable server script run is writable d =
+    let all = all_right server script run is writable d [] run refl (follows_writable server script run is writable d.follows) in
     record {
       opening = record {
         some_clients = is.some_clients;
@@ -256,15 +252,15 @@ run_writable server script run is said d =
         some_server_units = is.some_server_units;
         few_server_units = is.few_server_units;
       };
-      links = links_of_all server script run is said d (flat_map captured_mark run) all;
-      marks = marks_of_all server script run is said d (flat_map captured_mark run) all;
+      links = links_of_all server script run is writable d (flat_map captured_mark run) all;
+      marks = marks_of_all server script run is writable d (flat_map captured_mark run) all;
     }
 
 pub writable : RunsAreWritable
-writable server script run (inl read) d = run_writable server script run (script_is read.0 script read.1 read.2) (read_is_said read.0 script read.2) d
+writable server script run (inl read) d = run_writable server script run (script_is read.0 script read.1 read.2) (read_is_writable read.0 script read.2) d
 writable server script run (inr made) d =
     let same = sym made.6 in
-    run_writable server script run (subst IsScript same (made_is made.0 made.1 made.2 made.3 made.4 made.5)) (subst AreSaid same (made_is_said made.0 made.1 made.2)) d
+    run_writable server script run (subst IsScript same (made_is made.0 made.1 made.2 made.3 made.4 made.5)) (subst AreWritable same (made_is_writable made.0 made.1 made.2)) d
 
 pub read_back : RunsAreReadBack
 read_back server script run source d = capture_back (captured script.opening run) (writable server script run source d)

@@ -298,7 +298,7 @@ at_more [] ys k a at = absurd (some-ne-none a (sym at))
 at_more (x ∷ xs) ys zero a at = at
 at_more (x ∷ xs) ys (suc k) a at = at_more xs ys k a at
 
-exchange_more : (seen history : List SharedEntry) (mine : List ℕ) (call : Call) (outcome : Outcome) → Begins seen history → IsExchange seen mine call outcome → IsExchange history mine call outcome
+pub exchange_more : (seen history : List SharedEntry) (mine : List ℕ) (call : Call) (outcome : Outcome) → Begins seen history → IsExchange seen mine call outcome → IsExchange history mine call outcome
 exchange_more seen history mine call outcome begins e =
     let later : (k : ℕ) (x : SharedEntry) → get_elem? seen k ≡ some x → get_elem? history k ≡ some x =
     (λ k x at. subst (λ (h : List SharedEntry). get_elem? h k ≡ some x) (sym begins.1) (at_more seen begins.0 k x at)) in
@@ -385,7 +385,7 @@ module _ (s : Setup) (J : List Entry) (uid gid : ℕ) (export path file : List �
       }
 
 -- the outcome of a call of the history is a reply at a place from this one on
-shared_after : (s : Setup) (J : List Entry) (from : ℕ) (made : List Exchange) (history : List SharedEntry) → AreJobsAnsweredFrom s J from made history
+pub shared_after : (s : Setup) (J : List Entry) (from : ℕ) (made : List Exchange) (history : List SharedEntry) → AreJobsAnsweredFrom s J from made history
     → (mine : List ℕ) (call : Call) (o : Outcome) → IsExchange history mine call o → AnsweredAfter s J from call o
 shared_after s J from made history answered mine call o e =
     let a = answered.shared mine call o e in

@@ -106,7 +106,7 @@ seconds R S request [] are = tt
 seconds R S request (o ∷ os) ((call, (is, (r, t))), are) = ((call, (is, t)), seconds R S (λ later. request (o ∷ later)) os are)
 
 -- the call that a request makes is the one that was answered
-same_call : {A : Type 0} (S : Call → Outcome → Type 0) (made call : Call) (o : Outcome) → ◌≡◌ {A = Next A} (Calls made) (Calls call) → S call o → S made o
+pub same_call : {A : Type 0} (S : Call → Outcome → Type 0) (made call : Call) (o : Outcome) → ◌≡◌ {A = Next A} (Calls made) (Calls call) → S call o → S made o
 same_call S made call o is t = let same : made ≡ call = cc in subst (λ (c : Call). S c o) (sym same) t
 
 -- each outcome of these exchanges is that of its call, at a place of the journal

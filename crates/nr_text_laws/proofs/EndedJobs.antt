@@ -1,8 +1,6 @@
 -- Each end of a `get` by several jobs whose path leads to a regular file.
-use Rattle.std.proofs.Common.{◌≡◌, ◌⊎◌, ℕ, zero, suc, ◌≤◌, ◌<◌, ◌^◌, Bool, true, false, cond, ltb, List, [], ◌∷◌, ◌++◌, length, Option, Result, Ok, Err, inl, inr, refl, ap, sym, ◌∙◌, subst, arith, append_assoc, append-nil}
+use Rattle.std.proofs.Common.{◌≡◌, ◌⊎◌, ℕ, ◌≤◌, ◌<◌, ◌^◌, Bool, true, false, cond, ltb, List, [], ◌∷◌, ◌++◌, length, Option, Result, Ok, Err, inl, inr, refl, ap, sym, ◌∙◌, subst, arith, append_assoc, append-nil}
 use Rattle.std.proofs.lemmas.Bool.{ltb-true}
-use mathlib.Core.Option.{some, some-ne-none}
-use lib.ListN.{get_elem?}
 use Rattle.nr_outside.specs.Streams.{SinkAt, SourceAt}
 use Rattle.nr_nfs_base.specs.declared.attributes.Attributes.{Attributes}
 use Rattle.nr_nfs_base.specs.declared.status.Status.{Status}
@@ -14,7 +12,6 @@ use Rattle.nr_reduce.specs.declared.call.Outcome.{Outcome}
 use Rattle.nr_reduce.specs.declared.mark.Entry.{Entry}
 use Rattle.nr_shared.specs.declared.entry.Entry.{Entry as SharedEntry}
 use Rattle.nr_shared.specs.declared.entry.Entry.TheVariants as entries
-use Rattle.nr_turnstile.specs.Rule.{Begins}
 use Rattle.nr_tree.specs.Sane.{IsSane}
 use Rattle.nr_tree.specs.declared.node.Content.TheVariants.{Regular}
 use Rattle.nr_plain.specs.Journal.{tree_at}
@@ -50,11 +47,13 @@ use Rattle.nr_pair_laws.specs.RefusedGets.HasCause.{OfRead}
 use Rattle.nr_pair_laws.proofs.Calls.{size_at}
 use Rattle.nr_pair_laws.proofs.FileReads.{left_few, request_after}
 use Rattle.nr_pair_laws.proofs.Getting.{AnsweredAfter, judged, since}
+use Rattle.nr_pair_laws.proofs.JobAnswers.{exchange_more, shared_after}
 use Rattle.nr_pair_laws.proofs.Kept.{file_kept, kept}
 use Rattle.nr_pair_laws.proofs.LongerJournals.{answered_in_all}
 use Rattle.nr_pair_laws.proofs.Paths.{content_node}
 use Rattle.nr_pair_laws.proofs.PutThenGet.{file_few}
 use Rattle.nr_pair_laws.proofs.RefusedCalls.{handle_long}
+use Rattle.nr_pair_laws.proofs.RefusedGets.{same_call}
 use Rattle.nr_text_laws.specs.CommandTexts.{IsUnanswered}
 use Rattle.nr_text_laws.specs.EndedGets.{EndsForACause}
 use Rattle.nr_text_laws.specs.EndedGets.EndsForACause.{OutputFailed, Refused, Unanswered}
@@ -63,35 +62,6 @@ use Rattle.nr_text_laws.proofs.EndedGets.{EndsAt, ends_of_gets_have_causes_lem, 
 use Rattle.nr_text_laws.proofs.Parts.{given, same_end}
 
 -- ---- Calls of a shared requester's history
-
-at_more : {E : Type 0} (xs ys : List E) (k : ℕ) (a : E) → get_elem? xs k ≡ some a → get_elem? (xs ++ ys) k ≡ some a
-at_more [] ys k a at = absurd (some-ne-none a (sym at))
-at_more (x ∷ xs) ys zero a at = at
-at_more (x ∷ xs) ys (suc k) a at = at_more xs ys k a at
-
--- a call of a beginning of the history is one of the whole
-exchange_more : (seen history : List SharedEntry) (mine : List ℕ) (call : Call) (outcome : Outcome) → Begins seen history → IsExchange seen mine call outcome → IsExchange history mine call outcome
-exchange_more seen history mine call outcome begins e =
-    let later : (k : ℕ) (x : SharedEntry) → get_elem? seen k ≡ some x → get_elem? history k ≡ some x =
-    (λ k x at. subst (λ (h : List SharedEntry). get_elem? h k ≡ some x) (sym begins.1) (at_more seen begins.0 k x at)) in
-    record {
-      xid = e.xid;
-      at = e.at;
-      asked = later e.at (entries.Submit call forms.Auto e.xid) e.asked;
-      done = e.done;
-      answered = later e.done (entries.Done e.xid outcome e.at) e.answered;
-      own = e.own;
-    }
-
--- its outcome is a reply at a place from this one on
-shared_after : (s : Setup) (J : List Entry) (from : ℕ) (made : List Exchange) (history : List SharedEntry) → AreJobsAnsweredFrom s J from made history
-    → (mine : List ℕ) (call : Call) (o : Outcome) → IsExchange history mine call o → AnsweredAfter s J from call o
-shared_after s J from made history answered mine call o e =
-    let a = answered.shared mine call o e in
-    let first = answered.first in
-    let later = answered.rises 0 e.at (omega arith) in
-    let low = a.1.1.0 in
-    (a.0, (a.1.0, (let m : from ≤ a.0 = omega (arith, first, later, low) in m)))
 
 -- the outcomes of the READs follow those before them
 reads_answered : (R : Call → Outcome → Type 0) (uid gid : ℕ) (file : List ℕ) (seen : List SharedEntry) (mine : List ℕ) (before after : List Outcome) (made : AreExchanges uid gid file seen mine before after)
@@ -111,9 +81,6 @@ answered_later (Submitted xid c ∷ made) later call o is = inr (answered_later 
 answered_later (HandedOver xid outcome ∷ made) later call o is = answered_later made later call o is
 answered_later (Forgotten c ∷ made) later call o is = answered_later made later call o is
 answered_later (GivenUp xid ∷ made) later call o is = answered_later made later call o is
-
-same_call : (S : Call → Outcome → Type 0) (made call : Call) (o : Outcome) → ◌≡◌ {A = Next (Unit {0})} (Calls made) (Calls call) → S call o → S made o
-same_call S made call o is t = let same : made ≡ call = cc in subst (λ (c : Call). S c o) (sym same) t
 
 module _ (s : Setup) (J : List Entry) (uid gid : ℕ) (ids : AreIds uid gid) (names : List (List ℕ)) (bytes : List ℕ) (from : ℕ) (h : HoldsFile s J names bytes from) (sane : IsSane s.tree) where
   -- ---- The READ that was refused
@@ -160,7 +127,7 @@ module _ (s : Setup) (J : List Entry) (uid gid : ℕ) (ids : AreIds uid gid) (na
                 let more : at < length bytes = ltb-true at (length bytes) less in
                 let f = (refused_at s J uid gid ids names bytes from h sane place rises keeps).reads at (piece_left (length bytes) at) (omega (arith, more, few)) (omega (arith, more)) (left_few (length bytes) at) o answered why found in
                 let asked = read_call uid gid h.file at (piece_left (length bytes) at) in
-                let told_so : IsAnsweredBy made asked o = same_call (IsAnsweredBy made) asked call o is by_call in (
+                let told_so : IsAnsweredBy made asked o = same_call {A = Unit {0}} (IsAnsweredBy made) asked call o is by_call in (
                   Acces,
                   (
                     sym (read_end s J uid gid ids names bytes from h sane why taken os end bad) ∙ f.0,

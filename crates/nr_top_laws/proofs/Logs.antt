@@ -1,6 +1,5 @@
 -- What a drill with `--log` prints is read back.
 use Rattle.std.proofs.Common.{◌≡◌, ℕ, ◌≤◌, true, inl, inr, arith}
-use Rattle.std.specs.Prelude.{◌&&◌, nat_le}
 use Rattle.std.proofs.lemmas.Bool.Decides.{nat_tests}
 use Rattle.nr_script.specs.Generator.{made_script}
 use Rattle.nr_script.specs.Limits.{calls_max}

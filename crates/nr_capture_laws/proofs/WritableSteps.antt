@@ -1,9 +1,8 @@
 -- The calls of a drill's run are sent as its script says, and the seconds of its clock are a word.
 use Rattle.std.specs.Prelude.{◌-◌, slice_get, slice_index_or, slice_set, replicate, length, sum_by}
 use Rattle.std.specs.List.{AllByRecursion}
-use Rattle.std.proofs.Common.{◌≡◌, ℕ, zero, suc, ◌+◌, ◌≤◌, Bool, true, false, leb, leb-true, List, [], ◌∷◌, ◌++◌, take, drop, Option, None, Some, refl, sym, ap, subst, ◌∙◌, arith}
+use Rattle.std.proofs.Common.{◌≡◌, ℕ, zero, suc, ◌+◌, ◌≤◌, Bool, true, false, leb-true, List, [], ◌∷◌, ◌++◌, take, Option, None, Some, refl, sym, subst, ◌∙◌, arith}
 use Rattle.std.proofs.lemmas.List.Sums.{sum_by-append, sum_by-cons}
-use Rattle.nr_xdr.specs.Item.{IsBytes}
 use Rattle.nr_wire.specs.declared.hello.Side.{Side}
 use Rattle.nr_wire.specs.declared.hello.Side.TheVariants.{Initiator, Responder}
 use Rattle.nr_rpc.specs.declared.cred.Cred.{Cred}
@@ -28,45 +27,45 @@ use Rattle.nr_capture.specs.Writable.{IsWritableCall, IsWritableCred}
 use Rattle.nr_script.specs.declared.script.Line.{Line}
 use Rattle.nr_script.specs.declared.script.Line.TheVariants as lines
 use Rattle.nr_script.specs.Script.{ScriptLines, IsScript, IsTypedLine, FollowOn, may_follow, seconds_in, seconds_after}
-use Rattle.nr_drill.specs.Drill.{SerialServer, Setting, Drill, Pipes, plain_of, now, unwritten, after_output, after_all_output, settled, pipes_of, with_pipes, with_mark, with_cred, cred_of, after_submit, after_feeding, after_feeding_up, after_up, waiting_call, after_answer, after_execution, after_work, after_calls, after_drop, after_raw, after_feeding_down, after_handing, after_done, after_dones, after_outcomes, after_down, answer_of_line, open_xid, after_giving_up, after_forget, after_taking_back, after_revoke, after_all_up, after_all_work, after_all_down, after_moves, after_round, after_opening, after_openings, start, links_of, after_grant}
-use Rattle.nr_drill.specs.Follows.{after_line, Drains, Makes, MakeAll, Follows, setting_of, opened_drill}
-use Rattle.nr_capture_laws.proofs.SaidLines.{IsSaidLine, AreSaid}
+use Rattle.nr_drill.specs.Drill.{SerialServer, Setting, Drill, Pipes, plain_of, now, unwritten, after_output, after_all_output, settled, pipes_of, with_pipes, with_mark, cred_of, after_submit, after_feeding, after_feeding_up, after_up, waiting_call, after_answer, after_execution, after_work, after_calls, after_drop, after_raw, after_feeding_down, after_handing, after_done, after_dones, after_outcomes, after_down, answer_of_line, open_xid, after_giving_up, after_forget, after_taking_back, after_revoke, after_all_up, after_all_work, after_moves, after_round, after_opening, after_openings, start, links_of}
+use Rattle.nr_drill.specs.Follows.{Drains, Makes, MakeAll, Follows, setting_of, opened_drill}
+use Rattle.nr_capture_laws.proofs.WritableLines.{IsWritableLine, AreWritable}
 
 -- what a mark says of a call that is sent, and of the clock
-abbrev pub IsSaidMark : Mark → Type 0
-IsSaidMark (marks.Submit l call form answer) = IsWritableForm form × IsWritableCall call
-IsSaidMark (marks.Execute l xid moment payload place reply) = IsWord moment.seconds
-IsSaidMark mark = Unit {0}
+abbrev pub CanWriteMark : Mark → Type 0
+CanWriteMark (marks.Submit l call form answer) = IsWritableForm form × IsWritableCall call
+CanWriteMark (marks.Execute l xid moment payload place reply) = IsWord moment.seconds
+CanWriteMark mark = Unit {0}
 
-abbrev pub AreSaidMarks : List Mark → Type 0
-AreSaidMarks run = AllByRecursion IsSaidMark run
+abbrev pub CanWriteMarks : List Mark → Type 0
+CanWriteMarks run = AllByRecursion CanWriteMark run
 
-one_more : (run : List Mark) (mark : Mark) → AreSaidMarks run → IsSaidMark mark → AreSaidMarks (run ++ mark ∷ [])
+one_more : (run : List Mark) (mark : Mark) → CanWriteMarks run → CanWriteMark mark → CanWriteMarks (run ++ mark ∷ [])
 one_more [] mark h m = (m, tt)
 one_more (x ∷ run) mark h m = (h.0, one_more run mark h.1 m)
 
--- ===== a step of a drill: its marks are said so, and the clock and the credentials stay
+-- ===== a step of a drill: its marks can be written, and the clock and the credentials stay
 
 record Goes (old new : Drill) : Type 0 where
-  said : IsWord old.seconds → AreSaidMarks old.marks → AreSaidMarks new.marks
+  writable : IsWord old.seconds → CanWriteMarks old.marks → CanWriteMarks new.marks
   seconds : new.seconds ≡ old.seconds
   creds : new.creds ≡ old.creds
 
 stays : (d : Drill) → Goes d d
-stays d = record { said = λ w h. h; seconds = refl; creds = refl }
+stays d = record { writable = λ w h. h; seconds = refl; creds = refl }
 
 then_goes : {a b c : Drill} → Goes a b → Goes b c → Goes a c
 then_goes g h = record {
-  said = λ w all. h.said (subst IsWord (sym g.seconds) w) (g.said w all);
+  writable = λ w all. h.writable (subst IsWord (sym g.seconds) w) (g.writable w all);
   seconds = h.seconds ∙ g.seconds;
   creds = h.creds ∙ g.creds;
 }
 
-marked : (mark : Mark) (d : Drill) → (IsWord d.seconds → IsSaidMark mark) → Goes d (with_mark mark d)
-marked mark d m = record { said = λ w h. one_more d.marks mark h (m w); seconds = refl; creds = refl }
+marked : (mark : Mark) (d : Drill) → (IsWord d.seconds → CanWriteMark mark) → Goes d (with_mark mark d)
+marked mark d m = record { writable = λ w h. one_more d.marks mark h (m w); seconds = refl; creds = refl }
 
 piped : (link : ℕ) (p : Pipes) (d : Drill) → Goes d (with_pipes link p d)
-piped link p d = record { said = λ w h. h; seconds = refl; creds = refl }
+piped link p d = record { writable = λ w h. h; seconds = refl; creds = refl }
 
 output_goes : (link : ℕ) (side : Side) (bytes : List ℕ) (d : Drill) → Goes d (after_output link side bytes d)
 output_goes link side [] d = stays d
@@ -208,16 +207,16 @@ first_creds (suc n) = (tt, first_creds n)
 
 -- ===== after some lines of the script
 
-record IsSaidDrill (before : List Line) (d : Drill) : Type 0 where
-  marks : AreSaidMarks d.marks
+record IsWritableDrill (before : List Line) (d : Drill) : Type 0 where
+  marks : CanWriteMarks d.marks
   creds : AreCreds d.creds
   clock : d.seconds ≡ seconds_after before
   fits : IsWord d.seconds
 
-went : (before : List Line) (line : Line) (old new : Drill) → seconds_in line ≡ 0 → Goes old new → IsSaidDrill before old → IsSaidDrill (before ++ line ∷ []) new
+went : (before : List Line) (line : Line) (old new : Drill) → seconds_in line ≡ 0 → Goes old new → IsWritableDrill before old → IsWritableDrill (before ++ line ∷ []) new
 unfolding seconds_after
 went before line old new none g h = record {
-  marks = g.said h.fits h.marks;
+  marks = g.writable h.fits h.marks;
   creds = subst AreCreds (sym g.creds) h.creds;
   clock = g.seconds ∙ h.clock ∙ still;
   fits = subst IsWord (sym g.seconds) h.fits;
@@ -226,7 +225,7 @@ went before line old new none g h = record {
     still : seconds_after before ≡ seconds_after (before ++ line ∷ [])
     still = (let both = sum_by-append seconds_in before (line ∷ []) in let one = sum_by-cons seconds_in line [] in let nil : sum_by seconds_in [] ≡ 0 = refl in omega (arith, both, one, nil, none))
 
-ticked : (opening : Opening) (before : List Line) (seconds : ℕ) (d : Drill) → may_follow opening before (lines.Tick seconds) ≡ true → IsSaidDrill before d → IsSaidDrill (before ++ lines.Tick seconds ∷ []) (record d { seconds = d.seconds + seconds })
+ticked : (opening : Opening) (before : List Line) (seconds : ℕ) (d : Drill) → may_follow opening before (lines.Tick seconds) ≡ true → IsWritableDrill before d → IsWritableDrill (before ++ lines.Tick seconds ∷ []) (record d { seconds = d.seconds + seconds })
 unfolding seconds_after
 ticked opening before seconds d e h = record {
   marks = h.marks;
@@ -238,21 +237,21 @@ ticked opening before seconds d e h = record {
     on : d.seconds + seconds ≡ seconds_after (before ++ lines.Tick seconds ∷ [])
     on = (let both = sum_by-append seconds_in before (lines.Tick seconds ∷ []) in let one = sum_by-cons seconds_in (lines.Tick seconds) [] in let nil : sum_by seconds_in [] ≡ 0 = refl in let is = h.clock in omega (arith, both, one, nil, is))
 
-made : (s : Setting) (opening : Opening) (before : List Line) (line : Line) (old new : Drill) → may_follow opening before line ≡ true → IsTypedLine line → IsSaidLine line → Makes s opening.clients line old new → IsSaidDrill before old
-    → IsSaidDrill (before ++ line ∷ []) new
+made : (s : Setting) (opening : Opening) (before : List Line) (line : Line) (old new : Drill) → may_follow opening before line ≡ true → IsTypedLine line → IsWritableLine line → Makes s opening.clients line old new → IsWritableDrill before old
+    → IsWritableDrill (before ++ line ∷ []) new
 made s opening before (lines.Cred client cred) old new f t l e h =
-    subst (IsSaidDrill (before ++ lines.Cred client cred ∷ [])) (sym e)
+    subst (IsWritableDrill (before ++ lines.Cred client cred ∷ [])) (sym e)
     (let same = went before (lines.Cred client cred) old old refl (stays old) h in
     record { marks = same.marks; creds = with_cred_at old.creds (client - 1) cred h.creds l; clock = same.clock; fits = same.fits })
 made s opening before (lines.Call client form prog vers proc args) old new f t l e h =
     let call : Call = record { prog = prog; vers = vers; proc = proc; cred = cred_of client old; args = args } in
     let right : IsWritableCall call = record { prog = t.1; vers = t.2; proc = t.3; cred = cred_at old.creds (client - 1) h.creds; args = t.4 } in
-    subst (IsSaidDrill (before ++ lines.Call client form prog vers proc args ∷ [])) (sym e)
+    subst (IsWritableDrill (before ++ lines.Call client form prog vers proc args ∷ [])) (sym e)
     (went before (lines.Call client form prog vers proc args) old (after_submit s client call form old) refl (submit_goes s client call form old l right) h)
 made s opening before (lines.Up client most) old new f t l e h = went before (lines.Up client most) old new refl (subst (Goes old) (sym e) (up_goes s client most old)) h
 made s opening before (lines.Down client most) old new f t l e h = went before (lines.Down client most) old new refl (subst (Goes old) (sym e) (down_goes s client most old)) h
 made s opening before (lines.Work client) old new f t l e h = went before (lines.Work client) old new refl (subst (Goes old) (sym e) (work_goes s client old)) h
-made s opening before (lines.Tick seconds) old new f t l e h = subst (IsSaidDrill (before ++ lines.Tick seconds ∷ [])) (sym e) (ticked opening before seconds old f h)
+made s opening before (lines.Tick seconds) old new f t l e h = subst (IsWritableDrill (before ++ lines.Tick seconds ∷ [])) (sym e) (ticked opening before seconds old f h)
 made s opening before (lines.Forget client number) old new f t l e h = went before (lines.Forget client number) old new refl (subst (Goes old) (sym e) (forget_goes s client number old)) h
 made s opening before (lines.Revoke client number) old new f t l e h = went before (lines.Revoke client number) old new refl (subst (Goes old) (sym e) (revoke_goes s client number old)) h
 made s opening before (lines.Drop client) old new f t l e h = went before (lines.Drop client) old new refl (subst (Goes old) (sym e) (drop_goes client old)) h
@@ -262,19 +261,19 @@ made s opening before (lines.Grant client credits) old new f t l e h =
     went before (lines.Grant client credits) old new refl (subst (Goes old) (sym e) (marked (marks.Told client (Granted credits)) old (λ w. tt))) h
 made s opening before lines.Drain old new f t l e h = went before lines.Drain old new refl (drains_go s (links_of opening.clients) e.0 old new e.1) h
 
-made_all : (s : Setting) (opening : Opening) (before all : List Line) (old new : Drill) → FollowOn opening before all → AllByRecursion IsTypedLine all → AllByRecursion IsSaidLine all → MakeAll s opening.clients all old new
-    → IsSaidDrill before old → AreSaidMarks new.marks
-made_all s opening before [] old new f t l e h = subst (λ (d : Drill). AreSaidMarks d.marks) (sym e) h.marks
+made_all : (s : Setting) (opening : Opening) (before all : List Line) (old new : Drill) → FollowOn opening before all → AllByRecursion IsTypedLine all → AllByRecursion IsWritableLine all → MakeAll s opening.clients all old new
+    → IsWritableDrill before old → CanWriteMarks new.marks
+made_all s opening before [] old new f t l e h = subst (λ (d : Drill). CanWriteMarks d.marks) (sym e) h.marks
 made_all s opening before (line ∷ others) old new f t l e h =
     made_all s opening (before ++ line ∷ []) others e.0 new f.1 t.1 l.1 e.2 (made s opening before line old e.0 f.0 t.0 l.0 e.1 h)
 
-pub follows_said : (server : SerialServer) (script : ScriptLines) (run : List Mark) → IsScript script → AreSaid script → Follows server script run → AreSaidMarks run
+pub follows_writable : (server : SerialServer) (script : ScriptLines) (run : List Mark) → IsScript script → AreWritable script → Follows server script run → CanWriteMarks run
 unfolding opened_drill seconds_after
-follows_said server script run is said follows =
+follows_writable server script run is writable follows =
     let s = setting_of server script.opening in
     let first = start script.opening.clients in
     let opened = opened_drill server script.opening in
     let g : Goes first opened = openings_go s (links_of script.opening.clients) first in
     let fits : IsWord 0 = omega arith in
-    let d : IsSaidDrill [] opened = record { marks = g.said fits tt; creds = subst AreCreds (sym g.creds) (first_creds script.opening.clients); clock = g.seconds; fits = subst IsWord (sym g.seconds) fits } in
-    subst AreSaidMarks (sym follows.marks_are) (made_all s script.opening [] script.lines opened follows.last is.follow_on is.typed said follows.makes d)
+    let d : IsWritableDrill [] opened = record { marks = g.writable fits tt; creds = subst AreCreds (sym g.creds) (first_creds script.opening.clients); clock = g.seconds; fits = subst IsWord (sym g.seconds) fits } in
+    subst CanWriteMarks (sym follows.marks_are) (made_all s script.opening [] script.lines opened follows.last is.follow_on is.typed writable follows.makes d)
