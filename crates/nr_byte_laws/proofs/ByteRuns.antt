@@ -12,7 +12,8 @@ use Rattle.nr_regions.specs.RegisteredMemory.{bytes_after_write}
 use Rattle.nr_reduce.specs.declared.call.Submission.TheVariants as submissions
 use Rattle.nr_reduce.specs.declared.mark.Mark.{Mark}
 use Rattle.nr_reduce.specs.declared.mark.Mark.TheVariants as marks
-use Rattle.nr_reduce.specs.History.{other, bytes_received}
+use Rattle.nr_wire.specs.Hello.{peer}
+use Rattle.nr_reduce.specs.History.{bytes_received}
 use Rattle.nr_reduce.specs.Events.{RunEvent, events, events_at, if_own}
 use Rattle.nr_reduce.specs.Events.RunEvent.{FrameReceived, CallSubmitted, MemoryRevoked, CallExecuted, QueueWritten, ServerTold}
 use Rattle.nr_reduce.specs.EndRules.{EndMachine, EndState, next_end_state, next_end_state_by, next_end_state_in, end_state_after, output_for_by, output_for_in, output_for_all}
@@ -97,7 +98,7 @@ mark_carries r link side before (marks.Submit l call form (submissions.Refused w
 mark_carries r link side before (marks.Submit l call form submissions.Dropped) h = tt
 mark_carries r link side before (marks.Wrote l s bytes) h = first_if r _ (QueueWritten (length bytes) ∷ []) tt
 mark_carries r link side before (marks.Fed l s bytes) h =
-    first_if r _ (map FrameReceived (frames_completed (other side) (bytes_received link side before) bytes)) (first_frames r (frames_completed (other side) (bytes_received link side before) bytes))
+    first_if r _ (map FrameReceived (frames_completed (peer side) (bytes_received link side before) bytes)) (first_frames r (frames_completed (peer side) (bytes_received link side before) bytes))
 mark_carries r link side before (marks.Execute l xid moment payload place reply) h =
     first_if r _ (CallExecuted (record { xid = xid; moment = moment; payload = payload; place = place; reply = reply }) ∷ []) h
 mark_carries r link side before (marks.Done l xid outcome) h = tt

@@ -16,7 +16,7 @@ use Rattle.nr_header.specs.declared.header.Body.TheVariants.{Msg, Nomsg, ErrVers
 use Rattle.nr_header.specs.declared.header.Header.{Header}
 use Rattle.nr_header.specs.Header.{header_encoding}
 use Rattle.nr_header.specs.Reading.{header_of}
-use Rattle.nr_rpc.specs.Reading.{call_of, target_of}
+use Rattle.nr_rpc.specs.Reading.{call_of, target_of, head_xid}
 use Rattle.nr_rpc.specs.declared.head.CallHead.{CallHead}
 use Rattle.nr_rpc.specs.declared.head.CallTarget.{CallTarget}
 use Rattle.nr_link.specs.declared.end.End.{End}
@@ -43,7 +43,7 @@ use Rattle.nr_reduce.specs.OfferedRegions.{Region, region_grants}
 use Rattle.nr_reduce.specs.Holds.{Answer, Parts, parts_by, parts_in, answer_with, answer_for, fits_reply, answer_size, writes_into, first_chunk, no_segments, answer_writes, answer_body, answer_message, chunk_error, version_error}
 use Rattle.nr_reduce.specs.ServerState.{PendingCall, PendingRead, ReadyCall, ServerState, credit_word, next_stag, is_pending}
 use Rattle.nr_reduce.specs.ServerReads.{chunks_of, regions_from, regions_of, reads_of, sink_of, is_read, is_over}
-use Rattle.nr_reduce.specs.ServerMessages.{Verdict, CallVerdict, verdict, by_need, by_stream, by_body, by_header, by_payload, by_head, call_xid, has_position, no_stream, chunk_bytes, pending_payload}
+use Rattle.nr_reduce.specs.ServerMessages.{Verdict, CallVerdict, verdict, by_need, by_stream, by_body, by_header, by_payload, by_head, has_position, no_stream, chunk_bytes, pending_payload}
 use Rattle.nr_reduce.specs.ServerMessages.CallVerdict.{Refuses, IsReady}
 use Rattle.nr_reduce.specs.ServerMessages.Verdict.{EndsLink, OtherVersion, BadChunks, MakesPending}
 use Rattle.nr_reduce.specs.ServerFrames.{effect_in, FrameEffect, no_effect, with_verdict, ready_if_whole, message_effect, with_access, frame_effect}
@@ -189,7 +189,7 @@ IfReady (IsReady r) = ReadyOfBytes r
 
 head_ready : (c : PendingCall) (payload : List ℕ) (r : Result CallHead ℕ) → IsBytes payload → IfReady (by_head c payload r)
 head_ready c payload (Err at) h = tt
-head_ready c payload (Ok head) h = by (eqb (call_xid head) c.xid)
+head_ready c payload (Ok head) h = by (eqb (head_xid head) c.xid)
   where
     by : (b : Bool) → IfReady (cond b (IsReady (record { number = c.number; xid = c.xid; payload = payload })) (Refuses REASON_XID))
     by true = h

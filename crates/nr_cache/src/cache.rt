@@ -1,7 +1,7 @@
 //! The replies of all clients.
 
 ghost use Rattle.std.specs.Prelude.{◌≡◌, ◌≢◌, ◌≤◌, List, ℕ, [], ◌++◌, ◌∷◌, OnOk, OnErr};
-ghost use Rattle.nr_cache.specs.Entries.{KeptEntry, found_for, window, Finding};
+ghost use Rattle.nr_cache.specs.Entries.{KeptEntry, found_for, window};
 ghost use Rattle.nr_cache.specs.Entries.Finding.{NewCall};
 ghost use Rattle.nr_cache.specs.Windows.{finding_of};
 ghost use Rattle.nr_cache.specs.Caches.{RemembersAll, HasClient, found_by, kept_of};

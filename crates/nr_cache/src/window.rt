@@ -1,8 +1,8 @@
 //! The replies of one client.
 
-ghost use Rattle.std.specs.Prelude.{◌≡◌, ℕ, ◌≤◌, [], List, ◌++◌, ◌∷◌, OnOk, IfOk, max};
+ghost use Rattle.std.specs.Prelude.{◌≡◌, ℕ, ◌≤◌, [], List, ◌++◌, ◌∷◌, IfOk, max};
 ghost use Rattle.nr_cache.specs.declared.window.KeptReply.{KeptReply};
-ghost use Rattle.nr_cache.specs.Entries.{KeptEntry, Finding, window};
+ghost use Rattle.nr_cache.specs.Entries.{KeptEntry, window};
 ghost use Rattle.nr_cache.specs.Entries.Finding.{NewCall};
 ghost use Rattle.nr_cache.specs.Windows.{Replies, Remembers, found_at, kept_in, replies_kept, no_replies, finding_of};
 

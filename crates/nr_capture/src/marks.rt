@@ -1,7 +1,6 @@
 //! The marks of a capture, word by word.
 
-ghost use Rattle.std.specs.Prelude.{◌≡◌, None, Some, IfOk, if◌then◌else◌, codes, [], ◌∷◌};
-ghost use Rattle.std.specs.Str.{bytes_eq};
+ghost use Rattle.std.specs.Prelude.{◌≡◌, None, Some, IfOk, [], ◌∷◌};
 ghost use Rattle.nr_capture.specs.declared.capture.CapturedMark.TheVariants as marks;
 ghost use Rattle.nr_capture.specs.Marks.{call_in, call_with, called_in, cred_in, done_in, done_with, end_in, exec_in, mark_in, mark_named, outcome_in, piece_in, piece_mark, plain_mark, reply_with, side_in, submit_in, submit_with, version_in};
 ghost use Rattle.nr_texts.specs.Pieces.{texts};

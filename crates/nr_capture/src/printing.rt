@@ -4,7 +4,6 @@ ghost use Rattle.std.specs.Prelude.{◌≡◌, ◌++◌, codes, Ok, IfOk, OnOk};
 ghost use Rattle.std.specs.Fmt.{decimal};
 ghost use Rattle.std.specs.List.{flat_map};
 ghost use Rattle.std.specs.String.{string_bytes};
-ghost use Rattle.hex.specs.Hex.{encode_lower};
 ghost use Rattle.nr_capture.specs.Capture.{capture_of};
 ghost use Rattle.nr_capture.specs.Texts.{bytes_text, call_text, capacity_text, capture_text, cred_text, form_text, invalidate_text, lengths_after, lengths_text, line_text, mark_text, offer_text, opening_text, outcome_text, part_text, read_text, semicolon_after, semicolon_if, side_text, sizes_text, two_numbers_text};
 ghost use Rattle.nr_rpc.specs.declared.cred.Cred.TheVariants as creds;

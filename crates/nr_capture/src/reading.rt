@@ -1,6 +1,6 @@
 //! Reading of captures.
 
-ghost use Rattle.std.specs.Prelude.{◌≡◌, ℕ, ◌+◌, ◌<◌, ◌≤◌, ◌^◌, length, true, None, Some, IfOk, ◌&&◌, nat_le, if◌then◌else◌};
+ghost use Rattle.std.specs.Prelude.{◌≡◌, ◌+◌, ◌<◌, ◌≤◌, ◌^◌, length, true, None, Some, IfOk, ◌&&◌, if◌then◌else◌};
 ghost use Rattle.nr_outside.specs.Whole.{input_max};
 ghost use Rattle.nr_texts.specs.Words.{newline, parts};
 ghost use Rattle.nr_capture.specs.Capture.{GivesCapture, capture_of, is_link, marks_from, with_first_line, with_line};

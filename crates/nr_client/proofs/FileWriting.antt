@@ -6,7 +6,7 @@ use Rattle.std.proofs.lemmas.List.Sums.{fold-append}
 use Rattle.std.specs.Io.KnownBytes.{IsAtEnd}
 use Rattle.nr_nfs_base.specs.Limits.{transfer_max}
 use Rattle.nr_outside.specs.Content.{HandsOut}
-use Rattle.nr_outside.proofs.Moves.{HandsOut_append, HandsOut_nil}
+use Rattle.nr_outside.proofs.Moves.{HandsOut_append}
 use Rattle.nr_reduce.specs.declared.call.Outcome.{Outcome}
 use Rattle.nr_requester.specs.RequesterState.{RequesterSide}
 use Rattle.nr_client.specs.declared.client_end.ClientEnd.{ClientEnd}

@@ -1,11 +1,11 @@
 //! A file is read into an output.
 
-ghost use Rattle.std.specs.Prelude.{◌≡◌, ◌⊎◌, ◌<◌, ◌≤◌, ◌+◌, ℕ, List, [], length, Option, Ok, IfOk, OnOk, IfErr};
+ghost use Rattle.std.specs.Prelude.{◌≡◌, ◌<◌, ◌≤◌, ◌+◌, ℕ, List, [], Ok, OnOk, IfErr};
 ghost use Rattle.nr_requester.specs.OpenCalls.{KeepsTickets};
 ghost use Rattle.nr_client.specs.Reading.{OutputFaults, ReadsFile, piece_left};
 ghost use Rattle.nr_client.specs.Requests.{SinkFaults, SourceFaults};
 ghost use Rattle.nr_client.specs.Transfers.{link_bytes};
-ghost use Rattle.nr_client.specs.private.OpenReads.{AreOpen, EndsSo, HasEnded, IsInPiece, ReadSoFar, ReadsAhead, ReadsOn};
+ghost use Rattle.nr_client.specs.private.OpenReads.{AreOpen, EndsSo, IsInPiece, ReadsAhead, ReadsOn};
 
 use crate::answer::outcome_of;
 use crate::asking::ask_nfs;

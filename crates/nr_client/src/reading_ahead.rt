@@ -1,6 +1,6 @@
 //! READs of the next pieces of a file are outstanding while the data of the first are written.
 
-ghost use Rattle.std.specs.Prelude.{◌≡◌, ◌⊎◌, ◌<◌, ◌≤◌, ◌+◌, ℕ, true, false, List, [], length, Option, Err, IfOk, OnOk, IfErr};
+ghost use Rattle.std.specs.Prelude.{◌≡◌, ◌<◌, ◌≤◌, ◌+◌, ℕ, true, false, List, length, Option, Err, OnOk, IfErr};
 ghost use Rattle.nr_client.specs.Calls.{ForgetsCalls};
 ghost use Rattle.nr_client.specs.Reading.{OutputFaults, piece_left};
 ghost use Rattle.nr_client.specs.Requests.{SinkFaults, SourceFaults};

@@ -2,7 +2,7 @@
 
 ghost use Rattle.std.specs.Prelude.{◌≡◌, ◌++◌, IfOk, OnOk};
 ghost use Rattle.std.specs.String.{string_bytes};
-ghost use Rattle.nr_commands.specs.Printed.{attributes_text, handle_text, mode_text, names_text, octal_digit, owner_text, path_text, size_text, type_text};
+ghost use Rattle.nr_commands.specs.Printed.{attributes_text, handle_text, names_text, octal_digit, owner_text, path_text, size_text, type_text};
 
 use nr_client::Names;
 use nr_nfs_base::{Attributes, FileType, Handle, Name, Path};

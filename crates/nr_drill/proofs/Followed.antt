@@ -13,7 +13,7 @@ use Rattle.nr_reduce.specs.declared.mark.Told.TheVariants.{Granted}
 use Rattle.nr_reduce.specs.declared.mark.LinkParameters.{LinkParameters}
 use Rattle.std.proofs.lemmas.Bool.{eq-eqb, leb-true}
 use Rattle.std.proofs.lemmas.List.{get_or-set_other, length-set}
-use Rattle.nr_reduce.specs.History.{CompletedCall, bytes_sent, written_at, same_side, other, is_dropped}
+use Rattle.nr_reduce.specs.History.{CompletedCall, bytes_sent, written_at, same_side, is_dropped}
 use Rattle.nr_reduce.specs.Events.{RunEvent, events_at}
 use Rattle.nr_reduce.specs.EndRules.{output_for_all}
 use Rattle.nr_reduce.specs.Client.{client_rules}

@@ -11,7 +11,6 @@ use Rattle.nr_rpc.specs.declared.cred.Cred.TheVariants as creds
 use Rattle.nr_rpc.specs.Credential.{CredFits}
 use Rattle.nr_reduce.specs.declared.call.Call.{Call}
 use Rattle.nr_reduce.specs.declared.call.Form.{Form}
-use Rattle.nr_reduce.specs.declared.call.Form.TheVariants as forms
 use Rattle.nr_reduce.specs.declared.call.Submission.{Submission}
 use Rattle.nr_reduce.specs.declared.call.Submission.TheVariants as submissions
 use Rattle.nr_reduce.specs.declared.mark.Mark.{Mark}
@@ -28,11 +27,11 @@ use Rattle.nr_reduce.specs.Asked.{revoked_bytes}
 use Rattle.nr_reduce.proofs.Steps.{AtEachMark_first}
 use Rattle.nr_reduce.proofs.Placing.{AtEachMark_at}
 use Rattle.nr_reduce.proofs.Standing.{AtEachMark_more}
-use Rattle.nr_laws.specs.Typed.{IsTypedForm, TypedMark, IsTyped}
+use Rattle.nr_reduce.specs.Plans.{HasWordPosition}
+use Rattle.nr_laws.specs.Typed.{TypedMark, IsTyped}
 use Rattle.nr_laws.proofs.Bytes.{bytes_both}
 use Rattle.nr_script.specs.declared.script.Line.{Line}
 use Rattle.nr_script.specs.declared.script.Line.TheVariants as lines
-use Rattle.nr_texts.specs.Forms.{HasWordPosition}
 use Rattle.nr_script.specs.Script.{ScriptLines, IsTypedCred, IsTypedLine, IsScript}
 use Rattle.nr_drill.specs.Drill.{SerialServer, Setting, Drill, Pipes, plain_of, now, unwritten, after_output, after_all_output, settled, pipes_of, with_pipes, with_mark, with_cred, appended, empty_pipes, cred_of, after_submit, after_feeding, after_feeding_up, after_up, waiting_call, after_answer, after_execution, after_work, after_calls, after_drop, after_raw, after_feeding_down, after_handing, after_done, after_dones, after_outcomes, after_down, answer_of_line, open_xid, after_giving_up, after_forget, after_taking_back, after_revoke, after_all_up, after_all_work, after_moves, after_round, after_opening, after_openings, start, links_of, after_grant}
 use Rattle.nr_drill.specs.Follows.{after_line, Drains, Makes, MakeAll, Follows, setting_of, opened_drill}
@@ -123,16 +122,9 @@ cred_fits creds.None h = tt
 cred_fits (creds.Sys stamp machine uid gid gids) h = h.1
 cred_fits (creds.Other flavor) h = h
 
-typed_form : (form : Form) → HasWordPosition form → IsTypedForm form
-typed_form forms.Auto h = tt
-typed_form forms.Inline h = tt
-typed_form forms.Chunk h = tt
-typed_form forms.Long h = tt
-typed_form (forms.Given offer) h = h
-
 submit_mark : (link : ℕ) (run : List Mark) (call : Call) (form : Form) (answer : Submission) → HasWordPosition form → (call.prog < 2 ^ 32) × (call.vers < 2 ^ 32) × (call.proc < 2 ^ 32) × IsBytes call.args → IsTypedCred call.cred →
     TypedMark run (marks.Submit link call form answer)
-submit_mark link run call form (submissions.Accepted xid) f h c = (payload_is_bytes xid call c h.3, typed_form form f, (h.0, h.1, h.2, cred_fits call.cred c))
+submit_mark link run call form (submissions.Accepted xid) f h c = (payload_is_bytes xid call c h.3, f, (h.0, h.1, h.2, cred_fits call.cred c))
 submit_mark link run call form (submissions.Refused why) f h c = tt
 submit_mark link run call form submissions.Dropped f h c = tt
 

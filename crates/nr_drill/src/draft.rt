@@ -1,10 +1,10 @@
 //! A report that is being made, mark by mark.
 
-ghost use Rattle.std.specs.Prelude.{◌≡◌, ℕ, ◌+◌, ◌-◌, ◌++◌, ◌==◌, ◌&&◌, ◌<◌, List, [], length, get_or, replicate, IfOk, OnOk, MatchOption, Option, None, slice_get, slice_set, slice_index_or};
+ghost use Rattle.std.specs.Prelude.{◌≡◌, ℕ, ◌+◌, ◌-◌, ◌==◌, ◌&&◌, ◌<◌, [], length, get_or, replicate, IfOk, OnOk, MatchOption, Option, None, slice_get, slice_set, slice_index_or};
 ghost use Rattle.nr_reduce.specs.declared.mark.Mark.{Mark};
 ghost use Rattle.nr_marks.specs.Views.{mark_seen};
 ghost use Rattle.nr_drill.specs.Reports.{submitted_state, becomes, is_open_as, place_shown};
-ghost use Rattle.nr_drill.specs.private.Drafts.{AddsLine, AddsPlace, AreEmpty, AreNumbered, IsDraft, is_submit_of, submits_of, EndsAt, Ended, Executed, Noted, Same, Submitted, index_of, place_of, state_done};
+ghost use Rattle.nr_drill.specs.private.Drafts.{AddsLine, AddsPlace, AreEmpty, AreNumbered, IsDraft, is_submit_of, submits_of, Ended, Executed, Noted, Submitted, index_of, place_of, state_done};
 
 use crate::report::{CallReport, CallState};
 use nr_marks::{MarkList, MarkView};

@@ -2,7 +2,7 @@
 //! reported and printed of them.
 //!
 //! It stands on `nr_script`, which reads scripts, on `nr_reduce` and `nr_laws`, which define a run and its laws, and on `nr_plain`, whose
-//! server answers. The ends themselves stand above, in `nr_drill_link` and `nr_world`.
+//! server answers. The ends themselves stand above, in `nr_world`.
 //!
 //! The definitions say which marks each line of a script makes, whatever runs it. [`drill_is_run`] is the guarantee, in one record: marks
 //! that a script makes are the run of a drill, whose calls are answered as by the plain server, in order. [`runs`] and [`drains_end`] say

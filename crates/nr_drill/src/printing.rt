@@ -1,7 +1,7 @@
 //! What a drill prints: a line for each call line, a line for each link that was dropped and each side that ended, and
 //! the journal's length; or one line of sums.
 
-ghost use Rattle.std.specs.Prelude.{◌≡◌, ◌++◌, ◌≤◌, ◌*◌, ◌^◌, codes, count_by, sum_by, length, IfOk, OnOk};
+ghost use Rattle.std.specs.Prelude.{◌≡◌, ◌++◌, ◌*◌, codes, count_by, sum_by, length, IfOk, OnOk};
 ghost use Rattle.std.specs.Fmt.{decimal};
 ghost use Rattle.std.specs.List.{flat_map};
 ghost use Rattle.std.specs.String.{string_bytes};

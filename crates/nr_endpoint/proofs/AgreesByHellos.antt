@@ -8,7 +8,7 @@ use Rattle.nr_wire.specs.declared.stream.Awaited.{Awaited}
 use Rattle.nr_wire.specs.declared.stream.Awaited.TheVariants.{Hello as HelloFrom, Fpdu}
 use Rattle.nr_wire.specs.Stream.{Split, split, is_whole, frame_len}
 use Rattle.nr_wire.specs.Feeding.{bytes_taken, feeding_after, feeding_after_frames, feeding_after_step, feeding_in}
-use Rattle.nr_wire.specs.Hello.{Hello, hello_of}
+use Rattle.nr_wire.specs.Hello.{Hello, hello_of, peer}
 use Rattle.nr_wire.specs.Segment.{Segment}
 use Rattle.nr_wire.specs.Segment.Segment.{Tagged, Untagged}
 use Rattle.nr_wire.proofs.Frames.{frame_len_append, is_whole_from, partial_from, whole_append, whole_from}
@@ -24,7 +24,7 @@ use Rattle.nr_link.specs.SegmentFaults.{ExpectedResponse}
 use Rattle.nr_link.specs.Frames.{Frame}
 use Rattle.nr_link.proofs.Agreements.{agreements_bounded}
 use Rattle.nr_endpoint.specs.Hellos.{own_private, received_max, receive_length_for, side_agreement}
-use Rattle.nr_endpoint.specs.LinkState.{LinkState, LinkSide, has_ended, initial_link, peer}
+use Rattle.nr_endpoint.specs.LinkState.{LinkState, LinkSide, has_ended, initial_link}
 use Rattle.nr_endpoint.specs.Judging.{after_frame, with_agreement, segment_end, next_frame, with_frame, with_segment_by, with_fpdu, with_peer_hello, with_effect, with_read_response, next_segment}
 use Rattle.nr_endpoint.specs.SendQueue.{SendQueue, written}
 use Rattle.nr_endpoint.specs.ReceiveQueue.{delivered, posted}

@@ -1,5 +1,5 @@
 -- A registration lasts until its release.
-use Rattle.std.proofs.Common.{◌≡◌, ◌≢◌, ℕ, ◌<◌, Bool, true, false, cond, List, [], ◌∷◌, ◌++◌, take, Option, Some, None, Result, Ok, Err, refl, sym, ap, subst, ◌∙◌}
+use Rattle.std.proofs.Common.{◌≡◌, ◌≢◌, ℕ, Bool, true, false, cond, List, [], ◌∷◌, ◌++◌, take, Option, Some, None, Result, Ok, Err, refl, sym, ap, subst, ◌∙◌}
 use Rattle.std.specs.Prelude.{All}
 use Rattle.std.proofs.lemmas.List.Elements.{All-nil, All-cons, All-head, All-tail}
 use Rattle.nr_wire.specs.declared.stream.Awaited.{Awaited}
@@ -8,7 +8,7 @@ use Rattle.nr_wire.specs.Segment.{Segment}
 use Rattle.nr_wire.specs.Segment.Segment.{Tagged, Untagged}
 use Rattle.nr_regions.specs.RegisteredMemory.{RegisteredMemory, Claim, IsHeld, live_region, held_region, after_invalidate}
 use Rattle.nr_regions.specs.Events.{MemoryEvent, after_event, after_events, IsNoReleaseOf}
-use Rattle.nr_regions.proofs.Holding.{held_after_event, next_invalidate}
+use Rattle.nr_regions.proofs.Holding.{held_after_event}
 use Rattle.nr_regions.proofs.Contents.{dead_until_released}
 use Rattle.nr_link.specs.declared.end.End.{End}
 use Rattle.nr_link.specs.Frames.{Frame}

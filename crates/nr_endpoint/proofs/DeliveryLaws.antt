@@ -27,7 +27,8 @@ use Rattle.nr_endpoint.specs.LinkState.{LinkState, LinkSide, has_ended}
 use Rattle.nr_endpoint.specs.Judging.{segment_end, next_frame, with_frame, with_segment_by, with_fpdu, with_peer_hello, with_effect, with_read_response, next_segment}
 use Rattle.nr_endpoint.specs.Calls.{Call, after_call, after_calls}
 use Rattle.nr_endpoint.specs.Calls.Call.{Feed, FeedOne, NextEvent, Post, Stop, OutOfMemory, Send, WriteRemote, ReadRemote, Drain, Register, Release, SendInvalidate, Invalidate}
-use Rattle.nr_endpoint.specs.Laws.{frames_made_whole, memory_events, QueuedEvent, made_at, segment_deliveries, fpdu_deliveries, frame_deliveries, deliveries_of_frames, call_deliveries, deliveries_made, call_delivers, events_delivered, EventsAreDelivered, DeliveriesRise, EventsAreInOrder, EventsFollowAccesses, OneFrameDeliversAtItsEnd}
+use Rattle.nr_endpoint.specs.DeliveryLaws.{QueuedEvent, made_at, segment_deliveries, fpdu_deliveries, frame_deliveries, deliveries_of_frames, call_deliveries, deliveries_made, call_delivers, events_delivered, EventsAreDelivered, DeliveriesRise, EventsAreInOrder, EventsFollowAccesses, OneFrameDeliversAtItsEnd}
+use Rattle.nr_endpoint.specs.Laws.{frames_made_whole, memory_events}
 use Rattle.nr_endpoint.proofs.MemoryLaws.{memory_follows_events, events_append}
 use Rattle.nr_endpoint.proofs.PlaceOrder.{Between, calls_between}
 

@@ -15,7 +15,8 @@ use Rattle.nr_endpoint.specs.LinkState.{LinkState, has_ended}
 use Rattle.nr_endpoint.specs.Judging.{segment_end, next_frame, next_segment}
 use Rattle.nr_endpoint.specs.Calls.{after_call, after_calls}
 use Rattle.nr_endpoint.specs.Calls.Call.{FeedOne}
-use Rattle.nr_endpoint.specs.Laws.{frames_made_whole, deliveries_of, QueuedEvent, made_at, segment_deliveries, fpdu_deliveries, frame_deliveries, deliveries_of_frames, call_deliveries, OneFrameDeliversOnce}
+use Rattle.nr_endpoint.specs.DeliveryLaws.{deliveries_of, QueuedEvent, made_at, segment_deliveries, fpdu_deliveries, frame_deliveries, deliveries_of_frames, call_deliveries, OneFrameDeliversOnce}
+use Rattle.nr_endpoint.specs.Laws.{frames_made_whole}
 use Rattle.nr_endpoint.proofs.DeliveryLaws.{events_are_delivered}
 
 message_few : (number : ℕ) (named : Option ℕ) (message : Option (List ℕ)) → length (message_deliveries number named message) ≤ 1

@@ -11,11 +11,13 @@ use Rattle.nr_wire.proofs.Splits.{split_Splits}
 use Rattle.nr_link.specs.declared.end.End.{End}
 use Rattle.nr_link.specs.Frames.{Frame}
 use Rattle.nr_endpoint.specs.ReceiveQueue.{DeliveredEvent}
-use Rattle.nr_endpoint.specs.LinkState.{LinkState, LinkSide, has_ended, peer, initial_link}
+use Rattle.nr_wire.specs.Hello.{peer}
+use Rattle.nr_endpoint.specs.LinkState.{LinkState, LinkSide, has_ended, initial_link}
 use Rattle.nr_endpoint.specs.Judging.{segment_end, next_frame, with_frame, next_segment}
 use Rattle.nr_endpoint.specs.Calls.{Call, after_call, after_calls}
 use Rattle.nr_endpoint.specs.Calls.Call.{Feed, FeedOne, NextEvent, Post, Stop, OutOfMemory, Send, WriteRemote, ReadRemote, Drain, Register, Release, SendInvalidate, Invalidate}
-use Rattle.nr_endpoint.specs.Laws.{frames_made_whole, bytes_in_call, bytes_fed, deliveries_of, QueuedEvent, made_at, segment_deliveries, fpdu_deliveries, frame_deliveries, deliveries_of_frames, call_deliveries, deliveries_made, DeliveriesRise}
+use Rattle.nr_endpoint.specs.DeliveryLaws.{deliveries_of, QueuedEvent, made_at, segment_deliveries, fpdu_deliveries, frame_deliveries, deliveries_of_frames, call_deliveries, deliveries_made, DeliveriesRise}
+use Rattle.nr_endpoint.specs.Laws.{frames_made_whole, bytes_in_call, bytes_fed}
 use Rattle.nr_endpoint.specs.ReceivedLaws.{EventsOfReceivedBytes}
 use Rattle.nr_endpoint.proofs.Pieces.{frame_place}
 use Rattle.nr_endpoint.proofs.DeliveryLaws.{frames_make, ended_deliveries, events_are_in_order}

@@ -3,12 +3,12 @@ use Rattle.std.specs.Prelude.{◌≡◌, ℕ, ◌≤◌, Bool, true, false, List
 use Rattle.nr_wire.specs.declared.hello.Side.{Side}
 use Rattle.nr_wire.specs.declared.stream.Awaited.TheVariants.{Hello as HelloFrom}
 use Rattle.nr_wire.specs.Stream.{is_whole, frame_len}
-use Rattle.nr_wire.specs.Hello.{Hello, hello_of}
+use Rattle.nr_wire.specs.Hello.{Hello, hello_of, peer}
 use Rattle.nr_link.specs.declared.agreement.SideTerms.{SideTerms}
 use Rattle.nr_link.specs.declared.agreement.Agreement.{Agreement}
 use Rattle.nr_link.specs.Agreement.{default_agreement, IsSendLimit}
 use Rattle.nr_endpoint.specs.Hellos.{own_private, side_agreement, received_max, receive_length_for}
-use Rattle.nr_endpoint.specs.LinkState.{initial_link, peer}
+use Rattle.nr_endpoint.specs.LinkState.{initial_link}
 use Rattle.nr_endpoint.specs.Calls.{Call, after_calls}
 use Rattle.nr_endpoint.specs.Laws.{bytes_fed}
 

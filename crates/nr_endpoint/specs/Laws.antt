@@ -1,6 +1,6 @@
 -- Laws of an endpoint, over the calls that it stands for.
-use Rattle.std.specs.Prelude.{◌≡◌, ◌≢◌, ℕ, ◌+◌, ◌<◌, Bool, true, false, ◌==◌, ◌&&◌, if◌then◌else◌, List, [], ◌∷◌, ◌++◌, length, take, drop, map, Option, None, Some, Result, Ok, Err, ◌⊎◌, ◌≤◌, IfSome, Contains, All}
-use Rattle.nr_wire.specs.Constants.{OPCODE_READ_RESPONSE, REASON_KEY, REASON_PRIVATE, REASON_LENGTH}
+use Rattle.std.specs.Prelude.{◌≡◌, ◌≢◌, ℕ, ◌+◌, ◌<◌, Bool, true, false, if◌then◌else◌, List, [], ◌∷◌, ◌++◌, length, take, drop, map, Option, None, Some, Result, Ok, Err, ◌⊎◌, ◌≤◌, IfSome, Contains, All}
+use Rattle.nr_wire.specs.Constants.{REASON_KEY, REASON_PRIVATE, REASON_LENGTH}
 use Rattle.nr_wire.specs.declared.hello.Side.{Side}
 use Rattle.nr_wire.specs.declared.hello.Side.TheVariants.{Initiator, Responder}
 use Rattle.nr_wire.specs.declared.stream.Awaited.{Awaited}
@@ -8,7 +8,6 @@ use Rattle.nr_wire.specs.declared.stream.Awaited.TheVariants.{Hello as HelloFrom
 use Rattle.nr_wire.specs.Stream.{IsPartial, split}
 use Rattle.nr_wire.specs.Feeding.{bytes_taken}
 use Rattle.nr_wire.specs.Segment.{Segment}
-use Rattle.nr_wire.specs.Segment.Segment.{Tagged, Untagged}
 use Rattle.nr_regions.specs.declared.right.Right.{Right}
 use Rattle.nr_regions.specs.RegisteredMemory.{RegisteredMemory, Access, Claim, IsHeld, denial, live_region, region_offer, held_region, bytes_in, bytes_at}
 use Rattle.nr_regions.specs.Access.{Grant, access_of_tagged, contents, TaggedSegment, grant_at, grant_denial, grant_offer}
@@ -19,15 +18,14 @@ use Rattle.nr_link.specs.declared.end.End.TheVariants as ends
 use Rattle.nr_link.specs.Reasons.{REASON_SHORT, REASON_LONG}
 use Rattle.nr_link.specs.Frames.{Frame}
 use Rattle.nr_link.specs.Input.{InputState, input_of}
-use Rattle.nr_link.specs.ReceiveState.{ReceiveState, message_completed, stag_invalidated, ReadRequest, read_request_of}
+use Rattle.nr_link.specs.ReceiveState.{ReadRequest, read_request_of}
 use Rattle.nr_link.specs.Ending.{tagged_access, final_output, frame_end_by}
 use Rattle.nr_link.specs.Output.{hello_with, refusing_hello}
 use Rattle.nr_link.specs.declared.agreement.SideTerms.{SideTerms}
 use Rattle.nr_endpoint.specs.SendQueue.{SendQueue, with_response, writable, written}
-use Rattle.nr_endpoint.specs.ReceiveQueue.{DeliveredEvent, message_deliveries}
-use Rattle.nr_endpoint.specs.ReceiveQueue.DeliveredEvent.{ReadDone}
 use Rattle.nr_endpoint.specs.Hellos.{first_private}
-use Rattle.nr_endpoint.specs.LinkState.{LinkState, LinkSide, has_ended, peer, initial_link}
+use Rattle.nr_wire.specs.Hello.{peer}
+use Rattle.nr_endpoint.specs.LinkState.{LinkState, LinkSide, has_ended, initial_link}
 use Rattle.nr_endpoint.specs.Judging.{readiness, segment_end, fetch_access, next_frame, next_segment, with_frame}
 use Rattle.nr_endpoint.specs.Calls.{Call, IsStopReason, after_call, after_calls}
 use Rattle.nr_endpoint.specs.Calls.Call.{Feed, FeedOne, NextEvent, Post, Stop, OutOfMemory, Send, SendInvalidate, WriteRemote, ReadRemote, Drain, Register, Release, Invalidate}
@@ -181,113 +179,6 @@ EndsRise from (segment ∷ segments) = (from < segment.end) × EndsRise segment.
 
 abbrev pub ArrivalsRise : Type 0
 ArrivalsRise = (link : LinkSide) (calls : List Call) → EndsRise link.state.place (tagged_segments (memory_events link calls))
-
--- ---- What is delivered to the owner
-
--- what a segment that doesn't end the side delivers: that a read is done, by its last Read Response, or the message that it completes
-abbrev pub deliveries_of : ReceiveState → Segment → List DeliveredEvent
-deliveries_of received (Tagged last opcode stag to payload) = if (opcode == OPCODE_READ_RESPONSE) && last then ReadDone ∷ [] else []
-deliveries_of received (Untagged last opcode w queue msn offset payload) = message_deliveries (received.sends + 1) (stag_invalidated (Untagged last opcode w queue msn offset payload)) (message_completed received (Untagged last opcode w queue msn offset payload))
-
--- an event, with the end of the frame that made it
-pub record QueuedEvent : Type 0 where
-  pub end : ℕ
-  pub delivery : DeliveredEvent
-
-abbrev pub made_at : ℕ → DeliveredEvent → QueuedEvent
-made_at end delivery = record { end = end; delivery = delivery }
-
-abbrev pub segment_deliveries : LinkState → Frame → Segment → Option End → List QueuedEvent
-segment_deliveries s f segment None = map (made_at f.end) (deliveries_of s.receive_queue.received segment)
-segment_deliveries s f segment (Some end) = []
-
-abbrev pub fpdu_deliveries : LinkState → Frame → Result Segment ℕ → List QueuedEvent
-fpdu_deliveries s f (Ok segment) = segment_deliveries s f segment (segment_end s f segment)
-fpdu_deliveries s f (Err reason) = []
-
-abbrev pub frame_deliveries : LinkState → Awaited → List ℕ → List QueuedEvent
-frame_deliveries s (HelloFrom side) bytes = []
-frame_deliveries s Fpdu bytes = fpdu_deliveries s (next_frame s bytes) (next_segment s bytes)
-
--- those of frames that come one after the other, up to the one that ends the side
-abbrev pub deliveries_of_frames : List (List ℕ) → Awaited → LinkState → List QueuedEvent
-deliveries_of_frames [] a s = []
-deliveries_of_frames (frame ∷ frames) a s = if has_ended s then [] else frame_deliveries s a frame ++ deliveries_of_frames frames Fpdu (with_frame s a frame)
-
-abbrev pub call_deliveries : LinkSide → Call → List QueuedEvent
-call_deliveries link (Feed piece) = deliveries_of_frames (frames_made_whole link piece) link.awaited link.state
-call_deliveries link (FeedOne piece) = deliveries_of_frames (take 1 (frames_made_whole link piece)) link.awaited link.state
-call_deliveries link NextEvent = []
-call_deliveries link Post = []
-call_deliveries link (Stop reason) = []
-call_deliveries link OutOfMemory = []
-call_deliveries link (Send message) = []
-call_deliveries link (SendInvalidate stag message) = []
-call_deliveries link (WriteRemote stag to bytes) = []
-call_deliveries link (ReadRemote sink at stag to len) = []
-call_deliveries link (Drain count) = []
-call_deliveries link (Register buf right) = []
-call_deliveries link (Release stag) = []
-call_deliveries link (Invalidate stag) = []
-
-abbrev pub deliveries_made : LinkSide → List Call → List QueuedEvent
-deliveries_made link [] = []
-deliveries_made link (call ∷ calls) = call_deliveries link call ++ deliveries_made (after_call link call) calls
-
--- what a call delivers to the owner: `NextEvent` the first event that waits
-abbrev pub call_delivers : LinkSide → Call → List DeliveredEvent
-call_delivers link (Feed piece) = []
-call_delivers link (FeedOne piece) = []
-call_delivers link NextEvent = take 1 link.state.receive_queue.deliveries
-call_delivers link Post = []
-call_delivers link (Stop reason) = []
-call_delivers link OutOfMemory = []
-call_delivers link (Send message) = []
-call_delivers link (SendInvalidate stag message) = []
-call_delivers link (WriteRemote stag to bytes) = []
-call_delivers link (ReadRemote sink at stag to len) = []
-call_delivers link (Drain count) = []
-call_delivers link (Register buf right) = []
-call_delivers link (Release stag) = []
-call_delivers link (Invalidate stag) = []
-
-abbrev pub events_delivered : LinkSide → List Call → List DeliveredEvent
-events_delivered link [] = []
-events_delivered link (call ∷ calls) = call_delivers link call ++ events_delivered (after_call link call) calls
-
--- What was delivered to the owner and then what still waits is what waited before these calls and then what their frames made, in
--- order. So each event is delivered once, and nothing else is.
-abbrev pub EventsAreDelivered : Type 0
-EventsAreDelivered = (link : LinkSide) (calls : List Call) →
-    events_delivered link calls ++ (after_calls link calls).state.receive_queue.deliveries
-    ≡ link.state.receive_queue.deliveries ++ map (λ made. made.delivery) (deliveries_made link calls)
-
--- They come in the order of the stream: each is made at a frame after that of the one before it.
-abbrev pub DeliveriesRise : ℕ → List QueuedEvent → ℕ → Type 0
-DeliveriesRise from [] until = from ≤ until
-DeliveriesRise from (made ∷ others) until = (from < made.end) × DeliveriesRise made.end others until
-
-abbrev pub EventsAreInOrder : Type 0
-EventsAreInOrder = (link : LinkSide) (calls : List Call) → DeliveriesRise link.state.place (deliveries_made link calls) (after_calls link calls).state.place
-
--- Once an event is made, and so when it is delivered, all tagged segments of the frames up to its own have been placed: the memory is
--- that of the events so far, and of the events of all calls only those are left whose tagged segments end after that frame.
-abbrev pub EventsFollowAccesses : Type 0
-EventsFollowAccesses = (link : LinkSide) (before after : List Call) →
-    let now = after_calls link before in
-    (now.state.memory ≡ after_events link.state.memory (memory_events link before))
-    × ((memory_events link (before ++ after) ≡ memory_events link before ++ memory_events now after)
-    × All (λ made. All (λ segment. made.end < segment.end) (tagged_segments (memory_events now after))) (deliveries_made link before))
-
--- A feed of one frame makes its event at the offset that the side has then, so no tagged segment of a later frame has been placed.
-abbrev pub OneFrameDeliversAtItsEnd : Type 0
-OneFrameDeliversAtItsEnd = (link : LinkSide) (piece : List ℕ) →
-    All (λ made. made.end ≡ (after_call link (FeedOne piece)).state.place) (deliveries_made link (FeedOne piece ∷ []))
-
--- It makes at most one event.
-abbrev pub OneFrameDeliversOnce : Type 0
-OneFrameDeliversOnce = (link : LinkSide) (piece : List ℕ) →
-    length (after_call link (FeedOne piece)).state.receive_queue.deliveries ≤ length link.state.receive_queue.deliveries + 1
 
 -- ---- What the peer reads of it
 

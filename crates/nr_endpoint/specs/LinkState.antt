@@ -1,7 +1,7 @@
 -- The state of one side of a link, with its registered memory.
 use Rattle.std.specs.Prelude.{ℕ, Bool, false, List, [], Option, None, is_some}
 use Rattle.nr_wire.specs.declared.hello.Side.{Side}
-use Rattle.nr_wire.specs.declared.hello.Side.TheVariants.{Initiator, Responder}
+use Rattle.nr_wire.specs.Hello.{peer}
 use Rattle.nr_wire.specs.declared.stream.Awaited.TheVariants.{Hello as HelloFrom}
 use Rattle.nr_wire.specs.Feeding.{Feeding}
 use Rattle.nr_link.specs.declared.end.End.{End}
@@ -37,11 +37,6 @@ pub record LinkState : Type 0 where
 
 abbrev pub has_ended : LinkState → Bool
 has_ended s = is_some s.ended
-
--- the other side of the link
-abbrev pub peer : Side → Side
-peer Initiator = Responder
-peer Responder = Initiator
 
 -- What a side was opened with: the number of receives, the STag that its first region gets, and its terms. Until the peer's hello was accepted
 -- one unit is agreed in each direction.

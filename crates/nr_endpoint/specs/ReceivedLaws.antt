@@ -5,7 +5,8 @@ use Rattle.nr_regions.specs.Events.{tagged_segments}
 use Rattle.nr_link.specs.declared.agreement.SideTerms.{SideTerms}
 use Rattle.nr_endpoint.specs.LinkState.{initial_link}
 use Rattle.nr_endpoint.specs.Calls.{Call, after_calls}
-use Rattle.nr_endpoint.specs.Laws.{bytes_fed, memory_events, deliveries_made}
+use Rattle.nr_endpoint.specs.DeliveryLaws.{deliveries_made}
+use Rattle.nr_endpoint.specs.Laws.{bytes_fed, memory_events}
 
 -- The bytes that were fed by some calls, those of an incomplete frame among them, divide the tagged segments: each that these calls placed
 -- ends within the bytes, and each that later calls place ends after them. So a grant that begins once these bytes came covers only the later

@@ -1,12 +1,12 @@
 //! The endpoint: the peer's stream in pieces, and the calls of its owner.
 
-ghost use Rattle.std.specs.Prelude.{◌≡◌, ◌≢◌, ℕ, ◌+◌, ◌-◌, ◌*◌, ◌^◌, ◌<◌, ◌≤◌, ◌↔◌, [], ◌∷◌, ◌++◌, length, drop, take, None, Some, is_some, Ok, Err, IfOk, OnOk, IfErr, OnErr, IsOk, IsErrAnd, IfSome, List, nat_lt, true, false, if◌then◌else◌};
+ghost use Rattle.std.specs.Prelude.{◌≡◌, ◌≢◌, ℕ, ◌+◌, ◌-◌, ◌^◌, ◌<◌, ◌≤◌, [], ◌∷◌, length, drop, take, None, Some, is_some, Ok, Err, IfOk, nat_lt, true, false, if◌then◌else◌};
 ghost use Rattle.std.specs.Result.{result_err};
 ghost use Rattle.std.specs.FinMap.{empty};
 ghost use Rattle.nr_wire.specs.Feeding.{bytes_taken};
 ghost use Rattle.nr_wire.specs.Stream.{bytes_needed, IsPartial};
 ghost use Rattle.nr_link.specs.declared.end.End.TheVariants as ends;
-ghost use Rattle.nr_endpoint.specs.LinkState.{initial_link, peer, has_ended};
+ghost use Rattle.nr_endpoint.specs.LinkState.{initial_link, has_ended};
 ghost use Rattle.nr_endpoint.specs.Calls.{after_call, after_calls, RepresentsCalls, StandsOn, StandsOnAll, IsStep, RanOutAt, QueuesOutput, makes_whole};
 ghost use Rattle.nr_endpoint.specs.Calls.Call.{Feed, FeedOne, OutOfMemory};
 ghost use Rattle.nr_endpoint.specs.EndpointState.{KeepsStaging};
@@ -48,16 +48,6 @@ impl Model for Endpoint {
     ghost invariant = { λ e. IsStaged e.awaited e.link.state.ended e.link.state.has_hello e.staging.items e.staged };
 }
 
-/// The other side of a link.
-fn peer(side: Side) -> Side
-    ensures { result ≡ peer side }
-{
-    match side {
-        Side::Initiator => Side::Responder,
-        Side::Responder => Side::Initiator,
-    }
-}
-
 impl Endpoint {
     /// A side of a link, with this number of receives, each of the units of its terms. The first region gets this STag, which isn't 0.
     /// Its hello says its terms: an initiator's unless they are the default, a responder's if the initiator's hello said some.
@@ -76,7 +66,7 @@ impl Endpoint {
     {
         Ok(Endpoint {
             link: LinkSide::new(alloc, side, receives, first_stag, terms)?,
-            awaited: Awaited::Hello(peer(side)),
+            awaited: Awaited::Hello(side.peer()),
             staging: vec![in alloc; 0u8; FPDU_MAX]?,
             staged: 0,
         })

@@ -5,7 +5,6 @@ ghost use Rattle.std.specs.Bool.{OnFalse};
 ghost use Rattle.std.specs.FinMap.{empty};
 ghost use Rattle.nr_wire.specs.Stream.{IsFrame};
 ghost use Rattle.nr_wire.specs.Segment.{IsSupported, payload_in};
-ghost use Rattle.arrayvec.specs.ArrayVec.{array_vec_len};
 ghost use Rattle.nr_wire.specs.View.{segment as plain};
 ghost use Rattle.nr_wire.specs.Hello.{hello_of};
 ghost use Rattle.nr_link.specs.declared.end.End.TheVariants as ends;

@@ -1,6 +1,6 @@
 //! The Read Requests that are open.
 
-ghost use Rattle.std.specs.Prelude.{◌≡◌, ◌+◌, ◌-◌, ◌^◌, ◌<◌, ◌≤◌, ◌++◌, true, false, All, length, map};
+ghost use Rattle.std.specs.Prelude.{◌≡◌, ◌+◌, ◌-◌, ◌<◌, ◌≤◌, ◌++◌, true, false, All, length, map};
 ghost use Rattle.nr_link.specs.SegmentFaults.{is_expected};
 ghost use Rattle.nr_endpoint.specs.Judging.{expected_response, reads_after};
 ghost use Rattle.nr_endpoint.specs.Views.{expected};

@@ -1,6 +1,6 @@
 //! What came in untagged messages, and the receives.
 
-ghost use Rattle.std.specs.Prelude.{◌≡◌, ℕ, ◌+◌, ◌-◌, ◌*◌, ◌^◌, ◌<◌, ◌≤◌, [], ◌∷◌, length, take, drop, nat_lt, None, Some, IfOk, OnOk, OnErr, IfSome, is_some, All, not, vec_len, vec_capacity, option_map, option_to_list, true, false, if◌then◌else◌, ◌++◌};
+ghost use Rattle.std.specs.Prelude.{◌≡◌, ◌+◌, ◌-◌, ◌^◌, ◌<◌, ◌≤◌, [], length, take, drop, nat_lt, None, Some, IfOk, OnOk, IfSome, is_some, All, not, vec_len, vec_capacity, option_map, option_to_list, true, false, if◌then◌else◌, ◌++◌};
 ghost use Rattle.std.specs.VecDeque.{deque_len, deque_capacity};
 ghost use Rattle.nr_wire.specs.Segment.Segment.{Untagged};
 ghost use Rattle.nr_wire.specs.Constants.{OPCODE_SEND, OPCODE_SEND_INVALIDATE, OPCODE_READ_REQUEST};

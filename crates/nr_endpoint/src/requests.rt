@@ -1,6 +1,6 @@
 //! Read Requests at the end of the output (RFC 5040 section 4.4).
 
-ghost use Rattle.std.specs.Prelude.{◌≡◌, ℕ, ◌+◌, ◌*◌, ◌≤◌, ◌++◌, length};
+ghost use Rattle.std.specs.Prelude.{◌≡◌, ◌+◌, ◌*◌, ◌≤◌, ◌++◌, length};
 ghost use Rattle.arrayvec.specs.ArrayVec.{array_vec_len};
 ghost use Rattle.nr_xdr.specs.Item.{word, hyper};
 ghost use Rattle.nr_link.specs.Output.{read_request};

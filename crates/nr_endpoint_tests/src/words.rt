@@ -12,14 +12,6 @@ fn key(side: Side) -> [u32; 4] {
     }
 }
 
-/// The other side.
-fn peer(side: Side) -> Side {
-    match side {
-        Side::Initiator => Side::Responder,
-        Side::Responder => Side::Initiator,
-    }
-}
-
 /// Puts the bytes of some words at the end.
 pub fn put_words(rt: &impl Abort, bytes: &mut Vec<u8>, words: &[u32]) {
     for word in words {
@@ -80,7 +72,7 @@ fn put_data(rt: &impl Abort, bytes: &mut Vec<u8>, token: &str) {
 fn put_token(rt: &impl Abort, bytes: &mut Vec<u8>, side: Side, token: &str) {
     match token {
         "own-key" => put_words(rt, bytes, &key(side)),
-        "peer-key" => put_words(rt, bytes, &key(peer(side))),
+        "peer-key" => put_words(rt, bytes, &key(side.peer())),
         _ => put_data(rt, bytes, token),
     }
 }

@@ -1,6 +1,5 @@
 //! Bytes in words: what the lines of scripts feed, and what they expect. Calls of NFS, and replies.
 
-ghost use Rattle.std.specs.Prelude.{◌≡◌};
 ghost use Rattle.nr_rpc.specs.Credential.{CanWriteCred};
 
 use nr_reduce::Call;

@@ -6,8 +6,8 @@ use Rattle.std.proofs.lemmas.Bool.{ltb-false, le-ltb, eqb-true}
 use Rattle.std.proofs.lemmas.List.{append-nil, nil_from_length, length-drop, drop-drop, drop_all}
 use Rattle.std.proofs.lemmas.List.Elements.{All-from_recursion, All-head, All-tail}
 use Rattle.nr_xdr.specs.declared.fault.ItemFault.TheVariants as items
-use Rattle.nr_xdr.specs.Item.{Item, IsBytes, Fits, Reads, padding, encoding, word, word_of}
-use Rattle.nr_xdr.specs.Item.Item.{Unsigned, Hyper, Boolean}
+use Rattle.nr_xdr.specs.Item.{Item, IsBytes, Reads, padding, encoding, word, word_of}
+use Rattle.nr_xdr.specs.Item.Item.{Unsigned}
 use Rattle.nr_xdr.specs.Fields.{word_at}
 use Rattle.nr_xdr.specs.Items.{ReadsAll, AllFit, encodings, TakesAll}
 use Rattle.nr_xdr.specs.Reading.{Cursor, Takes, cursor_past, unsigned_at}

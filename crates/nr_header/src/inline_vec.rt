@@ -1,6 +1,6 @@
 //! Lists that are stored inline while they are short.
 
-ghost use Rattle.std.specs.Prelude.{◌≡◌, ◌+◌, ◌<◌, ◌≤◌, ◌^◌, [], ◌∷◌, ◌++◌, length, IsTrue, ◌↔◌};
+ghost use Rattle.std.specs.Prelude.{◌≡◌, ◌<◌, [], length, IsTrue, ◌↔◌};
 
 use crate::short_list::ShortList;
 use arrayvec::ArrayVec;

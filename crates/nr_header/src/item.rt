@@ -1,6 +1,6 @@
 //! The items of a header: each is read, or refused with its offset.
 
-ghost use Rattle.std.specs.Prelude.{◌≡◌, ◌+◌, ◌^◌, ◌<◌, ◌≤◌, nat_lt, length};
+ghost use Rattle.std.specs.Prelude.{◌≡◌, ◌+◌, ◌^◌, ◌<◌, nat_lt, length};
 ghost use Rattle.nr_xdr.specs.Matching.{MatchesRead, MatchesStep};
 ghost use Rattle.nr_header.specs.Reading.{more_at, segment_at, end_at};
 

@@ -1,7 +1,6 @@
 //! The lists of chunks, read (RFC 8166 section 4.3).
 
-ghost use Rattle.std.specs.Prelude.{◌≡◌, ◌+◌, ◌^◌, ◌<◌, ◌≤◌, nat_lt, [], length, false};
-ghost use Rattle.nr_header.specs.WithinLimits.{read_total};
+ghost use Rattle.std.specs.Prelude.{◌≡◌, ◌<◌, ◌≤◌, [], length};
 ghost use Rattle.nr_xdr.specs.Matching.{MatchesRead};
 ghost use Rattle.nr_header.specs.Reading.{optional_at, lists_after, is_allowed, other_position, entry_at, read_list_at, segments_at, chunk_at, write_list_at, reply_chunk_at, lists_at};
 ghost use Rattle.nr_header.specs.Storage.{lists_of};

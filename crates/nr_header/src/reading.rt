@@ -1,11 +1,11 @@
 //! Reading of a header.
 
-ghost use Rattle.std.specs.Prelude.{◌≡◌, ℕ, ◌+◌, ◌^◌, ◌<◌, ◌≤◌, nat_lt, sum_by, length, take, drop, true, false, Ok, Err, option_map, IfOk, MatchResult};
+ghost use Rattle.std.specs.Prelude.{◌≡◌, ◌+◌, ◌<◌, ◌≤◌, nat_lt, sum_by, length, drop, true, false, Ok, Err, option_map, IfOk, MatchResult};
 ghost use Rattle.nr_header.specs.declared.header.Header.{Header};
 ghost use Rattle.nr_header.specs.WithinLimits.{read_total, CanRead, IsMessage, StreamWithin, stream_after};
 ghost use Rattle.nr_xdr.specs.Fields.{word_at};
 ghost use Rattle.nr_xdr.specs.Matching.{MatchesValue};
-ghost use Rattle.nr_header.specs.Reading.{sums_pass, msg_body, nomsg_body, msg_at, nomsg_at, error_of, error_by, version1_of, body_by, in_lists, header_of};
+ghost use Rattle.nr_header.specs.Reading.{sums_pass, msg_body, nomsg_body, msg_at, nomsg_at, error_of, error_by, version1_of, body_by, header_of};
 ghost use Rattle.nr_header.specs.Header.{error_body};
 ghost use Rattle.nr_header.specs.Storage.{lists_of};
 ghost use Rattle.nr_header.specs.private.ListsRead.{nothing_read, HasOwnLists, IsListed, MatchesBody};

@@ -1,6 +1,6 @@
 //! Calls that are ready, executed and answered.
 
-ghost use Rattle.std.specs.Prelude.{◌≡◌, ◌⊎◌, None, [], OnOk, OnErr, drop, is_some, true};
+ghost use Rattle.std.specs.Prelude.{◌≡◌, None, OnOk, OnErr, drop};
 ghost use Rattle.nr_endpoint.specs.FedBytes.{fed_bytes};
 ghost use Rattle.nr_responder.specs.ResponderState.{end_of};
 ghost use Rattle.nr_responder.specs.Sound.{IsNext};

@@ -1,6 +1,6 @@
 //! The work of one connection, for a thread of its own.
 
-ghost use Rattle.std.specs.Prelude.{◌≡◌, ℕ, false};
+ghost use Rattle.std.specs.Prelude.{◌≡◌, false};
 ghost use Rattle.std.specs.Arc.{arc_value};
 ghost use Rattle.nr_turnstile.specs.Passes.{Rests};
 ghost use Rattle.nr_plain.specs.History.{pass_view};

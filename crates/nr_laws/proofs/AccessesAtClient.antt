@@ -14,14 +14,13 @@ use Rattle.nr_reduce.proofs.OwnLimits.{ClientLimits}
 use Rattle.nr_reduce.specs.declared.mark.LinkParameters.{LinkParameters}
 use Rattle.nr_reduce.specs.declared.outline.Plan.{Plan}
 use Rattle.nr_reduce.specs.Limits.{numbers_end}
-use Rattle.nr_reduce.specs.Plans.{Buffer, buffers, regions_needed, call_message}
+use Rattle.nr_reduce.specs.Plans.{Buffer, buffers, regions_needed, call_message, HasWordPosition}
 use Rattle.nr_reduce.specs.History.{AcceptedCall}
 use Rattle.nr_reduce.specs.Events.RunEvent.{FrameReceived, CallSubmitted, QueueWritten}
 use Rattle.nr_reduce.specs.OfferedRegions.{Region, closed_if, regions_closed}
 use Rattle.nr_reduce.specs.ClientState.{ClientState, OutstandingCall, call_payload, plan_for, client_memory_at}
 use Rattle.nr_reduce.specs.Client.{client_state_after, outstanding_of, region_of, with_segment, segment_request, with_hello}
 use Rattle.nr_reduce.specs.ServerState.{ServerState}
-use Rattle.nr_laws.specs.Typed.{IsTypedForm}
 use Rattle.nr_laws.proofs.PlannedSizes.{plan_up, plan_down, planned_for}
 use Rattle.nr_laws.proofs.FrameContents.{FrameContent, client_frames, response_frames, tagged_frame, tagged_frames, Carries, SentMessage, CompletesMessage, last_segment, part_segment, send_frames, calls_frames}
 use Rattle.nr_laws.proofs.FrameContents.FrameContent.{HelloFrame, PartFrame, SendFrame, RequestFrame, TaggedFrame}
@@ -69,7 +68,7 @@ new_live answered xid place [] = tt
 new_live answered xid place (b ∷ bs) = (inl refl, new_live answered xid place bs)
 
 pub accessed_submit : (opened : LinkParameters) (k : ClientState) (s : ServerState) (d all_up all_down : List FrameContent) (place : ℕ) (a : AcceptedCall) (plan : Plan) → AccessesAgree opened k s d all_up all_down place → plan_for k a.xid a.call a.form ≡ Ok plan → a.xid < numbers_end
-    → k.stag + regions_needed plan ≤ numbers_end → IsBytes (call_payload a.xid a.call) → IsTypedForm a.form → ClientLimits k
+    → k.stag + regions_needed plan ≤ numbers_end → IsBytes (call_payload a.xid a.call) → HasWordPosition a.form → ClientLimits k
     → AccessesAgree opened (client_state_after opened k (CallSubmitted place a)) s d (all_up ++ client_frames opened k (CallSubmitted place a)) all_down place
 unfolding client_state_after client_frames
 accessed_submit opened k s d all_up all_down place a plan h is small stags bytes typed limits =

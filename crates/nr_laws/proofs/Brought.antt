@@ -7,7 +7,7 @@ use Rattle.nr_wire.specs.declared.hello.Side.{Side}
 use Rattle.nr_wire.specs.declared.hello.Side.TheVariants.{Initiator, Responder}
 use Rattle.nr_wire.specs.declared.stream.Awaited.{Awaited}
 use Rattle.nr_wire.specs.declared.stream.Awaited.TheVariants.{Hello as HelloFrom, Fpdu}
-use Rattle.nr_wire.specs.Hello.{Hello, key, hello_encoding, hello_of, hello_len, is_refused_by}
+use Rattle.nr_wire.specs.Hello.{Hello, key, hello_encoding, hello_of, hello_len, is_refused_by, peer}
 use Rattle.nr_wire.specs.Segment.{Segment, segment_of, encoding, fpdu_len, IsSupported, Fits, ulpdu_size}
 use Rattle.nr_wire.specs.Next.{frame_answer, hello_in, segment_in}
 use Rattle.nr_wire.specs.Next.Next.{Whole, More}
@@ -24,7 +24,7 @@ use Rattle.nr_link.proofs.Streams.{frames_from_append, frames_completed_split}
 use Rattle.nr_reduce.specs.declared.call.Submission.TheVariants as submissions
 use Rattle.nr_reduce.specs.declared.mark.Mark.{Mark}
 use Rattle.nr_reduce.specs.declared.mark.Mark.TheVariants as marks
-use Rattle.nr_reduce.specs.History.{other, same_side, bytes_received, fed_at}
+use Rattle.nr_reduce.specs.History.{same_side, bytes_received, fed_at}
 use Rattle.nr_reduce.specs.Events.{RunEvent, events, events_at, if_own}
 use Rattle.nr_reduce.specs.Events.RunEvent.{FrameReceived, CallSubmitted, MemoryRevoked, CallExecuted, QueueWritten, ServerTold}
 use Rattle.nr_reduce.specs.Matched.{IsPrefixOf}
@@ -218,24 +218,24 @@ if_none_lem true e h = h
 if_none_lem false e h = refl
 
 quiet : (link : ℕ) (side : Side) (before : List Mark) (mark : Mark) → fed_at link side mark ≡ [] → frames_in (events_at link side before mark) ≡ []
-    → frames_by (other side) (bytes_received link side before ++ fed_at link side mark) ≡ frames_by (other side) (bytes_received link side before) ++ frames_in (events_at link side before mark)
+    → frames_by (peer side) (bytes_received link side before ++ fed_at link side mark) ≡ frames_by (peer side) (bytes_received link side before) ++ frames_in (events_at link side before mark)
 quiet link side before mark none empty =
     let old = bytes_received link side before in
-    ap (λ (xs : List ℕ). frames_by (other side) (old ++ xs)) none ∙ ap (λ (xs : List ℕ). frames_by (other side) xs) (append-nil old)
-    ∙ sym (append-nil (frames_by (other side) old)) ∙ ap (λ (fs : List Frame). frames_by (other side) old ++ fs) (sym empty)
+    ap (λ (xs : List ℕ). frames_by (peer side) (old ++ xs)) none ∙ ap (λ (xs : List ℕ). frames_by (peer side) xs) (append-nil old)
+    ∙ sym (append-nil (frames_by (peer side) old)) ∙ ap (λ (fs : List Frame). frames_by (peer side) old ++ fs) (sym empty)
 
-mark_frames : (link : ℕ) (side : Side) (before : List Mark) (mark : Mark) → frames_by (other side) (bytes_received link side before ++ fed_at link side mark) ≡ frames_by (other side) (bytes_received link side before) ++ frames_in (events_at link side before mark)
+mark_frames : (link : ℕ) (side : Side) (before : List Mark) (mark : Mark) → frames_by (peer side) (bytes_received link side before ++ fed_at link side mark) ≡ frames_by (peer side) (bytes_received link side before) ++ frames_in (events_at link side before mark)
 mark_frames link side before (marks.Fed l s bytes) = by (eqb l link && same_side s side)
   where
-    peer : Side
-    peer = other side
+    sender : Side
+    sender = peer side
 
     old : List ℕ
     old = bytes_received link side before
 
-    by : (b : Bool) → frames_by peer (old ++ cond b bytes []) ≡ frames_by peer old ++ frames_in (if_own b (map FrameReceived (frames_completed peer old bytes)))
-    by true = frames_more peer old bytes ∙ ap (λ (fs : List Frame). frames_by peer old ++ fs) (sym (frames_in_map (frames_completed peer old bytes)))
-    by false = ap (λ (xs : List ℕ). frames_by peer xs) (append-nil old) ∙ sym (append-nil (frames_by peer old))
+    by : (b : Bool) → frames_by sender (old ++ cond b bytes []) ≡ frames_by sender old ++ frames_in (if_own b (map FrameReceived (frames_completed sender old bytes)))
+    by true = frames_more sender old bytes ∙ ap (λ (fs : List Frame). frames_by sender old ++ fs) (sym (frames_in_map (frames_completed sender old bytes)))
+    by false = ap (λ (xs : List ℕ). frames_by sender xs) (append-nil old) ∙ sym (append-nil (frames_by sender old))
 mark_frames link side before (marks.Wrote l s bytes) = quiet link side before (marks.Wrote l s bytes) refl (if_none_lem (eqb l link && same_side s side) (QueueWritten (length bytes)) refl)
 mark_frames link side before (marks.Submit l call form (submissions.Accepted xid)) = quiet link side before (marks.Submit l call form (submissions.Accepted xid)) refl (if_none_lem (eqb l link && same_side Initiator side) (CallSubmitted (length (bytes_received link side before)) (record { xid = xid; call = call; form = form })) refl)
 mark_frames link side before (marks.Submit l call form (submissions.Refused why)) = quiet link side before (marks.Submit l call form (submissions.Refused why)) refl refl
@@ -249,18 +249,18 @@ mark_frames link side before (marks.Forget l xid) = quiet link side before (mark
 mark_frames link side before (marks.Drop l) = quiet link side before (marks.Drop l) refl refl
 mark_frames link side before (marks.Told l what) = quiet link side before (marks.Told l what) refl (if_none_lem (eqb l link && same_side Responder side) (ServerTold what) refl)
 
-run_frames : (link : ℕ) (side : Side) (before run : List Mark) → frames_in (events link side before) ≡ frames_by (other side) (bytes_received link side before)
-    → frames_in (events link side (before ++ run)) ≡ frames_by (other side) (bytes_received link side (before ++ run))
-run_frames link side before [] h = subst (λ (b : List Mark). frames_in (events link side b) ≡ frames_by (other side) (bytes_received link side b)) (sym (append-nil before)) h
+run_frames : (link : ℕ) (side : Side) (before run : List Mark) → frames_in (events link side before) ≡ frames_by (peer side) (bytes_received link side before)
+    → frames_in (events link side (before ++ run)) ≡ frames_by (peer side) (bytes_received link side (before ++ run))
+run_frames link side before [] h = subst (λ (b : List Mark). frames_in (events link side b) ≡ frames_by (peer side) (bytes_received link side b)) (sym (append-nil before)) h
 run_frames link side before (mark ∷ run) h =
-    let next : frames_in (events link side (before ++ mark ∷ [])) ≡ frames_by (other side) (bytes_received link side (before ++ mark ∷ [])) =
+    let next : frames_in (events link side (before ++ mark ∷ [])) ≡ frames_by (peer side) (bytes_received link side (before ++ mark ∷ [])) =
     ap frames_in (events_one link side before mark) ∙ frames_in_append (events link side before) (events_at link side before mark)
     ∙ ap (λ (fs : List Frame). fs ++ frames_in (events_at link side before mark)) h
     ∙ sym (mark_frames link side before mark)
-    ∙ ap (λ (xs : List ℕ). frames_by (other side) xs) (sym (received_one link side before mark)) in
-    subst (λ (b : List Mark). frames_in (events link side b) ≡ frames_by (other side) (bytes_received link side b)) (append_assoc before (mark ∷ []) run) (run_frames link side (before ++ mark ∷ []) run next)
+    ∙ ap (λ (xs : List ℕ). frames_by (peer side) xs) (sym (received_one link side before mark)) in
+    subst (λ (b : List Mark). frames_in (events link side b) ≡ frames_by (peer side) (bytes_received link side b)) (append_assoc before (mark ∷ []) run) (run_frames link side (before ++ mark ∷ []) run next)
 
-pub events_frames : (link : ℕ) (side : Side) (run : List Mark) → frames_in (events link side run) ≡ frames_by (other side) (bytes_received link side run)
+pub events_frames : (link : ℕ) (side : Side) (run : List Mark) → frames_in (events link side run) ≡ frames_by (peer side) (bytes_received link side run)
 unfolding events bytes_received split
 events_frames link side run = run_frames link side [] run refl
 
@@ -301,18 +301,18 @@ pub record Receives (link : ℕ) (side : Side) (run : List Mark) (outs : List Ou
   pub came : List Output
   pub left : List Output
   pub parts : came ++ left ≡ outs
-  pub from : AreFrom (HelloFrom (other side)) came
+  pub from : AreFrom (HelloFrom (peer side)) came
   pub brings : Brings (events link side run) came
 
-pub receives : (link : ℕ) (side : Side) (run : List Mark) (outs : List Output) → AreFrom (HelloFrom (other side)) outs → IsPrefixOf (bytes_received link side run) (bytes_of_all outs) → Receives link side run outs
+pub receives : (link : ℕ) (side : Side) (run : List Mark) (outs : List Output) → AreFrom (HelloFrom (peer side)) outs → IsPrefixOf (bytes_received link side run) (bytes_of_all outs) → Receives link side run outs
 receives link side run outs from p =
-    let f = first_of_lem (HelloFrom (other side)) (bytes_received link side run) outs from p in
-    let came : AreFrom (HelloFrom (other side)) f.came = from_first (HelloFrom (other side)) f.came f.left (subst (λ (x : List Output). AreFrom (HelloFrom (other side)) x) (sym f.parts) from) in
+    let f = first_of_lem (HelloFrom (peer side)) (bytes_received link side run) outs from p in
+    let came : AreFrom (HelloFrom (peer side)) f.came = from_first (HelloFrom (peer side)) f.came f.left (subst (λ (x : List Output). AreFrom (HelloFrom (peer side)) x) (sym f.parts) from) in
     let frames : frames_in (events link side run) ≡ frames_from 0 (map bytes_of f.came) = events_frames link side run ∙ ap (λ (fs : List (List ℕ)). frames_from 0 fs) f.frames in
     record {
       came = f.came;
       left = f.left;
       parts = f.parts;
       from = came;
-      brings = brings_each (events link side run) f.came (subst (λ (fs : List Frame). EachBrought fs f.came) (sym frames) (all_brought (other side) f.came came));
+      brings = brings_each (events link side run) f.came (subst (λ (fs : List Frame). EachBrought fs f.came) (sym frames) (all_brought (peer side) f.came came));
     }

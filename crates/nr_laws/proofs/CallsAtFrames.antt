@@ -18,7 +18,7 @@ use Rattle.nr_reduce.specs.declared.mark.Mark.{Mark}
 use Rattle.nr_reduce.specs.declared.mark.Mark.TheVariants as marks
 use Rattle.nr_reduce.specs.declared.mark.LinkParameters.{LinkParameters}
 use Rattle.nr_reduce.specs.declared.outline.Plan.{Plan}
-use Rattle.nr_reduce.specs.Plans.{plan_of, entries_from, read_list, lists_of}
+use Rattle.nr_reduce.specs.Plans.{plan_of, entries_from, read_list, lists_of, HasWordPosition}
 use Rattle.nr_reduce.specs.Chunks.{total_at, call_conveyed}
 use Rattle.nr_reduce.specs.OfferedRegions.{Region, region_grants}
 use Rattle.nr_reduce.specs.ClientState.{call_payload}
@@ -43,7 +43,7 @@ use Rattle.nr_reduce.proofs.WrittenChunks.{added_up}
 use Rattle.nr_laws.proofs.LinkInvariants.{IsUnused}
 use Rattle.nr_laws.specs.Payloads.{form_conveyed}
 use Rattle.nr_laws.specs.RefusedMessages.{IsRefusedMessage}
-use Rattle.nr_laws.specs.Typed.{TypedMark, IsTypedForm, IsTypedCall, IsTyped}
+use Rattle.nr_laws.specs.Typed.{TypedMark, IsTypedCall, IsTyped}
 use Rattle.nr_laws.proofs.AcceptedRegions.{accepted_regions}
 use Rattle.nr_laws.proofs.ClientRun.{WasSubmitted}
 use Rattle.nr_laws.proofs.ConveyedCalls.{planned_fits, plan_reads}
@@ -102,7 +102,7 @@ none_or_some (suc n) P none some = some (omega arith)
 -- ---- What is conveyed of a call that was received
 
 module _ (opened : LinkParameters) (link : ℕ) (run : List Mark) (typed : IsTyped run) {n : ℕ} {m : List ℕ} (w : WasSubmitted opened link run n m) where
-  pub submit_typed : IsBytes (call_payload w.xid w.call) × IsTypedForm w.form × IsTypedCall w.call
+  pub submit_typed : IsBytes (call_payload w.xid w.call) × HasWordPosition w.form × IsTypedCall w.call
   submit_typed = at_mark TypedMark run w.earlier (marks.Submit link w.call w.form (submissions.Accepted w.xid)) w.later w.is typed
 
   submit_plan : plan_of (call_payload w.xid w.call) w.form (sizes_up opened link w.earlier) (sizes_down opened link w.earlier) ≡ Ok w.accepted.plan

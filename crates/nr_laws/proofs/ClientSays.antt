@@ -27,11 +27,10 @@ use Rattle.nr_reduce.specs.Events.{RunEvent}
 use Rattle.nr_reduce.specs.Events.RunEvent.{FrameReceived, CallSubmitted, MemoryRevoked, CallExecuted, QueueWritten, ServerTold}
 use Rattle.nr_reduce.specs.EndRules.{EndState, next_end_state, end_state_after}
 use Rattle.nr_reduce.specs.OfferedRegions.{region_grants}
-use Rattle.nr_reduce.specs.Plans.{regions_needed}
+use Rattle.nr_reduce.specs.Plans.{regions_needed, HasWordPosition}
 use Rattle.nr_reduce.specs.ClientState.{ClientState, OutstandingCall, call_payload, plan_for, client_memory_at}
 use Rattle.nr_reduce.specs.Client.{client_segment, client_rules, client_end, client_readiness, initial_client, or_message_end, outstanding_of, revoked_call}
 use Rattle.nr_reduce.specs.RunLaws.{as_submitted}
-use Rattle.nr_laws.specs.Typed.{IsTypedForm}
 use Rattle.nr_laws.proofs.Outputs.{Output, IsShort, CallsShort, message_of_call, response_outputs}
 use Rattle.nr_laws.proofs.Brought.{AreFrom}
 use Rattle.nr_laws.proofs.Words.{responses_words, RangeEnds, word_below_lem, hyper_below_lem, payload_by}
@@ -49,7 +48,7 @@ pub record IsGoodCall (opened : LinkParameters) (r : EndState ClientState) (a : 
   pub stags : r.state.stag + regions_needed plan ≤ numbers_end
   pub writable : CanWriteCred a.call.cred
   pub bytes : IsBytes (call_payload a.xid a.call)
-  pub form : IsTypedForm a.form
+  pub form : HasWordPosition a.form
   pub limits : ClientLimits r.state
 
 abbrev pub ClientGood : LinkParameters → EndState ClientState → RunEvent → Type 0

@@ -17,12 +17,11 @@ use Rattle.nr_reduce.specs.declared.call.Form.TheVariants as forms
 use Rattle.nr_reduce.specs.declared.call.Offer.{Offer}
 use Rattle.nr_reduce.specs.declared.outline.Plan.{Plan}
 use Rattle.nr_reduce.specs.Limits.{given_max}
-use Rattle.nr_reduce.specs.Plans.{TooLarge, plan_of, plan_size, given_plan, given_read, given_total, within, regions_needed, lists_of, call_message}
+use Rattle.nr_reduce.specs.Plans.{TooLarge, plan_of, plan_size, given_plan, given_read, given_total, within, regions_needed, lists_of, call_message, HasWordPosition}
 use Rattle.nr_reduce.specs.ChunkBytes.{IsNotGiven, lists_by}
 use Rattle.nr_reduce.proofs.PlanKinds.{MessageKind, is_plan, within_ok_lem, offered, shape}
 use Rattle.nr_reduce.proofs.PlanKinds.MessageKind.{Short, Chunked, Long}
 use Rattle.nr_reduce.proofs.Asking.{asks}
-use Rattle.nr_laws.specs.Typed.{IsTypedForm}
 use Rattle.nr_laws.proofs.PlanLists.{ReadsLists, given_fit, fitting_reads}
 use Rattle.nr_laws.proofs.WrittenBytes.{written_as_lem, message_bytes_lem, message_same_lem}
 
@@ -69,7 +68,7 @@ own_planned payload form up down stag p own e bytes stags =
     (inline, body_lists 0 0 m.body (lists_of stag p) t.fits m.lists)
 
 -- a plan of an accepted call: its stream are bytes, and its lists can be written
-pub planned_fits : (payload : List ℕ) (form : Form) (up down stag : ℕ) (p : Plan) → IsSendLimit up → plan_of payload form up down ≡ Ok p → IsBytes payload → IsTypedForm form → stag + regions_needed p ≤ 2 ^ 32
+pub planned_fits : (payload : List ℕ) (form : Form) (up down stag : ℕ) (p : Plan) → IsSendLimit up → plan_of payload form up down ≡ Ok p → IsBytes payload → HasWordPosition form → stag + regions_needed p ≤ 2 ^ 32
     → IsBytes p.inline × AllFit (lists_items (lists_of stag p))
 planned_fits payload forms.Auto up down stag p limit e bytes typed stags = own_planned payload forms.Auto up down stag p tt e bytes stags
 planned_fits payload forms.Inline up down stag p limit e bytes typed stags = own_planned payload forms.Inline up down stag p tt e bytes stags

@@ -11,7 +11,7 @@ use Rattle.nr_reduce.specs.declared.call.Form.TheVariants as forms
 use Rattle.nr_reduce.specs.declared.call.Offer.{Offer}
 use Rattle.nr_reduce.specs.declared.item.Of.TheVariants.{Call}
 use Rattle.nr_reduce.specs.declared.outline.Plan.{Plan}
-use Rattle.nr_reduce.specs.Plans.{plan_of, regions_needed, given_read, given_region, entries_from, read_list, lists_of, read_stag, inline_at, inline_stream}
+use Rattle.nr_reduce.specs.Plans.{plan_of, regions_needed, given_read, given_region, entries_from, read_list, lists_of, read_stag, inline_at, inline_stream, HasWordPosition}
 use Rattle.nr_reduce.specs.Chunks.{total_at, position_of, item_position, call_moved, call_stream, whole, call_conveyed}
 use Rattle.nr_reduce.specs.ServerMessages.{no_stream}
 use Rattle.nr_reduce.specs.ServerState.{PendingCall}
@@ -24,7 +24,6 @@ use Rattle.nr_reduce.proofs.PlanKinds.MessageKind.{Short, Chunked, Long}
 use Rattle.nr_reduce.proofs.Asking.{asks}
 use Rattle.nr_reduce.proofs.Sizes.{is_formed}
 use Rattle.nr_reduce.proofs.Rebuilding.{reducible, moved_length}
-use Rattle.nr_laws.specs.Typed.{IsTypedForm}
 use Rattle.nr_laws.specs.Payloads.{form_conveyed}
 use Rattle.nr_laws.proofs.PlanLists.{stream_known}
 use Rattle.nr_laws.proofs.SinkReads.{total_own}
@@ -95,7 +94,7 @@ received_as stag p c chunk size is holds =
 
 -- ---- What the form conveys
 
-own_conveys : (payload : List ℕ) (form : Form) (up down stag : ℕ) (p : Plan) (chunk : ℕ → List ℕ) → IsBytes payload → IsNotGiven form → IsTypedForm form → IsSendLimit up → plan_of payload form up down ≡ Ok p → stag + regions_needed p ≤ 2 ^ 32 → ChunkHolds chunk p
+own_conveys : (payload : List ℕ) (form : Form) (up down stag : ℕ) (p : Plan) (chunk : ℕ → List ℕ) → IsBytes payload → IsNotGiven form → HasWordPosition form → IsSendLimit up → plan_of payload form up down ≡ Ok p → stag + regions_needed p ≤ 2 ^ 32 → ChunkHolds chunk p
     → call_conveyed (inline_stream p) (lists_of stag p).read chunk ≡ Some payload
 own_conveys payload form up down stag p chunk bytes own typed limit e stags holds =
     let m = asks payload form up down 0 0 stag p bytes own e (omega arith) (omega arith) stags in
@@ -136,7 +135,7 @@ given_conveys payload offer up down stag p chunk e holds =
     subst (λ (q : Plan). ChunkHolds chunk q → call_conveyed (inline_stream q) (lists_of stag q).read chunk ≡ given_conveyed payload offer.read_at offer.read) (is_formed payload (forms.Given offer) up down p e).is
     (given_list payload chunk offer.read_at offer.read offer.write offer.reply stag) holds
 
-pub plan_conveys : (payload : List ℕ) (form : Form) (up down stag : ℕ) (p : Plan) (chunk : ℕ → List ℕ) → IsBytes payload → IsTypedForm form → IsSendLimit up → plan_of payload form up down ≡ Ok p → stag + regions_needed p ≤ 2 ^ 32 → ChunkHolds chunk p
+pub plan_conveys : (payload : List ℕ) (form : Form) (up down stag : ℕ) (p : Plan) (chunk : ℕ → List ℕ) → IsBytes payload → HasWordPosition form → IsSendLimit up → plan_of payload form up down ≡ Ok p → stag + regions_needed p ≤ 2 ^ 32 → ChunkHolds chunk p
     → call_conveyed (inline_stream p) (lists_of stag p).read chunk ≡ form_conveyed form payload
 plan_conveys payload forms.Auto up down stag p chunk bytes typed limit e stags holds = own_conveys payload forms.Auto up down stag p chunk bytes tt tt limit e stags holds
 plan_conveys payload forms.Inline up down stag p chunk bytes typed limit e stags holds = own_conveys payload forms.Inline up down stag p chunk bytes tt tt limit e stags holds
@@ -145,7 +144,7 @@ plan_conveys payload forms.Long up down stag p chunk bytes typed limit e stags h
 plan_conveys payload (forms.Given offer) up down stag p chunk bytes typed limit e stags holds = given_conveys payload offer up down stag p chunk e holds
 
 -- What is conveyed to the server by a call with the lists and the stream of its plan, if its read chunk brings the plan's region.
-pub received_conveys : (payload : List ℕ) (form : Form) (up down stag : ℕ) (p : Plan) (c : PendingCall) (chunk : ℕ → List ℕ) → IsBytes payload → IsTypedForm form → IsSendLimit up → plan_of payload form up down ≡ Ok p → stag + regions_needed p ≤ 2 ^ 32
+pub received_conveys : (payload : List ℕ) (form : Form) (up down stag : ℕ) (p : Plan) (c : PendingCall) (chunk : ℕ → List ℕ) → IsBytes payload → HasWordPosition form → IsSendLimit up → plan_of payload form up down ≡ Ok p → stag + regions_needed p ≤ 2 ^ 32
     → IsOfPlan stag p c → ChunkHolds chunk p → call_conveyed c.inline c.lists.read chunk ≡ form_conveyed form payload
 received_conveys payload form up down stag p c chunk bytes typed limit e stags is holds =
     received_as stag p c chunk (planned_chunk payload form up down p e) is holds ∙ plan_conveys payload form up down stag p chunk bytes typed limit e stags holds

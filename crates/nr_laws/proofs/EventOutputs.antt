@@ -16,7 +16,8 @@ use Rattle.nr_link.proofs.Streams.{frames_completed_split}
 use Rattle.nr_reduce.specs.declared.call.Submission.TheVariants as submissions
 use Rattle.nr_reduce.specs.declared.mark.Mark.{Mark}
 use Rattle.nr_reduce.specs.declared.mark.Mark.TheVariants as marks
-use Rattle.nr_reduce.specs.History.{other, same_side, bytes_received, fed_at}
+use Rattle.nr_wire.specs.Hello.{peer}
+use Rattle.nr_reduce.specs.History.{same_side, bytes_received, fed_at}
 use Rattle.nr_reduce.specs.AtEachMark.{AtEachMark}
 use Rattle.nr_reduce.specs.Events.{RunEvent, events, events_at, if_own}
 use Rattle.nr_reduce.specs.Events.RunEvent.{FrameReceived, CallSubmitted, MemoryRevoked, CallExecuted, QueueWritten, ServerTold}
@@ -138,7 +139,7 @@ places_frames place (f ∷ fs) = (let e = places_frames (place + length f) fs in
 
 -- how many bytes of complete frames a side received
 abbrev pub whole_bytes : ℕ → Side → List Mark → ℕ
-whole_bytes link side run = length (concat (split (HelloFrom (other side)) (bytes_received link side run)).frames)
+whole_bytes link side run = length (concat (split (HelloFrom (peer side)) (bytes_received link side run)).frames)
 
 -- the frames that more bytes complete
 abbrev later_frames : Side → List ℕ → List ℕ → List (List ℕ)
@@ -152,8 +153,8 @@ whole_more peer old more =
 
 pub whole_within : (link : ℕ) (side : Side) (run : List Mark) → whole_bytes link side run ≤ length (bytes_received link side run)
 whole_within link side run =
-    let s = split (HelloFrom (other side)) (bytes_received link side run) in
-    let e = ap (λ (xs : List ℕ). length xs) (split_Splits (HelloFrom (other side)) (bytes_received link side run)).whole in
+    let s = split (HelloFrom (peer side)) (bytes_received link side run) in
+    let e = ap (λ (xs : List ℕ). length xs) (split_Splits (HelloFrom (peer side)) (bytes_received link side run)).whole in
     omega (arith, e, length-append (concat s.frames) s.rest)
 
 bytes_if : (b : Bool) (xs : List ℕ) → IsBytes xs → IsBytes (cond b xs [])
@@ -199,7 +200,7 @@ MarkGoes rules Good r link side before mark =
 
 none_fed : (link : ℕ) (side : Side) (before : List Mark) (mark : Mark) → fed_at link side mark ≡ [] → whole_bytes link side (before ++ mark ∷ []) ≡ whole_bytes link side before
 none_fed link side before mark none =
-    ap (λ (xs : List ℕ). length (concat (split (HelloFrom (other side)) xs).frames))
+    ap (λ (xs : List ℕ). length (concat (split (HelloFrom (peer side)) xs).frames))
     (received_one link side before mark ∙ ap (λ (xs : List ℕ). bytes_received link side before ++ xs) none ∙ append-nil (bytes_received link side before))
 
 quiet_goes : {S : Type 0} (rules : EndMachine S) (Good : EndState S → RunEvent → Type 0) (r : EndState S) (link : ℕ) (side : Side) (before : List Mark) (mark : Mark) → fed_at link side mark ≡ []
@@ -212,33 +213,33 @@ fed_goes : {S : Type 0} (rules : EndMachine S) (Good : EndState S → RunEvent �
     → MarkGoes rules Good r link side before (marks.Fed l s bytes)
 fed_goes rules Good good r link side before l s bytes old new = by (eqb l link && same_side s side) refl
   where
-    peer : Side
-    peer = other side
+    sender : Side
+    sender = peer side
 
     got : List ℕ
     got = bytes_received link side before
 
     fs : List (List ℕ)
-    fs = later_frames peer got bytes
+    fs = later_frames sender got bytes
 
     place : ℕ
     place = whole_bytes link side before
 
     by : (b : Bool) → (eqb l link && same_side s side) ≡ b
-        → GoesOn rules Good place r (if_own b (map FrameReceived (frames_completed peer got bytes)))
-        × (places_after place (if_own b (map FrameReceived (frames_completed peer got bytes))) ≡ whole_bytes link side (before ++ marks.Fed l s bytes ∷ []))
+        → GoesOn rules Good place r (if_own b (map FrameReceived (frames_completed sender got bytes)))
+        × (places_after place (if_own b (map FrameReceived (frames_completed sender got bytes))) ≡ whole_bytes link side (before ++ marks.Fed l s bytes ∷ []))
     by false is = (tt, sym (none_fed link side before (marks.Fed l s bytes) (ap (λ (b : Bool). cond b bytes []) is)))
     by true is =
-        let frames : frames_completed peer got bytes ≡ frames_from place fs = frames_completed_split peer got bytes in
-        let events : map FrameReceived (frames_completed peer got bytes) ≡ map FrameReceived (frames_from place fs) = ap (λ (x : List Frame). map FrameReceived x) frames in
-        let splits = split_Splits (awaited_after (HelloFrom peer) (split (HelloFrom peer) got).frames) ((split (HelloFrom peer) got).rest ++ bytes) in
-        let rest : IsBytes (split (HelloFrom peer) got).rest = IsBytes_right (concat (split (HelloFrom peer) got).frames) (split (HelloFrom peer) got).rest (subst IsBytes (split_Splits (HelloFrom peer) got).whole old) in
+        let frames : frames_completed sender got bytes ≡ frames_from place fs = frames_completed_split sender got bytes in
+        let events : map FrameReceived (frames_completed sender got bytes) ≡ map FrameReceived (frames_from place fs) = ap (λ (x : List Frame). map FrameReceived x) frames in
+        let splits = split_Splits (awaited_after (HelloFrom sender) (split (HelloFrom sender) got).frames) ((split (HelloFrom sender) got).rest ++ bytes) in
+        let rest : IsBytes (split (HelloFrom sender) got).rest = IsBytes_right (concat (split (HelloFrom sender) got).frames) (split (HelloFrom sender) got).rest (subst IsBytes (split_Splits (HelloFrom sender) got).whole old) in
         let some : AreSome fs = some_frames _ fs _ splits.each (subst IsBytes splits.whole (bytes_both _ bytes rest new)) in
         let all : bytes_received link side (before ++ marks.Fed l s bytes ∷ []) ≡ got ++ bytes =
         received_one link side before (marks.Fed l s bytes) ∙ ap (λ (b : Bool). got ++ cond b bytes []) is in (
           subst (λ (es : List RunEvent). GoesOn rules Good place r es) (sym events) (frames_go rules Good good place r fs some),
-          ap (λ (es : List RunEvent). places_after place es) events ∙ places_frames place fs ∙ sym (whole_more peer got bytes)
-              ∙ ap (λ (xs : List ℕ). length (concat (split (HelloFrom peer) xs).frames)) (sym all),
+          ap (λ (es : List RunEvent). places_after place es) events ∙ places_frames place fs ∙ sym (whole_more sender got bytes)
+              ∙ ap (λ (xs : List ℕ). length (concat (split (HelloFrom sender) xs).frames)) (sym all),
         )
 
 mark_goes : {S : Type 0} (rules : EndMachine S) (Good : EndState S → RunEvent → Type 0) → ((r : EndState S) (f : Frame) → IsBytes f.bytes → Good r (FrameReceived f))

@@ -6,7 +6,8 @@ use Rattle.nr_wire.specs.declared.hello.Side.TheVariants.{Initiator, Responder}
 use Rattle.nr_reduce.specs.declared.mark.Mark.{Mark}
 use Rattle.nr_reduce.specs.declared.mark.Mark.TheVariants as marks
 use Rattle.nr_reduce.specs.declared.mark.LinkParameters.{LinkParameters}
-use Rattle.nr_reduce.specs.History.{bytes_sent, bytes_received, written_at, fed_at, other}
+use Rattle.nr_wire.specs.Hello.{peer}
+use Rattle.nr_reduce.specs.History.{bytes_sent, bytes_received, written_at, fed_at}
 use Rattle.nr_reduce.specs.AtEachMark.{AtEachMark}
 use Rattle.nr_reduce.specs.Matched.{IsPrefixOf, MatchedMark, Matched}
 use Rattle.nr_reduce.specs.Events.{events_at}
@@ -89,7 +90,7 @@ serves_right opened link before (marks.Drop l) h = inl refl
 serves_right opened link before (marks.Told l what) h = inl refl
 
 feeds_right : (link : ℕ) (side : Side) (before : List Mark) (mark : Mark) → MatchedMark link before mark
-    → (fed_at link side mark ≡ []) ⊎ IsPrefixOf (bytes_received link side before ++ fed_at link side mark) (bytes_sent link (other side) before)
+    → (fed_at link side mark ≡ []) ⊎ IsPrefixOf (bytes_received link side before ++ fed_at link side mark) (bytes_sent link (peer side) before)
 feeds_right link Initiator before (marks.Fed l Initiator bytes) h = if_link link l bytes (λ (xs : List ℕ). IsPrefixOf (bytes_received link Initiator before ++ xs) (bytes_sent link Responder before)) h
 feeds_right link Responder before (marks.Fed l Responder bytes) h = if_link link l bytes (λ (xs : List ℕ). IsPrefixOf (bytes_received link Responder before ++ xs) (bytes_sent link Initiator before)) h
 feeds_right link Initiator before (marks.Fed l Responder bytes) h = inl (other_link link l bytes)
@@ -135,13 +136,13 @@ sent_down opened link run h =
       right = serves_right opened link;
     }) [] run h (from_nothing _ _ (nothing_sent link Responder))
 
-pub got_sent : (link : ℕ) (side : Side) (run : List Mark) → Matched link run → IsPrefixOf (bytes_received link side run) (bytes_sent link (other side) run)
+pub got_sent : (link : ℕ) (side : Side) (run : List Mark) → Matched link run → IsPrefixOf (bytes_received link side run) (bytes_sent link (peer side) run)
 got_sent link side run h =
-    keeps (MatchedMark link) (bytes_received link side) (bytes_sent link (other side)) (record {
+    keeps (MatchedMark link) (bytes_received link side) (bytes_sent link (peer side)) (record {
       add = fed_at link side;
       adds = received_one link side;
-      more = λ before mark. written_at link (other side) mark;
-      mores = sent_one link (other side);
+      more = λ before mark. written_at link (peer side) mark;
+      mores = sent_one link (peer side);
       right = feeds_right link side;
     }) [] run h (from_nothing _ _ (nothing_got link side))
 

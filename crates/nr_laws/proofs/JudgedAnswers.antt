@@ -9,8 +9,7 @@ use Rattle.nr_header.specs.declared.header.Header.{Header}
 use Rattle.nr_header.specs.Reading.{header_of}
 use Rattle.nr_wire.specs.declared.hello.Side.TheVariants.{Initiator, Responder}
 use Rattle.nr_rpc.specs.declared.head.CallHead.{CallHead}
-use Rattle.nr_rpc.specs.declared.head.CallHead.TheVariants as calls
-use Rattle.nr_rpc.specs.Reading.{reply_of, head_xid, xid_of_call, target_of}
+use Rattle.nr_rpc.specs.Reading.{reply_of, xid_of_call, target_of}
 use Rattle.nr_header.specs.Constants.{PAYLOAD_MAX}
 use Rattle.nr_reduce.proofs.OwnLimits.{server_limits}
 use Rattle.nr_reduce.specs.declared.call.Call.{Call}
@@ -35,7 +34,6 @@ use Rattle.nr_reduce.specs.ClientMessages.ReplyVerdict.{EndsLink}
 use Rattle.nr_reduce.specs.Client.{client_rules, initial_client}
 use Rattle.nr_reduce.specs.Run.{client}
 use Rattle.nr_reduce.specs.ServerState.{ServerState, PendingCall, credit_word}
-use Rattle.nr_reduce.specs.ServerMessages.{call_xid}
 use Rattle.nr_reduce.specs.Server.{offer_by, offer_of, answer_of_target}
 use Rattle.nr_reduce.specs.RunLaws.{server_by}
 use Rattle.nr_reduce.proofs.AnswerMessages.{answer_again}
@@ -84,10 +82,6 @@ found_one xid (c ∷ calls) e = by (eqb c.xid xid) refl e (found_one xid calls)
     by : (b : Bool) → eqb c.xid xid ≡ b → (b || list_any (λ (x : PendingCall). eqb x.xid xid) calls) ≡ true → (list_any (λ (x : PendingCall). eqb x.xid xid) calls ≡ true → FoundOne xid calls) → FoundOne xid (c ∷ calls)
     by true is e more = record { call = c; there = ap (λ (b : Bool). cond b (Some c) (find (λ (x : PendingCall). eqb x.xid xid) calls)) is }
     by false is e more = (let f = more e in record { call = f.call; there = ap (λ (b : Bool). cond b (Some c) (find (λ (x : PendingCall). eqb x.xid xid) calls)) is ∙ f.there })
-
-same_xid : (head : CallHead) → call_xid head ≡ head_xid head
-same_xid (calls.Version2 xid prog vers proc cred args_at) = refl
-same_xid (calls.Other xid rpcvers) = refl
 
 -- ---- An answer is of the offer of the call that it answers
 
@@ -322,4 +316,4 @@ answer_ends_none reply_to adds opened link run reason opens typed far plain_repl
     reply_xid =
         let h = executed_head opened link m.earlier e.xid e.payload r.answered.executed.executed in
         plain.xid replied.0 e.moment e.payload e.reply r.bytes replied.1
-        ∙ ap xid_of_call h.1.0 ∙ ap (λ (n : ℕ). Some n) (sym (same_xid h.0) ∙ h.1.1 ∙ sym r.own_xid)
+        ∙ ap xid_of_call h.1.0 ∙ ap (λ (n : ℕ). Some n) (h.1.1 ∙ sym r.own_xid)

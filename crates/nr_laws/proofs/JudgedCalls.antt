@@ -16,7 +16,7 @@ use Rattle.nr_header.specs.Reading.{header_of, header_by, body_by, error_by, Has
 use Rattle.nr_rpc.specs.declared.head.CallHead.{CallHead}
 use Rattle.nr_rpc.specs.declared.head.CallHead.TheVariants as calls
 use Rattle.nr_rpc.specs.Credential.{CanWriteCred}
-use Rattle.nr_rpc.specs.Reading.{call_of}
+use Rattle.nr_rpc.specs.Reading.{call_of, head_xid}
 use Rattle.nr_reduce.specs.declared.call.Call.{Call}
 use Rattle.nr_reduce.specs.declared.call.Form.{Form}
 use Rattle.nr_reduce.specs.declared.call.Form.TheVariants as forms
@@ -25,7 +25,7 @@ use Rattle.nr_reduce.specs.Plans.{entries_from, read_list, read_stag, lists_of, 
 use Rattle.nr_reduce.specs.Chunks.{is_read_chunk_of_item}
 use Rattle.nr_reduce.specs.ClientState.{call_payload}
 use Rattle.nr_reduce.specs.ServerState.{ServerState, PendingCall, ReadyCall, is_pending}
-use Rattle.nr_reduce.specs.ServerMessages.{verdict, by_head, by_payload, call_xid}
+use Rattle.nr_reduce.specs.ServerMessages.{verdict, by_head, by_payload}
 use Rattle.nr_reduce.specs.ServerMessages.CallVerdict.{Refuses, IsReady}
 use Rattle.nr_reduce.specs.ServerMessages.Verdict.{BadChunks, MakesPending}
 use Rattle.nr_reduce.specs.RunLaws.{known_stream, OtherChunk, HasOtherChunk}
@@ -64,7 +64,7 @@ conveyed_ready xid call form c reason small typed can bytes same (Some q) is h e
     by (Err at) read ok e = (let wrong : false ≡ true = ok in cc)
     by (Ok head) read ok e =
         let one : head ≡ own_head = head_same head own_head (sym read ∙ conveyed_head form (call_payload xid call) q own_head head bytes own.is (sym is) read ∙ own.is) in
-        let number : eqb (call_xid head) c.xid ≡ true = eq-eqb (call_xid head) c.xid (ap call_xid one ∙ sym same) in
+        let number : eqb (head_xid head) c.xid ≡ true = eq-eqb (head_xid head) c.xid (ap head_xid one ∙ sym same) in
         ready_not (record { number = c.number; xid = c.xid; payload = q }) reason
         (ap (λ (b : Bool). cond b (IsReady (record { number = c.number; xid = c.xid; payload = q })) (Refuses 19)) (sym number) ∙ e)
 

@@ -9,12 +9,11 @@ use Rattle.nr_link.specs.Agreement.{IsSendLimit}
 use Rattle.nr_reduce.specs.declared.call.Form.{Form}
 use Rattle.nr_reduce.specs.declared.outline.Plan.{Plan}
 use Rattle.nr_reduce.specs.OfferedRegions.{Region}
-use Rattle.nr_reduce.specs.Plans.{Buffer, buffer_if, buffers, has_segment, total, read_stag, write_stag, reply_stag, segments_from, entries_from, read_list, write_list, reply_chunk, lists_of, plan_of, regions_needed, call_message}
+use Rattle.nr_reduce.specs.Plans.{Buffer, buffer_if, buffers, has_segment, total, read_stag, write_stag, reply_stag, segments_from, entries_from, read_list, write_list, reply_chunk, lists_of, plan_of, regions_needed, call_message, HasWordPosition}
 use Rattle.nr_reduce.specs.Holds.{first_chunk, no_segments}
 use Rattle.nr_reduce.specs.ChunkBytes.{lists_by}
 use Rattle.nr_reduce.specs.Client.{region_of}
 use Rattle.nr_reduce.proofs.WrittenChunks.{added_up, sum_added}
-use Rattle.nr_laws.specs.Typed.{IsTypedForm}
 use Rattle.nr_laws.proofs.CallWords.{call_words_lem}
 use Rattle.nr_laws.proofs.ConveyedCalls.{planned_fits, plan_reads}
 use Rattle.nr_laws.proofs.ConveyedForms.{planned_chunk}
@@ -87,7 +86,7 @@ plan_offered xid place stag p size =
 
 -- ---- The message of a plan
 
-pub planned_offered : (payload : List ℕ) (form : Form) (up down xid credit place stag : ℕ) (p : Plan) → IsSendLimit up → plan_of payload form up down ≡ Ok p → IsBytes payload → IsTypedForm form → xid < 2 ^ 32 → stag + regions_needed p ≤ 2 ^ 32
+pub planned_offered : (payload : List ℕ) (form : Form) (up down xid credit place stag : ℕ) (p : Plan) → IsSendLimit up → plan_of payload form up down ≡ Ok p → IsBytes payload → HasWordPosition form → xid < 2 ^ 32 → stag + regions_needed p ≤ 2 ^ 32
     → SendOffered (map (region_of xid place) (buffers stag p)) (call_message xid credit stag p)
 planned_offered payload form up down xid credit place stag p limit e bytes typed small stags = λ h is.
     let fine = planned_fits payload form up down stag p limit e bytes typed stags in

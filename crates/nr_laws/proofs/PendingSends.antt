@@ -4,12 +4,12 @@ use Rattle.std.specs.List.{list_any}
 use Rattle.nr_header.specs.declared.header.ReadSegment.{ReadSegment}
 use Rattle.nr_xdr.specs.Fields.{word_at}
 use Rattle.nr_rpc.specs.declared.head.CallHead.{CallHead}
-use Rattle.nr_rpc.specs.Reading.{call_of}
+use Rattle.nr_rpc.specs.Reading.{call_of, head_xid}
 use Rattle.nr_reduce.specs.Chunks.{total_at}
 use Rattle.nr_reduce.specs.OfferedRegions.{Region}
 use Rattle.nr_reduce.specs.ServerState.{ServerState, PendingCall, PendingRead, ReadyCall, is_pending}
 use Rattle.nr_reduce.specs.ServerFrames.{FrameEffect, no_effect, message_effect, with_verdict}
-use Rattle.nr_reduce.specs.ServerMessages.{Verdict, CallVerdict, verdict, by_payload, by_head, pending_payload, call_xid}
+use Rattle.nr_reduce.specs.ServerMessages.{Verdict, CallVerdict, verdict, by_payload, by_head, pending_payload}
 use Rattle.nr_reduce.specs.ServerReads.{is_read, reads_of, reads_from, read_of, regions_of}
 use Rattle.nr_reduce.specs.ServerMessages.Verdict.{EndsLink, OtherVersion, BadChunks, MakesPending}
 use Rattle.nr_reduce.specs.ServerMessages.CallVerdict.{Refuses, IsReady}
@@ -35,7 +35,7 @@ verdict_new k message c e =
 -- ---- What it makes ready is its own
 
 head_own : (c : PendingCall) (payload : List ℕ) (r : Result CallHead ℕ) (x : ReadyCall) → by_head c payload r ≡ IsReady x → (x.number ≡ c.number) × (x.xid ≡ c.xid)
-head_own c payload (Ok head) x e = by (eqb (call_xid head) c.xid) e
+head_own c payload (Ok head) x e = by (eqb (head_xid head) c.xid) e
   where
     by : (b : Bool) → cond b (IsReady (record { number = c.number; xid = c.xid; payload = payload })) (Refuses 19) ≡ IsReady x → (x.number ≡ c.number) × (x.xid ≡ c.xid)
     by true e = (cc, cc)

@@ -10,7 +10,7 @@ use Rattle.nr_header.specs.declared.header.Body.{Body}
 use Rattle.nr_header.specs.declared.header.Body.TheVariants.{Msg, Nomsg, ErrVers, ErrChunk}
 use Rattle.nr_header.specs.declared.header.Header.{Header}
 use Rattle.nr_header.specs.Header.{read_items, segments_items, write_items, reply_items, lists_items, body_items, fixed_items, header_encoding}
-use Rattle.nr_header.specs.WithinLimits.{IsMessage, ListsWithin, CanRead}
+use Rattle.nr_header.specs.WithinLimits.{IsMessage}
 use Rattle.nr_header.specs.Reading.{header_of}
 use Rattle.nr_header.proofs.Messages.{header_take}
 use Rattle.nr_wire.specs.Constants.{UNITS_MAX}
@@ -18,9 +18,9 @@ use Rattle.nr_link.specs.Agreement.{IsSendLimit}
 use Rattle.nr_reduce.specs.declared.call.Offer.{Offer}
 use Rattle.nr_reduce.specs.declared.outline.Plan.{Plan}
 use Rattle.nr_reduce.specs.Limits.{send_unit, given_max}
-use Rattle.nr_reduce.specs.Plans.{TooLarge, plan_of, plan_size, plan_in_form, given_plan, given_read, given_total, within, total, has_segment, one_if, read_stag, write_stag, reply_stag, regions_needed, segments_from, entries_from, read_list, write_list, reply_chunk, lists_of, body_by, call_message}
+use Rattle.nr_reduce.specs.Plans.{plan_size, given_plan, given_read, given_total, total, has_segment, one_if, write_stag, reply_stag, regions_needed, segments_from, entries_from, read_list, write_list, reply_chunk, lists_of, body_by, call_message}
 use Rattle.nr_reduce.specs.Plans as plans
-use Rattle.nr_reduce.specs.ChunkBytes.{IsNotGiven, MessageConveys, lists_by, inline_by}
+use Rattle.nr_reduce.specs.ChunkBytes.{lists_by, inline_by}
 use Rattle.nr_reduce.specs.RunLaws.{known_stream}
 use Rattle.nr_reduce.specs.ServerMessages.{no_stream}
 use Rattle.nr_reduce.proofs.WrittenChunks.{added_up, sum_added}

@@ -3,7 +3,7 @@ use Rattle.std.proofs.Common.{◌≡◌, ℕ, Bool, true, false, cond, eqb, List
 use Rattle.nr_wire.specs.declared.hello.Side.TheVariants.{Responder}
 use Rattle.nr_wire.specs.Segment.{Segment}
 use Rattle.nr_rpc.specs.declared.head.CallHead.{CallHead}
-use Rattle.nr_rpc.specs.Reading.{call_of}
+use Rattle.nr_rpc.specs.Reading.{call_of, head_xid}
 use Rattle.nr_link.specs.declared.end.End.{End as Stop}
 use Rattle.nr_link.specs.Frames.{Frame, is_hello}
 use Rattle.nr_link.specs.ReceiveState.{message_completed}
@@ -15,7 +15,7 @@ use Rattle.nr_reduce.specs.Events.RunEvent.{FrameReceived, CallSubmitted, Memory
 use Rattle.nr_reduce.specs.EndRules.{EndState, next_end_state_by, next_end_state_in, end_state_after}
 use Rattle.nr_reduce.specs.ServerState.{ServerState, PendingCall, PendingRead, ReadyCall}
 use Rattle.nr_reduce.specs.ServerReads.{is_read, reads_of, regions_of}
-use Rattle.nr_reduce.specs.ServerMessages.{Verdict, CallVerdict, verdict, pending_payload, by_payload, by_head, call_xid}
+use Rattle.nr_reduce.specs.ServerMessages.{Verdict, CallVerdict, verdict, pending_payload, by_payload, by_head}
 use Rattle.nr_reduce.specs.ServerMessages.Verdict.{EndsLink, OtherVersion, BadChunks, MakesPending}
 use Rattle.nr_reduce.specs.ServerMessages.CallVerdict.{Refuses, IsReady}
 use Rattle.nr_reduce.specs.ServerFrames.{FrameEffect, no_effect, with_verdict, ready_if_whole, message_effect, with_refused_call, call_of_number, with_access, frame_effect}
@@ -45,7 +45,7 @@ record WholeBy (k : ServerState) (place : ℕ) (c : PendingCall) (reads : List P
 
 head_cause : (k : ServerState) (place : ℕ) (c : PendingCall) (payload : List ℕ) (h : Result CallHead ℕ) (s : FrameEffect) (r : ReadyCall) → pending_payload k place c ≡ Some payload → s.ready ≡ [] → (with_verdict (by_head c payload h) s).ready ≡ r ∷ [] → Conveyed k place c r
 head_cause k place c payload (Err at) s r is none e = none_one_lem r s.ready none e
-head_cause k place c payload (Ok head) s r is none e = by (eqb (call_xid head) c.xid) e
+head_cause k place c payload (Ok head) s r is none e = by (eqb (head_xid head) c.xid) e
   where
     by : (b : Bool) → (with_verdict (cond b (IsReady (record { number = c.number; xid = c.xid; payload = payload })) (Refuses 19)) s).ready ≡ r ∷ [] → Conveyed k place c r
     by true e =

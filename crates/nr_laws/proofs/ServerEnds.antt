@@ -1,7 +1,7 @@
 -- A server that has its client's own hello is not rejected later: the reasons of its later frames are others than those of a hello.
 use Rattle.std.proofs.Common.{◌≡◌, ℕ, ◌≤◌, Bool, true, false, cond, eqb, List, Option, None, Some, Result, Ok, Err, sym, ap, subst, ◌∙◌, arith}
 use Rattle.nr_rpc.specs.declared.head.CallHead.{CallHead}
-use Rattle.nr_rpc.specs.Reading.{call_of}
+use Rattle.nr_rpc.specs.Reading.{call_of, head_xid}
 use Rattle.nr_regions.specs.declared.denied.Denied.{Denied}
 use Rattle.nr_regions.specs.RegisteredMemory.{Access}
 use Rattle.nr_wire.specs.declared.hello.Side.TheVariants.{Initiator}
@@ -17,7 +17,7 @@ use Rattle.nr_reduce.specs.declared.mark.LinkParameters.{LinkParameters}
 use Rattle.nr_reduce.specs.OfferedRegions.{region_grants}
 use Rattle.nr_reduce.specs.Events.RunEvent.{FrameReceived}
 use Rattle.nr_reduce.specs.ServerState.{ServerState, PendingCall}
-use Rattle.nr_reduce.specs.ServerMessages.{Verdict, CallVerdict, verdict, by_head, by_payload, call_xid, pending_payload}
+use Rattle.nr_reduce.specs.ServerMessages.{Verdict, CallVerdict, verdict, by_head, by_payload, pending_payload}
 use Rattle.nr_reduce.specs.ServerMessages.Verdict.{EndsLink, OtherVersion, BadChunks, MakesPending}
 use Rattle.nr_reduce.specs.ServerMessages.CallVerdict.{Refuses, IsReady}
 use Rattle.nr_reduce.specs.ServerFrames.{FrameEffect, with_verdict, frame_effect}
@@ -56,7 +56,7 @@ verdict_big k message = each_verdict BigVerdict (record { kind = omega arith; ag
 
 head_big : (c : PendingCall) (payload : List ℕ) (r : Result CallHead ℕ) → BigCall (by_head c payload r)
 head_big c payload (Err at) = omega arith
-head_big c payload (Ok head) = by (eqb (call_xid head) c.xid)
+head_big c payload (Ok head) = by (eqb (head_xid head) c.xid)
   where
     by : (b : Bool) → BigCall (cond b (IsReady (record { number = c.number; xid = c.xid; payload = payload })) (Refuses 19))
     by true = tt

@@ -21,7 +21,7 @@ use Rattle.nr_header.specs.declared.header.ChunkLists.{ChunkLists}
 use Rattle.nr_header.specs.declared.header.Header.{Header}
 use Rattle.nr_header.specs.Reading.{header_of}
 use Rattle.nr_rpc.specs.declared.head.CallHead.{CallHead}
-use Rattle.nr_rpc.specs.Reading.{call_of}
+use Rattle.nr_rpc.specs.Reading.{call_of, head_xid}
 use Rattle.nr_link.specs.declared.end.End.{End}
 use Rattle.nr_link.specs.Frames.{Frame, is_hello}
 use Rattle.nr_link.specs.Ending.{frame_segment, frame_end, hello_end}
@@ -34,7 +34,7 @@ use Rattle.nr_reduce.specs.OfferedRegions.{region_grants}
 use Rattle.nr_reduce.specs.ClientState.{ClientState}
 use Rattle.nr_reduce.specs.ServerState.{ServerState, PendingCall, is_pending, next_stag}
 use Rattle.nr_reduce.specs.ServerReads.{chunks_of}
-use Rattle.nr_reduce.specs.ServerMessages.{by_head, by_payload, call_xid, pending_payload, Verdict, verdict, by_need, by_stream, by_body, by_header, has_position, no_stream}
+use Rattle.nr_reduce.specs.ServerMessages.{by_head, by_payload, pending_payload, Verdict, verdict, by_need, by_stream, by_body, by_header, has_position, no_stream}
 use Rattle.nr_reduce.specs.ServerMessages.CallVerdict.{Refuses, IsReady}
 use Rattle.nr_reduce.specs.ServerMessages.Verdict.{EndsLink, OtherVersion, BadChunks, MakesPending}
 use Rattle.nr_reduce.specs.ServerFrames.{FrameEffect, with_verdict, frame_effect}
@@ -68,7 +68,7 @@ xid_reason = inr refl
 
 refused_head : (c : PendingCall) (payload : List ℕ) (r : Result CallHead ℕ) (s : FrameEffect) → Refusal s.refusal → Refusal (with_verdict (by_head c payload r) s).refusal
 refused_head c payload (Err at) s h = head_reason
-refused_head c payload (Ok head) s h = by (eqb (call_xid head) c.xid)
+refused_head c payload (Ok head) s h = by (eqb (head_xid head) c.xid)
   where
     by : (b : Bool) → Refusal (with_verdict (cond b (IsReady (record { number = c.number; xid = c.xid; payload = payload })) (Refuses 19)) s).refusal
     by true = h

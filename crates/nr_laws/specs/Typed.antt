@@ -4,20 +4,12 @@ use Rattle.std.specs.Prelude.{◌<◌, ◌^◌, List, []}
 use Rattle.nr_rpc.specs.Credential.{CredFits}
 use Rattle.nr_reduce.specs.declared.call.Call.{Call}
 use Rattle.nr_xdr.specs.Item.{IsBytes}
-use Rattle.nr_reduce.specs.declared.call.Form.{Form}
-use Rattle.nr_reduce.specs.declared.call.Form.TheVariants as forms
 use Rattle.nr_reduce.specs.declared.call.Submission.TheVariants as submissions
 use Rattle.nr_reduce.specs.declared.mark.Mark.{Mark}
 use Rattle.nr_reduce.specs.declared.mark.Mark.TheVariants as marks
+use Rattle.nr_reduce.specs.Plans.{HasWordPosition}
 use Rattle.nr_reduce.specs.ClientState.{call_payload}
 use Rattle.nr_reduce.specs.AtEachMark.{AtEachMark}
-
-abbrev pub IsTypedForm : Form → Type 0
-IsTypedForm forms.Auto = Unit {0}
-IsTypedForm forms.Inline = Unit {0}
-IsTypedForm forms.Chunk = Unit {0}
-IsTypedForm forms.Long = Unit {0}
-IsTypedForm (forms.Given offer) = offer.read_at < 2 ^ 32
 
 -- the program, the version, the procedure and the credential of a call (RFC 5531 section 9)
 abbrev pub IsTypedCall : Call → Type 0
@@ -25,7 +17,7 @@ IsTypedCall call = (call.prog < 2 ^ 32) × (call.vers < 2 ^ 32) × (call.proc < 
 
 -- the payload of an accepted call is bytes, so are the bytes that a side is fed, and replies
 abbrev pub TypedMark : List Mark → Mark → Type 0
-TypedMark before (marks.Submit l call form (submissions.Accepted xid)) = IsBytes (call_payload xid call) × IsTypedForm form × IsTypedCall call
+TypedMark before (marks.Submit l call form (submissions.Accepted xid)) = IsBytes (call_payload xid call) × HasWordPosition form × IsTypedCall call
 TypedMark before (marks.Fed l side bytes) = IsBytes bytes
 TypedMark before (marks.Execute l xid moment payload place reply) = IsBytes reply
 TypedMark before mark = Unit {0}

@@ -1,6 +1,6 @@
 //! What both sides of a link agree on by the private data of their hellos (RFC 5044 section 7.1). All of it is own.
 
-ghost use Rattle.std.specs.Prelude.{◌≡◌, ◌≤◌, [], length};
+ghost use Rattle.std.specs.Prelude.{◌≡◌, ◌≤◌};
 ghost use Rattle.arrayvec.specs.ArrayVec.{array_vec_len};
 ghost use Rattle.nr_wire.specs.Constants.{NUMBERED_TERMS_LEN};
 ghost use Rattle.nr_link.specs.Agreement.{agreement, default_agreement, default_terms, initiator_private, responder_private, sized_terms, terms_with};

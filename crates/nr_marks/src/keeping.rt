@@ -1,12 +1,12 @@
 //! Marks that are put into the form in which they are kept.
 
-ghost use Rattle.std.specs.Prelude.{◌≡◌, ℕ, ◌+◌, ◌≤◌, List, length, IfOk, IfSome, OnOk, IsTrue};
+ghost use Rattle.std.specs.Prelude.{◌≡◌, ◌+◌, ◌≤◌, length, IfOk, IfSome, OnOk, IsTrue};
 ghost use Rattle.nr_rpc.specs.declared.cred.Cred.TheVariants as creds;
 ghost use Rattle.nr_reduce.specs.declared.call.Form.TheVariants as forms;
 ghost use Rattle.nr_reduce.specs.declared.call.Outcome.TheVariants as outcomes;
 ghost use Rattle.nr_reduce.specs.declared.call.Submission.TheVariants as submissions;
 ghost use Rattle.nr_reduce.specs.declared.mark.Mark.TheVariants as marks;
-ghost use Rattle.nr_marks.specs.Pieces.{Grows, Holds, stored_len, stores_max};
+ghost use Rattle.nr_marks.specs.Pieces.{Grows, Holds, stored_len};
 ghost use Rattle.nr_marks.specs.Views.{mark_len, is_written_next};
 ghost use Rattle.nr_marks.specs.KeptMarks.{Keeps, AddsFew, own_len};
 
@@ -27,14 +27,6 @@ const CALL_HEAD: usize = 40;
 /// The bytes of the arguments of a WRITE before its data.
 const ARGS_START: usize = 32;
 
-/// The side that a side's bytes go to.
-fn peer(side: Side) -> Side {
-    match side {
-        Side::Initiator => Side::Responder,
-        Side::Responder => Side::Initiator,
-    }
-}
-
 /// Keeps bytes that a side was fed: the next ones that the other side wrote.
 fn keep_fed(
     alloc: Global,
@@ -47,7 +39,7 @@ fn keep_fed(
     ensures keeps { IfOk result (λ o. IfSome o (λ kept. Keeps stores.new kept (marks.Fed link side bytes.now))) }
     ensures size { IfOk result (AddsFew stores.old stores.new (length bytes.now)) }
 {
-    let store = store_of(link, peer(side));
+    let store = store_of(link, side.peer());
     let Cursor { fed, read } = stores.cursor(store);
     let bytes = stores.refer(alloc, store, (fed, fed), bytes)?;
     let fed = if bytes.store == store {

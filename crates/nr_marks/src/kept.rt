@@ -1,6 +1,6 @@
 //! A mark as it is kept, and as it is read.
 
-ghost use Rattle.std.specs.Prelude.{◌≡◌, ℕ, List, length};
+ghost use Rattle.std.specs.Prelude.{◌≡◌, ℕ, List};
 ghost use Rattle.nr_reduce.specs.declared.call.Outcome.TheVariants as outcomes;
 ghost use Rattle.nr_marks.specs.declared.kept.Kept.TheVariants as kinds;
 ghost use Rattle.nr_marks.specs.Views.{mark_seen, submit_link, outcome_len, mark_len as len_of_mark};

@@ -1,6 +1,6 @@
 //! The marks of a run: as they come, and all of them.
 
-ghost use Rattle.std.specs.Prelude.{◌≡◌, ◌+◌, ◌<◌, ◌≤◌, ◌^◌, ℕ, List, [], ◌∷◌, ◌++◌, if◌then◌else◌, is_ok, length, get_or, sum_by, IfOk, OnOk};
+ghost use Rattle.std.specs.Prelude.{◌≡◌, ◌+◌, ◌<◌, ◌≤◌, ◌^◌, List, [], ◌∷◌, ◌++◌, if◌then◌else◌, is_ok, length, get_or, sum_by, IfOk, OnOk};
 ghost use Rattle.std.specs.Option.{option_to_list};
 ghost use Rattle.nr_reduce.specs.declared.mark.Mark.{Mark};
 ghost use Rattle.nr_marks.specs.Views.{mark_seen, submit_link, mark_len as len_of_mark, marks_len};

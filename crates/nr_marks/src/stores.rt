@@ -1,6 +1,6 @@
 //! The bytes that marks refer to.
 
-ghost use Rattle.std.specs.Prelude.{◌≡◌, ◌+◌, ◌≤◌, ◌<◌, ℕ, List, [], ◌++◌, length, take, drop, get_or, IfOk, IfSome, OnOk, IsTrue};
+ghost use Rattle.std.specs.Prelude.{◌≡◌, ◌+◌, ◌≤◌, ◌<◌, ℕ, List, [], length, take, drop, IfOk, IfSome, OnOk, IsTrue};
 ghost use Rattle.nr_marks.specs.Pieces.{Grows, IsWithin, Holds, bytes_in, stored_len, stores_max, slots_max};
 
 use nr_wire::Side;

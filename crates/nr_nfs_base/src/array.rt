@@ -1,6 +1,6 @@
 //! Variable-length arrays.
 
-ghost use Rattle.std.specs.Prelude.{◌≡◌, ◌∷◌, [], ◌++◌, ◌+◌, ◌^◌, ◌<◌, length, IfOk};
+ghost use Rattle.std.specs.Prelude.{◌≡◌, ◌+◌, ◌^◌, ◌<◌, length, IfOk};
 ghost use Rattle.std.specs.List.{flat_map, AllByRecursion};
 ghost use Rattle.nr_nfs_base.specs.Codec.{array, values_read, Answers, WritesItems, PushesValues};
 ghost use Rattle.nr_nfs_base.specs.Laws.{array_lawful};

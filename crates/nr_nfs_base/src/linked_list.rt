@@ -1,6 +1,6 @@
 //! Linked lists.
 
-ghost use Rattle.std.specs.Prelude.{◌≡◌, [], ◌∷◌, ◌++◌, IfOk};
+ghost use Rattle.std.specs.Prelude.{◌≡◌, []};
 ghost use Rattle.nr_nfs_base.specs.Codec.{linked_list, linked_list_read, Answers, WritesValue, PushesNext, PushesValues, optional};
 ghost use Rattle.nr_nfs_base.specs.Laws.{linked_list_lawful};
 

@@ -1,6 +1,6 @@
 //! MKDIR, SYMLINK and MKNOD, and what CREATE shares with them: a new node, its entry and the reply.
 
-ghost use Rattle.std.specs.Prelude.{◌≡◌, ◌∷◌, [], None, Some, Ok, Err, MatchResult, IfOk, OnOk, OnErr};
+ghost use Rattle.std.specs.Prelude.{◌≡◌, None, Some, Ok, Err, MatchResult, IfOk, OnOk, OnErr};
 ghost use Rattle.nr_nfs_base.specs.declared.status_union.StatusUnion.TheVariants.{Done};
 ghost use Rattle.nr_tree.specs.declared.node.Content.TheVariants.{Link};
 ghost use Rattle.nr_tree.specs.Steps.{IsBounded, CanAddNode};

@@ -1,6 +1,6 @@
 //! CREATE.
 
-ghost use Rattle.std.specs.Prelude.{◌≡◌, ℕ, ◌≤◌, true, None, Some, replicate, unwrap_or, MatchResult, IfOk, OnOk, OnErr};
+ghost use Rattle.std.specs.Prelude.{◌≡◌, ℕ, ◌≤◌, true, None, Some, unwrap_or, MatchResult, IfOk, OnOk, OnErr};
 ghost use Rattle.nr_nfs_base.specs.declared.status_union.StatusUnion.TheVariants.{Done};
 ghost use Rattle.nr_nfs_args.specs.declared.create.CreateHow.TheVariants.{Unchecked};
 ghost use Rattle.nr_tree.specs.Sane.{file_size_max};

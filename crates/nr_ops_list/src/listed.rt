@@ -1,8 +1,8 @@
 //! The entries of a listing as they are sent.
 
-ghost use Rattle.std.specs.Prelude.{◌≡◌, ◌++◌, ◌∷◌, ◌<◌, ◌≤◌, ◌^◌, ◌==◌, ◌-◌, None, Some, take, drop, length, map, IfOk};
+ghost use Rattle.std.specs.Prelude.{◌≡◌, ◌++◌, ◌<◌, ◌≤◌, ◌^◌, ◌==◌, ◌-◌, None, Some, take, drop, length, map, IfOk};
 ghost use Rattle.nr_nfs_base.specs.Attributes.{attributes_codec};
-ghost use Rattle.nr_nfs_base.specs.Codec.{hyper, linked_list, optional};
+ghost use Rattle.nr_nfs_base.specs.Codec.{linked_list, optional};
 ghost use Rattle.nr_nfs_base.specs.Names.{handle_codec};
 ghost use Rattle.nr_nfs_res.specs.Readdir.{listing_codec};
 ghost use Rattle.nr_tree.specs.Entries.{NamesAreValid};

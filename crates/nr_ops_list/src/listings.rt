@@ -5,9 +5,8 @@ ghost use Rattle.nr_tree.specs.Rules.{first};
 ghost use Rattle.nr_tree.specs.Listing.{entries_after};
 ghost use Rattle.nr_tree.specs.declared.node.Content.TheVariants.{Directory as DirectoryNode};
 ghost use Rattle.nr_nfs_base.specs.declared.status.Status.TheVariants.{Toosmall as TooSmall};
-ghost use Rattle.nr_tree.specs.Tree.{attributes_of};
 ghost use Rattle.nr_xdr.specs.Item.{pad_len};
-ghost use Rattle.nr_ops_list.specs.Readdir.{longest, goes_on, listing_rules, name_size as size_of_name};
+ghost use Rattle.nr_ops_list.specs.Readdir.{longest, goes_on, listing_rules};
 ghost use Rattle.nr_nfs_base.specs.Limits.{listing_max};
 ghost use Rattle.nr_ops_list.specs.private.Sizes.{size_of_name_in, AreLive, within, empty_size, IsRange};
 

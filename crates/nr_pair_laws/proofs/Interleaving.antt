@@ -10,7 +10,8 @@ use Rattle.nr_wire.specs.declared.hello.Side.TheVariants.{Initiator, Responder}
 use Rattle.nr_reduce.specs.declared.mark.Mark.{Mark}
 use Rattle.nr_reduce.specs.declared.mark.Mark.TheVariants as marks
 use Rattle.nr_reduce.specs.AtEachMark.{AtEachMark}
-use Rattle.nr_reduce.specs.History.{bytes_received, bytes_sent, fed_at, other, same_side, written_at}
+use Rattle.nr_wire.specs.Hello.{peer}
+use Rattle.nr_reduce.specs.History.{bytes_received, bytes_sent, fed_at, same_side, written_at}
 use Rattle.nr_reduce.specs.Matched.{IsPrefixOf, MatchedMark}
 use Rattle.nr_reduce.proofs.Standing.{AtEachMark_more, itself, received_one, sent_one}
 use Rattle.nr_host.specs.Connections as connections
@@ -48,10 +49,10 @@ IsOnlyOf link side (marks.Fed l s bytes) = (l ≡ link) × (s ≡ side)
 IsOnlyOf link side (marks.Wrote l s bytes) = (l ≡ link) × (s ≡ side)
 IsOnlyOf link side mark = ⊤
 
-not_other : (link l : ℕ) (side s : Side) (bytes : List ℕ) → s ≡ side → cond (eqb l link && same_side s (other side)) bytes [] ≡ []
+not_other : (link l : ℕ) (side s : Side) (bytes : List ℕ) → s ≡ side → cond (eqb l link && same_side s (peer side)) bytes [] ≡ []
 not_other link l side s bytes is = by side s is (eqb l link)
   where
-    by : (side s : Side) → s ≡ side → (b : Bool) → cond (b && same_side s (other side)) bytes [] ≡ []
+    by : (side s : Side) → s ≡ side → (b : Bool) → cond (b && same_side s (peer side)) bytes [] ≡ []
     by Initiator Initiator is true = refl
     by Initiator Initiator is false = refl
     by Responder Responder is true = refl
@@ -59,7 +60,7 @@ not_other link l side s bytes is = by side s is (eqb l link)
     by Initiator Responder is b = absurd cc
     by Responder Initiator is b = absurd cc
 
-no_fed : (link : ℕ) (side : Side) (mark : Mark) → IsOnlyOf link side mark → fed_at link (other side) mark ≡ []
+no_fed : (link : ℕ) (side : Side) (mark : Mark) → IsOnlyOf link side mark → fed_at link (peer side) mark ≡ []
 no_fed link side (marks.Fed l s bytes) is = not_other link l side s bytes is.1
 no_fed link side (marks.Wrote l s bytes) is = refl
 no_fed link side (marks.Execute l xid moment payload place reply) is = refl
@@ -71,7 +72,7 @@ no_fed link side (marks.Revoke l xid bytes) is = refl
 no_fed link side (marks.Drop l) is = refl
 no_fed link side (marks.Told l what) is = refl
 
-no_written : (link : ℕ) (side : Side) (mark : Mark) → IsOnlyOf link side mark → written_at link (other side) mark ≡ []
+no_written : (link : ℕ) (side : Side) (mark : Mark) → IsOnlyOf link side mark → written_at link (peer side) mark ≡ []
 no_written link side (marks.Wrote l s bytes) is = not_other link l side s bytes is.1
 no_written link side (marks.Fed l s bytes) is = refl
 no_written link side (marks.Execute l xid moment payload place reply) is = refl
@@ -108,7 +109,7 @@ others_mark link side own both mark w f b =
 -- what a side is to receive next, with what the other sent, and what it will send
 record IsAhead (link : ℕ) (side : Side) (mark : Mark) (left both : List Mark) : Type 0 where
   more : List ℕ
-  same : (bytes_received link side both ++ fed_at link side mark) ++ more ≡ bytes_sent link (other side) both ++ bytes_sent link (other side) left
+  same : (bytes_received link side both ++ fed_at link side mark) ++ more ≡ bytes_sent link (peer side) both ++ bytes_sent link (peer side) left
 
 received_all : (link : ℕ) (side : Side) (run : List Mark) (mark : Mark) (left : List Mark)
     → bytes_received link side (run ++ mark ∷ left) ≡ (bytes_received link side run ++ fed_at link side mark) ++ bytes_received link side left
@@ -124,13 +125,13 @@ none_sent : (link : ℕ) (side : Side) → bytes_sent link side [] ≡ []
 unfolding bytes_sent
 none_sent link side = refl
 
-ahead : (link : ℕ) (side : Side) (own : List Mark) (mark : Mark) (rest own' left both : List Mark) → IsBalanced link side own both → IsBalanced link (other side) own' both
-    → IsPrefixOf (bytes_received link side (own ++ mark ∷ rest)) (bytes_sent link (other side) (own' ++ left)) → IsAhead link side mark left both
+ahead : (link : ℕ) (side : Side) (own : List Mark) (mark : Mark) (rest own' left both : List Mark) → IsBalanced link side own both → IsBalanced link (peer side) own' both
+    → IsPrefixOf (bytes_received link side (own ++ mark ∷ rest)) (bytes_sent link (peer side) (own' ++ left)) → IsAhead link side mark left both
 ahead link side own mark rest own' left both b b' p =
     let received : bytes_received link side (own ++ mark ∷ rest) ≡ (bytes_received link side both ++ fed_at link side mark) ++ bytes_received link side rest =
     received_all link side own mark rest ∙ ap (λ (l : List ℕ). (l ++ fed_at link side mark) ++ bytes_received link side rest) (sym b.received) in
-    let sent : bytes_sent link (other side) (own' ++ left) ≡ bytes_sent link (other side) both ++ bytes_sent link (other side) left =
-    sent_all link (other side) own' left ∙ ap (λ (l : List ℕ). l ++ bytes_sent link (other side) left) (sym b'.sent) in
+    let sent : bytes_sent link (peer side) (own' ++ left) ≡ bytes_sent link (peer side) both ++ bytes_sent link (peer side) left =
+    sent_all link (peer side) own' left ∙ ap (λ (l : List ℕ). l ++ bytes_sent link (peer side) left) (sym b'.sent) in
     record {
       more = bytes_received link side rest ++ p.0;
       same = sym (append_assoc (bytes_received link side both ++ fed_at link side mark) (bytes_received link side rest) p.0) ∙ ap (λ (l : List ℕ). l ++ p.0) (sym received) ∙ p.1 ∙ sent;
@@ -140,7 +141,7 @@ ahead link side own mark rest own' left both b b' p =
 record Waits (link : ℕ) (side : Side) (mark : Mark) (both : List Mark) : Type 0 where
   bytes : List ℕ
   is : mark ≡ marks.Fed link side bytes
-  longer : length (bytes_sent link (other side) both) < length (bytes_received link side both ++ bytes)
+  longer : length (bytes_sent link (peer side) both) < length (bytes_received link side both ++ bytes)
 
 own_fed : (link l : ℕ) (side s : Side) (bytes : List ℕ) → l ≡ link → s ≡ side → cond (eqb l link && same_side s side) bytes [] ≡ bytes
 own_fed link l side s bytes is is' =
@@ -152,14 +153,14 @@ own_fed link l side s bytes is is' =
     by Responder = ap (λ (b : Bool). cond (b && true) bytes []) (itself link)
 
 next : (link : ℕ) (side : Side) (mark : Mark) (left both : List Mark) → IsOnlyOf link side mark → IsAhead link side mark left both → MatchedMark link both mark ⊎ Waits link side mark both
-next link side (marks.Fed l s bytes) left both is a = by (within (bytes_received link side both ++ bytes) (bytes_sent link (other side) both) a.more (bytes_sent link (other side) left) same)
+next link side (marks.Fed l s bytes) left both is a = by (within (bytes_received link side both ++ bytes) (bytes_sent link (peer side) both) a.more (bytes_sent link (peer side) left) same)
   where
-    same : (bytes_received link side both ++ bytes) ++ a.more ≡ bytes_sent link (other side) both ++ bytes_sent link (other side) left
+    same : (bytes_received link side both ++ bytes) ++ a.more ≡ bytes_sent link (peer side) both ++ bytes_sent link (peer side) left
     same = ap (λ (f : List ℕ). (bytes_received link side both ++ f) ++ a.more) (sym (own_fed link l side s bytes is.0 is.1)) ∙ a.same
 
-    by : IsPrefixOf (bytes_received link side both ++ bytes) (bytes_sent link (other side) both) ⊎ (length (bytes_sent link (other side) both) < length (bytes_received link side both ++ bytes))
-        → (l ≡ link → IsPrefixOf (bytes_received link s both ++ bytes) (bytes_sent link (other s) both)) ⊎ Waits link side (marks.Fed l s bytes) both
-    by (inl p) = inl (λ k. subst (λ (x : Side). IsPrefixOf (bytes_received link x both ++ bytes) (bytes_sent link (other x) both)) (sym is.1) p)
+    by : IsPrefixOf (bytes_received link side both ++ bytes) (bytes_sent link (peer side) both) ⊎ (length (bytes_sent link (peer side) both) < length (bytes_received link side both ++ bytes))
+        → (l ≡ link → IsPrefixOf (bytes_received link s both ++ bytes) (bytes_sent link (peer s) both)) ⊎ Waits link side (marks.Fed l s bytes) both
+    by (inl p) = inl (λ k. subst (λ (x : Side). IsPrefixOf (bytes_received link x both ++ bytes) (bytes_sent link (peer x) both)) (sym is.1) p)
     by (inr longer) = inr (record { bytes = bytes; is = (λ i. marks.Fed (is.0 i) (is.1 i) bytes); longer = longer })
 next link side (marks.Wrote l s bytes) left both is a = inl tt
 next link side (marks.Execute l xid moment payload place reply) left both is a = inl tt
@@ -175,11 +176,11 @@ next link side (marks.Told l what) left both is a = inl tt
 all_sent : (link : ℕ) (side : Side) (mark : Mark) (both : List Mark) → IsOnlyOf link side mark → IsAhead link side mark [] both → Waits link side mark both → ⊥
 all_sent link side mark both is a w =
     let fed : fed_at link side mark ≡ w.bytes = ap (λ (m : Mark). fed_at link side m) w.is ∙ own_fed link link side side w.bytes refl refl in
-    let all : (bytes_received link side both ++ w.bytes) ++ a.more ≡ bytes_sent link (other side) both =
-    ap (λ (f : List ℕ). (bytes_received link side both ++ f) ++ a.more) (sym fed) ∙ a.same ∙ ap (λ (l : List ℕ). bytes_sent link (other side) both ++ l) (none_sent link (other side)) ∙ append-nil (bytes_sent link (other side) both) in
-    let sum : length (bytes_received link side both ++ w.bytes) + length a.more ≡ length (bytes_sent link (other side) both) =
+    let all : (bytes_received link side both ++ w.bytes) ++ a.more ≡ bytes_sent link (peer side) both =
+    ap (λ (f : List ℕ). (bytes_received link side both ++ f) ++ a.more) (sym fed) ∙ a.same ∙ ap (λ (l : List ℕ). bytes_sent link (peer side) both ++ l) (none_sent link (peer side)) ∙ append-nil (bytes_sent link (peer side) both) in
+    let sum : length (bytes_received link side both ++ w.bytes) + length a.more ≡ length (bytes_sent link (peer side) both) =
     sym (length-append (bytes_received link side both ++ w.bytes) a.more) ∙ ap (λ (l : List ℕ). length l) all in
-    let longer : length (bytes_sent link (other side) both) < length (bytes_received link side both ++ w.bytes) = w.longer in
+    let longer : length (bytes_sent link (peer side) both) < length (bytes_received link side both ++ w.bytes) = w.longer in
     omega (arith, sum, longer)
 
 -- ---- Whose a mark is

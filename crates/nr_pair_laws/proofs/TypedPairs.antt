@@ -22,7 +22,8 @@ use Rattle.nr_reduce.specs.Served.{ServedMark}
 use Rattle.nr_reduce.proofs.Standing.{AtEachMark_more, itself}
 use Rattle.nr_laws.specs.MatchedSoFar.{MatchedSoFar}
 use Rattle.nr_laws.specs.PlainLinks.{AtPlaceOnMark, AtPlacesOn}
-use Rattle.nr_laws.specs.Typed.{IsTyped, IsTypedForm, TypedMark}
+use Rattle.nr_reduce.specs.Plans.{HasWordPosition}
+use Rattle.nr_laws.specs.Typed.{IsTyped, TypedMark}
 use Rattle.nr_laws.proofs.OnceByXid.{at_mark, before_mark}
 use Rattle.nr_laws.proofs.SentBytes.{client_sends_what_is_due, server_sends_what_is_due}
 use Rattle.nr_plain.specs.ReplyLaws.{plain_server}
@@ -148,7 +149,7 @@ module _ (s : Setup) (J : List Entry) (opened : LinkParameters) (link : ℕ) (tr
       let here : MarksOfBytes (cond (eqb l link && true) (submit ∷ filter (is_exchanged link) rest) (filter (is_exchanged link) rest)) = calls_here front (submit ∷ rest) is outs in
       (subst (λ (b : Bool). MarksOfBytes (cond (b && true) (submit ∷ filter (is_exchanged link) rest) (filter (is_exchanged link) rest))) (ap (λ (k : ℕ). eqb k link) same ∙ itself link) here).0
 
-  form_typed : (link l : ℕ) (call : Call) (form : Form) (xid : ℕ) → IsJobMark link (marks.Submit l call form (submissions.Accepted xid)) → IsTypedForm form
+  form_typed : (link l : ℕ) (call : Call) (form : Form) (xid : ℕ) → IsJobMark link (marks.Submit l call form (submissions.Accepted xid)) → HasWordPosition form
   form_typed link l call forms.Auto xid h = tt
   form_typed link l call forms.Inline xid h = absurd h
   form_typed link l call forms.Chunk xid h = absurd h

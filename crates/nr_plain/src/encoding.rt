@@ -1,11 +1,10 @@
 //! Arguments read, and results written after the head of a reply.
 
-ghost use Rattle.std.specs.Prelude.{◌≡◌, ◌<◌, [], ◌++◌, length, IfOk, IfErr, OnOk};
+ghost use Rattle.std.specs.Prelude.{◌≡◌, ◌<◌, [], length, IfOk, IfErr};
 ghost use Rattle.nr_nfs_base.specs.Codec.{read_all, read_or_none};
-ghost use Rattle.nr_rpc.specs.Constants.{PROG_MISMATCH};
-ghost use Rattle.nr_rpc.specs.Reply.{reply_head, reply_encoding, CanWriteReply};
+ghost use Rattle.nr_rpc.specs.Reply.{CanWriteReply};
 ghost use Rattle.nr_plain.specs.private.Code.{reply_with};
-ghost use Rattle.nr_plain.specs.Replies.{accepted as head_of_accepted, SUCCESS as success, GARBAGE_ARGS as garbage_args, refusal, results_reply};
+ghost use Rattle.nr_plain.specs.Replies.{accepted as head_of_accepted, GARBAGE_ARGS as garbage_args, refusal, results_reply};
 ghost use Rattle.nr_plain.specs.ReplySizes.{reply_max};
 
 use nr_nfs_base::{ValueFault, Xdr};

@@ -1,12 +1,12 @@
 //! The journal's entry of a call.
 
-ghost use Rattle.std.specs.Prelude.{◌≡◌, ◌+◌, ◌≤◌, [], length, IfOk};
+ghost use Rattle.std.specs.Prelude.{◌≡◌, ◌+◌, ◌≤◌, IfOk};
 ghost use Rattle.std.specs.Option.{option_to_list};
 ghost use Rattle.nr_reduce.specs.declared.mark.Entry.{Entry};
 ghost use Rattle.nr_plain.specs.private.Code.{IsHeadWithin};
 ghost use Rattle.nr_plain.specs.Journal.{nfs_procedure_of};
 ghost use Rattle.nr_plain.specs.Replies.{cred_refusal, entries_if};
-ghost use Rattle.nr_plain.specs.Added.{accept_stat_at, entries_by_cred, entries_by_head, entries_by_procedure, entries_by_program, entries_of_call, has_succeeded, has_word, reply_stat_at, status_at};
+ghost use Rattle.nr_plain.specs.Added.{entries_by_cred, entries_by_head, entries_by_procedure, entries_by_program, entries_of_call, has_succeeded, has_word, status_at};
 
 use crate::dispatch::only_reads;
 use crate::server::{cred_status, rest};

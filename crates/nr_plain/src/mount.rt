@@ -1,6 +1,6 @@
 //! The procedures of MOUNT (RFC 1813 section 5.2).
 
-ghost use Rattle.std.specs.Prelude.{◌≡◌, [], ◌∷◌, nat_eq, IfOk};
+ghost use Rattle.std.specs.Prelude.{◌≡◌, nat_eq, IfOk};
 ghost use Rattle.std.specs.Cmp.Lexicographic.{pointwise};
 ghost use Rattle.nr_nfs_base.specs.declared.procedure.MountProcedure.TheVariants as procedures;
 ghost use Rattle.nr_plain.specs.private.Code.{mount_reply};

@@ -1,14 +1,13 @@
 //! The server.
 
-ghost use Rattle.std.specs.Prelude.{◌≡◌, ◌+◌, ◌<◌, ◌≤◌, ◌^◌, [], List, ℕ, length, None, Some, Ok, Err, IfOk, IfErr, OnOk, OnErr, IsOk, drop, ◌≢◌};
+ghost use Rattle.std.specs.Prelude.{◌≡◌, ◌+◌, ◌<◌, ◌≤◌, ◌^◌, [], List, length, None, Some, Ok, Err, IfOk, IfErr, OnOk, OnErr, IsOk, drop};
 ghost use Rattle.nr_nfs_args.specs.Arguments.{nfs_arguments_codec};
 ghost use Rattle.nr_nfs_base.specs.Codec.{read_all};
-ghost use Rattle.nr_nfs_base.specs.Procedures.{nfs_version, mount_version};
 ghost use Rattle.nr_reduce.specs.declared.mark.Entry.{Entry};
 ghost use Rattle.nr_rpc.specs.Reading.{call_of};
 ghost use Rattle.nr_tree.specs.Rules.{IsWithinCapacity, entry_cost as cost_of_entry};
 ghost use Rattle.nr_tree.specs.Steps.{IsBelow, IsBounded};
-ghost use Rattle.nr_plain.specs.Setup.{Setup, Parameters, caller_of, space_of, time_of};
+ghost use Rattle.nr_plain.specs.Setup.{Setup, caller_of, space_of, time_of};
 ghost use Rattle.nr_plain.specs.private.Code.{IsHeadWithin, changes_from, entry_of, reply_from, tree_from};
 ghost use Rattle.nr_plain.specs.Journal.{nfs_procedure_of, cost_of};
 ghost use Rattle.nr_plain.specs.Replies.{nfs_by_procedure, nfs_call, mount_call, program_call, call_by_cred, cred_refusal, answer_to};

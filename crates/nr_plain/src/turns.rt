@@ -5,7 +5,7 @@ ghost use Rattle.nr_reduce.specs.declared.mark.Entry.{Entry};
 ghost use Rattle.nr_rpc.specs.Reading.{call_of};
 ghost use Rattle.nr_plain.specs.Setup.{Setup};
 ghost use Rattle.nr_plain.specs.Stands.{RepresentsJournal, IsCause};
-ghost use Rattle.nr_turnstile.specs.Passes.{Rests, MayStep, Steps, seen_by, mine_of};
+ghost use Rattle.nr_turnstile.specs.Passes.{Rests, MayStep, Steps, seen_by};
 ghost use Rattle.nr_turnstile.specs.Turns.{pass_of, Has, IsSameTurn};
 ghost use Rattle.nr_plain.specs.History.{Opening, Executes, IsOpenedBy, IsHistory, OnlyOthersAdded, closes_none, entry_to_append, history, pass_view};
 ghost use Rattle.nr_plain.specs.ReplySizes.{any_reply_max};

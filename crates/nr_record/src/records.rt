@@ -71,7 +71,7 @@ impl Records {
 }
 
 impl Records {
-    ghost use Rattle.std.specs.Prelude.{◌∷◌, Option, Some, IfNone, IfSome};
+    ghost use Rattle.std.specs.Prelude.{Option, Some, IfNone, IfSome};
     ghost use Rattle.nr_record.specs.Records.{contents, encodings};
     ghost use Rattle.nr_record.specs.RecordsState.{kept, RepresentsStream, IsAt};
 

@@ -1,6 +1,6 @@
 //! Reads the records of a stream that comes in pieces.
 
-ghost use Rattle.std.specs.Prelude.{◌≡◌, ◌+◌, ◌<◌, ◌≤◌, ◌^◌, length};
+ghost use Rattle.std.specs.Prelude.{◌≡◌, ◌<◌, ◌≤◌, ◌^◌, length};
 ghost use Rattle.nr_record.specs.RecordsState.{kept};
 
 use nr_record::{RecordFault, Records};

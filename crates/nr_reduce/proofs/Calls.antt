@@ -8,7 +8,7 @@ use Rattle.nr_wire.specs.declared.hello.Side.TheVariants.{Initiator, Responder}
 use Rattle.nr_wire.specs.Segment.{Segment}
 use Rattle.nr_wire.specs.Segment.Segment.{Tagged, Untagged}
 use Rattle.nr_rpc.specs.declared.head.CallHead.{CallHead}
-use Rattle.nr_rpc.specs.Reading.{call_of, target_of}
+use Rattle.nr_rpc.specs.Reading.{call_of, target_of, head_xid}
 use Rattle.nr_link.specs.declared.end.End.{End as Stop}
 use Rattle.nr_link.specs.Frames.{Frame, is_hello}
 use Rattle.nr_link.specs.Output.{send, send_by}
@@ -34,7 +34,7 @@ use Rattle.nr_reduce.specs.ClientState.{ClientState, call_payload, plan_for}
 use Rattle.nr_reduce.specs.Client.{client_rules, client_end, client_output, client_state_after, with_segment, plan_or, outstanding_of, call_output, calls_output, response_output, segment_request, with_hello, client_segment}
 use Rattle.nr_reduce.specs.ServerState.{ServerState, ReadyCall, PendingCall, PendingRead, credit_word, receives_in_use}
 use Rattle.nr_reduce.specs.ServerReads.{open_reads, is_read, regions_of, reads_of}
-use Rattle.nr_reduce.specs.ServerMessages.{Verdict, CallVerdict, verdict, by_payload, by_head, pending_payload, call_xid, chunk_bytes}
+use Rattle.nr_reduce.specs.ServerMessages.{Verdict, CallVerdict, verdict, by_payload, by_head, pending_payload, chunk_bytes}
 use Rattle.nr_reduce.specs.ServerMessages.Verdict.{EndsLink, OtherVersion, BadChunks, MakesPending}
 use Rattle.nr_reduce.specs.ServerMessages.CallVerdict.{Refuses, IsReady}
 use Rattle.nr_reduce.specs.ServerFrames.{FrameEffect, no_effect, with_verdict, ready_if_whole, message_effect, with_refused_call, is_stream_read, read_effect, call_of_number, response_effect, tagged_effect, by_message, with_access, effect_by, effect_in, frame_effect}
@@ -145,7 +145,7 @@ execute_answered opened link run xid moment payload place reply h =
 record HasHead (r : ReadyCall) : Type 0 where
   pub head : CallHead
   pub is : call_of r.payload ≡ Ok head
-  pub xid : call_xid head ≡ r.xid
+  pub xid : head_xid head ≡ r.xid
 
 abbrev AreHeads : List ReadyCall → Type 0
 AreHeads [] = Unit {0}
@@ -165,10 +165,10 @@ heads_if false x y p q = q
 
 head_made : (c : PendingCall) (payload : List ℕ) (r : Result CallHead ℕ) (s : FrameEffect) → call_of payload ≡ r → AreHeads s.ready → AreHeads (with_verdict (by_head c payload r) s).ready
 head_made c payload (Err at) s e h = h
-head_made c payload (Ok head) s e h = by (eqb (call_xid head) c.xid) refl
+head_made c payload (Ok head) s e h = by (eqb (head_xid head) c.xid) refl
   where
-    by : (b : Bool) → eqb (call_xid head) c.xid ≡ b → AreHeads (with_verdict (cond b (IsReady (record { number = c.number; xid = c.xid; payload = payload })) (Refuses 19)) s).ready
-    by true is = (record { head = head; is = e; xid = eqb-true (call_xid head) c.xid is }, tt)
+    by : (b : Bool) → eqb (head_xid head) c.xid ≡ b → AreHeads (with_verdict (cond b (IsReady (record { number = c.number; xid = c.xid; payload = payload })) (Refuses 19)) s).ready
+    by true is = (record { head = head; is = e; xid = eqb-true (head_xid head) c.xid is }, tt)
     by false is = h
 
 payload_made : (c : PendingCall) (p : Option (List ℕ)) (s : FrameEffect) → AreHeads s.ready → AreHeads (with_verdict (by_payload c p) s).ready
@@ -240,7 +240,7 @@ first_head [] None r h e = absurd cc
 first_head (x ∷ ready) None r h e = subst HasHead (let s : Some x ≡ Some r = e in cc) h.0
 
 pub executed_head : (opened : LinkParameters) (link : ℕ) (run : List Mark) (xid : ℕ) (payload : List ℕ) → IsExecuted opened link run xid payload →
-    (head : CallHead) × ((call_of payload ≡ Ok head) × (call_xid head ≡ xid))
+    (head : CallHead) × ((call_of payload ≡ Ok head) × (head_xid head ≡ xid))
 unfolding next_call server
 executed_head opened link run xid payload h =
     let r = server opened link run in

@@ -12,7 +12,8 @@ use Rattle.nr_reduce.specs.declared.call.Submission.TheVariants as submissions
 use Rattle.nr_reduce.specs.declared.mark.Mark.{Mark}
 use Rattle.nr_reduce.specs.declared.mark.Mark.TheVariants as marks
 use Rattle.nr_reduce.specs.declared.mark.LinkParameters.{LinkParameters}
-use Rattle.nr_reduce.specs.History.{other, same_side, written_at, bytes_sent, bytes_received}
+use Rattle.nr_wire.specs.Hello.{peer}
+use Rattle.nr_reduce.specs.History.{same_side, written_at, bytes_sent, bytes_received}
 use Rattle.nr_reduce.specs.Events.{RunEvent, if_own, events_at, events_from, events}
 use Rattle.nr_reduce.specs.Events.RunEvent.{FrameReceived, CallSubmitted, MemoryRevoked, CallExecuted, QueueWritten, ServerTold}
 use Rattle.nr_reduce.specs.EndRules.{EndMachine, EndState, live, next_end_state_by, end_state_after, output_for_by, output_for_all}
@@ -87,7 +88,7 @@ frames_taken (f ∷ fs) = omega (arith, frames_taken fs)
 
 taken_at : (link : ℕ) (side : Side) (before : List Mark) (mark : Mark) → taken_in (events_at link side before mark) ≡ length (written_at link side mark)
 taken_at link side before (marks.Fed l s bytes) =
-    let fs = frames_completed (other side) (bytes_received link side before) bytes in
+    let fs = frames_completed (peer side) (bytes_received link side before) bytes in
     none_taken_lem (eqb l link && same_side s side) (map FrameReceived fs) (frames_taken fs)
 taken_at link side before (marks.Wrote l s bytes) = by (eqb l link && same_side s side)
   where

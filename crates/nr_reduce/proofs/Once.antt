@@ -12,7 +12,7 @@ use Rattle.nr_header.specs.declared.header.Header.{Header}
 use Rattle.nr_header.specs.declared.fault.HeaderFault.{HeaderFault}
 use Rattle.nr_header.specs.Reading.{header_of}
 use Rattle.nr_rpc.specs.declared.head.CallHead.{CallHead}
-use Rattle.nr_rpc.specs.Reading.{call_of}
+use Rattle.nr_rpc.specs.Reading.{call_of, head_xid}
 use Rattle.nr_wire.specs.Constants.{OPCODE_READ_REQUEST}
 use Rattle.nr_wire.specs.declared.hello.Side.TheVariants.{Responder}
 use Rattle.nr_wire.specs.Segment.{Segment}
@@ -34,7 +34,7 @@ use Rattle.nr_reduce.specs.Events.RunEvent.{FrameReceived, CallSubmitted, Memory
 use Rattle.nr_reduce.specs.Plans.{one_if}
 use Rattle.nr_reduce.specs.ServerState.{ServerState, ReadyCall, PendingRead, PendingCall, next_stag, is_pending}
 use Rattle.nr_reduce.specs.ServerReads.{is_read, reads_of, reads_from, read_of, chunks_of, regions_of}
-use Rattle.nr_reduce.specs.ServerMessages.{Verdict, CallVerdict, chunk_bytes, verdict, by_header, by_body, by_stream, by_need, has_position, no_stream, by_payload, by_head, pending_payload, call_xid}
+use Rattle.nr_reduce.specs.ServerMessages.{Verdict, CallVerdict, chunk_bytes, verdict, by_header, by_body, by_stream, by_need, has_position, no_stream, by_payload, by_head, pending_payload}
 use Rattle.nr_reduce.specs.ServerFrames.{FrameEffect, no_effect, with_verdict, ready_if_whole, with_pending_call, with_refused_call, read_effect, response_effect, call_of_number, is_stream_read, tagged_effect, message_effect, by_message, with_access, effect_in, frame_effect}
 use Rattle.nr_reduce.specs.Server.{with_effect, received_by, server_state_after, server_end, server_rules, initial_server, with_own_hello}
 use Rattle.nr_reduce.specs.ServerMessages.Verdict.{EndsLink, OtherVersion, BadChunks, MakesPending}
@@ -127,7 +127,7 @@ same_reads_lem (IsReady r) s = refl
 
 head_number : (c : PendingCall) (payload : List ℕ) (h : Result CallHead ℕ) (r : ReadyCall) → by_head c payload h ≡ IsReady r → r.number ≡ c.number
 head_number c payload (Err at) r e = absurd cc
-head_number c payload (Ok head) r e = by (eqb (call_xid head) c.xid) e
+head_number c payload (Ok head) r e = by (eqb (head_xid head) c.xid) e
   where
     by : (b : Bool) → cond b (IsReady (record { number = c.number; xid = c.xid; payload = payload })) (Refuses 19) ≡ IsReady r → r.number ≡ c.number
     by true e = (let s : record { number = c.number; xid = c.xid; payload = payload } ≡ r = cc in ap (λ (q : ReadyCall). q.number) (sym s))

@@ -5,14 +5,14 @@ use Rattle.nr_wire.specs.Segment.{Segment}
 use Rattle.nr_wire.specs.Segment.Segment.{Tagged, Untagged}
 use Rattle.nr_regions.specs.Access.{TaggedSegment}
 use Rattle.nr_rpc.specs.declared.head.CallHead.{CallHead}
-use Rattle.nr_rpc.specs.Reading.{call_of}
+use Rattle.nr_rpc.specs.Reading.{call_of, head_xid}
 use Rattle.nr_link.specs.Frames.{Frame}
 use Rattle.nr_link.specs.ReceiveState.{message_completed}
 use Rattle.nr_link.specs.Ending.{frame_segment}
 use Rattle.nr_reduce.specs.Chunks.{is_read_chunk_of_item}
 use Rattle.nr_reduce.specs.ServerState.{ServerState, ReadyCall, PendingCall, PendingRead}
 use Rattle.nr_reduce.specs.ServerReads.{is_read}
-use Rattle.nr_reduce.specs.ServerMessages.{Verdict, verdict, by_payload, by_head, pending_payload, call_xid, chunk_bytes}
+use Rattle.nr_reduce.specs.ServerMessages.{Verdict, verdict, by_payload, by_head, pending_payload, chunk_bytes}
 use Rattle.nr_reduce.specs.ServerMessages.Verdict.{EndsLink, OtherVersion, BadChunks, MakesPending}
 use Rattle.nr_reduce.specs.ServerMessages.CallVerdict.{Refuses, IsReady}
 use Rattle.nr_reduce.specs.ServerFrames.{FrameEffect, no_effect, with_verdict, ready_if_whole, message_effect, with_refused_call, is_stream_read, read_effect, call_of_number, response_effect, by_message, with_access, effect_by, effect_in, frame_effect}
@@ -37,7 +37,7 @@ conveyed_if k place Own false s t h g = g
 conveyed_head : (k : ServerState) (place : ℕ) (Own : PendingCall → Type 0) (c : PendingCall) (payload : List ℕ) (h : Result CallHead ℕ) (s : FrameEffect) → Own c → pending_payload k place c ≡ Some payload → s.ready ≡ []
     → AllConveyed k place Own (with_verdict (by_head c payload h) s).ready
 conveyed_head k place Own c payload (Err at) s own is none = subst (λ (xs : List ReadyCall). AllConveyed k place Own xs) (sym none) tt
-conveyed_head k place Own c payload (Ok head) s own is none = by (eqb (call_xid head) c.xid)
+conveyed_head k place Own c payload (Ok head) s own is none = by (eqb (head_xid head) c.xid)
   where
     by : (b : Bool) → AllConveyed k place Own (with_verdict (cond b (IsReady (record { number = c.number; xid = c.xid; payload = payload })) (Refuses 19)) s).ready
     by true = (record { call = c; own = own; payload = is; number = refl; xid = refl }, tt)

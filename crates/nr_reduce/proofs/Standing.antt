@@ -11,7 +11,8 @@ use Rattle.nr_reduce.specs.Hellos.{client_hello}
 use Rattle.nr_reduce.specs.declared.mark.Mark.{Mark}
 use Rattle.nr_reduce.specs.declared.mark.Mark.TheVariants as marks
 use Rattle.nr_reduce.specs.declared.mark.LinkParameters.{LinkParameters}
-use Rattle.nr_reduce.specs.History.{bytes_sent, bytes_received, written_at, fed_at, other}
+use Rattle.nr_wire.specs.Hello.{peer}
+use Rattle.nr_reduce.specs.History.{bytes_sent, bytes_received, written_at, fed_at}
 use Rattle.nr_link.specs.declared.end.End.{End}
 use Rattle.nr_reduce.specs.Events.{RunEvent, mark_events, events_at, events}
 use Rattle.nr_reduce.specs.EndRules.{EndMachine, EndState, end_state_after, output_for_all}
@@ -49,10 +50,10 @@ sent_one link side run mark = one_more (written_at link side) run mark
 
 -- the events of a mark follow from the input
 pub events_input : (link : ℕ) (side : Side) (run : List Mark) (mark : Mark) →
-    input_events link side (input_of (other side) (bytes_received link side run)) mark ≡ events_at link side run mark
+    input_events link side (input_of (peer side) (bytes_received link side run)) mark ≡ events_at link side run mark
 events_input link side run mark =
     let stream = bytes_received link side run in
-    λ i. mark_events link side (input_of_count (other side) stream i) (λ (more : List ℕ). input_of_frames (other side) stream more i) mark
+    λ i. mark_events link side (input_of_count (peer side) stream i) (λ (more : List ℕ). input_of_frames (peer side) stream more i) mark
 
 -- ---- One mark more
 
@@ -128,8 +129,8 @@ module _ {K S : Type 0} (Keeps : K → EndState S → ℕ → Type 0) (rules : E
             let lived : (state_of run).ended ≡ None = live_before rules (state_of run) (input_events link side input mark) lives_by in
             fed lives_by
             ∙ ap (λ (i : InputState). input_after i (fed_at link side mark)) (s.received lived)
-            ∙ sym (input_of_append (other side) (bytes_received link side run) (fed_at link side mark))
-            ∙ ap (λ (stream : List ℕ). input_of (other side) stream) (sym (received_one link side run mark)));
+            ∙ sym (input_of_append (peer side) (bytes_received link side run) (fed_at link side mark))
+            ∙ ap (λ (stream : List ℕ). input_of (peer side) stream) (sym (received_one link side run mark)));
         output = sent_left queue left (output_for_all rules (state_of run) (input_events link side input mark)) s.output due_one (sym same.output) goes.output;
       }
 
@@ -163,7 +164,7 @@ module _ {K S : Type 0} (Keeps : K → EndState S → ℕ → Type 0) (rules : E
 pub preserved_by_input : {S : Type 0} (rules : EndMachine S) (link : ℕ) (side : Side) (state_of : List Mark → EndState S) (due : List Mark → List ℕ) (run : List Mark) (mark : Mark) (input : InputState) →
     state_of (run ++ mark ∷ []) ≡ end_state_after rules (state_of run) (events_at link side run mark) →
     due (run ++ mark ∷ []) ≡ due run ++ output_for_all rules (state_of run) (events_at link side run mark) →
-    ((state_of run).ended ≡ None → input ≡ input_of (other side) (bytes_received link side run)) →
+    ((state_of run).ended ≡ None → input ≡ input_of (peer side) (bytes_received link side run)) →
     GoesByInput rules link side state_of due input run mark
 preserved_by_input rules link side state_of due run mark input state_one due_one is =
     let es = input_events link side input mark in
@@ -179,8 +180,8 @@ preserved_by_input rules link side state_of due run mark input state_one due_one
           (let lives_by : (end_state_after rules (state_of run) es).ended ≡ None = ap (λ (r : EndState _). r.ended) (same.state ∙ sym state_one) ∙ lives in
           let lived : (state_of run).ended ≡ None = live_before rules (state_of run) es lives_by in
           ap (λ (i : InputState). input_after i (fed_at link side mark)) (is lived)
-          ∙ sym (input_of_append (other side) (bytes_received link side run) (fed_at link side mark))
-          ∙ ap (λ (stream : List ℕ). input_of (other side) stream) (sym (received_one link side run mark)));
+          ∙ sym (input_of_append (peer side) (bytes_received link side run) (fed_at link side mark))
+          ∙ ap (λ (stream : List ℕ). input_of (peer side) stream) (sym (received_one link side run mark)));
     }
 
 -- ---- Clients and servers

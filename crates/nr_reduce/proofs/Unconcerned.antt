@@ -12,7 +12,8 @@ use Rattle.nr_reduce.specs.declared.call.Submission.TheVariants as submissions
 use Rattle.nr_reduce.specs.declared.mark.Mark.{Mark}
 use Rattle.nr_reduce.specs.declared.mark.Mark.TheVariants as marks
 use Rattle.nr_reduce.specs.declared.mark.LinkParameters.{LinkParameters}
-use Rattle.nr_reduce.specs.History.{other, written_at, fed_at, bytes_sent, bytes_received, accepted_as, accepted_at, executed_at, completed_at, abandons}
+use Rattle.nr_wire.specs.Hello.{peer}
+use Rattle.nr_reduce.specs.History.{written_at, fed_at, bytes_sent, bytes_received, accepted_as, accepted_at, executed_at, completed_at, abandons}
 use Rattle.nr_reduce.specs.Concerns.{is_judged, is_fed, concerns}
 use Rattle.nr_reduce.specs.Events.{RunEvent, if_own, mark_events, events_at}
 use Rattle.nr_reduce.specs.Events.RunEvent.{FrameReceived, CallSubmitted, MemoryRevoked, CallExecuted, QueueWritten, ServerTold}
@@ -82,7 +83,7 @@ no_mark_events link side place completed (marks.Told l what) e fed = ap (λ (b :
 
 pub no_events : (link : ℕ) (side : Side) (before : List Mark) (mark : Mark) → concerns link side mark ≡ false → events_at link side before mark ≡ []
 no_events link side before mark e =
-    no_mark_events link side (length (bytes_received link side before)) (frames_completed (other side) (bytes_received link side before)) mark (not_judged link side mark e) (not_fed link side mark e)
+    no_mark_events link side (length (bytes_received link side before)) (frames_completed (peer side) (bytes_received link side before)) mark (not_judged link side mark e) (not_fed link side mark e)
 
 pub none_written : (link : ℕ) (side : Side) (mark : Mark) → is_judged link side mark ≡ false → written_at link side mark ≡ []
 none_written link side (marks.Submit l call form answer) e = refl

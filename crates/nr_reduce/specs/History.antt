@@ -13,10 +13,6 @@ use Rattle.nr_outside.specs.declared.moment.Moment.{Moment}
 use Rattle.nr_reduce.specs.declared.mark.Mark.{Mark}
 use Rattle.nr_reduce.specs.declared.mark.Mark.TheVariants as marks
 
-abbrev pub other : Side → Side
-other Initiator = Responder
-other Responder = Initiator
-
 abbrev pub same_side : Side → Side → Bool
 same_side Initiator Initiator = true
 same_side Responder Responder = true

@@ -1,5 +1,5 @@
 -- How a call is sent (RFC 8166 section 3.5): what goes inline, what is offered to be read, and what is offered to be filled.
-use Rattle.std.specs.Prelude.{◌≡◌, ℕ, zero, suc, ◌+◌, ◌-◌, ◌/◌, min, Bool, true, false, nat_lt, nat_le, ◌&&◌, ◌==◌, not, if◌then◌else◌, List, [], ◌∷◌, ◌++◌, length, take, drop, replicate, sum, Option, None, Some, Result, Ok, Err}
+use Rattle.std.specs.Prelude.{◌≡◌, ℕ, zero, suc, ◌+◌, ◌-◌, ◌/◌, ◌^◌, ◌<◌, min, Bool, true, false, nat_lt, nat_le, ◌&&◌, ◌==◌, not, if◌then◌else◌, List, [], ◌∷◌, ◌++◌, length, take, drop, replicate, sum, Option, None, Some, Result, Ok, Err}
 use Rattle.nr_header.specs.Constants.{HEADER_LEN_MIN, PAYLOAD_MAX}
 use Rattle.nr_header.specs.Length.{read_list_len, write_chunk_len, reply_chunk_len}
 use Rattle.nr_header.specs.declared.header.RdmaSegment.{RdmaSegment}
@@ -131,6 +131,14 @@ given_plan payload offer =
 
 abbrev pub given_total : Offer → ℕ
 given_total offer = total offer.read + total offer.write + total offer.reply
+
+-- the position of an offer that is given is a word
+abbrev pub HasWordPosition : Form → Type 0
+HasWordPosition forms.Auto = Unit {0}
+HasWordPosition forms.Inline = Unit {0}
+HasWordPosition forms.Chunk = Unit {0}
+HasWordPosition forms.Long = Unit {0}
+HasWordPosition (forms.Given offer) = offer.read_at < 2 ^ 32
 
 -- a plan by the form
 abbrev pub plan_in_form : List ℕ → Form → (up down : ℕ) → Plan

@@ -18,7 +18,7 @@ use Rattle.nr_header.specs.declared.header.Header.{Header}
 use Rattle.nr_header.specs.declared.fault.HeaderFault.{HeaderFault}
 use Rattle.nr_header.specs.Reading.{header_of, HeaderBad}
 use Rattle.nr_rpc.specs.declared.head.CallHead.{CallHead}
-use Rattle.nr_rpc.specs.Reading.{call_of, target_of}
+use Rattle.nr_rpc.specs.Reading.{call_of, target_of, head_xid}
 use Rattle.nr_reduce.specs.Holds.{Answer, answer_writes, answer_message, chunk_error, version_error}
 use Rattle.nr_link.specs.Ending.{frame_segment, access_of}
 use Rattle.nr_regions.specs.Access.{Allowed, HaveOwnStags}
@@ -44,7 +44,7 @@ use Rattle.nr_reduce.specs.ClientState.{OutstandingCall, ClientState}
 use Rattle.nr_reduce.specs.Client.{client_rules, client_segment, client_end, outstanding_of, calls_output, initial_client}
 use Rattle.nr_reduce.specs.ServerState.{ServerState, ReadyCall, PendingCall, PendingRead, is_pending, credit_word}
 use Rattle.nr_reduce.specs.ServerReads.{open_reads}
-use Rattle.nr_reduce.specs.ServerMessages.{verdict, by_need, no_stream, call_xid, chunk_bytes, pending_payload}
+use Rattle.nr_reduce.specs.ServerMessages.{verdict, by_need, no_stream, chunk_bytes, pending_payload}
 use Rattle.nr_reduce.specs.ServerFrames.{frame_effect, call_of_number, is_stream_read, with_access}
 use Rattle.nr_reduce.specs.Chunks.{is_read_chunk_of_item}
 use Rattle.nr_reduce.specs.ServerMessages.Verdict.{BadChunks, OtherVersion, MakesPending}
@@ -265,7 +265,7 @@ AcceptedCallsWait = (opened : LinkParameters) (link : ℕ) (run : List Mark) →
 -- An executed call's payload begins with the head of a call under its xid.
 abbrev pub PayloadHasItsXid : Type 0
 PayloadHasItsXid = (opened : LinkParameters) (link : ℕ) (run : List Mark) (xid : ℕ) (payload : List ℕ) → IsExecuted opened link run xid payload →
-    (head : CallHead) × ((call_of payload ≡ Ok head) × (call_xid head ≡ xid))
+    (head : CallHead) × ((call_of payload ≡ Ok head) × (head_xid head ≡ xid))
 
 -- A call that a frame makes ready has the payload that is conveyed, as the frame is received, by the lists and the stream of a call
 -- that was pending or that the frame's message makes pending, and by the server's memory. It has that call's number and xid.

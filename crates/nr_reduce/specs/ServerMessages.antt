@@ -10,8 +10,7 @@ use Rattle.nr_header.specs.declared.header.Body.TheVariants.{Msg, Nomsg, ErrVers
 use Rattle.nr_header.specs.declared.header.Header.{Header}
 use Rattle.nr_header.specs.Reading.{header_of}
 use Rattle.nr_rpc.specs.declared.head.CallHead.{CallHead}
-use Rattle.nr_rpc.specs.declared.head.CallHead.TheVariants as calls
-use Rattle.nr_rpc.specs.Reading.{call_of}
+use Rattle.nr_rpc.specs.Reading.{call_of, head_xid}
 use Rattle.nr_reduce.specs.Limits.{numbers_end}
 use Rattle.nr_link.specs.Reasons.{REASON_KIND, REASON_HEAD, REASON_XID, REASON_CALL, REASON_STAGS}
 use Rattle.nr_reduce.specs.Chunks.{total_at, is_read_chunk_of_item, call_conveyed}
@@ -26,10 +25,6 @@ chunk_bytes k place c position = memory_at k place (sink_of k.regions c.number p
 unfoldable pub pending_payload : ServerState → ℕ → PendingCall → Option (List ℕ)
 pending_payload k place c = call_conveyed c.inline c.lists.read (chunk_bytes k place c)
 
-abbrev pub call_xid : CallHead → ℕ
-call_xid (calls.Version2 xid prog vers proc cred args_at) = xid
-call_xid (calls.Other xid rpcvers) = xid
-
 -- What the server makes of a call once its chunks are read: a reason to end, or it is ready to be executed. Its payload has to be
 -- an RPC call (RFC 5531 section 9) with the xid of the header.
 pub data CallVerdict : Type 0 where
@@ -38,7 +33,7 @@ pub data CallVerdict : Type 0 where
 
 abbrev pub by_head : PendingCall → List ℕ → Result CallHead ℕ → CallVerdict
 by_head c payload (Ok head) =
-    if call_xid head == c.xid then IsReady (record { number = c.number; xid = c.xid; payload = payload }) else Refuses REASON_XID
+    if head_xid head == c.xid then IsReady (record { number = c.number; xid = c.xid; payload = payload }) else Refuses REASON_XID
 by_head c payload (Err at) = Refuses REASON_HEAD
 
 abbrev pub by_payload : PendingCall → Option (List ℕ) → CallVerdict

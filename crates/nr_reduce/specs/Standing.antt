@@ -8,7 +8,8 @@ use Rattle.nr_link.specs.declared.end.End.TheVariants as ends
 use Rattle.nr_link.specs.Input.{InputState, input_of, input_count, input_frames}
 use Rattle.nr_reduce.specs.declared.mark.Mark.{Mark}
 use Rattle.nr_reduce.specs.declared.mark.LinkParameters.{LinkParameters}
-use Rattle.nr_reduce.specs.History.{bytes_sent, bytes_received, other}
+use Rattle.nr_wire.specs.Hello.{peer}
+use Rattle.nr_reduce.specs.History.{bytes_sent, bytes_received}
 use Rattle.nr_reduce.specs.Events.{RunEvent, mark_events}
 use Rattle.nr_reduce.specs.EndRules.{EndState}
 use Rattle.nr_reduce.specs.KeptClient.{KeptClient, ClientKeeps}
@@ -24,7 +25,7 @@ input_events link side input mark = mark_events link side (input_count input) (i
 -- what they fed to it, until it has ended; and its queue is the output that is due by them and isn't written.
 pub record RepresentsMarks {K S : Type 0} (Keeps : K → EndState S → ℕ → Type 0) (link : ℕ) (side : Side) (state_of : List Mark → EndState S) (due : List Mark → List ℕ) (kept : K) (input : InputState) (queue : List ℕ) (run : List Mark) : Type 0 where
   pub keeps : Keeps kept (state_of run) (length (bytes_received link side run))
-  pub received : (state_of run).ended ≡ None → input ≡ input_of (other side) (bytes_received link side run)
+  pub received : (state_of run).ended ≡ None → input ≡ input_of (peer side) (bytes_received link side run)
   pub output : bytes_sent link side run ++ queue ≡ due run
 
 -- An end that ran out of memory stands for these marks: what it wrote and its queue are the first bytes of what is due by them.

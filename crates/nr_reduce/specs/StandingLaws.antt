@@ -26,7 +26,8 @@ use Rattle.nr_reduce.specs.declared.mark.LinkParameters.{LinkParameters}
 use Rattle.nr_reduce.specs.declared.outline.Plan.{Plan}
 use Rattle.nr_reduce.specs.Limits.{numbers_end}
 use Rattle.nr_reduce.specs.Plans.{TooLarge, regions_needed, buffers, plan_of}
-use Rattle.nr_reduce.specs.History.{AcceptedCall, CompletedCall, bytes_sent, bytes_received, written_at, fed_at, other}
+use Rattle.nr_wire.specs.Hello.{peer}
+use Rattle.nr_reduce.specs.History.{AcceptedCall, CompletedCall, bytes_sent, bytes_received, written_at, fed_at}
 use Rattle.nr_reduce.specs.Hellos.{client_hello, client_agreement}
 use Rattle.nr_reduce.specs.Events.{RunEvent, events_at}
 use Rattle.nr_reduce.specs.Events.RunEvent.{FrameReceived, CallSubmitted, MemoryRevoked, QueueWritten}
@@ -56,7 +57,7 @@ ServerBegins = (opened : LinkParameters) (link : ℕ) → ServerRepresents opene
 -- The events of a mark follow from the input that an end keeps.
 abbrev pub EventsOfInput : Type 0
 EventsOfInput = (link : ℕ) (side : Side) (run : List Mark) (mark : Mark) →
-    input_events link side (input_of (other side) (bytes_received link side run)) mark ≡ events_at link side run mark
+    input_events link side (input_of (peer side) (bytes_received link side run)) mark ≡ events_at link side run mark
 
 -- ---- One mark more
 
@@ -82,7 +83,7 @@ pub record GoesByInput {S : Type 0} (rules : EndMachine S) (link : ℕ) (side : 
   pub output : due (run ++ mark ∷ []) ≡ due run ++ output_for_all rules (state_of run) (input_events link side input mark)
   pub sent : bytes_sent link side (run ++ mark ∷ []) ≡ bytes_sent link side run ++ written_at link side mark
   pub received : bytes_received link side (run ++ mark ∷ []) ≡ bytes_received link side run ++ fed_at link side mark
-  pub next_input : (state_of (run ++ mark ∷ [])).ended ≡ None → input_after input (fed_at link side mark) ≡ input_of (other side) (bytes_received link side (run ++ mark ∷ []))
+  pub next_input : (state_of (run ++ mark ∷ [])).ended ≡ None → input_after input (fed_at link side mark) ≡ input_of (peer side) (bytes_received link side (run ++ mark ∷ []))
 
 abbrev pub ClientGoesByInput : Type 0
 ClientGoesByInput = (opened : LinkParameters) (link : ℕ) (input : InputState) (run : List Mark) (mark : Mark) →

@@ -1,6 +1,6 @@
 //! Whether the lists of a reply are those that its call offered (RFC 8166 section 3.4).
 
-ghost use Rattle.std.specs.Prelude.{◌≡◌, nat_le, ◌&&◌, ◌||◌, ◌==◌, option_map};
+ghost use Rattle.std.specs.Prelude.{◌≡◌, ◌&&◌, ◌||◌, ◌==◌, option_map};
 ghost use Rattle.std.specs.List.{list_all};
 ghost use Rattle.nr_reduce.specs.Chunks.{are_empty, returns, returns_each, fills_first, returns_none, returns_stream, answers_offer};
 ghost use Rattle.nr_header.specs.Slices.{lists_of_slices};

@@ -1,6 +1,6 @@
 //! The item of a payload: the data that may move in a chunk of its own.
 
-ghost use Rattle.std.specs.Prelude.{◌≡◌, ◌+◌, ◌≤◌, Ok, length, IfSome};
+ghost use Rattle.std.specs.Prelude.{◌≡◌, ◌≤◌, Ok, length, IfSome};
 ghost use Rattle.nr_xdr.specs.Item.{pad_len};
 ghost use Rattle.nr_rpc.specs.Reading.{reply_of};
 ghost use Rattle.nr_reduce.specs.private.AfterFront.{and_then};

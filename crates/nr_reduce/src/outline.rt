@@ -1,6 +1,6 @@
 //! How a call is sent: which of its bytes go in a chunk, and what it offers for the reply.
 
-ghost use Rattle.std.specs.Prelude.{◌≡◌, ℕ, List, ◌+◌, ◌*◌, ◌^◌, ◌<◌, ◌≤◌, ◌++◌, Option, None, Some, length, take, option_map, slice_index, IfOk};
+ghost use Rattle.std.specs.Prelude.{◌≡◌, ◌+◌, ◌*◌, ◌^◌, ◌<◌, ◌++◌, Option, None, Some, length, take, option_map, slice_index, IfOk};
 ghost use Rattle.nr_reduce.specs.Plans.{segments_for, chunk_for, moved_offer, argument_offer, write_size, reply_size, given_region};
 ghost use Rattle.nr_reduce.specs.PlanSizes.{ItemFits, KindFits, send_size, auto_offer_sizes, auto_kind, auto_sizes, item_kind, sizes_by, read_outline, kind_outline, own_outline};
 ghost use Rattle.nr_reduce.specs.CallOutlines.{lengths_of, outline_plan};

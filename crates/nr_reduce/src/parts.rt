@@ -4,7 +4,6 @@ ghost use Rattle.std.specs.Prelude.{◌≡◌, ◌+◌, ◌^◌, ◌++◌, ◌<�
 ghost use Rattle.nr_rpc.specs.Reading.{call_of, target_of};
 ghost use Rattle.nr_rpc.specs.Call.{call_head, call_encoding, call_of_target};
 ghost use Rattle.nr_rpc.specs.Credential.{CanWriteCred};
-ghost use Rattle.nr_xdr.specs.Reading.{Cursor};
 ghost use Rattle.nr_reduce.specs.Items.{from_place, ends_with_item, call_item, reducible_item};
 ghost use Rattle.nr_reduce.specs.Largest.{largest_reply};
 ghost use Rattle.nr_reduce.specs.Plans.{write_offer};

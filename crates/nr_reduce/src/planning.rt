@@ -1,6 +1,6 @@
 //! The plan of a call (RFC 8166 section 3.5).
 
-ghost use Rattle.std.specs.Prelude.{◌≡◌, ℕ, List, ◌+◌, ◌*◌, ◌^◌, ◌<◌, ◌≤◌, ◌++◌, [], Ok, None, Some, length, sum, option_map, IfOk};
+ghost use Rattle.std.specs.Prelude.{◌≡◌, ℕ, List, ◌+◌, ◌*◌, ◌^◌, ◌<◌, ◌≤◌, ◌++◌, [], Ok, None, Some, length, sum, IfOk};
 ghost use Rattle.nr_reduce.specs.Plans.{total, given_total, given_region, given_plan, write_size, reply_size, plan_size, within, plan_of};
 ghost use Rattle.nr_reduce.specs.Limits.{given_max};
 ghost use Rattle.nr_reduce.specs.PlanSizes.{facts_of, ItemFits, KindFits, PlanAnswers, outline_within};

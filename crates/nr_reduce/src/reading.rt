@@ -1,6 +1,6 @@
 //! The read list of a call, looked at without memory (RFC 8166 section 3.4.5).
 
-ghost use Rattle.std.specs.Prelude.{◌≡◌, ◌+◌, ◌<◌, ◌≤◌, length};
+ghost use Rattle.std.specs.Prelude.{◌≡◌, ◌+◌, ◌<◌, length};
 ghost use Rattle.nr_reduce.specs.Chunks.{item_position, total_at, is_item, is_read_chunk_of_item};
 ghost use Rattle.nr_reduce.specs.CodeViews.{is_read_chunk_of};
 

@@ -1,6 +1,6 @@
 //! The message of an answer: the lists say what was written (RFC 8166 sections 3.4.6, 3.5).
 
-ghost use Rattle.std.specs.Prelude.{◌≡◌, ◌^◌, ◌<◌, ◌++◌, All, length, min, IfOk, IfSome, option_map};
+ghost use Rattle.std.specs.Prelude.{◌≡◌, ◌<◌, ◌++◌, length, min, IfOk, option_map};
 ghost use Rattle.nr_reduce.specs.Chunks.{filled_chunk};
 ghost use Rattle.nr_reduce.specs.Holds.{empty_chunks, written_chunks, answer_lists, answer_body, answer_message};
 ghost use Rattle.nr_reduce.specs.CodeViews.{answer_view, reply_of_answer};

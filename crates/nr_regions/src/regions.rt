@@ -1,7 +1,7 @@
 //! All regions of a connection's end.
 
 ghost use Rattle.std.specs.Prelude.{◌≡◌, ◌+◌, ◌^◌, ◌<◌, ◌≤◌, ◌↔◌, length, is_some, true, IsOk, IfOk, IfErr, OnOk, OnErr, IsErrAnd, ◌≢◌};
-ghost use Rattle.std.specs.FinMap.{empty, get, insert, remove};
+ghost use Rattle.std.specs.FinMap.{empty, insert, remove};
 ghost use Rattle.std.specs.Result.{result_err};
 ghost use Rattle.nr_regions.specs.RegisteredMemory.{IsHeld, after_invalidate, after_place, after_register, after_release, bytes_at, bytes_held, bytes_in, buffer_around, claim_of, denial, denial_in, held_region, initial_memory, invalidate_denial, live_region, nothing_outside, outside_at, outside_held, outside_window, region_offer, right_for, stags_left, window_bytes, Claim};
 ghost use Rattle.nr_regions.specs.Table.{table, outsides, dead_flags, live_in, region_of};

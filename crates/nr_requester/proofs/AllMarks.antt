@@ -1,6 +1,5 @@
 -- What a requester stands for, mark by mark: its client and its answers.
 use Rattle.std.proofs.Common.{◌≡◌, ℕ, ◌+◌, ◌<◌, Bool, true, false, cond, eqb, List, [], ◌∷◌, ◌++◌, ◌&&◌, length, take, map, None, refl, sym, ap, subst, ◌∙◌, arith, append-nil}
-use Rattle.std.specs.List.{AllByRecursion, Contains, find}
 use Rattle.std.proofs.lemmas.List.Elements.{Contains-push}
 use Rattle.nr_wire.specs.declared.hello.Side.TheVariants.{Initiator}
 use Rattle.nr_endpoint.specs.SendQueue.{writable}
@@ -11,7 +10,7 @@ use Rattle.nr_reduce.specs.declared.outline.Plan.{Plan}
 use Rattle.nr_reduce.specs.declared.mark.LinkParameters.{LinkParameters}
 use Rattle.nr_reduce.specs.declared.mark.Mark.{Mark}
 use Rattle.nr_reduce.specs.declared.mark.Mark.TheVariants as marks
-use Rattle.nr_reduce.specs.History.{AcceptedCall, accepted_as, accepted_at, accepted_calls, completed_calls, bytes_sent, bytes_received, written_at, fed_at}
+use Rattle.nr_reduce.specs.History.{AcceptedCall, accepted_at, accepted_calls, completed_calls, bytes_sent, bytes_received, written_at, fed_at}
 use Rattle.nr_reduce.specs.Events.{RunEvent, if_own, events_at, events}
 use Rattle.nr_reduce.specs.Events.RunEvent.{CallSubmitted, MemoryRevoked, QueueWritten}
 use Rattle.nr_reduce.specs.EndRules.{EndState, next_end_state, end_state_after, live}

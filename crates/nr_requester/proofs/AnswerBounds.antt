@@ -4,7 +4,7 @@ use Rattle.std.specs.Prelude.{get_or, remove, nat_lt}
 use Rattle.std.specs.List.{AllByRecursion}
 use Rattle.std.proofs.lemmas.Bool.{lt-ltb}
 use Rattle.std.proofs.lemmas.List.{length-take}
-use Rattle.nr_regions.specs.RegisteredMemory.{RegisteredMemory, Claim, Region, IsHeld, bytes_in}
+use Rattle.nr_regions.specs.RegisteredMemory.{RegisteredMemory, Claim, Region, IsHeld, bytes_in, AreHeldFrom}
 use Rattle.nr_endpoint.specs.EndpointState.{EndpointState}
 use Rattle.nr_endpoint.specs.LinkState.{LinkState, LinkSide}
 use Rattle.nr_reduce.specs.declared.call.Call.{Call}
@@ -15,13 +15,14 @@ use Rattle.nr_requester.specs.declared.outstanding.OutstandingCall.{OutstandingC
 use Rattle.nr_requester.specs.declared.replies.Found.{Found}
 use Rattle.nr_requester.specs.declared.replies.Found.TheVariants as founds
 use Rattle.nr_requester.specs.RequesterState.{stags_of, awaited_call}
-use Rattle.nr_requester.specs.HeldClaims.{AreHeldFrom, call_claims}
+use Rattle.nr_requester.specs.HeldClaims.{call_claims}
 use Rattle.nr_requester.specs.AfterPiece.{answered_as, buffer_under, buffers_under}
 use Rattle.nr_requester.specs.Buffers.{with_memory}
 use Rattle.nr_requester.specs.Judged.{SameCalls, outcome_by}
 use Rattle.nr_requester.specs.Fed.{CallsSound}
 use Rattle.nr_requester.specs.Views.{IsAnswered, stored_view}
-use Rattle.nr_requester.specs.HeldBytes.{NothingOutside, call_bytes, stored_bytes, outcome_bytes, buffer_len, buffers_len, LinkFits, IsCount, RegionsHave, AreRisingBy, send_of, CountsFit, unsent, in_bytes, claims_size, claims_len, claims_total, CallFits, AnswerFits, AreDistinct, RequesterBounds, IsBounded, reply_room, segments_offered}
+use Rattle.nr_reduce.specs.ClientMessages.{outcome_bytes}
+use Rattle.nr_requester.specs.HeldBytes.{NothingOutside, call_bytes, stored_bytes, buffer_len, buffers_len, LinkFits, IsCount, RegionsHave, AreRisingBy, send_of, CountsFit, unsent, in_bytes, claims_size, claims_len, claims_total, CallFits, AnswerFits, AreDistinct, RequesterBounds, IsBounded, reply_room, segments_offered}
 use Rattle.nr_requester.proofs.ChangedCalls.{nth_of, not_found}
 use Rattle.nr_requester.proofs.Taken.{same_rising}
 use Rattle.nr_requester.proofs.RegionBounds.{Both, bytes_count, released_both}

@@ -3,13 +3,13 @@ use Rattle.std.proofs.Common.{◌≡◌, ℕ, zero, suc, ◌<◌, Bool, true, fa
 use Rattle.std.specs.Prelude.{get_or}
 use Rattle.std.specs.List.{AllByRecursion, find}
 use Rattle.std.proofs.lemmas.Bool.{eqb-true}
-use Rattle.nr_regions.specs.RegisteredMemory.{RegisteredMemory, Claim}
+use Rattle.nr_regions.specs.RegisteredMemory.{RegisteredMemory, Claim, AreHeldFrom}
 use Rattle.nr_reduce.specs.KeptClient.{released_all}
 use Rattle.nr_reduce.proofs.Standing.{itself}
 use Rattle.nr_requester.specs.declared.answer.AnsweredCall.{AnsweredCall}
 use Rattle.nr_requester.specs.declared.outstanding.OutstandingCall.{OutstandingCall}
 use Rattle.nr_requester.specs.RequesterState.{stags_of}
-use Rattle.nr_requester.specs.HeldClaims.{AreHeldFrom, call_claims, all_claims}
+use Rattle.nr_requester.specs.HeldClaims.{call_claims, all_claims}
 use Rattle.nr_requester.specs.AfterPiece.{call_of, without_call}
 use Rattle.nr_requester.specs.Views.{AreRising, IsAnswered, stored_view}
 use Rattle.nr_requester.proofs.Releases.{all_released, stags_are_of, held_middle}

@@ -1,23 +1,22 @@
 -- Of the regions of a call, all of which a peer reaches until a message names one, all but one are counted as released.
-use Rattle.std.proofs.Common.{◌≡◌, ◌≢◌, ℕ, suc, ◌+◌, ◌<◌, ◌≤◌, Bool, true, false, cond, eqb, List, [], ◌∷◌, ◌++◌, length, map, Option, None, Some, refl, sym, ap, subst, ◌∙◌, arith}
+use Rattle.std.proofs.Common.{◌≡◌, ◌≢◌, ℕ, ◌+◌, ◌<◌, ◌≤◌, Bool, true, false, cond, eqb, List, [], ◌∷◌, ◌++◌, length, map, Option, None, Some, refl, sym, ap, subst, ◌∙◌, arith}
 use Rattle.std.specs.Prelude.{is_some, replicate, ◌||◌}
 use Rattle.std.specs.List.{AllByRecursion, filter, list_any}
 use Rattle.std.proofs.lemmas.Bool.{eqb-true, eq-eqb}
-use Rattle.nr_wire.specs.declared.hello.Side.TheVariants.{Initiator}
 use Rattle.nr_regions.specs.declared.right.Right.{Right}
 use Rattle.nr_regions.specs.declared.right.Right.TheVariants.{Fetch, Fill}
 use Rattle.nr_regions.specs.Access.{contents}
 use Rattle.nr_regions.specs.RegisteredMemory.{Region as HeldRegion, RegisteredMemory, live_region, after_invalidate}
 use Rattle.nr_regions.proofs.Holding.{live_invalidate_here, live_invalidate_other}
 use Rattle.nr_reduce.specs.declared.outline.Plan.{Plan}
-use Rattle.nr_reduce.specs.Plans.{Buffer, buffer_if, buffers, has_segment, one_if, read_stag, write_stag, reply_stag, total}
+use Rattle.nr_reduce.specs.Plans.{Buffer, buffer_if, buffers, has_segment, one_if, write_stag, reply_stag, total}
 use Rattle.nr_reduce.specs.OfferedRegions.{Region, region_grants}
 use Rattle.nr_reduce.specs.OfferedMemory.{HoldsRegions, held_if_open, registered_region}
 use Rattle.nr_reduce.specs.ClientState.{ClientState, OutstandingCall}
-use Rattle.nr_reduce.specs.KeptCalls.{KeptCall, AreKept, stags_unless}
-use Rattle.nr_reduce.specs.KeptClient.{CallsKeep, MemoryKeeps, IsRegionOpen, OpensFor}
+use Rattle.nr_reduce.specs.KeptCalls.{AreKept, stags_unless}
+use Rattle.nr_reduce.specs.KeptClient.{IsRegionOpen, OpensFor}
 use Rattle.nr_reduce.specs.Run.{client}
-use Rattle.nr_requester.specs.RequesterState.{StoredCall, kept_call, kept_client, stags_of}
+use Rattle.nr_requester.specs.RequesterState.{StoredCall, kept_call, stags_of}
 use Rattle.nr_requester.specs.AfterCalls.{live_count}
 use Rattle.nr_requester.specs.Laws.{CountsAllButNamed, NamedRegionIsNotCounted}
 

@@ -8,7 +8,7 @@ use Rattle.std.specs.Cmp.{nat_cmp_total}
 use Rattle.std.proofs.lemmas.Bool.{eqb-true, eq-eqb}
 use Rattle.nr_regions.specs.declared.denied.Denied.{Denied}
 use Rattle.nr_regions.specs.declared.denied.Denied.TheVariants.{NoStag}
-use Rattle.nr_regions.specs.RegisteredMemory.{Region, RegisteredMemory, Claim, IsHeld, held_region, live_region, bytes_in, after_release, after_invalidate, after_invalidate_by, invalidate_denial}
+use Rattle.nr_regions.specs.RegisteredMemory.{Region, RegisteredMemory, Claim, IsHeld, held_region, live_region, bytes_in, after_release, after_invalidate, after_invalidate_by, invalidate_denial, AreHeldFrom}
 use Rattle.nr_regions.proofs.Holding.{invalidate_held, next_invalidate, get_insert_here, get_insert_other, get_remove_here, get_remove_other}
 use Rattle.nr_endpoint.specs.declared.offering.Claims.{Claims}
 use Rattle.nr_endpoint.specs.LinkState.{LinkSide}
@@ -21,7 +21,6 @@ use Rattle.nr_requester.specs.declared.answer.AnsweredCall.{AnsweredCall}
 use Rattle.nr_requester.specs.declared.answer.Buffers.{Buffers}
 use Rattle.nr_requester.specs.declared.outstanding.OutstandingCall.{OutstandingCall}
 use Rattle.nr_requester.specs.RequesterState.{StoredCall, awaited_call, stag_of, stags_of}
-use Rattle.nr_requester.specs.HeldClaims.{AreHeldFrom}
 use Rattle.nr_requester.specs.AfterCalls.{live_count}
 use Rattle.nr_requester.specs.AfterPiece.{dead_memory, buffer_under, buffers_under, answered_as, answer_to}
 use Rattle.nr_requester.specs.Buffers.{with_memory}

@@ -1,7 +1,7 @@
 -- A call is given up: it is handed back and its regions are released, or its owner forgets it; or its answer is taken.
 use Rattle.std.proofs.Common.{◌≡◌, ◌≢◌, ℕ, suc, ◌-◌, ◌<◌, Bool, true, false, cond, eqb, List, [], ◌∷◌, ◌++◌, length, map, take, drop, get_or, set, Option, None, Some, is_some, refl, sym, ap, subst, ◌∙◌, arith}
 use Rattle.std.specs.List.{AllByRecursion, find}
-use Rattle.nr_regions.specs.RegisteredMemory.{RegisteredMemory, Claim}
+use Rattle.nr_regions.specs.RegisteredMemory.{RegisteredMemory, Claim, AreHeldFrom}
 use Rattle.nr_endpoint.specs.LinkState.{LinkState, LinkSide}
 use Rattle.nr_endpoint.specs.EndpointState.{EndpointState}
 use Rattle.nr_reduce.specs.KeptClient.{released_all}
@@ -13,7 +13,7 @@ use Rattle.nr_requester.specs.RequesterState.{StoredCall, RequesterSide, stags_o
 use Rattle.nr_requester.specs.AfterCalls.{no_claims, without_answer, revoked_if, forgotten_if, stags_in, live_count, after_revoke, after_forget}
 use Rattle.nr_requester.specs.AfterPiece.{buffers_under}
 use Rattle.nr_requester.specs.Buffers.{with_memory}
-use Rattle.nr_requester.specs.HeldClaims.{call_claims, all_claims, AreHeldFrom, OffersOwn}
+use Rattle.nr_requester.specs.HeldClaims.{call_claims, all_claims, OffersOwn}
 use Rattle.nr_requester.specs.OpenCalls.{open_call, call_with, buffers_with, buffers_of}
 use Rattle.nr_requester.specs.Standing.{RequesterRepresents, RequesterRunsOut, StandsOn, StaysOut, StopsRevoked}
 use Rattle.nr_requester.specs.Views.{HasRoom, RequesterInvariant, IsAnswered, AreRising, stored_view, given_up, forgot, requester_view, side_view}

@@ -5,7 +5,7 @@ use Rattle.std.specs.List.{AllByRecursion, find}
 use Rattle.std.proofs.lemmas.Bool.{eqb-true}
 use Rattle.nr_regions.specs.declared.right.Right.{Right}
 use Rattle.nr_regions.specs.declared.right.Right.TheVariants.{Fetch, Fill}
-use Rattle.nr_regions.specs.RegisteredMemory.{RegisteredMemory, Claim, IsHeld, after_register}
+use Rattle.nr_regions.specs.RegisteredMemory.{RegisteredMemory, Claim, IsHeld, after_register, AreHeldFrom}
 use Rattle.nr_regions.proofs.Holding.{register_other, held_after_register}
 use Rattle.nr_endpoint.specs.declared.offering.Offered.{Offered}
 use Rattle.nr_endpoint.specs.declared.offering.Claims.{Claims}
@@ -16,7 +16,7 @@ use Rattle.nr_endpoint.specs.Calls.{after_call}
 use Rattle.nr_endpoint.specs.Calls.Call.{Drain}
 use Rattle.nr_endpoint.specs.Offering.{with_buffer, with_read, with_write_buffer, with_offered, claim_if, claims_of}
 use Rattle.nr_requester.specs.declared.outstanding.OutstandingCall.{OutstandingCall}
-use Rattle.nr_requester.specs.HeldClaims.{claim_list, call_claims, all_claims, AreHeldFrom, SentHeld, OffersOwn}
+use Rattle.nr_requester.specs.HeldClaims.{claim_list, call_claims, all_claims, SentHeld, OffersOwn}
 use Rattle.nr_requester.specs.declared.answer.AnsweredCall.{AnsweredCall}
 use Rattle.nr_requester.proofs.Releases.{from_lower}
 use Rattle.nr_requester.specs.HeldBytes.{xid_of, AreRisingBy}

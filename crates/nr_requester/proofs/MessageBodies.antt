@@ -14,7 +14,7 @@ use Rattle.nr_header.specs.declared.header.Header.{Header}
 use Rattle.nr_header.specs.declared.header.HeaderFields.{HeaderFields}
 use Rattle.nr_header.specs.ReadInto.{body_with}
 use Rattle.nr_header.specs.Reading.{header_of, header_by, body_by, error_by, version1_of, in_lists}
-use Rattle.nr_regions.specs.RegisteredMemory.{RegisteredMemory, Claim, IsHeld}
+use Rattle.nr_regions.specs.RegisteredMemory.{RegisteredMemory, Claim, IsHeld, AreHeldFrom}
 use Rattle.nr_link.specs.Reasons.{REASON_CALL, REASON_CHUNKS, REASON_INVALIDATED}
 use Rattle.nr_endpoint.specs.declared.offering.Claims.{Claims}
 use Rattle.nr_reduce.specs.declared.call.Call.{Call}
@@ -23,7 +23,7 @@ use Rattle.nr_reduce.specs.ClientMessages.{ReplyVerdict}
 use Rattle.nr_reduce.specs.ClientMessages.ReplyVerdict.{EndsLink, GivesOutcome}
 use Rattle.nr_reduce.specs.KeptCalls.{KeptCall, kept_payload, kept_lists, kept_body, kept_call as by_kept_call, kept_by, kept_in, kept_header, kept_verdict, kept_names_another, kept_invalidates_another, own_if, kept_named, kept_message_verdict}
 use Rattle.nr_requester.specs.declared.outstanding.OutstandingCall.{OutstandingCall}
-use Rattle.nr_requester.specs.HeldClaims.{AreHeldFrom, claim_list, call_claims, all_claims, IsChunkOf, IsWriteOf, IsReplyOf, IsOfferOf, OffersOwn}
+use Rattle.nr_requester.specs.HeldClaims.{claim_list, call_claims, all_claims, IsChunkOf, IsWriteOf, IsReplyOf, IsOfferOf, OffersOwn}
 use Rattle.nr_requester.specs.Judged.{header_reason, ComesBack, WriteComesBack, ReplyComesBack, by_stream, SameCall, SameCalls, kept_view, kept_views, Ends, Brings, outcome_by, LiesWithin}
 use Rattle.nr_requester.specs.declared.replies.Found.{Found}
 use Rattle.nr_requester.specs.Views.{HasRoom, given_stags, names_another, own_named}

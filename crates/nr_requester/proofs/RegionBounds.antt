@@ -5,7 +5,7 @@ use Rattle.std.proofs.lemmas.Bool.{cases_eq}
 use Rattle.std.proofs.lemmas.List.{length-replicate}
 use Rattle.nr_regions.specs.declared.right.Right.{Right}
 use Rattle.nr_regions.specs.declared.right.Right.TheVariants.{Fetch, Fill}
-use Rattle.nr_regions.specs.RegisteredMemory.{Region, RegisteredMemory, Claim, IsHeld, held_region, after_register, after_release}
+use Rattle.nr_regions.specs.RegisteredMemory.{Region, RegisteredMemory, Claim, IsHeld, held_region, after_register, after_release, AreHeldFrom}
 use Rattle.nr_regions.proofs.Holding.{register_here, register_other, release_here, release_other}
 use Rattle.nr_regions.proofs.Totals.{sound_register, sound_release}
 use Rattle.nr_endpoint.specs.declared.offering.Offered.{Offered}
@@ -16,7 +16,7 @@ use Rattle.nr_reduce.specs.Plans.{has_segment, total}
 use Rattle.nr_reduce.specs.KeptClient.{released_all}
 use Rattle.nr_requester.specs.RequesterState.{stags_of}
 use Rattle.nr_requester.specs.Sending.{some_if, offered_of}
-use Rattle.nr_requester.specs.HeldClaims.{claim_list, call_claims, AreHeldFrom}
+use Rattle.nr_requester.specs.HeldClaims.{claim_list, call_claims}
 use Rattle.nr_requester.specs.HeldBytes.{region_max, offer_max, PlanFits, RegionsFit, region_size, IsCount, RegionsHave, in_bytes, claim_size, claims_size, claims_len}
 use Rattle.nr_requester.proofs.Releases.{one_released, stags_are_of}
 

@@ -2,12 +2,12 @@
 use Rattle.std.proofs.Common.{◌≡◌, ℕ, ◌+◌, ◌<◌, ◌≤◌, List, [], ◌∷◌, ◌++◌, map, Option, None, Some, refl, sym, ap, ◌∙◌, arith, append-nil, append_assoc}
 use Rattle.std.specs.Prelude.{IfSome, ◌≢◌}
 use Rattle.std.specs.List.{flat_map}
-use Rattle.nr_regions.specs.RegisteredMemory.{RegisteredMemory, Claim, Region, IsHeld, bytes_in, after_release}
+use Rattle.nr_regions.specs.RegisteredMemory.{RegisteredMemory, Claim, Region, IsHeld, bytes_in, after_release, AreHeldFrom}
 use Rattle.nr_regions.proofs.Holding.{release_other}
 use Rattle.nr_endpoint.specs.declared.offering.Claims.{Claims}
 use Rattle.nr_reduce.specs.KeptClient.{bytes_under, released_all}
 use Rattle.nr_requester.specs.RequesterState.{stag_of, stags_of}
-use Rattle.nr_requester.specs.HeldClaims.{claim_list, call_claims, AreHeldFrom}
+use Rattle.nr_requester.specs.HeldClaims.{claim_list, call_claims}
 use Rattle.nr_requester.specs.AfterPiece.{buffer_under, buffers_under}
 use Rattle.nr_requester.specs.Buffers.{buffer_bytes, bytes_of_buffers}
 

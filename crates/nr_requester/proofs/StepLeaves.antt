@@ -11,7 +11,7 @@ use Rattle.nr_wire.specs.Segment.{Segment}
 use Rattle.nr_wire.specs.Segment.Segment.{Tagged, Untagged}
 use Rattle.nr_wire.specs.Stream.{is_whole, frame_len}
 use Rattle.nr_wire.proofs.Feedings.{feeding_after_step-whole, feeding_after_step-partial}
-use Rattle.nr_regions.specs.RegisteredMemory.{RegisteredMemory, Claim, IsHeld, after_place}
+use Rattle.nr_regions.specs.RegisteredMemory.{RegisteredMemory, Claim, IsHeld, after_place, AreHeldFrom}
 use Rattle.nr_regions.proofs.Holding.{held_after_place, next_after_place}
 use Rattle.nr_link.specs.declared.end.End.{End}
 use Rattle.nr_link.specs.Frames.{Frame}
@@ -23,7 +23,6 @@ use Rattle.nr_endpoint.specs.ReceiveQueue.DeliveredEvent.{MessageReceived}
 use Rattle.nr_endpoint.specs.Judging.{with_frame, with_peer_hello, with_fpdu, with_segment_by, with_effect, with_end_of, with_read_response, with_read_request, after_frame, segment_end, next_frame, next_segment}
 use Rattle.nr_endpoint.specs.Calls.{after_call}
 use Rattle.nr_endpoint.specs.Calls.Call.{FeedOne}
-use Rattle.nr_requester.specs.HeldClaims.{AreHeldFrom}
 use Rattle.nr_requester.proofs.FrameSides.{TaggedFine, tagged_fine}
 
 -- a message that a frame delivered: nothing else of the side changed that its owner knows of

@@ -4,7 +4,7 @@ use Rattle.std.specs.Prelude.{get_or, remove}
 use Rattle.std.specs.List.{AllByRecursion, find}
 use Rattle.std.proofs.lemmas.List.{length-map}
 use Rattle.nr_xdr.specs.Fields.{word_at}
-use Rattle.nr_regions.specs.RegisteredMemory.{RegisteredMemory}
+use Rattle.nr_regions.specs.RegisteredMemory.{RegisteredMemory, AreHeldFrom}
 use Rattle.nr_endpoint.specs.LinkState.{LinkSide}
 use Rattle.nr_endpoint.specs.Calls.{after_call}
 use Rattle.nr_endpoint.specs.Calls.Call.{Post}
@@ -19,7 +19,7 @@ use Rattle.nr_reduce.specs.KeptClient.{released_all}
 use Rattle.nr_requester.specs.declared.answer.AnsweredCall.{AnsweredCall}
 use Rattle.nr_requester.specs.declared.outstanding.OutstandingCall.{OutstandingCall}
 use Rattle.nr_requester.specs.RequesterState.{StoredCall, stags_of, awaited_call}
-use Rattle.nr_requester.specs.HeldClaims.{AreHeldFrom, all_claims, OffersOwn}
+use Rattle.nr_requester.specs.HeldClaims.{all_claims, OffersOwn}
 use Rattle.nr_requester.specs.AfterCalls.{stags_in, live_count}
 use Rattle.nr_requester.specs.CountedMarks.{with_releases}
 use Rattle.nr_requester.specs.AfterPiece.{dead_memory, answered_as, answer_to, call_of, without_call}

@@ -15,7 +15,7 @@ use Rattle.nr_reduce.specs.Client.{credits_of_word}
 use Rattle.nr_reduce.specs.KeptCalls.{kept_message_verdict}
 use Rattle.nr_reduce.specs.KeptClient.{bytes_under, released_all}
 use Rattle.nr_xdr.specs.Fields.{word_at}
-use Rattle.nr_regions.specs.RegisteredMemory.{RegisteredMemory}
+use Rattle.nr_regions.specs.RegisteredMemory.{RegisteredMemory, AreHeldFrom}
 use Rattle.nr_endpoint.specs.Calls.{after_call, IsStopReason}
 use Rattle.nr_endpoint.specs.SendQueue.{output_len}
 use Rattle.nr_endpoint.specs.Calls.Call.{Post, Stop, OutOfMemory}
@@ -25,7 +25,7 @@ use Rattle.nr_requester.specs.declared.answer.AnsweredCall.{AnsweredCall}
 use Rattle.nr_requester.specs.declared.answer.Buffers.{Buffers}
 use Rattle.nr_requester.specs.declared.outstanding.OutstandingCall.{OutstandingCall}
 use Rattle.nr_requester.specs.RequesterState.{RequesterFeeding, RequesterSide, feeding_of, kept_calls}
-use Rattle.nr_requester.specs.HeldClaims.{AreHeldFrom, all_claims, OffersOwn}
+use Rattle.nr_requester.specs.HeldClaims.{all_claims, OffersOwn}
 use Rattle.nr_requester.specs.AfterPiece.{dead_memory, without_call, answer_to, call_of, with_deliveries, requester_ended, after_frame, after_piece, RanOut}
 use Rattle.nr_requester.specs.CountedMarks.{has_bytes, marks_if, with_releases}
 use Rattle.nr_requester.specs.Views.{HasRoom, AreRising, IsAnswered, stored_view}

@@ -17,8 +17,7 @@ use Rattle.nr_endpoint.specs.SendQueue.{SendQueue}
 use Rattle.nr_endpoint.specs.OutputSizes.{frame_max, frames_max, send_frames_max, hello_max, QueueWithin}
 use Rattle.nr_endpoint.specs.EndpointState.{EndpointState, bytes_of}
 use Rattle.nr_reduce.specs.declared.call.Call.{Call}
-use Rattle.nr_reduce.specs.declared.call.Outcome.{Outcome}
-use Rattle.nr_reduce.specs.declared.call.Outcome.TheVariants as outcomes
+use Rattle.nr_reduce.specs.ClientMessages.{outcome_bytes}
 use Rattle.nr_reduce.specs.declared.outline.Plan.{Plan}
 use Rattle.nr_reduce.specs.Limits.{given_max}
 use Rattle.nr_reduce.specs.Plans.{total}
@@ -79,12 +78,6 @@ abbrev pub calls_bytes : List StoredCall → ℕ
 calls_bytes [] = 0
 calls_bytes (c ∷ calls) = call_size + offer_held c.offered + stored_bytes c.call + calls_bytes calls
 
--- The bytes of an answer: itself, the call, its buffers, and the payload of the reply.
-abbrev pub outcome_bytes : Outcome → ℕ
-outcome_bytes (outcomes.Reply payload) = length payload
-outcome_bytes outcomes.Chunk = 0
-outcome_bytes (outcomes.Version low high) = 0
-
 abbrev pub buffer_len : Option (List ℕ) → ℕ
 buffer_len None = 0
 buffer_len (Some bytes) = length bytes
@@ -92,6 +85,7 @@ buffer_len (Some bytes) = length bytes
 abbrev pub buffers_len : Buffers → ℕ
 buffers_len b = buffer_len b.read + (buffer_len b.write + buffer_len b.reply)
 
+-- The bytes of an answer: itself, the call, its buffers, and the payload of the reply.
 abbrev pub answer_bytes : AnsweredCall → ℕ
 answer_bytes a = answer_size + (call_bytes a.call + (buffers_len a.buffers + outcome_bytes a.outcome))
 

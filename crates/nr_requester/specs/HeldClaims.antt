@@ -2,7 +2,7 @@
 use Rattle.std.specs.Prelude.{◌≡◌, ℕ, ◌+◌, ◌≤◌, List, [], ◌∷◌, ◌++◌, sum, Option, None, Some, IfSome}
 use Rattle.nr_header.specs.declared.header.RdmaSegment.{RdmaSegment}
 use Rattle.nr_header.specs.declared.header.ChunkLists.{ChunkLists}
-use Rattle.nr_regions.specs.RegisteredMemory.{RegisteredMemory, Claim, IsHeld}
+use Rattle.nr_regions.specs.RegisteredMemory.{RegisteredMemory, Claim, IsHeld, AreHeldFrom}
 use Rattle.nr_endpoint.specs.declared.offering.Claims.{Claims}
 use Rattle.nr_reduce.specs.Plans.{segments_from}
 use Rattle.nr_requester.specs.declared.outstanding.OutstandingCall.{OutstandingCall}
@@ -17,11 +17,6 @@ call_claims c = claim_list c.read ++ (claim_list c.write ++ claim_list c.reply)
 abbrev pub all_claims : List OutstandingCall → List Claim
 all_claims [] = []
 all_claims (c ∷ calls) = call_claims c.claims ++ all_claims calls
-
--- held, under rising STags that are at least `low`
-abbrev pub AreHeldFrom : RegisteredMemory → ℕ → List Claim → Type 0
-AreHeldFrom m low [] = low ≤ m.next
-AreHeldFrom m low (c ∷ claims) = (low ≤ c.stag) × (IsHeld m c × AreHeldFrom m (c.stag + 1) claims)
 
 -- A chunk is one region from its first byte to its last, or has no segment.
 abbrev pub IsChunkOf : Option Claim → List RdmaSegment → Type 0

@@ -1,7 +1,7 @@
 -- What the code keeps, as the definitions see it.
 use Rattle.std.specs.Prelude.{◌≡◌, ℕ, ◌+◌, ◌^◌, ◌<◌, ◌≤◌, ◌==◌, ◌++◌, length, List, [], ◌∷◌, map, Option, None, Some, Bool, true, false, not}
 use Rattle.std.specs.List.{AllByRecursion, find, list_any}
-use Rattle.nr_regions.specs.RegisteredMemory.{Claim}
+use Rattle.nr_regions.specs.RegisteredMemory.{Claim, AreHeldFrom}
 use Rattle.nr_endpoint.specs.LinkState.{LinkSide}
 use Rattle.nr_reduce.specs.Limits.{credits_max}
 use Rattle.nr_reduce.specs.KeptCalls.{own_of}
@@ -11,7 +11,7 @@ use Rattle.nr_requester.specs.declared.answer.AnsweredCall.{AnsweredCall}
 use Rattle.nr_requester.specs.RequesterState.{StoredCall, RequesterFeeding, RequesterSide}
 use Rattle.nr_requester.specs.AfterCalls.{no_claims}
 use Rattle.nr_requester.specs.HeldBytes.{xid_of, AreRisingBy}
-use Rattle.nr_requester.specs.HeldClaims.{AreHeldFrom, all_claims, OffersOwn}
+use Rattle.nr_requester.specs.HeldClaims.{all_claims, OffersOwn}
 
 -- the STags that a call was given, in the order in which its regions were registered
 abbrev pub stag_if : Option ℕ → List ℕ

@@ -1,9 +1,10 @@
 //! How many bytes a requester keeps.
 
-ghost use Rattle.std.specs.Prelude.{◌≡◌, ℕ, ◌+◌, ◌*◌, ◌^◌, ◌≤◌, length, map, max};
+ghost use Rattle.std.specs.Prelude.{◌≡◌, ◌+◌, ◌*◌, ◌^◌, ◌≤◌, length, map, max};
 ghost use Rattle.std.specs.List.{AllByRecursion};
 ghost use Rattle.nr_reduce.specs.Limits.{credits_max};
-ghost use Rattle.nr_requester.specs.HeldBytes.{call_size, offer_held, cred_bytes, call_bytes, stored_bytes, calls_bytes, rooms_total, outcome_bytes, buffer_len, answer_bytes, answers_bytes, AnswerFits, bytes_held_by, held_unit};
+ghost use Rattle.nr_reduce.specs.ClientMessages.{outcome_bytes};
+ghost use Rattle.nr_requester.specs.HeldBytes.{call_size, offer_held, cred_bytes, call_bytes, stored_bytes, calls_bytes, rooms_total, buffer_len, answer_bytes, answers_bytes, AnswerFits, bytes_held_by, held_unit};
 ghost use Rattle.nr_requester.specs.Views.{stored_view};
 ghost use Rattle.nr_requester.specs.HeldBytes.{OffersFew};
 

@@ -1,8 +1,7 @@
 //! What a requester makes of a message (RFC 8166 sections 4.2 to 4.5).
 
-ghost use Rattle.std.specs.Prelude.{◌≡◌, ℕ, ◌+◌, ◌<◌, ◌≤◌, List, length, map, get_or, None, Some, Ok, MatchOption, IfOk, IfErr};
+ghost use Rattle.std.specs.Prelude.{◌≡◌, ℕ, ◌+◌, ◌<◌, ◌≤◌, List, length, get_or, None, Some, Ok, MatchOption, IfOk, IfErr};
 ghost use Rattle.std.specs.List.{AllByRecursion};
-ghost use Rattle.nr_xdr.specs.Fields.{word_at};
 ghost use Rattle.nr_header.specs.WithinLimits.{StreamWithin};
 ghost use Rattle.nr_header.specs.Header.{error_body};
 ghost use Rattle.nr_header.specs.Reading.{header_of};
@@ -12,7 +11,8 @@ ghost use Rattle.nr_reduce.specs.ClientMessages.ReplyVerdict.{GivesOutcome};
 ghost use Rattle.nr_reduce.specs.Chunks.{Bytes};
 ghost use Rattle.nr_reduce.specs.KeptCalls.{KeptCall, kept_body, kept_by, kept_named, kept_message_verdict};
 ghost use Rattle.nr_reduce.specs.KeptClient.{bytes_under};
-ghost use Rattle.nr_requester.specs.HeldClaims.{AreHeldFrom, call_claims, all_claims, OffersOwn};
+ghost use Rattle.nr_regions.specs.RegisteredMemory.{AreHeldFrom};
+ghost use Rattle.nr_requester.specs.HeldClaims.{call_claims, all_claims, OffersOwn};
 ghost use Rattle.nr_requester.specs.Judged.{header_reason, Ends, SameCall, outcome_by, LiesWithin, kept_view, kept_views, SameCalls, Brings};
 ghost use Rattle.nr_requester.specs.Views.{HasRoom, given_stags, names_another, own_named};
 ghost use Rattle.nr_requester.specs.RequesterState.{stags_of};

@@ -1,8 +1,8 @@
 //! The message of a call, and what it offers.
 
-ghost use Rattle.std.specs.Prelude.{◌≡◌, ℕ, ◌+◌, ◌^◌, ◌<◌, ◌≤◌, [], ◌∷◌, ◌++◌, length, sum, replicate, option_map, Some, if◌then◌else◌, IfOk, IfSome};
+ghost use Rattle.std.specs.Prelude.{◌≡◌, ◌+◌, ◌^◌, ◌<◌, ◌≤◌, [], ◌++◌, length, sum, replicate, option_map, Some, IfOk, IfSome};
 ghost use Rattle.nr_reduce.specs.CallOutlines.{lengths_of, chunk_lengths};
-ghost use Rattle.nr_reduce.specs.Plans.{segments_from, entries_from, has_segment, one_if, read_list, write_list, reply_chunk, lists_of, read_stag, write_stag, reply_stag, regions_needed, call_message, total, body_by};
+ghost use Rattle.nr_reduce.specs.Plans.{segments_from, entries_from, has_segment, one_if, read_list, write_list, reply_chunk, lists_of, regions_needed, total, body_by};
 ghost use Rattle.nr_header.specs.declared.header.ChunkLists.{ChunkLists};
 ghost use Rattle.nr_header.specs.Header.{header_encoding, lists_body, ChunksFit};
 ghost use Rattle.nr_header.specs.Slices.{lists_of_slices};

@@ -1,6 +1,6 @@
 //! A call that is outstanding.
 
-ghost use Rattle.std.specs.Prelude.{◌≡◌, Bool};
+ghost use Rattle.std.specs.Prelude.{◌≡◌};
 ghost use Rattle.nr_requester.specs.RequesterState.{stag_of, stags_of};
 ghost use Rattle.nr_requester.specs.Views.{stag_if, given_stags, is_given};
 

@@ -1,13 +1,12 @@
 //! A requester takes the server's stream.
 
-ghost use Rattle.std.specs.Prelude.{◌≡◌, ◌≢◌, ℕ, ◌+◌, ◌*◌, ◌^◌, ◌<◌, ◌≤◌, ◌++◌, ◌⊎◌, length, take, drop, get_or, remove, None, Some, Ok, Err, IfOk, is_some, true, false, List, [], ◌∷◌, if◌then◌else◌, vec_len, vec_capacity};
+ghost use Rattle.std.specs.Prelude.{◌≡◌, ◌≢◌, ℕ, ◌+◌, ◌*◌, ◌^◌, ◌<◌, ◌≤◌, ◌++◌, length, take, drop, get_or, remove, None, Some, Ok, Err, is_some, true, List, [], ◌∷◌, if◌then◌else◌, vec_len, vec_capacity};
 ghost use Rattle.std.specs.Result.{result_err};
 ghost use Rattle.nr_wire.specs.declared.hello.Side.TheVariants.{Initiator};
 ghost use Rattle.nr_wire.specs.Feeding.{bytes_taken};
 ghost use Rattle.nr_wire.specs.Stream.{IsPartial};
 ghost use Rattle.nr_link.specs.declared.end.End.TheVariants as ends;
-ghost use Rattle.nr_endpoint.specs.Calls.{after_call, IsStopReason};
-ghost use Rattle.nr_endpoint.specs.Calls.Call.{Stop, OutOfMemory};
+ghost use Rattle.nr_endpoint.specs.Calls.{IsStopReason};
 ghost use Rattle.nr_reduce.specs.Client.{credits_of_word};
 ghost use Rattle.nr_reduce.specs.Limits.{credits_max};
 ghost use Rattle.nr_reduce.specs.KeptCalls.{kept_named, kept_message_verdict};
@@ -16,7 +15,8 @@ ghost use Rattle.nr_reduce.specs.declared.mark.LinkParameters.{LinkParameters};
 ghost use Rattle.nr_reduce.specs.declared.mark.Mark.{Mark};
 ghost use Rattle.nr_reduce.specs.declared.mark.Mark.TheVariants as marks;
 ghost use Rattle.nr_requester.specs.RequesterState.{stags_of, awaited_call, feeding_of, KeepsStaging};
-ghost use Rattle.nr_requester.specs.HeldClaims.{AreHeldFrom, call_claims};
+ghost use Rattle.nr_regions.specs.RegisteredMemory.{AreHeldFrom};
+ghost use Rattle.nr_requester.specs.HeldClaims.{call_claims};
 ghost use Rattle.nr_requester.specs.AfterCalls.{live_count};
 ghost use Rattle.nr_requester.specs.AfterPiece.{dead_memory, answered_as, after_fed};
 ghost use Rattle.nr_requester.specs.CountedMarks.{with_releases};

@@ -1,10 +1,10 @@
 //! The regions of a call are released.
 
-ghost use Rattle.std.specs.Prelude.{◌≡◌, ◌≤◌, ℕ, IfSome};
-ghost use Rattle.nr_regions.specs.RegisteredMemory.{IsHeld};
+ghost use Rattle.std.specs.Prelude.{◌≡◌, ◌≤◌, IfSome};
+ghost use Rattle.nr_regions.specs.RegisteredMemory.{IsHeld, AreHeldFrom};
 ghost use Rattle.nr_reduce.specs.KeptClient.{released_all};
 ghost use Rattle.nr_requester.specs.RequesterState.{stag_of, stags_of};
-ghost use Rattle.nr_requester.specs.HeldClaims.{AreHeldFrom, call_claims};
+ghost use Rattle.nr_requester.specs.HeldClaims.{call_claims};
 ghost use Rattle.nr_requester.specs.HeldBytes.{NothingOutside};
 ghost use Rattle.nr_requester.specs.Buffers.{with_memory};
 ghost use Rattle.nr_requester.specs.AfterCalls.{live_count};

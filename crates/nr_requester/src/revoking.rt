@@ -1,6 +1,6 @@
 //! The memory of a call is revoked.
 
-ghost use Rattle.std.specs.Prelude.{◌≡◌, ◌≢◌, ℕ, ◌<◌, List, true, is_some, length, Some, None, get_or, set, IfSome};
+ghost use Rattle.std.specs.Prelude.{◌≡◌, ◌≢◌, ℕ, ◌<◌, true, is_some, length, Some, None, get_or, set, IfSome};
 ghost use Rattle.nr_reduce.specs.KeptClient.{released_all};
 ghost use Rattle.nr_reduce.specs.declared.mark.Mark.TheVariants as marks;
 ghost use Rattle.nr_requester.specs.RequesterState.{stags_of};
@@ -9,7 +9,8 @@ ghost use Rattle.nr_requester.specs.CountedMarks.{with_releases};
 ghost use Rattle.nr_requester.specs.AfterPiece.{buffers_under};
 ghost use Rattle.nr_requester.specs.Buffers.{bytes_of_buffers, with_memory};
 ghost use Rattle.nr_requester.specs.HeldBytes.{NothingOutside};
-ghost use Rattle.nr_requester.specs.HeldClaims.{AreHeldFrom, all_claims};
+ghost use Rattle.nr_regions.specs.RegisteredMemory.{AreHeldFrom};
+ghost use Rattle.nr_requester.specs.HeldClaims.{all_claims};
 ghost use Rattle.nr_requester.specs.Fed.{fed_bytes};
 ghost use Rattle.nr_requester.specs.OpenCalls.{open_call, remaining_call, buffers_of, ClosesTicket};
 ghost use Rattle.nr_requester.specs.Standing.{StandsOn, StopsRevoked};

@@ -1,10 +1,9 @@
 //! A call is submitted.
 
-ghost use Rattle.std.specs.Prelude.{◌≡◌, ◌≢◌, ℕ, ◌+◌, ◌^◌, ◌<◌, ◌≤◌, [], map, length, ◌++◌, None, Ok, IfOk, IfErr, OnOk, OnErr, MatchOption, vec_len, vec_capacity};
+ghost use Rattle.std.specs.Prelude.{◌≡◌, ◌≢◌, ◌+◌, ◌^◌, ◌<◌, ◌≤◌, [], length, ◌++◌, None, Ok, IfOk, IfErr, OnOk, OnErr, MatchOption, vec_len, vec_capacity};
 ghost use Rattle.nr_rpc.specs.Credential.{CanWriteCred};
 ghost use Rattle.nr_endpoint.specs.Calls.{with_state};
 ghost use Rattle.nr_endpoint.specs.Offering.{claims_of};
-ghost use Rattle.nr_endpoint.specs.LinkState.{LinkSide};
 ghost use Rattle.nr_reduce.specs.Plans.{buffers, regions_needed, call_message, lists_of, total};
 ghost use Rattle.nr_reduce.specs.CallOutlines.{outline_plan, OutlineAnswers};
 ghost use Rattle.nr_reduce.specs.declared.call.Refused.TheVariants as refusals;

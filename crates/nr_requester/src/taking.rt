@@ -1,6 +1,6 @@
 //! An answer is taken, or given up.
 
-ghost use Rattle.std.specs.Prelude.{◌≡◌, ◌≢◌, ℕ, ◌<◌, List, true, is_some, length, Some, None, get_or, find, ◌==◌, IfSome, vec_capacity};
+ghost use Rattle.std.specs.Prelude.{◌≡◌, ◌≢◌, ℕ, ◌<◌, true, is_some, length, Some, None, get_or, find, ◌==◌, IfSome, vec_capacity};
 ghost use Rattle.nr_reduce.specs.declared.mark.Mark.TheVariants as marks;
 ghost use Rattle.nr_requester.specs.AfterCalls.{without_answer, after_forget};
 ghost use Rattle.nr_requester.specs.HeldBytes.{AreDistinct};

@@ -3,7 +3,6 @@ use Rattle.std.proofs.Common.{◌≡◌, ℕ, ◌+◌, Bool, true, false, sym, L
 use Rattle.std.specs.Prelude.{◌⊎◌}
 use Rattle.nr_xdr.specs.Fields.{word_at}
 use Rattle.nr_rpc.specs.declared.head.CallHead.{CallHead}
-use Rattle.nr_rpc.specs.declared.head.CallHead.TheVariants as calls
 use Rattle.nr_rpc.specs.Reading.{call_of, xid_of_call, head_xid}
 use Rattle.nr_header.specs.declared.header.ChunkLists.{ChunkLists}
 use Rattle.nr_link.specs.Reasons.{REASON_HEAD, REASON_XID}
@@ -15,7 +14,6 @@ use Rattle.nr_endpoint.specs.Calls.Call.{OutOfMemory, Stop}
 use Rattle.nr_reduce.specs.ServerState.{PendingCall, PendingRead, ServerState, next_stag}
 use Rattle.nr_responder.specs.Fetching.{payload_added}
 use Rattle.nr_reduce.specs.ServerReads.{is_read}
-use Rattle.nr_reduce.specs.ServerMessages.{call_xid}
 use Rattle.nr_responder.specs.ResponderState.{ResponderSide}
 use Rattle.nr_responder.specs.private.Handling.{on_link, with_ready, OrOut, IsServerOf, Begins, ReadsXid}
 use Rattle.nr_responder.specs.private.Handling.Begins.{NoCall, OtherXid, IsReady}
@@ -27,10 +25,6 @@ use Rattle.nr_responder.specs.declared.server_end.ServerEnd.{ServerEnd}
 use Rattle.nr_responder.specs.Sound.{payloads_of, state_of, xids_of}
 use Rattle.nr_responder.specs.Views.{call_view, read_view, sink_view}
 
-same_xid : (head : CallHead) → call_xid head ≡ head_xid head
-same_xid (calls.Version2 xid prog vers proc cred args_at) = refl
-same_xid (calls.Other xid rpcvers) = refl
-
 pub no_head_lem : (bytes : List ℕ) → None ≡ xid_of_call (call_of bytes) → (at : ℕ) × (call_of bytes ≡ Err at)
 no_head_lem bytes is = by (call_of bytes) refl
   where
@@ -41,14 +35,14 @@ no_head_lem bytes is = by (call_of bytes) refl
 pub record HasHead (bytes : List ℕ) (x : ℕ) : Type 0 where
   pub head : CallHead
   pub reads : call_of bytes ≡ Ok head
-  pub own : call_xid head ≡ x
+  pub own : head_xid head ≡ x
 
 pub some_head : (bytes : List ℕ) (x : ℕ) → Some x ≡ xid_of_call (call_of bytes) → HasHead bytes x
 some_head bytes x is = by (call_of bytes) refl
   where
     by : (r : Result CallHead ℕ) → call_of bytes ≡ r → HasHead bytes x
     by (Err at) e = absurd (let h : Some x ≡ None = is ∙ ap xid_of_call e in cc)
-    by (Ok head) e = (let h : Some x ≡ Some (head_xid head) = is ∙ ap xid_of_call e in let same : head_xid head ≡ x = cc in record { head = head; reads = e; own = same_xid head ∙ same })
+    by (Ok head) e = (let h : Some x ≡ Some (head_xid head) = is ∙ ap xid_of_call e in let same : head_xid head ≡ x = cc in record { head = head; reads = e; own = same })
 
 pub few_stags : (k : ServerState) (v : ResponderSide) → IsServerOf k v → v.link.state.memory.next ≤ 4294967296 → next_stag k ≤ 4294967296
 few_stags k v server le = (let next = server.next in omega (arith, next, le))

@@ -7,7 +7,7 @@ use Rattle.std.specs.FinMap.{FinMap, get}
 use Rattle.std.specs.Ordering.{nat_cmp}
 use Rattle.std.proofs.lemmas.Bool.{eq-eqb, eqb-true, ne_eqb}
 use Rattle.std.proofs.lemmas.List.Folds.{find-append}
-use Rattle.nr_regions.specs.RegisteredMemory.{Outside, RegisteredMemory}
+use Rattle.nr_regions.specs.RegisteredMemory.{Outside, RegisteredMemory, AreHeldFrom}
 use Rattle.std.proofs.lemmas.List.{length-take, length-map}
 use Rattle.nr_wire.specs.Constants.{UNITS_MAX}
 use Rattle.nr_header.specs.Constants.{PAYLOAD_MAX}
@@ -33,7 +33,7 @@ use Rattle.nr_responder.specs.private.Handling.{out}
 use Rattle.nr_responder.specs.private.Reading.{opening, with_opened}
 use Rattle.nr_responder.specs.private.Starting.{BeginsReads, OpensReads, reads_more, with_around, with_room}
 use Rattle.nr_responder.specs.HeldBytes.{sinks_share}
-use Rattle.nr_responder.specs.Sound.{AreFetched, AreHeldFrom, QueuesInvariant, HasOutside, HasRoom, HasWindow, InBuffer, InReceive, SameInput, around_of, claims_of, payloads_of, state_of, xids_of}
+use Rattle.nr_responder.specs.Sound.{AreFetched, QueuesInvariant, HasOutside, HasRoom, HasWindow, InBuffer, InReceive, SameInput, around_of, claims_of, payloads_of, state_of, xids_of}
 use Rattle.nr_responder.specs.Views.{call_view, read_view, sink_view}
 use Rattle.nr_responder.proofs.ListedReads.{same_sinks}
 use Rattle.nr_responder.proofs.ReadEffects.{requests_ends}

@@ -1,5 +1,5 @@
 -- A responder that grants other credits, or has another credit word for its messages.
-use Rattle.std.proofs.Common.{◌≡◌, ℕ, List, [], ◌∷◌, ◌++◌, true, false, Bool, Option, None, Some, refl, sym, ap, subst, ◌∙◌, inl, inr, is_some}
+use Rattle.std.proofs.Common.{◌≡◌, ℕ, List, [], ◌∷◌, ◌++◌, true, false, Option, None, refl, sym, ap, subst, ◌∙◌, inl, inr, is_some}
 use Rattle.std.proofs.lemmas.List.{append-nil}
 use Rattle.nr_link.specs.declared.end.End.{End}
 use Rattle.nr_link.specs.Input.{InputState}
@@ -8,8 +8,7 @@ use Rattle.nr_reduce.specs.declared.mark.Mark.{Mark}
 use Rattle.nr_reduce.specs.declared.mark.Mark.TheVariants as marks
 use Rattle.nr_reduce.specs.declared.mark.Told.{Told}
 use Rattle.nr_reduce.specs.declared.mark.Told.TheVariants.{Granted}
-use Rattle.nr_reduce.specs.EndRules.{EndState, live, next_end_state_in, output_for_in, end_state_after, output_for_all}
-use Rattle.nr_reduce.specs.Events.{RunEvent}
+use Rattle.nr_reduce.specs.EndRules.{EndState, live, next_end_state_in, output_for_in}
 use Rattle.nr_reduce.specs.Events.RunEvent.{ServerTold}
 use Rattle.nr_reduce.specs.Server.{server_end, server_output, server_rules, server_state_after}
 use Rattle.nr_reduce.specs.ServerState.{ServerState, credit_told}

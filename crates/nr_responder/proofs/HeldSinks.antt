@@ -10,7 +10,7 @@ use Rattle.nr_responder.specs.Fetching.{SinkRegion}
 use Rattle.nr_responder.specs.private.Reading.{with_released}
 use Rattle.std.specs.Ordering.{nat_cmp}
 use Rattle.std.proofs.lemmas.List.Elements.{All-nil}
-use Rattle.nr_regions.specs.RegisteredMemory.{RegisteredMemory, Outside, Claim, IsHeld, after_release, outside_len, outside_held, initial_memory}
+use Rattle.nr_regions.specs.RegisteredMemory.{RegisteredMemory, Outside, Claim, IsHeld, after_release, outside_len, outside_held, initial_memory, AreHeldFrom}
 use Rattle.nr_regions.specs.Table.{IsTotal}
 use Rattle.nr_regions.proofs.Totals.{sound_initial}
 use Rattle.nr_wire.specs.declared.hello.Side.TheVariants.{Responder}
@@ -26,7 +26,7 @@ use Rattle.nr_reduce.specs.ServerReads.{is_read}
 use Rattle.nr_responder.specs.declared.call.Pending.{Pending}
 use Rattle.nr_responder.specs.declared.call.ReadEntry.{ReadEntry}
 use Rattle.nr_responder.specs.declared.call.OpenSink.{OpenSink}
-use Rattle.nr_responder.specs.Sound.{AreFetched, AreHeldFrom, HasOutside, HasRoom, around_of, claims_of}
+use Rattle.nr_responder.specs.Sound.{AreFetched, HasOutside, HasRoom, around_of, claims_of}
 use Rattle.nr_responder.specs.Rooms.{payload_room}
 use Rattle.nr_responder.specs.Sound.{room_len}
 use Rattle.nr_responder.specs.Views.{read_view}

@@ -24,9 +24,9 @@ use Rattle.nr_reduce.specs.ServerReads.{chunks_of, is_read}
 use Rattle.nr_reduce.specs.ServerMessages.{Verdict, verdict, by_header, by_body, by_stream, by_need, has_position, no_stream}
 use Rattle.nr_reduce.specs.ServerMessages.Verdict.{EndsLink, OtherVersion, BadChunks, MakesPending}
 use Rattle.nr_rpc.specs.declared.head.CallHead.{CallHead}
-use Rattle.nr_rpc.specs.Reading.{call_of}
+use Rattle.nr_rpc.specs.Reading.{call_of, head_xid}
 use Rattle.nr_reduce.specs.Holds.{chunk_error, version_error}
-use Rattle.nr_reduce.specs.ServerMessages.{by_head, call_xid}
+use Rattle.nr_reduce.specs.ServerMessages.{by_head}
 use Rattle.nr_reduce.specs.ServerMessages.CallVerdict.{Refuses, IsReady}
 use Rattle.nr_reduce.specs.ServerFrames.{FrameEffect, by_message, message_effect, with_verdict}
 use Rattle.nr_responder.specs.private.Handling.{inline_call, refused_effect}
@@ -162,13 +162,13 @@ no_call_refused k m place xid at write reply stream none is reads =
     ap (λ (s : FrameEffect). s.refusal) (inline_message_lem k place m xid write reply stream none is)
     ∙ ap (λ (r : Result CallHead ℕ). (with_verdict (by_head c stream r) (pending_effect k c)).refusal) reads
 
-pub other_call_refused : (k : ServerState) (m : List ℕ) (place xid : ℕ) (write : List (List RdmaSegment)) (reply : Option (List RdmaSegment)) (stream : List ℕ) (head : CallHead) → is_read k.reads (k.received.sends + 1) ≡ true → verdict k m ≡ MakesPending (inline_call k xid write reply stream) → call_of stream ≡ Ok head → call_xid head ≢ xid →
+pub other_call_refused : (k : ServerState) (m : List ℕ) (place xid : ℕ) (write : List (List RdmaSegment)) (reply : Option (List RdmaSegment)) (stream : List ℕ) (head : CallHead) → is_read k.reads (k.received.sends + 1) ≡ true → verdict k m ≡ MakesPending (inline_call k xid write reply stream) → call_of stream ≡ Ok head → head_xid head ≢ xid →
     (by_message k place (Some m)).refusal ≡ Some 19
 other_call_refused k m place xid write reply stream head none is reads other =
     let c : PendingCall = inline_call k xid write reply stream in
     ap (λ (s : FrameEffect). s.refusal) (inline_message_lem k place m xid write reply stream none is)
     ∙ ap (λ (r : Result CallHead ℕ). (with_verdict (by_head c stream r) (pending_effect k c)).refusal) reads
-    ∙ ap (λ (b : Bool). (with_verdict (cond b (IsReady (record { number = c.number; xid = xid; payload = stream })) (Refuses 19)) (pending_effect k c)).refusal) (ne_eqb (call_xid head) xid other)
+    ∙ ap (λ (b : Bool). (with_verdict (cond b (IsReady (record { number = c.number; xid = xid; payload = stream })) (Refuses 19)) (pending_effect k c)).refusal) (ne_eqb (head_xid head) xid other)
 
 -- the lists of a call without a read list
 pub plain_lists_lem : (k : ServerState) (xid : ℕ) (lists : ChunkLists) (stream : List ℕ) → lists.read ≡ [] →

@@ -1,5 +1,5 @@
 -- How long the lists of a responder are.
-use Rattle.std.proofs.Common.{◌≡◌, ◌+◌, length, None, arith}
+use Rattle.std.proofs.Common.{◌≡◌, ◌+◌, None, arith}
 use Rattle.std.proofs.lemmas.List.{length-drop, length-map}
 use Rattle.nr_link.specs.Limits.{open_reads_max}
 use Rattle.nr_endpoint.specs.ReceiveQueue.{receives_kept}

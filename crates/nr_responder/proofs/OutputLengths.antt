@@ -1,5 +1,5 @@
 -- How many bytes the output has of the RDMA Writes of an answer.
-use Rattle.std.proofs.Common.{◌≡◌, ℕ, ◌+◌, ◌*◌, ◌≤◌, Bool, true, false, cond, eqb, List, [], ◌∷◌, ◌++◌, length, take, drop, All, Option, None, Some, arith, length-append}
+use Rattle.std.proofs.Common.{ℕ, ◌+◌, ◌*◌, ◌≤◌, Bool, true, false, cond, eqb, List, [], ◌∷◌, ◌++◌, length, take, drop, All, Option, None, Some, arith, length-append}
 use Rattle.std.specs.Prelude.{min, nat_le, IfSome}
 use Rattle.std.proofs.lemmas.List.{length-take, length-drop}
 use Rattle.nr_header.specs.declared.header.RdmaSegment.{RdmaSegment}

@@ -3,7 +3,7 @@ use Rattle.std.proofs.Common.{◌≡◌, ◌≢◌, ℕ, ◌+◌, ◌≤◌, Boo
 use Rattle.std.specs.Prelude.{find}
 use Rattle.std.specs.List.{list_any}
 use Rattle.std.proofs.lemmas.Bool.{eqb-true, eq-eqb, ne_eqb}
-use Rattle.nr_regions.specs.RegisteredMemory.{Region, RegisteredMemory, bytes_in}
+use Rattle.nr_regions.specs.RegisteredMemory.{Region, RegisteredMemory, bytes_in, AreHeldFrom}
 use Rattle.nr_header.specs.declared.header.ReadSegment.{ReadSegment}
 use Rattle.nr_header.specs.WithinLimits.{read_total}
 use Rattle.nr_reduce.specs.Chunks.{call_stream, item_position, position_of}
@@ -13,7 +13,7 @@ use Rattle.nr_responder.specs.HeldBytes.{sinks_share, sinks_total}
 use Rattle.nr_responder.specs.declared.call.OpenSink.{OpenSink}
 use Rattle.nr_responder.specs.private.CallsRead.{chunk_positions, lists_of, sinks_from}
 use Rattle.nr_responder.specs.private.Reading.{bytes_of_sink, is_sink_over, left_sinks, sink_bytes}
-use Rattle.nr_responder.specs.Sound.{AreHeldFrom, IsRoom, claims_of, room_for}
+use Rattle.nr_responder.specs.Sound.{IsRoom, claims_of, room_for}
 use Rattle.nr_responder.specs.Views.{sink_view}
 use Rattle.nr_responder.proofs.ChunkTotals.{own_share, sinks_within}
 use Rattle.nr_responder.proofs.Shares.{share_append, share_filtered}

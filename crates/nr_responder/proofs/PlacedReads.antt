@@ -9,7 +9,7 @@ use Rattle.std.proofs.lemmas.Bool.{eqb-true}
 use Rattle.std.proofs.lemmas.List.{length-set, map-append}
 use Rattle.std.proofs.lemmas.List.Elements.{All-set}
 use Rattle.nr_header.specs.Constants.{PAYLOAD_MAX}
-use Rattle.nr_regions.specs.RegisteredMemory.{Outside, RegisteredMemory, IsHeld, buffer_around, bytes_in, held_region, outside_len}
+use Rattle.nr_regions.specs.RegisteredMemory.{Outside, RegisteredMemory, IsHeld, buffer_around, bytes_in, held_region, outside_len, AreHeldFrom}
 use Rattle.nr_endpoint.specs.EndpointState.{EndpointState}
 use Rattle.nr_endpoint.specs.LinkState.{LinkState, LinkSide}
 use Rattle.nr_reduce.specs.declared.item.Item.{Item}
@@ -27,7 +27,7 @@ use Rattle.nr_responder.specs.ResponderState.{ResponderSide}
 use Rattle.nr_responder.specs.private.DoneReads.{IsPlaced}
 use Rattle.nr_responder.specs.private.Reading.{bytes_of_sink, is_sink_over, left_sinks, opening, over_sinks, sink_bytes, with_opened, with_released}
 use Rattle.nr_responder.specs.private.ReadsDone.{read_payload, reading_on}
-use Rattle.nr_responder.specs.Sound.{AreFetched, AreHeldFrom, HasOutside, HasRoom, HasWindow, InBuffer, InReceive, KeepsOutside, QueuesInvariant, around_of, claims_of, payloads_of, room_len, state_of, xids_of}
+use Rattle.nr_responder.specs.Sound.{AreFetched, HasOutside, HasRoom, HasWindow, InBuffer, InReceive, KeepsOutside, QueuesInvariant, around_of, claims_of, payloads_of, room_len, state_of, xids_of}
 use Rattle.nr_responder.specs.Views.{call_view, inline_of, read_view, sink_view}
 use Rattle.nr_responder.proofs.HeldSinks.{held_at, read_has_room}
 use Rattle.nr_responder.proofs.JoinedPayloads.{conveyed_is}

@@ -17,7 +17,7 @@ use Rattle.nr_responder.specs.ResponderState.{ResponderSide, after_drain, end_of
 use Rattle.nr_responder.specs.private.Handling.{Handled, IsServerOf, IsTaken, on_link}
 use Rattle.nr_responder.specs.private.Handling.Handled.{Stopped, Ready, Fetched, Completed}
 use Rattle.nr_responder.specs.private.Handling.Handled.{Refused as RefusedMessage}
-use Rattle.nr_responder.specs.private.ReadsDone.{HandlesRead, ReadHandled, ReadRanOut}
+use Rattle.nr_responder.specs.private.ReadsDone.{HandlesRead, ReadHandled}
 use Rattle.nr_responder.specs.private.ReadsDone.ReadHandled.{GoesOn, Readies, Stops}
 use Rattle.nr_responder.specs.private.ReadsDone.ReadHandled.{Refused as RefusedRead}
 use Rattle.nr_responder.proofs.Answered.{answer_link}

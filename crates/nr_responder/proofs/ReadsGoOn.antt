@@ -11,9 +11,9 @@ use Rattle.nr_responder.specs.declared.call.Ready.{Ready}
 use Rattle.nr_responder.specs.declared.call.ReadEntry.{ReadEntry}
 use Rattle.nr_responder.specs.declared.call.OpenSink.{OpenSink}
 use Rattle.nr_responder.specs.private.Reading.{left_sinks, with_opened, with_released, with_requests}
-use Rattle.nr_responder.specs.Sound.{AreFetched, AreHeldFrom, QueuesInvariant, HasOutside, KeepsOutside, around_of, claims_of}
+use Rattle.nr_responder.specs.Sound.{AreFetched, QueuesInvariant, HasOutside, KeepsOutside, around_of, claims_of}
 use Rattle.nr_responder.specs.Views.{call_view, read_view, sink_view}
-use Rattle.nr_regions.specs.RegisteredMemory.{RegisteredMemory}
+use Rattle.nr_regions.specs.RegisteredMemory.{RegisteredMemory, AreHeldFrom}
 use Rattle.nr_responder.proofs.Windows.{keeps_as, keeps_on, rooms_closed, same_outside}
 use Rattle.nr_responder.proofs.Sounds.{sound_as}
 

@@ -11,7 +11,7 @@ use Rattle.nr_responder.specs.declared.call.Pending.{Pending}
 use Rattle.nr_responder.specs.declared.call.Ready.{Ready}
 use Rattle.nr_responder.specs.declared.call.ReadEntry.{ReadEntry}
 use Rattle.nr_responder.specs.ResponderState.{unsent}
-use Rattle.nr_responder.specs.Sound.{AreFetched, AreHeldFrom, QueuesInvariant, HasOutside, KeepsOutside, around_of, claims_of, HasRoom, InReceive}
+use Rattle.nr_responder.specs.Sound.{AreFetched, QueuesInvariant, HasOutside, KeepsOutside, around_of, claims_of, HasRoom, InReceive}
 use Rattle.nr_responder.specs.Views.{call_view, read_view, sink_view}
 use Rattle.nr_endpoint.specs.EndpointState.{EndpointState}
 use Rattle.nr_endpoint.specs.ReceiveQueue.{ReceiveQueue}
@@ -25,7 +25,7 @@ use Rattle.nr_responder.proofs.HeldSinks.{fetched_as}
 use Rattle.nr_responder.proofs.Windows.{around_removed, keeps_as, keeps_on, rooms_closed, same_outside}
 use Rattle.std.specs.FinMap.{FinMap}
 use Rattle.std.specs.Ordering.{nat_cmp}
-use Rattle.nr_regions.specs.RegisteredMemory.{Outside, RegisteredMemory}
+use Rattle.nr_regions.specs.RegisteredMemory.{Outside, RegisteredMemory, AreHeldFrom}
 use Rattle.nr_responder.proofs.ReadsGoOn.{requests_ends}
 use Rattle.nr_responder.proofs.Removed.{all_pushed_lem, all_removed, length_removed}
 use Rattle.nr_responder.proofs.Sounds.{bufs_as, used_as, limit_as}

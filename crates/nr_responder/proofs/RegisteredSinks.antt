@@ -7,7 +7,7 @@ use Rattle.std.proofs.lemmas.List.{drop_more}
 use Rattle.nr_header.specs.declared.header.ReadSegment.{ReadSegment}
 use Rattle.nr_regions.specs.declared.right.Right.{Right}
 use Rattle.nr_regions.specs.declared.right.Right.TheVariants.{Sink}
-use Rattle.nr_regions.specs.RegisteredMemory.{RegisteredMemory, Claim, IsHeld, Outside, after_register, claim_of, outside_len}
+use Rattle.nr_regions.specs.RegisteredMemory.{RegisteredMemory, Claim, IsHeld, Outside, after_register, claim_of, outside_len, AreHeldFrom}
 use Rattle.nr_regions.specs.Table.{IsTotal}
 use Rattle.nr_regions.proofs.Holding.{get_insert_other}
 use Rattle.nr_regions.proofs.Totals.{sound_register}
@@ -20,7 +20,7 @@ use Rattle.nr_reduce.specs.OfferedRegions.{Region}
 use Rattle.nr_responder.specs.Fetching.{SinkRegion, open_sinks}
 use Rattle.nr_responder.specs.declared.call.OpenSink.{OpenSink}
 use Rattle.nr_responder.specs.private.CallsRead.{sink_buffer, sinks_from, with_registered}
-use Rattle.nr_responder.specs.Sound.{AreHeldFrom, HasOutside, claims_of}
+use Rattle.nr_responder.specs.Sound.{HasOutside, claims_of}
 use Rattle.nr_responder.specs.Views.{sink_view}
 
 one_call : (l : LinkSide) (call : Call) → after_calls l (call ∷ []) ≡ after_call l call

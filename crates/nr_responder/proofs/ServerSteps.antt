@@ -7,7 +7,7 @@ use Rattle.nr_wire.specs.Segment.{Segment}
 use Rattle.nr_wire.specs.Segment.Segment.{Untagged}
 use Rattle.nr_header.specs.declared.header.RdmaSegment.{RdmaSegment}
 use Rattle.nr_rpc.specs.declared.head.CallHead.{CallHead}
-use Rattle.nr_rpc.specs.Reading.{call_of}
+use Rattle.nr_rpc.specs.Reading.{call_of, head_xid}
 use Rattle.nr_link.specs.Frames.{Frame}
 use Rattle.nr_link.specs.ReceiveState.{ReceiveState, received_after, message_completed}
 use Rattle.nr_link.specs.Ending.{frame_segment}
@@ -15,7 +15,7 @@ use Rattle.nr_reduce.specs.Chunks.{call_conveyed, item_position}
 use Rattle.nr_reduce.specs.OfferedRegions.{Region, until_at, closed_if, regions_closed}
 use Rattle.nr_reduce.specs.ServerState.{PendingCall, PendingRead, ReadyCall, ServerState}
 use Rattle.nr_reduce.specs.ServerReads.{open_reads, is_read, is_read_at, is_over}
-use Rattle.nr_reduce.specs.ServerMessages.{pending_payload, by_payload, by_head, call_xid, Verdict, verdict}
+use Rattle.nr_reduce.specs.ServerMessages.{pending_payload, by_payload, by_head, Verdict, verdict}
 use Rattle.nr_reduce.specs.ServerMessages.CallVerdict.{Refuses, IsReady}
 use Rattle.nr_reduce.specs.ServerMessages.Verdict.{MakesPending}
 use Rattle.nr_reduce.specs.ServerFrames.{FrameEffect, no_effect, with_verdict, ready_if_whole, by_message, message_effect, effect_in, frame_effect}
@@ -133,11 +133,11 @@ inline_effect k c stream = record {
   refusal = None;
 }
 
-by_verdict_lem : (c : PendingCall) (stream : List ℕ) (head : CallHead) (s : FrameEffect) → call_of stream ≡ Ok head → call_xid head ≡ c.xid →
+by_verdict_lem : (c : PendingCall) (stream : List ℕ) (head : CallHead) (s : FrameEffect) → call_of stream ≡ Ok head → head_xid head ≡ c.xid →
     with_verdict (by_payload c (Some stream)) s ≡ record s { ready = ready_call c stream ∷ [] }
 by_verdict_lem c stream head s is xid =
     (λ i. with_verdict (by_head c stream (is i)) s)
-    ∙ ap (λ (b : Bool). with_verdict (cond b (IsReady (ready_call c stream)) (Refuses 19)) s) (eq-eqb (call_xid head) c.xid xid)
+    ∙ ap (λ (b : Bool). with_verdict (cond b (IsReady (ready_call c stream)) (Refuses 19)) s) (eq-eqb (head_xid head) c.xid xid)
 
 -- a call more, before it is judged
 abbrev pub pending_effect : ServerState → PendingCall → FrameEffect
@@ -157,7 +157,7 @@ inline_message_lem k place message xid write reply stream whole is =
     ∙ ap (λ (p : Option (List ℕ)). with_verdict (by_payload c p) plain) (inline_payload k place xid write reply stream)
 
 pub inline_ready : (k : ServerState) (f : Frame) (message : List ℕ) (xid : ℕ) (write : List (List RdmaSegment)) (reply : Option (List RdmaSegment)) (stream : List ℕ) (head : CallHead) →
-    is_read k.reads (k.received.sends + 1) ≡ true → verdict k message ≡ MakesPending (inline_call k xid write reply stream) → call_of stream ≡ Ok head → call_xid head ≡ xid →
+    is_read k.reads (k.received.sends + 1) ≡ true → verdict k message ≡ MakesPending (inline_call k xid write reply stream) → call_of stream ≡ Ok head → head_xid head ≡ xid →
     by_message k f.end (Some message) ≡ inline_effect k (inline_call k xid write reply stream) stream
 inline_ready k f message xid write reply stream head none is reads own =
     inline_message_lem k f.end message xid write reply stream none is

@@ -12,7 +12,7 @@ use Rattle.nr_link.specs.declared.end.End.TheVariants as ends
 use Rattle.nr_link.specs.Limits.{open_reads_max}
 use Rattle.nr_endpoint.specs.ReceiveQueue.{ReceiveQueue}
 use Rattle.nr_link.specs.Input.{InputState}
-use Rattle.nr_regions.specs.RegisteredMemory.{RegisteredMemory}
+use Rattle.nr_regions.specs.RegisteredMemory.{RegisteredMemory, AreHeldFrom}
 use Rattle.nr_endpoint.specs.LinkState.{LinkState, LinkSide}
 use Rattle.nr_endpoint.specs.Judging.{with_end_of}
 use Rattle.nr_endpoint.specs.Calls.{after_call}
@@ -27,7 +27,6 @@ use Rattle.nr_responder.specs.Fetching.{Fetching, SinkRegion, open_if, open_sink
 use Rattle.nr_responder.specs.HeldBytes.{sinks_count, sinks_share, sinks_total, IsOfPending, RegionsHave, SameReceives, SharesFit, SinksFit, ReceivesFit}
 use Rattle.nr_responder.specs.Keeping.{Keeps}
 use Rattle.nr_responder.specs.ResponderState.{ResponderSide, end_of}
-use Rattle.nr_responder.specs.Sound.{AreHeldFrom}
 use Rattle.nr_responder.specs.private.CallsRead.{reading_call, registered, sinks_of}
 use Rattle.nr_responder.specs.private.Handling.{Handled, on_link, with_ready}
 use Rattle.nr_responder.specs.private.Handling.Handled.{Stopped, Refused, Ready, Fetched, Completed}

@@ -4,7 +4,7 @@ use Rattle.std.specs.List.{filter}
 use Rattle.nr_regions.specs.declared.denied.Denied.{Denied}
 use Rattle.nr_regions.specs.declared.denied.Denied.TheVariants.{NoStag}
 use Rattle.nr_regions.specs.declared.right.Kind.{Kind}
-use Rattle.nr_regions.specs.RegisteredMemory.{Region as HeldRegion, RegisteredMemory, Claim, IsHeld, held_region, live_region, region_offer, denial_in, denial, bytes_after_write, after_place, after_place_in, after_register, after_release, initial_memory, right_for}
+use Rattle.nr_regions.specs.RegisteredMemory.{Region as HeldRegion, RegisteredMemory, Claim, IsHeld, held_region, live_region, region_offer, denial_in, denial, bytes_after_write, after_place, after_place_in, after_register, after_release, initial_memory, right_for, AreHeldFrom}
 use Rattle.nr_regions.specs.Table.{region_len}
 use Rattle.nr_regions.proofs.Holding.{live_parts, within, length_bytes_after_write}
 use Rattle.nr_regions.proofs.Totals.{sound_initial, sound_register, sound_release, sound_change}
@@ -29,7 +29,7 @@ use Rattle.nr_reduce.specs.OfferedRegions.{Region}
 use Rattle.nr_responder.specs.declared.call.OpenSink.{OpenSink}
 use Rattle.nr_responder.specs.Fetching.{SinkRegion}
 use Rattle.nr_responder.specs.HeldBytes.{RegionsHave, sinks_total}
-use Rattle.nr_responder.specs.Sound.{AreHeldFrom, claims_of}
+use Rattle.nr_responder.specs.Sound.{claims_of}
 use Rattle.nr_responder.specs.Views.{sink_view}
 use Rattle.nr_responder.specs.private.CallsRead.{registered}
 use Rattle.nr_responder.specs.private.Reading.{released}

@@ -10,7 +10,7 @@ use Rattle.nr_header.specs.Constants.{PAYLOAD_MAX}
 use Rattle.nr_link.specs.Limits.{open_reads_max, send_unit}
 use Rattle.nr_link.specs.Input.{InputState}
 use Rattle.nr_outside.specs.declared.moment.Moment.{Moment}
-use Rattle.nr_regions.specs.RegisteredMemory.{RegisteredMemory, bytes_held}
+use Rattle.nr_regions.specs.RegisteredMemory.{RegisteredMemory, bytes_held, AreHeldFrom}
 use Rattle.nr_endpoint.specs.LinkState.{LinkSide, initial_link}
 use Rattle.nr_endpoint.specs.ReceiveQueue.{receives_kept}
 use Rattle.nr_endpoint.specs.ReceiveQueue.DeliveredEvent.{ReadDone}
@@ -29,7 +29,6 @@ use Rattle.nr_responder.specs.HeldBytes.{sinks_total, IsOfPending, IsBounded, Ke
 use Rattle.nr_responder.specs.Keeping.{Keeps}
 use Rattle.nr_responder.specs.ResponderState.{ResponderSide, ResponderState, after_drain, bytes_held_by, end_of, opened_side, present_word, unsent}
 use Rattle.nr_responder.specs.Standing.{RepresentsServer, ResponderRepresents, RepresentsSome}
-use Rattle.nr_responder.specs.Sound.{AreHeldFrom}
 use Rattle.nr_responder.specs.Rooms.{payload_room}
 use Rattle.nr_responder.specs.private.Handling.{IsServerOf, IsTaken, on_link, out}
 use Rattle.nr_responder.specs.private.ReadsDone.{HandlesRead}

@@ -13,7 +13,7 @@ use Rattle.nr_wire.specs.Segment.{Segment}
 use Rattle.nr_wire.specs.Segment.Segment.{Untagged}
 use Rattle.nr_header.specs.declared.header.RdmaSegment.{RdmaSegment}
 use Rattle.nr_rpc.specs.declared.head.CallHead.{CallHead}
-use Rattle.nr_rpc.specs.Reading.{call_of}
+use Rattle.nr_rpc.specs.Reading.{call_of, head_xid}
 use Rattle.nr_link.specs.declared.end.End.{End}
 use Rattle.nr_link.specs.declared.end.End.TheVariants as ends
 use Rattle.nr_endpoint.specs.Hellos.{receive_length_for}
@@ -40,7 +40,7 @@ use Rattle.nr_reduce.specs.Events.RunEvent.{FrameReceived}
 use Rattle.nr_reduce.specs.EndRules.{EndState, live, next_end_state, next_end_state_by, output_for, output_for_by}
 use Rattle.nr_reduce.specs.ServerState.{PendingCall, ReadyCall, ServerState, is_pending}
 use Rattle.nr_reduce.specs.ServerReads.{is_over}
-use Rattle.nr_reduce.specs.ServerMessages.{verdict, call_xid}
+use Rattle.nr_reduce.specs.ServerMessages.{verdict}
 use Rattle.nr_reduce.specs.ServerMessages.Verdict.{MakesPending}
 use Rattle.nr_reduce.specs.ServerFrames.{FrameEffect, no_effect, by_message, frame_effect}
 use Rattle.nr_reduce.specs.Server.{server_rules, server_end, server_output, server_state_after, with_own_hello, or_refusal, refusal_end, server_readiness, with_effect, effect_output}
@@ -174,7 +174,7 @@ told_framed opened k s frame w queue_number msn offset payload h is =
 pub ready_takes : (opened : LinkParameters) (k : ServerState) (input : InputState) (v : ResponderSide) (frame : List ℕ) (w queue_number msn offset : ℕ) (payload : List ℕ)
     (xid : ℕ) (write : List (List RdmaSegment)) (reply : Option (List RdmaSegment)) (stream : List ℕ) (head : CallHead) → Keeps opened k input v → 0 < v.link.state.place → 0 < length frame →
     segment_taken false frame ≡ Ok (Untagged true OPCODE_SEND w queue_number msn offset payload) → (with_frame v.link.state Fpdu frame).ended ≡ None →
-    is_pending k xid ≡ false → verdict k (whole_message v.link.state payload) ≡ MakesPending (inline_call k xid write reply stream) → call_of stream ≡ Ok head → call_xid head ≡ xid →
+    is_pending k xid ≡ false → verdict k (whole_message v.link.state payload) ≡ MakesPending (inline_call k xid write reply stream) → call_of stream ≡ Ok head → head_xid head ≡ xid →
     TakesFrame opened k (behind input frame) (next_frame v.link.state frame) v (with_ready v (record { awaited = Fpdu; rest = []; state = told_link v.link.state frame }) (inline_call k xid write reply stream))
 unfolding frame_segment
 ready_takes opened k input v frame w queue_number msn offset payload xid write reply stream head h behind_hello some is lives new judged reads own =

@@ -9,7 +9,7 @@ use Rattle.std.proofs.lemmas.Bool.{cases_eq, eqb-true, eq-eqb}
 use Rattle.std.proofs.lemmas.List.Sums.{sum_by-append, sum_by-cons}
 use Rattle.nr_regions.proofs.Holding.{get_remove_other, release_here, release_other}
 use Rattle.nr_regions.proofs.Totals.{sound_release}
-use Rattle.nr_regions.specs.RegisteredMemory.{RegisteredMemory, Outside, after_release, held_region, outside_len}
+use Rattle.nr_regions.specs.RegisteredMemory.{RegisteredMemory, Outside, after_release, held_region, outside_len, AreHeldFrom}
 use Rattle.nr_regions.specs.Table.{IsTotal}
 use Rattle.nr_endpoint.specs.EndpointState.{EndpointState}
 use Rattle.nr_reduce.specs.ServerState.{PendingCall, PendingRead}
@@ -20,7 +20,7 @@ use Rattle.nr_responder.specs.declared.call.ReadEntry.{ReadEntry}
 use Rattle.nr_responder.specs.declared.call.OpenSink.{OpenSink}
 use Rattle.nr_responder.specs.private.Reading.{is_sink_over, left_sinks}
 use Rattle.nr_responder.specs.Rooms.{payload_room}
-use Rattle.nr_responder.specs.Sound.{AreHeldFrom, HasOutside, HasRoom, HasSpace, HasWindow, KeepsOutside, around_of, claims_of, room_len}
+use Rattle.nr_responder.specs.Sound.{HasOutside, HasRoom, HasSpace, HasWindow, KeepsOutside, around_of, claims_of, room_len}
 use Rattle.nr_responder.specs.Views.{call_view, read_view, sink_view}
 use Rattle.nr_responder.proofs.PayloadRooms.{room_left}
 

@@ -1,10 +1,10 @@
 -- What a responder keeps of its own, whatever the marks.
-use Rattle.std.specs.Prelude.{◌≡◌, ◌≢◌, ◌⊎◌, ℕ, ◌+◌, ◌*◌, ◌<◌, ◌≤◌, true, false, is_some, List, [], ◌∷◌, length, map, sum_by, find, Option, None, Some, IfSome, All, slice_get, take, drop, vec_capacity}
+use Rattle.std.specs.Prelude.{◌≡◌, ◌≢◌, ◌⊎◌, ℕ, ◌+◌, ◌*◌, ◌<◌, ◌≤◌, true, false, is_some, List, [], length, map, sum_by, find, Option, None, Some, IfSome, All, slice_get, take, drop, vec_capacity}
 use Rattle.std.specs.VecDeque.{deque_capacity}
 use Rattle.std.specs.List.{AllByRecursion}
 use Rattle.std.specs.Ordering.{nat_cmp}
 use Rattle.std.specs.FinMap.{FinMap, get}
-use Rattle.nr_regions.specs.RegisteredMemory.{Claim, Outside, RegisteredMemory, IsHeld, held_region, outside_held, outside_len}
+use Rattle.nr_regions.specs.RegisteredMemory.{AreHeldFrom, Claim, Outside, held_region, outside_held, outside_len}
 use Rattle.nr_regions.specs.Table.{IsTotal}
 use Rattle.nr_rpc.specs.Reading.{call_of, target_of}
 use Rattle.nr_reduce.specs.declared.item.Item.{Item}
@@ -136,11 +136,6 @@ pub record HasRoom (around : FinMap nat_cmp Outside) (sinks : List OpenSink) (re
 
 abbrev pub claims_of : List OpenSink → List Claim
 claims_of sinks = map (λ s. s.registration) sinks
-
--- held, under rising STags that are at least `low`
-abbrev pub AreHeldFrom : RegisteredMemory → ℕ → List Claim → Type 0
-AreHeldFrom m low [] = low ≤ m.next
-AreHeldFrom m low (c ∷ claims) = (low ≤ c.stag) × (IsHeld m c × AreHeldFrom m (c.stag + 1) claims)
 
 -- the bytes of buffers outside their regions are at most n
 pub record HasOutside (e : EndpointState) (n : ℕ) : Type 0 where

@@ -1,6 +1,6 @@
 //! The answer to a call: its message and its RDMA Writes (RFC 8166 sections 3.4.6, 3.5).
 
-ghost use Rattle.std.specs.Prelude.{◌≡◌, ℕ, ◌+◌, ◌≤◌, ◌<◌, ◌^◌, length, drop, take, IfOk, OnOk, OnErr, All, option_map, [], ◌++◌, IfSome, ◌==◌, if◌then◌else◌};
+ghost use Rattle.std.specs.Prelude.{◌≡◌, ◌+◌, ◌≤◌, ◌<◌, ◌^◌, length, drop, take, IfOk, OnOk, OnErr, All, option_map, [], ◌++◌, IfSome, ◌==◌, if◌then◌else◌};
 ghost use Rattle.std.specs.List.{flat_map};
 ghost use Rattle.nr_header.specs.Slices.{lists_of_slices};
 ghost use Rattle.nr_header.specs.WithinLimits.{ListsWithin, SegmentsEnd};
@@ -11,7 +11,7 @@ ghost use Rattle.nr_rpc.specs.Reading.{call_of, target_of};
 ghost use Rattle.nr_reduce.specs.Server.{answer_of_target};
 ghost use Rattle.nr_reduce.specs.Holds.{chunk_error, version_error, writes_into, first_chunk, no_segments};
 ghost use Rattle.nr_reduce.specs.CodeViews.{answer_view};
-ghost use Rattle.nr_reduce.specs.Server.{first_handle, or_handle, read_handle, named_stag};
+ghost use Rattle.nr_reduce.specs.Server.{first_handle, read_handle, named_stag};
 ghost use Rattle.nr_responder.specs.Answering.{answer_to, message_for, name_for, writes_for, sent_as, Queues};
 ghost use Rattle.nr_responder.specs.Views.{call_view};
 ghost use Rattle.nr_responder.specs.Sound.{InBuffer};

@@ -1,6 +1,6 @@
 //! How many calls and receives a responder has, and how many bytes it keeps.
 
-ghost use Rattle.std.specs.Prelude.{◌≡◌, ◌≢◌, ℕ, ◌+◌, ◌*◌, ◌^◌, ◌≤◌, List, length, sum_by, None, Some, All};
+ghost use Rattle.std.specs.Prelude.{◌≡◌, ◌≢◌, ℕ, ◌+◌, ◌*◌, ◌^◌, ◌≤◌, List, length, sum_by, None, Some};
 ghost use Rattle.nr_link.specs.declared.end.End.TheVariants as ends;
 ghost use Rattle.nr_wire.specs.Constants.{UNITS_MAX};
 ghost use Rattle.nr_link.specs.Agreement.{IsSendLimit};

@@ -1,6 +1,6 @@
 //! What a responder grants, and the credit word of its messages (RFC 8166 section 3.3).
 
-ghost use Rattle.std.specs.Prelude.{◌≡◌, ℕ, ◌≤◌, List, [], ◌∷◌, ◌++◌, min};
+ghost use Rattle.std.specs.Prelude.{◌≡◌, ℕ, List, [], ◌∷◌, ◌++◌, min};
 ghost use Rattle.nr_reduce.specs.declared.mark.LinkParameters.{LinkParameters};
 ghost use Rattle.nr_reduce.specs.declared.mark.Mark.{Mark};
 ghost use Rattle.nr_reduce.specs.declared.mark.Mark.TheVariants as marks;

@@ -1,6 +1,6 @@
 //! What a message makes of a responder (RFC 8166 sections 4.2 to 4.5).
 
-ghost use Rattle.std.specs.Prelude.{◌≡◌, ℕ, ◌+◌, ◌<◌, ◌≤◌, [], ◌∷◌, ◌++◌, length, take, map, Option, None, option_map, IfOk, IsOk, true, ◌⊎◌};
+ghost use Rattle.std.specs.Prelude.{◌≡◌, ◌+◌, ◌<◌, ◌≤◌, [], ◌∷◌, ◌++◌, length, take, map, Option, None, option_map, IfOk, IsOk, true, ◌⊎◌};
 ghost use Rattle.nr_header.specs.Constants.{FIXED_LEN};
 ghost use Rattle.nr_header.specs.Header.{no_lists};
 ghost use Rattle.nr_header.specs.ReadInto.{lists_in};

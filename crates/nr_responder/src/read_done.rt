@@ -12,7 +12,8 @@ ghost use Rattle.nr_responder.specs.private.Reading.{opening, sink_bytes, with_o
 ghost use Rattle.nr_responder.specs.private.ReadsDone.{has_bad_chunk, reads_without, still_open, HandlesRead, NothingReady};
 ghost use Rattle.nr_responder.specs.private.DoneReads.{IsOfCall, ReadsOn, ReadyMade};
 ghost use Rattle.nr_responder.specs.HeldBytes.{sinks_share};
-ghost use Rattle.nr_responder.specs.Sound.{claims_of, state_of, AreHeldFrom, HasSpace, InBuffer, IsRoom, ServerEndInvariant, SameInput, OthersAreRead, WindowsAreRead, WindowsInvariant, room_for};
+ghost use Rattle.nr_regions.specs.RegisteredMemory.{AreHeldFrom};
+ghost use Rattle.nr_responder.specs.Sound.{claims_of, state_of, HasSpace, InBuffer, IsRoom, ServerEndInvariant, SameInput, OthersAreRead, WindowsAreRead, WindowsInvariant, room_for};
 ghost use Rattle.nr_responder.specs.Views.{call_view, read_view, sink_view};
 
 use crate::answering::chunk_error;

@@ -4,13 +4,13 @@ ghost use Rattle.std.specs.Prelude.{◌≡◌, ℕ, ◌+◌, ◌^◌, ◌<◌, �
 ghost use Rattle.std.specs.FinMap.{get, insert};
 ghost use Rattle.nr_header.specs.Constants.{PAYLOAD_MAX};
 ghost use Rattle.nr_header.specs.WithinLimits.{read_total};
-ghost use Rattle.nr_regions.specs.RegisteredMemory.{claim_of, outside_len, outside_window, window_bytes};
+ghost use Rattle.nr_regions.specs.RegisteredMemory.{claim_of, outside_len, outside_window, window_bytes, AreHeldFrom};
 ghost use Rattle.nr_regions.specs.declared.right.Right.TheVariants.{Sink};
 ghost use Rattle.nr_endpoint.specs.Calls.{after_call};
 ghost use Rattle.nr_endpoint.specs.Calls.Call.{Register};
 ghost use Rattle.nr_responder.specs.Fetching.{open_sinks};
 ghost use Rattle.nr_responder.specs.private.CallsRead.{sink_buffer, sinks_from, with_registered};
-ghost use Rattle.nr_responder.specs.Sound.{claims_of, AreHeldFrom, HasOutside};
+ghost use Rattle.nr_responder.specs.Sound.{claims_of, HasOutside};
 ghost use Rattle.nr_responder.specs.Views.{sink_view};
 
 use crate::call::OpenSink;

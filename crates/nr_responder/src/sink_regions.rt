@@ -4,11 +4,11 @@ ghost use Rattle.std.specs.Prelude.{◌≡◌, ℕ, ◌+◌, ◌<◌, ◌≤◌,
 ghost use Rattle.std.specs.List.{list_any, remove};
 ghost use Rattle.std.specs.FinMap.{get};
 ghost use Rattle.nr_header.specs.Constants.{PAYLOAD_MAX};
-ghost use Rattle.nr_regions.specs.RegisteredMemory.{Outside, buffer_around, bytes_in, held_region, outside_len};
+ghost use Rattle.nr_regions.specs.RegisteredMemory.{Outside, buffer_around, bytes_in, held_region, outside_len, AreHeldFrom};
 ghost use Rattle.nr_reduce.specs.ServerReads.{is_read_at};
 ghost use Rattle.nr_responder.specs.Fetching.{is_sink};
 ghost use Rattle.nr_responder.specs.private.Reading.{is_sink_over, left_sinks, over_sinks, sink_bytes, with_released};
-ghost use Rattle.nr_responder.specs.Sound.{claims_of, AreHeldFrom, HasOutside, KeepsOutside};
+ghost use Rattle.nr_responder.specs.Sound.{claims_of, HasOutside, KeepsOutside};
 ghost use Rattle.nr_responder.specs.Views.{call_view, read_view, sink_view};
 
 use crate::call::{OpenSink, Pending, ReadEntry, has_number, is_read};

@@ -6,7 +6,8 @@ ghost use Rattle.nr_wire.specs.Constants.{UNITS_MAX};
 ghost use Rattle.nr_link.specs.Limits.{send_unit};
 ghost use Rattle.nr_header.specs.Constants.{PAYLOAD_MAX};
 ghost use Rattle.nr_header.specs.WithinLimits.{read_total};
-ghost use Rattle.nr_responder.specs.Sound.{AreHeldFrom, HasOutside, claims_of};
+ghost use Rattle.nr_regions.specs.RegisteredMemory.{AreHeldFrom};
+ghost use Rattle.nr_responder.specs.Sound.{HasOutside, claims_of};
 ghost use Rattle.nr_responder.specs.private.CallsRead.{sink_buffer};
 ghost use Rattle.nr_responder.specs.private.Starting.{BeginsOutside, BeginsReads, OpensReads, with_around, with_room};
 

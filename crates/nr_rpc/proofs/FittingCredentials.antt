@@ -1,5 +1,5 @@
 -- The numbers of a credential are words.
-use Rattle.std.proofs.Common.{ℕ, suc, ◌^◌, ◌<◌, ◌≤◌, List, [], ◌∷◌, get_or, length, map, arith}
+use Rattle.std.proofs.Common.{ℕ, suc, ◌<◌, ◌≤◌, List, [], ◌∷◌, get_or, length, map, arith}
 use Rattle.nr_xdr.specs.Item.Item.{Unsigned}
 use Rattle.nr_xdr.specs.Items.{AllFit}
 use Rattle.nr_rpc.specs.Constants.{MACHINE_MAX, GIDS_MAX}

@@ -1,9 +1,8 @@
 //! Calls (RFC 5531 section 9).
 
-ghost use Rattle.std.specs.Prelude.{◌≡◌, ℕ, List, ◌++◌, ◌^◌, ◌<◌, length, Ok, Err, IfOk, IfErr, IfSome, OnOk};
-ghost use Rattle.nr_xdr.specs.Item.{IsBytes};
+ghost use Rattle.std.specs.Prelude.{◌≡◌, ◌++◌, ◌<◌, Ok, Err, IfOk, IfErr, IfSome, OnOk};
 ghost use Rattle.nr_xdr.specs.Matching.{MatchesRead, MatchesValue};
-ghost use Rattle.nr_rpc.specs.Call.{ReadsCall, BeginsCall, CanWriteCall, call_head, call_encoding, call_of_target};
+ghost use Rattle.nr_rpc.specs.Call.{BeginsCall, CanWriteCall, call_head, call_encoding, call_of_target};
 ghost use Rattle.nr_rpc.specs.Credential.{CanWriteCred};
 ghost use Rattle.nr_rpc.specs.Reading.{GivesCall, call_at, call_of, version2_at, procedure_at, head_of_start, target_of, head_xid, xid_of_call};
 

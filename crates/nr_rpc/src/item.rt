@@ -1,6 +1,6 @@
 //! The items of heads: each is read, or refused with its offset.
 
-ghost use Rattle.std.specs.Prelude.{◌≡◌, ◌^◌, ◌<◌, length};
+ghost use Rattle.std.specs.Prelude.{◌<◌};
 ghost use Rattle.nr_xdr.specs.Matching.{MatchesRead, MatchesStep};
 ghost use Rattle.nr_rpc.specs.Reading.{expect_at, pair_at, auth_at, auth_of_raw};
 

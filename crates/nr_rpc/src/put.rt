@@ -1,6 +1,6 @@
 //! The items of heads: each is put at the end of a writer.
 
-ghost use Rattle.std.specs.Prelude.{◌≡◌, ◌^◌, ◌<◌, ◌≤◌, [], ◌++◌, length, map, OnOk, OnErr, IfOk};
+ghost use Rattle.std.specs.Prelude.{◌≡◌, ◌<◌, ◌≤◌, [], ◌++◌, length, map, OnOk, OnErr, IfOk};
 ghost use Rattle.nr_xdr.specs.Item.Item.{Unsigned};
 ghost use Rattle.nr_xdr.specs.Items.{encodings};
 ghost use Rattle.nr_xdr.specs.Room.{Appended};

@@ -1,13 +1,12 @@
 //! Replies (RFC 5531 section 9).
 
-ghost use Rattle.std.specs.Prelude.{◌≡◌, ℕ, List, ◌++◌, ◌^◌, ◌<◌, length, map, Ok, Err, IfOk, IfErr, OnOk, OnErr};
-ghost use Rattle.nr_xdr.specs.Item.{IsBytes};
+ghost use Rattle.std.specs.Prelude.{◌≡◌, ◌<◌, length, map, Ok, Err, IfOk, IfErr, OnOk, OnErr};
 ghost use Rattle.nr_xdr.specs.Item.Item.{Unsigned};
 ghost use Rattle.nr_xdr.specs.Items.{encodings};
-ghost use Rattle.nr_xdr.specs.Matching.{MatchesRead, MatchesValue};
+ghost use Rattle.nr_xdr.specs.Matching.{MatchesRead};
 ghost use Rattle.nr_xdr.specs.Room.{Appended};
 ghost use Rattle.nr_rpc.specs.Credential.{no_verifier};
-ghost use Rattle.nr_rpc.specs.Reply.{ReadsReply, BeginsReply, CanWriteReply, accepted_items, denied_items, reply_head, reply_encoding};
+ghost use Rattle.nr_rpc.specs.Reply.{BeginsReply, CanWriteReply, accepted_items, denied_items, reply_head, reply_encoding};
 ghost use Rattle.nr_rpc.specs.Reading.{GivesReply, reply_at, reply_of, accepted_at, denied_at};
 
 use crate::constants::{

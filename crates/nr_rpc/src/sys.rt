@@ -1,6 +1,6 @@
 //! Credentials from their flavor and body.
 
-ghost use Rattle.std.specs.Prelude.{◌≡◌, ◌≤◌, ◌^◌, ◌<◌, length, IfOk};
+ghost use Rattle.std.specs.Prelude.{◌≡◌, ◌≤◌, ◌<◌, IfOk};
 ghost use Rattle.std.specs.Option.{option_map};
 ghost use Rattle.nr_xdr.specs.Matching.{MatchesRead};
 ghost use Rattle.nr_rpc.specs.Reading.{sys_at, user_at, gids_at, numbers_at, whole_value, cred_of_body, cred_of, auth_of_raw};

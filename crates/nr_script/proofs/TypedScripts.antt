@@ -1,5 +1,5 @@
 -- A text that is a script says one that is of its types: what is read as a number is a word, and what is read as bytes are bytes.
-use Rattle.std.specs.Prelude.{◌&&◌, ◌-◌, ◌==◌, codes, length, count_by}
+use Rattle.std.specs.Prelude.{◌-◌, ◌==◌, codes, length, count_by}
 use Rattle.std.specs.List.{AllByRecursion}
 use Rattle.std.specs.Str.{bytes_eq}
 use Rattle.std.proofs.Common.{◌≡◌, ℕ, ◌+◌, ◌≤◌, Bool, true, false, cond, List, [], ◌∷◌, ◌++◌, Option, None, Some, Result, Ok, Err, refl, sym, subst, arith, append-nil, append_assoc}
@@ -13,7 +13,8 @@ use Rattle.nr_texts.specs.declared.opening.Opening.{Opening}
 use Rattle.nr_texts.specs.declared.program.Program.{Program}
 use Rattle.nr_texts.specs.Limits.{clients_max}
 use Rattle.nr_texts.specs.Words.{◌>>=◌, IsWord, number_in, bytes_in, arguments_in, parts, one_number, two_numbers, space, newline}
-use Rattle.nr_texts.specs.Forms.{form_in, program_in, HasWordPosition}
+use Rattle.nr_reduce.specs.Plans.{HasWordPosition}
+use Rattle.nr_texts.specs.Forms.{form_in, program_in}
 use Rattle.nr_texts.specs.Openings.{opening_in, sys_cred, IsOpening}
 use Rattle.nr_texts.proofs.TypedTexts.{If, then_if, if_if, all_more, IsAny, any_if, small_if, bytes_if, arguments_if, form_if, ProgramSmall, program_if, PairSmall, two_if, opening_if}
 use Rattle.nr_script.specs.declared.script.Line.{Line}

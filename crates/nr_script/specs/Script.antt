@@ -17,7 +17,7 @@ use Rattle.nr_texts.specs.Limits.{clients_max, capacity_max, number_max}
 use Rattle.nr_script.specs.Limits.{lines_max}
 use Rattle.nr_texts.specs.Words.{parts, newline, space}
 use Rattle.nr_texts.specs.Openings.{opening_in}
-use Rattle.nr_texts.specs.Forms.{HasWordPosition}
+use Rattle.nr_reduce.specs.Plans.{HasWordPosition}
 use Rattle.nr_script.specs.Lines.{line_in}
 
 -- a script: its first line, and the others in order

@@ -1,6 +1,6 @@
 //! Scripts that are made from a seed.
 
-ghost use Rattle.std.specs.Prelude.{ℕ, ◌≡◌, ◌<◌, ◌≤◌, ◌^◌, ◌∷◌, ◌++◌, [], IfOk, OnOk};
+ghost use Rattle.std.specs.Prelude.{◌≡◌, ◌<◌, ◌≤◌, ◌++◌, IfOk, OnOk};
 ghost use Rattle.nr_xdr.specs.Item.Item.{Opaque};
 ghost use Rattle.nr_xdr.specs.Item.{encoding, hyper};
 ghost use Rattle.nr_texts.specs.Limits.{clients_max};

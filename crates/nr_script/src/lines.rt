@@ -1,7 +1,6 @@
 //! The lines of a script, word by word.
 
-ghost use Rattle.std.specs.Prelude.{◌≡◌, None, Some, IfOk, if◌then◌else◌, codes, []};
-ghost use Rattle.std.specs.Str.{bytes_eq};
+ghost use Rattle.std.specs.Prelude.{◌≡◌, None, Some, IfOk, []};
 ghost use Rattle.nr_script.specs.Lines.{call_line, cred_line, line_in, line_named, call_with, later_line, plain_line, raw_line, side_in, sys_line, target_in};
 ghost use Rattle.nr_texts.specs.Pieces.{texts};
 

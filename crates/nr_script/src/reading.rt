@@ -1,6 +1,6 @@
 //! Reading of scripts.
 
-ghost use Rattle.std.specs.Prelude.{◌≡◌, ℕ, ◌+◌, ◌<◌, ◌≤◌, ◌^◌, ◌==◌, [], ◌∷◌, length, true, None, Some, Ok, Err, IfOk, MatchResult, if◌then◌else◌};
+ghost use Rattle.std.specs.Prelude.{◌≡◌, ◌+◌, ◌<◌, ◌≤◌, ◌^◌, ◌==◌, [], length, true, None, Some, Ok, Err, IfOk, if◌then◌else◌};
 ghost use Rattle.nr_outside.specs.Whole.{input_max};
 ghost use Rattle.nr_texts.specs.Pieces.{texts};
 ghost use Rattle.nr_script.specs.Script.{GivesScript, followed_by, is_ascii, is_skipped, script_from, script_of, with_text};

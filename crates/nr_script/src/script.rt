@@ -1,7 +1,6 @@
 //! Scripts: what a drill has to do, as plain data.
 
-ghost use Rattle.std.specs.Prelude.{◌≡◌, ◌≤◌, List};
-ghost use Rattle.nr_texts.specs.Limits.{clients_max};
+ghost use Rattle.std.specs.Prelude.{◌≡◌};
 ghost use Rattle.nr_script.specs.Script.{ScriptLines, IsScript};
 
 use nr_reduce::Form;

@@ -6,9 +6,7 @@ use Rattle.nr_outside.specs.Faults.{Rises}
 use Rattle.nr_outside.specs.Streams.{SinkAt, Writes}
 use Rattle.nr_links.specs.Asked.{Asks}
 use Rattle.nr_links.specs.Links.{LinkLog}
-use Rattle.nr_links.specs.Moments.{Gives}
-use Rattle.nr_reduce.specs.declared.mark.Entry.{Entry}
-use Rattle.nr_plain.specs.History.{IsHistory, IsOpenedBy, OnlyOthersAdded, Opening, PassView, setup_in}
+use Rattle.nr_plain.specs.History.{IsHistory, IsOpenedBy, OnlyOthersAdded, PassView, setup_in}
 use Rattle.nr_plain.specs.Setup.{Setup}
 use Rattle.nr_plain.specs.Stands.{PlainServerState}
 use Rattle.nr_plain.proofs.OfCalls.{both_of_calls}
@@ -18,7 +16,7 @@ use Rattle.nr_host.specs.declared.link_end.LinkEnd.{LinkEnd}
 use Rattle.nr_host.specs.Serving as host
 use Rattle.nr_accept.specs.declared.fault.ServeFault.{ServeFault}
 use Rattle.nr_accept.specs.declared.fault.ServeFault.TheVariants as faults
-use Rattle.nr_serve.specs.Serving.{AcceptorAt, Opens, Serves, ServesConnections, SpawnerAt, limits_of, served_text, setup_of}
+use Rattle.nr_serve.specs.Serving.{AcceptorAt, Serves, ServesConnections, SpawnerAt, limits_of, served_text, setup_of}
 use Rattle.nr_serve.specs.Stops.{IsServeFault, LinksStopped, OpensServer, OpensShared, ServesAndPrints, ServesLinks, ServesLinksOf, StoppedPrinting, StoppedServing, StopsServing, stop_of_serve}
 use Rattle.nr_serve.specs.Stops.StopsServing.{AtPrinting}
 use Rattle.nr_serve.specs.declared.stop.ServeStop.{ServeStop}

@@ -1,6 +1,6 @@
 //! A server, from its configuration to what is printed at its end.
 
-ghost use Rattle.std.specs.Prelude.{◌≡◌, ◌+◌, ◌≤◌, ◌<◌, ◌^◌, length, IfOk, MatchResult};
+ghost use Rattle.std.specs.Prelude.{◌+◌, ◌<◌, ◌^◌, IfOk, MatchResult};
 ghost use Rattle.std.specs.Arc.{arc_value};
 ghost use Rattle.nr_words.specs.Settings.{config_settings};
 ghost use Rattle.nr_outside.specs.Streams.{Writes, source_at, sink_at};

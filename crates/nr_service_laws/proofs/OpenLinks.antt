@@ -11,7 +11,8 @@ use Rattle.nr_reduce.specs.declared.mark.Mark.{Mark}
 use Rattle.nr_reduce.specs.declared.mark.Mark.TheVariants as marks
 use Rattle.nr_reduce.specs.AtEachMark.{AtEachMark}
 use Rattle.nr_reduce.specs.Events.{RunEvent, events, events_at, events_from, if_own, mark_events}
-use Rattle.nr_reduce.specs.History.{bytes_received, fed_at, other, same_side}
+use Rattle.nr_wire.specs.Hello.{peer}
+use Rattle.nr_reduce.specs.History.{bytes_received, fed_at, same_side}
 use Rattle.nr_reduce.specs.Client.{client_rules, initial_client}
 use Rattle.nr_reduce.specs.EndRules.{end_state_after}
 use Rattle.nr_reduce.specs.Run.{client as client_of, end_of_side}
@@ -75,7 +76,7 @@ events_kept link before kept (m ∷ rest) same =
     by (is_client_mark link m) refl (λ later agree. events_kept link (before ++ m ∷ []) later rest agree)
   where
     at_mark : events_at link Initiator before m ≡ events_at link Initiator kept m
-    at_mark = ap (λ (bs : List ℕ). mark_events link Initiator (length bs) (frames_completed (other Initiator) bs) m) same
+    at_mark = ap (λ (bs : List ℕ). mark_events link Initiator (length bs) (frames_completed (peer Initiator) bs) m) same
 
     by : (b : Bool) → is_client_mark link m ≡ b
         → ((later : List Mark) → bytes_received link Initiator (before ++ m ∷ []) ≡ bytes_received link Initiator later
@@ -89,7 +90,7 @@ events_kept link before kept (m ∷ rest) same =
         ∙ ap (λ (b : Bool). events_from link Initiator kept (cond b (m ∷ filter (is_client_mark link) rest) (filter (is_client_mark link) rest))) (sym is)
     by false is goes =
         ap (λ (es : List RunEvent). es ++ events_from link Initiator (before ++ m ∷ []) rest)
-        (others_no_events link (length (bytes_received link Initiator before)) (frames_completed (other Initiator) (bytes_received link Initiator before)) m is)
+        (others_no_events link (length (bytes_received link Initiator before)) (frames_completed (peer Initiator) (bytes_received link Initiator before)) m is)
         ∙ goes kept (received_more link before m ∙ ap (λ (bs : List ℕ). bytes_received link Initiator before ++ bs) (others_not_fed link m is) ∙ append-nil (bytes_received link Initiator before) ∙ same)
         ∙ ap (λ (b : Bool). events_from link Initiator kept (cond b (m ∷ filter (is_client_mark link) rest) (filter (is_client_mark link) rest))) (sym is)
 

@@ -1,14 +1,12 @@
 -- The calls of a history, and those that its requester has.
-use Rattle.std.proofs.Common.{◌≡◌, ◌≢◌, ◌⊎◌, ℕ, ◌+◌, ◌<◌, arith, Bool, true, false, eqb, is_some, if◌then◌else◌, List, [], ◌∷◌, ◌++◌, length, Option, Some, None, unwrap_or, refl, sym, ap, subst, ◌∙◌, ⊎_elim, inl, inr}
+use Rattle.std.proofs.Common.{◌≡◌, ◌≢◌, ◌⊎◌, ℕ, ◌+◌, Bool, true, false, eqb, is_some, if◌then◌else◌, List, [], ◌∷◌, ◌++◌, length, Option, Some, None, unwrap_or, refl, sym, ap, ◌∙◌, ⊎_elim}
 use Rattle.std.proofs.lemmas.Bool.{cases_eq, eqb-true, ne_eqb}
-use mathlib.Core.Option.{some}
-use lib.ListN.{get_elem?}
 use Rattle.atomic_table.proofs.Lists.{at_longer, at_last}
 use Rattle.nr_reduce.specs.declared.call.Call.{Call}
 use Rattle.nr_requester.specs.RequesterState.{RequesterState}
 use Rattle.nr_requester.specs.OpenCalls.{open_call, KeepsTickets, OpensTicket, ClosesTicket}
 use Rattle.nr_shared.specs.declared.entry.Entry.{Entry}
-use Rattle.nr_shared.specs.Histories.{closes_of, ClosesCall, ClosesCalls, IsUnclosed, submitted_call, submits_call, IsCallAt, place_of}
+use Rattle.nr_shared.specs.Histories.{closes_of, ClosesCall, ClosesCalls, IsUnclosed, submitted_call, IsCallAt, place_of}
 use Rattle.nr_shared.specs.Standing.{KeepsCalls}
 use Rattle.nr_shared.proofs.Histories.{asked_end, asked_old, place_same, place_new}
 use Rattle.nr_shared.proofs.Lists.{each_end, none_left}

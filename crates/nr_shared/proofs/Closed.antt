@@ -1,9 +1,7 @@
 -- What is given back at the end.
-use Rattle.std.proofs.Common.{◌≡◌, ◌⊎◌, ⊎_elim, ℕ, ◌+◌, ◌<◌, ◌≤◌, arith, Bool, true, false, List, [], ◌∷◌, ◌++◌, length, length-append, append-nil, Option, Some, None, refl, sym, ap, subst, ◌∙◌}
-use Rattle.std.specs.List.{AllByRecursion}
+use Rattle.std.proofs.Common.{◌≡◌, ◌⊎◌, ⊎_elim, ℕ, ◌+◌, ◌<◌, ◌≤◌, arith, true, false, List, [], ◌∷◌, length, length-append, append-nil, Option, None, refl, sym, ap, subst, ◌∙◌}
 use mathlib.Core.Option.{some, some-injective, some-ne-none}
 use lib.ListN.{get_elem?}
-use Rattle.atomic_table.proofs.Lists.{at_longer}
 use Rattle.nr_outside.proofs.Moves.{HandsOut_nil}
 use Rattle.nr_outside.specs.Content.{HandsOut}
 use Rattle.nr_links.specs.Limits.{read_max}
@@ -11,7 +9,6 @@ use Rattle.nr_turnstile.specs.declared.turnstile.Pass.{Pass as TurnPass}
 use Rattle.nr_turnstile.specs.Rule.{Begins, Earlier, IsIn, Lies, Owns, Rising, in_order}
 use Rattle.nr_turnstile.specs.Passes.{Joins, mine_of, seen_by}
 use Rattle.nr_shared.specs.declared.entry.Entry.{Entry}
-use Rattle.nr_shared.specs.declared.entry.InitialState.{InitialState}
 use Rattle.nr_shared.specs.declared.entry.Stop.{Stop}
 use Rattle.nr_shared.specs.declared.source_reader.InitialSource.{InitialSource}
 use Rattle.nr_shared.specs.declared.source_reader.SourceReader.{SourceReader}

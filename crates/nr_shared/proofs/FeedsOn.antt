@@ -1,11 +1,9 @@
 -- The pass that feeds, after a turn, and the source after a read.
-use Rattle.std.proofs.Common.{◌≡◌, ◌≢◌, ℕ, ◌+◌, ◌<◌, ◌≤◌, arith, Bool, true, false, List, [], ◌∷◌, ◌++◌, length, length-append, append-nil, Option, Some, None, refl, sym, ap, subst, ◌∙◌}
-use Rattle.std.specs.Prelude.{MatchBool, take}
-use Rattle.std.specs.Io.KnownBytes.{IsAtEnd}
-use mathlib.Core.Option.{some, some-injective}
+use Rattle.std.proofs.Common.{◌≡◌, ◌≢◌, ℕ, ◌+◌, ◌≤◌, arith, Bool, true, false, List, [], ◌∷◌, ◌++◌, length, length-append, append-nil, Option, Some, None, sym, ap, subst, ◌∙◌}
+use Rattle.std.specs.Prelude.{MatchBool}
+use mathlib.Core.Option.{some-injective}
 use lib.ListN.{get_elem?}
 use Rattle.nr_outside.specs.Content.{HandsOut}
-use Rattle.nr_outside.specs.Faults.{Rises}
 use Rattle.nr_outside.proofs.Moves.{HandsOut_append}
 use Rattle.nr_links.specs.Limits.{piece_max, read_max}
 use Rattle.nr_turnstile.specs.declared.turnstile.Pass.{Pass}

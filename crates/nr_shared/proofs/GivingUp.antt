@@ -23,7 +23,7 @@ use Rattle.nr_shared.specs.declared.entry.InitialState.{InitialState}
 use Rattle.nr_shared.specs.Draining.{AreWrites}
 use Rattle.nr_shared.specs.Ending.{ClientEnded, HasEnded, LinkEnded}
 use Rattle.nr_shared.specs.HandedBack.{IsUnanswered}
-use Rattle.nr_shared.specs.Histories.{FitsHistory, has_write_failed, initial_of, run_of, write_failed}
+use Rattle.nr_shared.specs.Histories.{has_write_failed, initial_of, run_of, write_failed}
 use Rattle.nr_shared.proofs.Alone.{stop_quiet, writes_quiet}
 use Rattle.nr_shared.proofs.Histories.{run_end, run_same}
 use Rattle.nr_shared.proofs.Outstanding.{fits_before}

@@ -1,5 +1,5 @@
 -- The value stands on with entries of bytes that move.
-use Rattle.std.proofs.Common.{◌≡◌, ℕ, zero, suc, ◌+◌, ◌-◌, ◌*◌, ◌^◌, ◌<◌, ◌≤◌, ◌⊎◌, ⊎_elim, inl, inr, arith, Bool, true, false, ◌||◌, is_some, List, [], ◌∷◌, ◌++◌, length, length-append, append-nil, append_assoc, take, drop, Option, Some, None, refl, sym, ap, subst, ◌∙◌}
+use Rattle.std.proofs.Common.{◌≡◌, ℕ, ◌+◌, ◌-◌, ◌*◌, ◌<◌, ◌≤◌, ◌⊎◌, ⊎_elim, inl, inr, arith, Bool, true, false, ◌||◌, is_some, List, [], ◌∷◌, ◌++◌, length, length-append, append-nil, append_assoc, take, drop, Option, None, refl, sym, ap, subst, ◌∙◌}
 use Rattle.std.proofs.Math.Seq.{drop-length}
 use Rattle.std.proofs.lemmas.List.{length-drop}
 use Rattle.std.specs.Io.KnownBytes.{Appends}
@@ -7,10 +7,9 @@ use Rattle.std.proofs.KnownBytes.{Appends-trans}
 use Rattle.nr_outside.specs.Faults.{Rises}
 use Rattle.nr_wire.specs.declared.hello.Side.TheVariants.{Initiator}
 use Rattle.nr_reduce.specs.declared.mark.Mark.TheVariants as marks
-use Rattle.nr_requester.specs.RequesterState.{RequesterSide, RequesterState, queue_of}
+use Rattle.nr_requester.specs.RequesterState.{RequesterSide, queue_of}
 use Rattle.nr_requester.specs.AfterCalls.{after_drain}
-use Rattle.nr_requester.specs.CountedMarks.{has_bytes, marks_if, one_mark_more}
-use Rattle.nr_requester.specs.OpenCalls.{KeepsTickets, open_call}
+use Rattle.nr_requester.specs.OpenCalls.{KeepsTickets}
 use Rattle.nr_requester.specs.Standing.{StandsOn, StaysOut}
 use Rattle.nr_requester.specs.Fed.{fed_bytes}
 use Rattle.nr_requester.proofs.OwnLaw.{drain_keeps_law, drain_out_keeps_law, drain_keeps_grant}
@@ -27,8 +26,6 @@ use Rattle.nr_shared.proofs.Histories.{run_same, initial_end, allowed_end, writt
 use Rattle.nr_shared.proofs.Calls.{calls_kept, closes_end}
 use Rattle.nr_shared.specs.declared.entry.InitialState.{InitialState}
 use Rattle.nr_shared.specs.Marks.{IsLive, IsOut}
-use Rattle.nr_reduce.specs.declared.mark.Mark.{Mark}
-use Rattle.nr_reduce.specs.declared.mark.LinkParameters.{LinkParameters}
 use Rattle.nr_shared.proofs.Output.{follow_end, full_failed, full_wrote, output_same, queue_written}
 use Rattle.nr_shared.proofs.Steps.{follows_on, false_true}
 use Rattle.nr_reduce.specs.declared.call.Call.{Call}

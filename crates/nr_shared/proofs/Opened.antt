@@ -1,5 +1,5 @@
 -- A requester that is shared stands for the history that is named, and the first pass feeds.
-use Rattle.std.proofs.Common.{◌≡◌, ◌≢◌, ◌⊎◌, ⊎_elim, ℕ, zero, suc, ◌+◌, ◌*◌, ◌^◌, ◌<◌, ◌≤◌, arith, Bool, true, false, is_some, List, [], ◌∷◌, ◌++◌, length, append-nil, Option, Some, None, refl, sym, ap, subst, ◌∙◌}
+use Rattle.std.proofs.Common.{◌≡◌, ◌⊎◌, ⊎_elim, ℕ, zero, suc, ◌^◌, ◌<◌, ◌≤◌, arith, true, false, is_some, List, [], ◌∷◌, length, append-nil, Option, Some, None, refl, sym, ap, subst, ◌∙◌}
 use Rattle.std.proofs.lemmas.Bool.{cases_lt}
 use Rattle.std.specs.Io.KnownBytes.{Appends}
 use Rattle.std.proofs.KnownBytes.{Appends-nil}
@@ -17,7 +17,7 @@ use Rattle.nr_requester.specs.OpenCalls.{IsFresh, call_with, found_answer, found
 use Rattle.nr_requester.specs.declared.answer.AnsweredCall.{AnsweredCall}
 use Rattle.nr_requester.specs.RequesterState.{StoredCall}
 use Rattle.nr_turnstile.specs.declared.turnstile.Pass.{Pass}
-use Rattle.nr_turnstile.specs.Rule.{Earlier, IsIn, Lies, places, places_from}
+use Rattle.nr_turnstile.specs.Rule.{Earlier, IsIn, Lies, places}
 use Rattle.nr_turnstile.specs.Passes.{IsOutside, home_of, mine_of, seen_by}
 use Rattle.nr_shared.specs.declared.entry.Entry.{Entry}
 use Rattle.nr_shared.specs.declared.entry.Entry.TheVariants as entries

@@ -1,5 +1,5 @@
 -- Output that is due is written before more is fed, and the buffers of an answer have what its regions hold.
-use Rattle.std.proofs.Common.{◌≡◌, ◌≢◌, ℕ, Bool, true, false, List, [], ◌∷◌, ◌++◌, length, map, Option, Some, None, inl, inr, refl, sym, ap, subst, ◌∙◌, ⊎_elim, append-nil}
+use Rattle.std.proofs.Common.{◌≡◌, ℕ, Bool, true, false, List, [], ◌∷◌, ◌++◌, length, map, Option, Some, None, inl, inr, refl, sym, ap, subst, ◌∙◌, ⊎_elim, append-nil}
 use Rattle.std.specs.List.{AllByRecursion}
 use Rattle.nr_link.specs.declared.end.End.TheVariants as ends
 use Rattle.nr_wire.specs.declared.hello.Side.TheVariants.{Initiator}
@@ -30,7 +30,7 @@ use Rattle.nr_shared.specs.declared.entry.Stop.{Stop}
 use Rattle.nr_shared.specs.declared.requester_with_sink.RequesterWithSink.{RequesterWithSink}
 use Rattle.nr_shared.specs.Callers.{IsReady}
 use Rattle.nr_shared.specs.HandedBack.{HavePlaced, regions_placed}
-use Rattle.nr_shared.specs.Histories.{initial_of, closes_of, has_write_failed, is_feeding, run_of, stop_of, write_failed}
+use Rattle.nr_shared.specs.Histories.{initial_of, closes_of, is_feeding, run_of, stop_of, write_failed}
 use Rattle.nr_shared.specs.Marks.{IsLive, IsOut}
 use Rattle.nr_shared.specs.Output.{EntriesMayFollow, HasWrittenOutput, MayFollow, OutputBeforeInput, WritesInFull, fails_next, is_piece}
 use Rattle.nr_shared.specs.private.Flushed.{HasFlushed, IsFlushed}

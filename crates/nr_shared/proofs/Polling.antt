@@ -1,9 +1,8 @@
 -- What is found under a turn, told of the pass before and after it.
-use Rattle.std.proofs.Common.{◌≡◌, ◌≢◌, ℕ, List, [], ◌∷◌, ◌++◌, Some, refl, sym, ap, subst, ◌∙◌}
+use Rattle.std.proofs.Common.{◌≡◌, ℕ, List, [], ◌∷◌, ◌++◌, refl, sym, subst, ◌∙◌}
 use Rattle.nr_turnstile.specs.declared.turnstile.Pass.{Pass}
 use Rattle.nr_turnstile.specs.Rule.{Begins, IsOpen, Lies}
 use Rattle.nr_turnstile.specs.Passes.{seen_by, mine_of}
-use Rattle.nr_reduce.specs.declared.call.Call.{Call}
 use Rattle.nr_requester.specs.declared.taking.Done.{Done}
 use Rattle.nr_requester.specs.declared.taking.Take.{Take}
 use Rattle.nr_requester.specs.declared.taking.Take.TheVariants as takes
@@ -17,7 +16,7 @@ use Rattle.nr_shared.specs.Adding.{Adds}
 use Rattle.nr_shared.specs.Callers.{HasOpenCall, IsCaller, KeepsOpen, KeepsOthers}
 use Rattle.nr_shared.specs.Histories.{closes_of, IsCallAt}
 use Rattle.nr_shared.specs.HandedBack.{IsAwaitedStill, lost_entry}
-use Rattle.nr_shared.specs.Waiting.{ForgetsAt, ForgetsCall, GivesUp, GivesUpAt, IsPollTurn, LosesAt, TakesAnswer, TakesAt, IsTakeTurn}
+use Rattle.nr_shared.specs.Waiting.{ForgetsCall, GivesUp, IsPollTurn, TakesAnswer, IsTakeTurn}
 use Rattle.nr_shared.proofs.Adding.{adds_both, adds_same}
 use Rattle.nr_shared.proofs.Asking.{asked_on, closes_own}
 use Rattle.nr_shared.proofs.Resting.{caller_on, of_both, of_writes}

@@ -1,10 +1,10 @@
 -- A pass that rests on a shared requester, after a turn.
-use Rattle.std.proofs.Common.{◌≡◌, ℕ, ◌+◌, ◌<◌, ◌≤◌, arith, false, List, [], ◌∷◌, ◌++◌, length, length-append, append-nil, Option, Some, refl, sym, ap, subst, ◌∙◌, ◌⊎◌, ⊎_elim, zero, suc}
+use Rattle.std.proofs.Common.{◌≡◌, ℕ, ◌+◌, ◌≤◌, arith, false, List, [], ◌∷◌, ◌++◌, length, length-append, append-nil, Some, refl, sym, ap, subst, ◌∙◌, ◌⊎◌, ⊎_elim, suc}
 use Rattle.std.specs.List.{AllByRecursion}
 use mathlib.Core.Option.{some, some-injective, some-ne-none}
 use lib.ListN.{get_elem?}
 use Rattle.nr_turnstile.specs.declared.turnstile.Pass.{Pass as TurnPass}
-use Rattle.nr_turnstile.specs.Rule.{Begins, IsIn, IsOpen, Lies, Rising, in_order, longer}
+use Rattle.nr_turnstile.specs.Rule.{Begins, IsIn, Rising, longer}
 use Rattle.nr_turnstile.specs.Passes.{Joins, Misses, Rests, mine_of, seen_by}
 use Rattle.nr_shared.specs.declared.entry.Entry.{Entry}
 use Rattle.nr_shared.specs.declared.requester_with_sink.RequesterWithSink.{RequesterWithSink}
@@ -18,7 +18,7 @@ use Rattle.nr_shared.specs.Sharing.{SharedRests}
 use Rattle.nr_shared.proofs.Adding.{adds_none, at_one, closes_own_on}
 use Rattle.nr_shared.proofs.Alone.{AreQuiet, writes_close, writes_quiet}
 use Rattle.nr_shared.proofs.Calls.{none_some}
-use Rattle.nr_shared.proofs.Lists.{all_in, at_begin, at_below, in_either, in_more, in_ordered, not_twice, still_first, still_ordered}
+use Rattle.nr_shared.proofs.Lists.{all_in, at_begin, at_below, in_either, in_ordered, not_twice, still_first, still_ordered}
 
 -- of a history that has one entry a longer beginning is the same
 pub seen_one : {A : Type 0} (p q : List A) (b c : A) → p ≡ b ∷ [] → q ≡ c ∷ [] → Begins p q → q ≡ p

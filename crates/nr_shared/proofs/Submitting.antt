@@ -1,8 +1,6 @@
 -- A call that is submitted, and bytes that are written before and after it.
-use Rattle.std.proofs.Common.{◌≡◌, ◌≢◌, ℕ, ◌+◌, ◌<◌, ◌⊎◌, inl, inr, Bool, true, false, eqb, is_some, if◌then◌else◌, List, [], ◌∷◌, ◌++◌, length, length-append, arith, ◌≤◌, Option, Some, None, Result, Ok, Err, unwrap_or, refl, sym, ap, subst, ◌∙◌, append_assoc, append-nil}
-use Rattle.std.specs.List.{AllByRecursion}
-use Rattle.std.proofs.lemmas.Bool.{eq-eqb}
-use mathlib.Core.Option.{some, some-injective}
+use Rattle.std.proofs.Common.{◌≡◌, ◌≢◌, ℕ, ◌+◌, List, [], ◌∷◌, ◌++◌, length, length-append, arith, ◌≤◌, Result, Ok, Err, refl, sym, ap, subst, ◌∙◌, append_assoc, append-nil}
+use mathlib.Core.Option.{some}
 use lib.ListN.{get_elem?}
 use Rattle.atomic_table.proofs.Lists.{at_last, at_longer}
 use Rattle.nr_reduce.specs.declared.call.Call.{Call}
@@ -24,8 +22,8 @@ use Rattle.nr_shared.specs.Draining.{AreWrites}
 use Rattle.nr_shared.specs.Ending.{IsCause, LinkEnded}
 use Rattle.nr_shared.specs.Histories.{closes_of}
 use Rattle.nr_shared.specs.Output.{HasWrittenOutput}
-use Rattle.nr_shared.specs.Waiting.{Awaits, IsSubmitTurn, Calls, GivesUp, LacksCredit, NoAnswer, OpensCall, OwnAnswer, Sends, SendsNone, Submits, Waits, WritesDue}
-use Rattle.nr_shared.proofs.Adding.{adds_both, adds_none, adds_same}
+use Rattle.nr_shared.specs.Waiting.{Awaits, IsSubmitTurn, GivesUp, LacksCredit, NoAnswer, OpensCall, OwnAnswer, Sends, SendsNone, Waits, WritesDue}
+use Rattle.nr_shared.proofs.Adding.{adds_both, adds_same}
 use Rattle.nr_shared.proofs.Alone.{open_writes}
 use Rattle.nr_shared.proofs.Asking.{asked_just, asked_on, none_closed}
 use Rattle.nr_shared.proofs.Lists.{in_more}

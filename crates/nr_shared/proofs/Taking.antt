@@ -1,5 +1,5 @@
 -- A take that finds neither an answer nor an end, or the call lost.
-use Rattle.std.proofs.Common.{◌≡◌, ◌≢◌, ◌⊎◌, ℕ, ◌+◌, inl, inr, Bool, true, false, cond, not, ◌||◌, eqb, List, [], ◌∷◌, ◌++◌, map, Option, None, Some, is_some, refl, sym, ap, subst, ◌∙◌}
+use Rattle.std.proofs.Common.{◌≡◌, ◌≢◌, ℕ, ◌+◌, inl, inr, Bool, true, false, cond, not, ◌||◌, eqb, List, [], ◌∷◌, ◌++◌, map, Option, None, Some, is_some, refl, sym, ap, subst, ◌∙◌}
 use Rattle.std.specs.List.{Contains, find, list_any}
 use Rattle.std.proofs.lemmas.Bool.{eq-eqb, ne_eqb}
 use Rattle.nr_link.specs.declared.end.End.{End}
@@ -32,7 +32,7 @@ use Rattle.nr_shared.specs.declared.entry.Stop.{Stop}
 use Rattle.nr_shared.specs.declared.requester_with_sink.RequesterWithSink.{RequesterWithSink}
 use Rattle.nr_shared.specs.HandedBack.{IsAwaitedStill, IsLostWith, IsUnanswered, lost_entry}
 use Rattle.nr_shared.specs.Histories.{Allows, ClosesCall, IsCallAt, IsUnclosed, submitted_call, closes_of, is_feeding, run_of}
-use Rattle.nr_shared.specs.Marks.{IsLive, IsOut}
+use Rattle.nr_shared.specs.Marks.{IsOut}
 use Rattle.nr_shared.specs.Standing.{RepresentsHistory, RepresentsHistoryIf, IsWithin, Stands, is_out_of_memory}
 use Rattle.nr_shared.proofs.Calls.{calls_fewer}
 use Rattle.nr_shared.proofs.Ends.{fits_initial, has_memory, not_out, other_end}

@@ -1,12 +1,10 @@
 //! What a caller finds and does under one turn.
 
-ghost use Rattle.std.specs.Prelude.{◌≡◌, ◌<◌, length, None, true, IfSome, [], ◌∷◌};
+ghost use Rattle.std.specs.Prelude.{◌≡◌, ◌<◌, None, true};
 ghost use Rattle.nr_rpc.specs.Credential.{CanWriteCred};
 ghost use Rattle.nr_turnstile.specs.Passes.{seen_by, mine_of};
-ghost use Rattle.nr_turnstile.specs.Turns.{pass_of, Has, IsSameTurn};
-ghost use Rattle.nr_shared.specs.declared.requester_with_sink.RequesterWithSink.{RequesterWithSink};
+ghost use Rattle.nr_turnstile.specs.Turns.{pass_of, IsSameTurn};
 ghost use Rattle.nr_shared.specs.Callers.{HasOpenCall, IsReady};
-ghost use Rattle.nr_shared.specs.Ending.{LinkEnded};
 ghost use Rattle.nr_shared.specs.private.CreditState.{IsCreditState};
 ghost use Rattle.nr_shared.specs.Histories.{stop_of};
 ghost use Rattle.nr_shared.specs.Output.{IsCallOutstanding};

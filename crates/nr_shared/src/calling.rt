@@ -1,6 +1,6 @@
 //! Calls, each of which waits for its own answer.
 
-ghost use Rattle.std.specs.Prelude.{◌≡◌, [], ◌∷◌};
+ghost use Rattle.std.specs.Prelude.{◌≡◌, []};
 ghost use Rattle.nr_rpc.specs.Credential.{CanWriteCred};
 ghost use Rattle.nr_turnstile.specs.Passes.{Rests, mine_of, seen_by};
 ghost use Rattle.nr_turnstile.specs.Rule.{Lies};

@@ -1,6 +1,6 @@
 //! What a caller does with the requester and its sink under one turn.
 
-ghost use Rattle.std.specs.Prelude.{◌≡◌, ◌≢◌, ◌+◌, ◌<◌, ◌≤◌, length, None, ℕ, true, is_some, [], ◌∷◌, ◌++◌, List, Some, IfOk, IfErr, OnErr};
+ghost use Rattle.std.specs.Prelude.{◌≡◌, ◌≢◌, ◌+◌, ◌<◌, ◌≤◌, length, None, true, is_some, [], ◌∷◌, ◌++◌, IfOk, IfErr, OnErr};
 ghost use Rattle.nr_rpc.specs.Credential.{CanWriteCred};
 ghost use Rattle.nr_requester.specs.OpenCalls.{found_answer};
 ghost use Rattle.nr_turnstile.specs.Passes.{mine_of, seen_by};

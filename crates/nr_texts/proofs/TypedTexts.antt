@@ -16,7 +16,8 @@ use Rattle.nr_texts.specs.declared.opening.Opening.{Opening}
 use Rattle.nr_texts.specs.declared.program.Program.{Program}
 use Rattle.nr_texts.specs.Limits.{clients_max, number_max, default_capacity, default_units, capacity_max}
 use Rattle.nr_texts.specs.Words.{◌>>=◌, IsWord, is_numeral, numeral_value, number_within, number_in, each_read, decoded, bytes_in, arguments_in, parts, two_numbers}
-use Rattle.nr_texts.specs.Forms.{OfferPart, comma, semicolon, equals, at_sign, dot, lengths_in, write_lengths_in, position_by, read_part, write_part, reply_part, named_part, part_by, part_in, nothing_offered, with_part, offer_by, offer_in, given, given_form, form_in, numbered_program, program_in, HasWordPosition, IsPosition, IsWritableOffer, IsWritableForm}
+use Rattle.nr_reduce.specs.Plans.{HasWordPosition}
+use Rattle.nr_texts.specs.Forms.{OfferPart, comma, semicolon, equals, at_sign, dot, lengths_in, write_lengths_in, position_by, read_part, write_part, reply_part, named_part, part_by, part_in, nothing_offered, with_part, offer_by, offer_in, given, given_form, form_in, numbered_program, program_in, IsPosition, IsWritableOffer, IsWritableForm}
 use Rattle.nr_texts.specs.Forms.OfferPart.{Read, Write, Reply}
 use Rattle.nr_texts.proofs.Pieces.{split}
 use Rattle.nr_texts.specs.Openings.{capacity_in, sizes_of, sizes_in, invalidate_in, opening_of, opening_in, IsOpening}

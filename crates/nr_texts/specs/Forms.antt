@@ -107,14 +107,6 @@ form_in word =
     else (if bytes_eq word (codes "long") then Some forms.Long
     else given_form word)))
 
--- the position of an offer that is given is a word
-abbrev pub HasWordPosition : Form → Type 0
-HasWordPosition forms.Auto = Unit {0}
-HasWordPosition forms.Inline = Unit {0}
-HasWordPosition forms.Chunk = Unit {0}
-HasWordPosition forms.Long = Unit {0}
-HasWordPosition (forms.Given offer) = IsWord offer.read_at
-
 -- ===== forms that a word can say
 
 -- a list of an offer that has segments: one or more

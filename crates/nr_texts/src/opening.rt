@@ -1,7 +1,6 @@
 //! The first line of a script and of a capture, and the credential of a user.
 
-ghost use Rattle.std.specs.Prelude.{◌≡◌, None, Some, IfOk, if◌then◌else◌, codes, option_map, []};
-ghost use Rattle.std.specs.Str.{bytes_eq};
+ghost use Rattle.std.specs.Prelude.{◌≡◌, None, Some, IfOk, option_map, []};
 ghost use Rattle.nr_wire.specs.Constants.{UNITS_MAX as units_max};
 ghost use Rattle.nr_texts.specs.Openings.{capacity_in, invalidate_in, opening_in, opening_of, sizes_in, sys_cred};
 ghost use Rattle.nr_texts.specs.Pieces.{texts};

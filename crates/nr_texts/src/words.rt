@@ -1,10 +1,9 @@
 //! Words, and the numbers and bytes that words spell.
 
-ghost use Rattle.std.specs.Prelude.{◌≡◌, ℕ, ◌<◌, ◌≤◌, ◌∷◌, ◌^◌, [], length, true, None, Some, IfOk, MatchOption, IfSome, ◌==◌, if◌then◌else◌, ◌&&◌, nat_lt};
+ghost use Rattle.std.specs.Prelude.{◌≡◌, ◌<◌, ◌≤◌, ◌∷◌, ◌^◌, [], length, None, Some, IfOk, MatchOption, IfSome, ◌==◌, if◌then◌else◌, ◌&&◌, nat_lt};
 ghost use Rattle.std.specs.List.{list_all, position};
 ghost use Rattle.std.specs.Str.{bytes_eq};
 ghost use Rattle.nr_texts.specs.Pieces.{texts, parts_left, pair_of};
-ghost use Rattle.nr_texts.specs.Limits.{number_max};
 ghost use Rattle.nr_texts.specs.Words.{parts, is_digit, is_numeral, numeral_value, number_within, number_in, bytes_in, arguments_in, one_number, two_numbers};
 
 use hex::FromHexError;

@@ -106,9 +106,12 @@ tree_with_node t now d name node = record {
 abbrev pub nodes_with_name_dropped : FinMap nat_cmp Node → Time → ℕ → FinMap nat_cmp Node
 nodes_with_name_dropped nodes now h = option_map_or (λ node. if is_dir node || nat_le node.metadata.links 1 then remove nodes h else insert nodes h (node_without_link now node)) (get nodes h) nodes
 
--- REMOVE, RMDIR: an entry is taken out
+-- REMOVE, RMDIR: an entry is taken out, that of a directory or of another node
+abbrev pub nodes_without_entry : FinMap nat_cmp Node → Time → ℕ → List ℕ → ℕ → Bool → FinMap nat_cmp Node
+nodes_without_entry nodes now d name h is_directory = nodes_with_name_dropped (nodes_with_change nodes d (node_without_entry now name is_directory)) now h
+
 abbrev pub tree_without_entry : Tree → Time → ℕ → List ℕ → ℕ → Tree
-tree_without_entry t now d name h = record t { nodes = nodes_with_name_dropped (nodes_with_change t.nodes d (node_without_entry now name (value_at is_dir false t.nodes h))) now h }
+tree_without_entry t now d name h = record t { nodes = nodes_without_entry t.nodes now d name h (value_at is_dir false t.nodes h) }
 
 -- LINK: one more entry of a file
 abbrev pub tree_with_link : Tree → Time → ℕ → List ℕ → ℕ → Tree
@@ -122,10 +125,12 @@ entry_at t d name = entry_of_name name (value_at entries_in [] t.nodes d)
 abbrev pub tree_without_target : Tree → Time → ℕ → List ℕ → Tree
 tree_without_target t now d name = option_map_or (λ e. tree_without_entry t now d name e.number) (entry_at t d name) t
 
+abbrev pub nodes_with_entry_moved : FinMap nat_cmp Node → Time → ℕ → List ℕ → ℕ → List ℕ → ℕ → Bool → FinMap nat_cmp Node
+nodes_with_entry_moved nodes now from name to name_to h is_directory =
+    nodes_with_change (nodes_with_change (nodes_with_change nodes from (node_without_entry now name is_directory)) to (node_with_entry now name_to h is_directory)) h (node_with_new_name now to)
+
 abbrev pub tree_with_entry_moved : Tree → Time → ℕ → List ℕ → ℕ → List ℕ → ℕ → Tree
-tree_with_entry_moved t now from name to name_to h = record t {
-  nodes = nodes_with_change (nodes_with_change (nodes_with_change t.nodes from (node_without_entry now name (value_at is_dir false t.nodes h))) to (node_with_entry now name_to h (value_at is_dir false t.nodes h))) h (node_with_new_name now to);
-}
+tree_with_entry_moved t now from name to name_to h = record t { nodes = nodes_with_entry_moved t.nodes now from name to name_to h (value_at is_dir false t.nodes h) }
 
 abbrev pub tree_with_new_name : Tree → Time → ℕ → List ℕ → ℕ → List ℕ → ℕ → Tree
 tree_with_new_name t now from name to name_to h = tree_with_entry_moved (tree_without_target t now to name_to) now from name to name_to h

@@ -1,9 +1,8 @@
 //! The tree that a drill begins with.
 
-ghost use Rattle.std.specs.Prelude.{length, ◌^◌, ◌<◌, ◌≡◌, ◌+◌, ◌/◌, ◌%◌, ◌<◌, ◌^◌, [], ◌∷◌, IfOk, OnOk, OnErr};
-ghost use Rattle.nr_tree.specs.Changes.{tree_with_node};
-ghost use Rattle.nr_tree.specs.Drill.{time_zero, drill_node, mode_666, mode_777, file_name, with_root, with_hello, with_link, with_many, IsDrill, IsDrillWith};
-ghost use Rattle.nr_tree.specs.Steps.{CanAddNode, IsBelow, IsBounded};
+ghost use Rattle.std.specs.Prelude.{length, ◌^◌, ◌<◌, ◌≡◌, ◌+◌, ◌/◌, ◌%◌, ◌<◌, ◌^◌, [], IfOk, OnOk};
+ghost use Rattle.nr_tree.specs.Drill.{drill_node, mode_666, mode_777, with_root, with_hello, with_link, with_many, IsDrill, IsDrillWith};
+ghost use Rattle.nr_tree.specs.Steps.{IsBelow};
 ghost use Rattle.nr_tree.specs.declared.node.Content.TheVariants.{Regular as RegularNode, Directory as DirectoryNode, Link as LinkNode};
 
 use crate::directory::Directory;

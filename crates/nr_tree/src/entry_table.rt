@@ -1,7 +1,7 @@
 //! The entries of a directory that has had one: by name, and in the order in which they were made.
 
-ghost use Rattle.std.specs.Prelude.{◌≡◌, ◌+◌, ◌<◌, ◌^◌, [], ◌∷◌, ◌++◌, None, Some, slice_get, length, map, OnOk, OnErr, IsOk, is_some, true, IfSome};
-ghost use Rattle.std.specs.Option.{option_map, option_copied};
+ghost use Rattle.std.specs.Prelude.{◌≡◌, ◌+◌, ◌<◌, ◌^◌, [], ◌∷◌, ◌++◌, None, Some, slice_get, length, OnOk, OnErr, is_some, true, IfSome};
+ghost use Rattle.std.specs.Option.{option_map};
 
 use crate::order::{IndexCursor, Order};
 use crate::steps::Steps;

@@ -1,12 +1,11 @@
 //! Nodes by number: changes of one node, and of a node with its entry.
 
-ghost use Rattle.std.specs.Prelude.{◌≡◌, ◌≢◌, ◌+◌, ◌^◌, ◌<◌, ◌≤◌, ℕ, IsTrue, IfSome, length, OnOk, OnErr, None, Some};
+ghost use Rattle.std.specs.Prelude.{◌≡◌, ◌≢◌, ◌+◌, ◌^◌, ◌<◌, ◌≤◌, IsTrue, IfSome, length, OnOk, OnErr, None, Some};
 ghost use Rattle.std.specs.Option.{option_copied};
 ghost use Rattle.std.specs.FinMap as map;
 ghost use Rattle.nr_tree.specs.Tree.{nodes_of, nodes_with_change, value_at, is_dir as is_directory_node, is_regular as is_regular_node};
 ghost use Rattle.std.specs.Prelude.{false};
-ghost use Rattle.nr_tree.specs.Changes.{node_with_entry, node_without_entry, node_without_link, nodes_with_name_dropped, node_with_bytes, node_with_size, node_with_link, node_with_metadata, node_with_new_name};
-ghost use Rattle.nr_tree.specs.DirectoryGraph.{one_if};
+ghost use Rattle.nr_tree.specs.Changes.{nodes_with_entry_moved, nodes_without_entry, node_with_entry, node_without_entry, node_without_link, nodes_with_name_dropped, node_with_bytes, node_with_size, node_with_link, node_with_metadata, node_with_new_name};
 ghost use Rattle.nr_tree.specs.private.Room.{HasRoomFor, HasEntryFor, IsSource};
 ghost use Rattle.nr_tree.specs.Entries.{entry_of_name};
 ghost use Rattle.nr_tree.specs.Tree.{entries_in};
@@ -257,7 +256,7 @@ pub(crate) fn rename_to_free(
 ) -> Result<(), Memory>
     requires free { IfSome (map.get (nodes_of nodes.old.entries) step.to) (λ n. HasRoomFor name_to.items n) }
     requires source { IfSome (map.get (nodes_of nodes.old.entries) step.from) (IsSource name.now) }
-    ensures ok { OnOk result (nodes_of nodes.new.entries ≡ nodes_with_change (nodes_with_change (nodes_with_change (nodes_of nodes.old.entries) step.from (node_without_entry step.now name.now step.is_subdirectory)) step.to (node_with_entry step.now name_to.items step.number step.is_subdirectory)) step.number (node_with_new_name step.now step.to)) }
+    ensures ok { OnOk result (nodes_of nodes.new.entries ≡ nodes_with_entry_moved (nodes_of nodes.old.entries) step.now step.from name.now step.to name_to.items step.number step.is_subdirectory) }
     ensures err { OnErr result (nodes_of nodes.new.entries ≡ nodes_of nodes.old.entries) }
 {
     add_entry_to(
@@ -287,7 +286,9 @@ pub(crate) fn rename_over(
     requires source { IfSome (map.get (nodes_of nodes.old.entries) step.from) (IsSource name.now) }
     requires entry { IfSome (map.get (nodes_of nodes.old.entries) step.to) (HasEntryFor name_to.items (value_at is_directory_node false (nodes_of nodes.old.entries) target)) }
     requires rest { step.to ≡ step.from → IfSome (map.get (nodes_of nodes.old.entries) step.to) (λ n. HasEntryFor name_to.items (value_at is_directory_node false (nodes_of nodes.old.entries) target) (node_without_entry step.now name.now step.is_subdirectory n)) }
-    ensures { nodes_of nodes.new.entries ≡ nodes_with_change (nodes_with_change (nodes_with_change (nodes_with_name_dropped (nodes_with_change (nodes_of nodes.old.entries) step.to (node_without_entry step.now name_to.items (value_at is_directory_node false (nodes_of nodes.old.entries) target))) step.now target) step.from (node_without_entry step.now name.now step.is_subdirectory)) step.to (node_with_entry step.now name_to.items step.number step.is_subdirectory)) step.number (node_with_new_name step.now step.to) }
+    ensures { nodes_of nodes.new.entries ≡ nodes_with_entry_moved
+        (nodes_without_entry (nodes_of nodes.old.entries) step.now step.to name_to.items target (value_at is_directory_node false (nodes_of nodes.old.entries) target))
+        step.now step.from name.now step.to name_to.items step.number step.is_subdirectory }
 {
     let was_subdirectory = is_dir_at(nodes, target);
     drop_name_of(nodes, target, step.now);

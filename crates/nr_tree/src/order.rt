@@ -2,7 +2,7 @@
 
 ghost use Rattle.std.specs.Prelude.{◌≡◌, ◌+◌, ◌*◌, ◌<◌, ◌≤◌, ◌++◌, ◌∷◌, [], true, false, drop, length, remove, slice_index, slice_index_or, slice_set, MatchOption, OnOk, OnErr};
 ghost use Rattle.std.specs.List.{concat};
-ghost use Rattle.nr_tree.specs.private.Blocks.{IsIn, lists, no_block, block_max, joined_max, AreApart, AreRoomy, AreJoined, BlocksAreFew, IsTaken, IsAround, IsAfter, IsJoined, HasRoomLast, IsFullLast};
+ghost use Rattle.nr_tree.specs.private.Blocks.{IsIn, lists, no_block, joined_max, AreApart, AreRoomy, AreJoined, BlocksAreFew, IsTaken, IsAround, IsAfter, IsJoined, HasRoomLast, IsFullLast};
 
 use nr_xdr::Memory;
 use std::alloc::Global;

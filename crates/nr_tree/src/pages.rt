@@ -1,9 +1,9 @@
 //! The pages of a file by number. A page that isn't kept reads as zeros.
 
-ghost use Rattle.std.specs.Prelude.{◌≡◌, ◌≢◌, ◌+◌, ◌-◌, ◌*◌, ◌/◌, ◌%◌, ◌<◌, ◌≤◌, ◌^◌, ℕ, ◌++◌, length, take, drop, replicate, is_some, slice_index, true, false, IfOk, IfSome, OnOk, OnErr, None, Some};
+ghost use Rattle.std.specs.Prelude.{◌≡◌, ◌+◌, ◌-◌, ◌*◌, ◌/◌, ◌%◌, ◌<◌, ◌≤◌, ◌^◌, ℕ, ◌++◌, length, take, drop, is_some, slice_index, true, false, IfOk, IfSome, OnOk, OnErr, None, Some};
 ghost use Rattle.std.specs.List.{list_any};
 ghost use Rattle.nr_tree.specs.Pages.{page_size, is_set};
-ghost use Rattle.nr_tree.specs.Paged.{page, byte, HasSize, HasByte, AreSized, AreZeros, ArePages, AreSet, KeepsBytes, IsOver, WritesOver, ClearsTail};
+ghost use Rattle.nr_tree.specs.Paged.{page, byte, HasByte, AreSized, AreZeros, ArePages, AreSet, KeepsBytes, IsOver, WritesOver, ClearsTail};
 
 use std::alloc::{AllocError, Global};
 use std::collections::BTreeMap;

@@ -1,6 +1,6 @@
 //! The rules by which a call is refused.
 
-ghost use Rattle.std.specs.Prelude.{◌≡◌, ◌==◌, ◌<◌, ◌≤◌, ◌^◌, None, Some, SomeIff, length, MatchResult};
+ghost use Rattle.std.specs.Prelude.{◌≡◌, ◌==◌, ◌<◌, None, Some, SomeIff, length, MatchResult};
 ghost use Rattle.std.specs.List.{list_any};
 ghost use Rattle.nr_tree.specs.Rules.{first, name_rules, bit_of, may as has_right, has_byte, is_in_group, class_of, change_rules, handle_rule, node_of_handle, number_of_handle, is_dot as is_one_dot, is_dot_dot as is_two_dots, is_dot_name as is_dot_or_dot_dot, differs_if_given as is_another, same_name, space_rule, IsWithinCapacity, is_invalid_time, time_rule, is_too_large, size_rule, time_after as time_set};
 

@@ -1,9 +1,9 @@
 -- A question is open after it is asked, and is so until it is answered.
-use Rattle.std.proofs.Common.{◌≡◌, ℕ, zero, suc, List, [], ◌∷◌, ◌++◌, length, sym, ap, ◌∙◌, subst}
+use Rattle.std.proofs.Common.{◌≡◌, ℕ, suc, List, length, sym, ap, ◌∙◌, subst}
 use Rattle.nr_turnstile.specs.declared.turnstile.Turnstile.{Turnstile}
 use Rattle.nr_turnstile.specs.declared.plays.View.{View}
 use Rattle.nr_turnstile.specs.Rule.{Lies, IsOpen}
-use Rattle.nr_turnstile.specs.Passes.{Gets, MayStep, Steps, view_of, seen_by, mine_of}
+use Rattle.nr_turnstile.specs.Passes.{Gets, MayStep, Steps, seen_by, mine_of}
 use Rattle.nr_turnstile.proofs.Open.{begins_open, stays_open, lies_on}
 use Rattle.nr_turnstile_tests.specs.declared.asks.Desk.{Desk}
 use Rattle.nr_turnstile_tests.specs.Asks.{closing, IsDesk, DeskPass, IsAsked, IsAnswered}

@@ -1,6 +1,6 @@
 //! A value whose entries are questions and answers. An answer closes the place of its question.
 
-ghost use Rattle.std.specs.Prelude.{◌≡◌, ℕ, zero, suc, ◌+◌, ◌<◌, ◌^◌, length, MatchOption, MatchBool, false};
+ghost use Rattle.std.specs.Prelude.{◌≡◌, suc, ◌+◌, ◌<◌, ◌^◌, MatchOption, MatchBool, false};
 ghost use Rattle.nr_turnstile.specs.Passes.{Rests, MayStep, Steps};
 ghost use Rattle.nr_turnstile.specs.Turns.{pass_of, Has, IsSameTurn};
 

@@ -1,6 +1,6 @@
 //! A value with a pass of another turnstile.
 
-ghost use Rattle.std.specs.Prelude.{◌≡◌, length, List, [], ◌∷◌, IfOk};
+ghost use Rattle.std.specs.Prelude.{◌≡◌, length, List, []};
 
 use crate::counter::Counter;
 use nr_turnstile::{Machine, OpeningHistory, Pass, Turnstile};

@@ -1,6 +1,5 @@
 //! Work that owns what it uses, for a thread of its own.
 
-ghost use Rattle.std.specs.Prelude.{◌≡◌};
 ghost use Rattle.std.specs.Arc.{arc_value};
 ghost use Rattle.nr_turnstile.specs.Passes.{Rests};
 

@@ -1,6 +1,5 @@
 //! Holds one turn while it takes another.
 
-ghost use Rattle.std.specs.Prelude.{◌≡◌};
 ghost use Rattle.nr_turnstile.specs.Passes.{Rests, seen_by};
 ghost use Rattle.nr_turnstile.specs.Rule.{Begins};
 ghost use Rattle.nr_turnstile_tests.specs.Feeds.{IsOver};

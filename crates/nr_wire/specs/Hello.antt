@@ -7,6 +7,11 @@ use Rattle.nr_wire.specs.declared.hello.Side.{Side}
 use Rattle.nr_wire.specs.declared.hello.Side.TheVariants.{Initiator, Responder}
 use Rattle.nr_wire.specs.Fields.{half_word, half_word_at, has_bit}
 
+-- the other side of a link
+abbrev pub peer : Side → Side
+peer Initiator = Responder
+peer Responder = Initiator
+
 -- a hello as a value, without its address
 pub record Hello : Type 0 where
   pub side : Side

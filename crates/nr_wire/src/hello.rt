@@ -4,7 +4,7 @@ ghost use Rattle.nr_wire.specs.Constants.{FPDU_MAX};
 ghost use Rattle.nr_wire.specs.Stream.{IsPartial};
 ghost use Rattle.nr_wire.specs.Next.Next.{Whole, More, Bad};
 ghost use Rattle.std.specs.Prelude.{◌≡◌, ℕ, ◌+◌, ◌<◌, ◌≤◌, length, take, ◌↔◌, List, ◌++◌, IfNone};
-ghost use Rattle.nr_wire.specs.Hello.{key, is_refused_by, hello_reason, hello_of, hello_len, Hello as PlainHello, IsAccepted, hello_encoding, private_len};
+ghost use Rattle.nr_wire.specs.Hello.{peer, key, is_refused_by, hello_reason, hello_of, hello_len, Hello as PlainHello, IsAccepted, hello_encoding, private_len};
 ghost use Rattle.nr_wire.specs.Next.{hello_in, IfWhole};
 ghost use Rattle.nr_wire.specs.View.{hello as plain, next_hello, result_view};
 
@@ -22,6 +22,18 @@ pub enum Side {
     Initiator,
     /// It accepted the connection, and sends the MPA Reply.
     Responder,
+}
+
+impl Side {
+    /// The other side of the link.
+    pub fn peer(self) -> Side
+        ensures { result ≡ peer self }
+    {
+        match self {
+            Side::Initiator => Side::Responder,
+            Side::Responder => Side::Initiator,
+        }
+    }
 }
 
 /// The first frame that a side sends (RFC 5044 section 7.1): an initiator's request, a responder's reply. `flags` is the

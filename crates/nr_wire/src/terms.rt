@@ -1,9 +1,9 @@
 //! What the private data of a hello says (RFC 5044 section 7.1). All of it is own.
 
-ghost use Rattle.std.specs.Prelude.{◌≡◌, ◌+◌, ◌≤◌, ◌++◌, length};
+ghost use Rattle.std.specs.Prelude.{◌≡◌, ◌+◌, ◌≤◌, length};
 ghost use Rattle.arrayvec.specs.ArrayVec.{array_vec_len};
 ghost use Rattle.nr_wire.specs.Constants.{NUMBERED_TERMS_LEN, TERMS_LEN};
-ghost use Rattle.nr_wire.specs.Terms.{terms_key as key, number_encoding, number_in, terms_encoding, terms_flags, terms_in, units_byte, units_of_byte};
+ghost use Rattle.nr_wire.specs.Terms.{terms_key as key, number_in, terms_encoding, terms_in, units_byte, units_of_byte};
 
 use crate::constants::{NUMBERED_TERMS_LEN, TERMS_INVALIDATE, TERMS_LEN, TERMS_NUMBER, UNITS_MAX};
 use crate::words::{append, has_bit, hyper_at};

@@ -1,6 +1,6 @@
 //! The numbers of two and of eight bytes at an offset, the highest byte first, single bits, and bytes at the end of a list.
 
-ghost use Rattle.std.specs.Prelude.{◌≡◌, ℕ, ◌+◌, ◌<◌, ◌≤◌, ◌++◌, length};
+ghost use Rattle.std.specs.Prelude.{◌≡◌, ◌+◌, ◌<◌, ◌≤◌, ◌++◌, length};
 ghost use Rattle.arrayvec.specs.ArrayVec.{array_vec_len};
 ghost use Rattle.nr_wire.specs.Fields.{half_word_at, hyper_at, has_bit};
 

@@ -1,7 +1,7 @@
 //! The lines of the program: words in the one spelling that is never refused.
 
 ghost use Rattle.std.specs.Prelude.{◌≡◌, ⊤, map, option_map, string_bytes};
-ghost use Rattle.nr_words.specs.Lines.{takes, with_options, after_name, with_positional, is_positional, step, steps, start, arity, by_jobs, drill_of, subcommand_named, command_of, finished, line_of, plain_state, plain_positionals, plain_command, plain_client, plain_get};
+ghost use Rattle.nr_words.specs.Lines.{takes, with_options, after_name, with_positional, is_positional, step, steps, start, arity, by_jobs, drill_of, subcommand_named, command_of, finished, line_of, plain_state, plain_positionals, plain_command, plain_get};
 
 use crate::commands::{Action, Client, Command, GetByJobs};
 use crate::limits::{DEFAULT_JOBS, DEFAULT_UNITS};

@@ -1,6 +1,6 @@
 //! Reading of items.
 
-ghost use Rattle.std.specs.Prelude.{◌≡◌, ℕ, ◌+◌, ◌^◌, ◌<◌, ◌≤◌, Bool, List, length, take, IfOk, IsOkAnd, OnErr};
+ghost use Rattle.std.specs.Prelude.{◌≡◌, ℕ, ◌+◌, ◌^◌, ◌<◌, ◌≤◌, Bool, List, length, take, IfOk, IsOkAnd};
 ghost use Rattle.nr_xdr.specs.Item.{IsBytes};
 ghost use Rattle.nr_xdr.specs.Item.Item.{Unsigned, Hyper, Boolean, Opaque, Fixed};
 ghost use Rattle.nr_xdr.specs.Reading.{Cursor, Takes, Gives, cursor_past, unsigned_at, hyper_at, boolean_at, opaque_at, fixed_at};

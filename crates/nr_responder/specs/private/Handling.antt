@@ -6,7 +6,7 @@ use Rattle.nr_header.specs.Constants.{PAYLOAD_MAX, READ_SEGMENTS_MAX}
 use Rattle.nr_header.specs.WithinLimits.{read_total}
 use Rattle.nr_xdr.specs.Fields.{word_at}
 use Rattle.nr_rpc.specs.declared.head.CallHead.{CallHead}
-use Rattle.nr_rpc.specs.Reading.{call_of}
+use Rattle.nr_rpc.specs.Reading.{call_of, head_xid}
 use Rattle.nr_link.specs.Limits.{send_unit}
 use Rattle.nr_link.specs.Reasons.{REASON_HEAD, REASON_STAGS, REASON_XID}
 use Rattle.nr_reduce.specs.Limits.{numbers_end}
@@ -17,7 +17,7 @@ use Rattle.nr_endpoint.specs.Calls.Call.{NextEvent, Stop, Send, OutOfMemory}
 use Rattle.nr_reduce.specs.Holds.{chunk_error, version_error}
 use Rattle.nr_reduce.specs.ServerState.{PendingCall, PendingRead, ServerState, credit_word, is_pending, next_stag}
 use Rattle.nr_reduce.specs.ServerReads.{chunks_of, is_read}
-use Rattle.nr_reduce.specs.ServerMessages.{by_payload, verdict, call_xid}
+use Rattle.nr_reduce.specs.ServerMessages.{by_payload, verdict}
 use Rattle.nr_reduce.specs.ServerMessages.CallVerdict.{Refuses as RefusedFor}
 use Rattle.nr_reduce.specs.ServerMessages.Verdict.{EndsLink, OtherVersion, BadChunks, MakesPending}
 use Rattle.nr_reduce.specs.ServerFrames.{FrameEffect, no_effect, by_message}
@@ -68,15 +68,15 @@ begun_call number message lists stream_at = record { number = number; xid = word
 -- the xid of a call whose stream stands in its message, or why the link ends
 pub data ReadsXid (message : List ℕ) (stream_at : ℕ) (result : Result ℕ ℕ) : Type 0 where
   ReadsNoCall : (at : ℕ) → call_of (drop stream_at message) ≡ Err at → result ≡ Err REASON_HEAD → ReadsXid message stream_at result
-  ReadsOther : (head : CallHead) → call_of (drop stream_at message) ≡ Ok head → call_xid head ≢ word_at 0 message → result ≡ Err REASON_XID → ReadsXid message stream_at result
-  ReadsOwn : (head : CallHead) → call_of (drop stream_at message) ≡ Ok head → call_xid head ≡ word_at 0 message → result ≡ Ok (word_at 0 message) → ReadsXid message stream_at result
+  ReadsOther : (head : CallHead) → call_of (drop stream_at message) ≡ Ok head → head_xid head ≢ word_at 0 message → result ≡ Err REASON_XID → ReadsXid message stream_at result
+  ReadsOwn : (head : CallHead) → call_of (drop stream_at message) ≡ Ok head → head_xid head ≡ word_at 0 message → result ≡ Ok (word_at 0 message) → ReadsXid message stream_at result
 
 -- of one with a call whose stream stands in it
 pub data Begins (before after : ResponderSide) (number : ℕ) (message : List ℕ) (lists : ChunkLists) (stream_at : ℕ) : Type 0 where
   NoCall : (at : ℕ) → call_of (drop stream_at message) ≡ Err at → OrOut before (after_call before.link (Stop REASON_HEAD)) after → Begins before after number message lists stream_at
-  OtherXid : (head : CallHead) → call_of (drop stream_at message) ≡ Ok head → call_xid head ≢ word_at 0 message → OrOut before (after_call before.link (Stop REASON_XID)) after →
+  OtherXid : (head : CallHead) → call_of (drop stream_at message) ≡ Ok head → head_xid head ≢ word_at 0 message → OrOut before (after_call before.link (Stop REASON_XID)) after →
       Begins before after number message lists stream_at
-  IsReady : (head : CallHead) → call_of (drop stream_at message) ≡ Ok head → call_xid head ≡ word_at 0 message → after ≡ with_ready before before.link (begun_call number message lists stream_at) →
+  IsReady : (head : CallHead) → call_of (drop stream_at message) ≡ Ok head → head_xid head ≡ word_at 0 message → after ≡ with_ready before before.link (begun_call number message lists stream_at) →
       Begins before after number message lists stream_at
 
 -- of one with a call with a read list: its sinks need more STags than are left; its reads begin; it has no bytes to be read, and is ready
@@ -135,7 +135,7 @@ pub data Handled (k : ServerState) (message : List ℕ) (before after : Responde
   Stopped : (reason : ℕ) → ((place : ℕ) → (by_message k place (Some message)).refusal ≡ Some reason) → 5 ≤ reason → after ≡ on_link before (after_call (after_call before.link NextEvent) (Stop reason)) → Handled k message before after
   Refused : (answer : List ℕ) → ((place : ℕ) → by_message k place (Some message) ≡ refused_effect k answer) → length answer ≤ send_unit → after ≡ on_link before (after_call (after_call before.link NextEvent) (Send answer)) → Handled k message before after
   Ready : (xid : ℕ) (write : List (List RdmaSegment)) (reply : Option (List RdmaSegment)) (stream : List ℕ) (head : CallHead) → is_pending k xid ≡ false →
-      verdict k message ≡ MakesPending (inline_call k xid write reply stream) → call_of stream ≡ Ok head → call_xid head ≡ xid →
+      verdict k message ≡ MakesPending (inline_call k xid write reply stream) → call_of stream ≡ Ok head → head_xid head ≡ xid →
       after ≡ with_ready before (after_call before.link NextEvent) (inline_call k xid write reply stream) → Handled k message before after
   Fetched : (c : PendingCall) → c.number ≡ k.received.sends + 1 → is_pending k c.xid ≡ false → verdict k message ≡ MakesPending c →
       (after_call before.link NextEvent).state.memory.next + length (chunks_of c.lists) ≤ numbers_end → read_total c.lists.read ≤ PAYLOAD_MAX → length c.lists.read ≤ READ_SEGMENTS_MAX → chunks_of c.lists ≢ [] →

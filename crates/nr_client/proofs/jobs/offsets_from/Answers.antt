@@ -1,4 +1,4 @@
-use Rattle.std.proofs.Common.{◌≡◌, ◌<◌, [], ◌∷◌, ℕ, List, sym, subst, arith}
+use Rattle.std.proofs.Common.{◌<◌, [], ◌∷◌, ℕ, sym, subst, arith}
 use Rattle.std.specs.List.{All}
 use Rattle.std.proofs.lemmas.List.Elements.{All-append}
 use Rattle.nr_client.proofs.JobCalls.{all_one}

@@ -1,4 +1,4 @@
-use Rattle.std.proofs.Common.{ℕ, ◌+◌, ◌≤◌, ◌^◌, length}
+use Rattle.std.proofs.Common.{◌+◌, ◌≤◌, ◌^◌, length}
 use Rattle.nr_record.specs.RecordsState.{kept}
 use Rattle.nr_record_tests.proofs.pieces.read_in_pieces.Given as goal
 

@@ -1,7 +1,7 @@
 use Rattle.std.proofs.Common.{◌≡◌, ℕ, ◌<◌, ◌≤◌, List, Option, take, ◌++◌, refl, sym, ap, subst, ◌∙◌, length, arith}
 use Rattle.std.specs.Prelude.{get_or, remove, vec_capacity}
 use Rattle.std.proofs.lemmas.List.{length-take}
-use Rattle.nr_regions.specs.RegisteredMemory.{RegisteredMemory}
+use Rattle.nr_regions.specs.RegisteredMemory.{RegisteredMemory, AreHeldFrom}
 use Rattle.nr_endpoint.specs.LinkState.{LinkSide}
 use Rattle.nr_endpoint.specs.Calls.{after_call}
 use Rattle.nr_endpoint.specs.Calls.Call.{Post}
@@ -12,7 +12,7 @@ use Rattle.nr_reduce.specs.KeptCalls.{kept_named, kept_message_verdict}
 use Rattle.nr_reduce.specs.KeptClient.{bytes_under, released_all}
 use Rattle.nr_requester.specs.declared.outstanding.OutstandingCall.{OutstandingCall}
 use Rattle.nr_requester.specs.RequesterState.{stags_of, awaited_call}
-use Rattle.nr_requester.specs.HeldClaims.{AreHeldFrom, call_claims}
+use Rattle.nr_requester.specs.HeldClaims.{call_claims}
 use Rattle.nr_requester.specs.AfterPiece.{dead_memory, answered_as}
 use Rattle.nr_requester.specs.AfterCalls.{live_count}
 use Rattle.nr_requester.specs.CountedMarks.{with_releases}

@@ -1,7 +1,8 @@
 use Rattle.std.proofs.Common.{ap, sym, subst, ◌∙◌}
 use Rattle.nr_endpoint.specs.declared.offering.Claims.{Claims}
 use Rattle.nr_requester.specs.declared.outstanding.OutstandingCall.{OutstandingCall}
-use Rattle.nr_requester.specs.HeldClaims.{AreHeldFrom, call_claims}
+use Rattle.nr_regions.specs.RegisteredMemory.{AreHeldFrom}
+use Rattle.nr_requester.specs.HeldClaims.{call_claims}
 use Rattle.nr_requester.proofs.GivenUp.{own_held}
 use Rattle.nr_requester.proofs.revoking.revoke_at.Goals as goal
 

@@ -4,7 +4,8 @@ use Rattle.std.specs.FinMap.{get}
 use Rattle.nr_header.specs.Constants.{PAYLOAD_MAX}
 use Rattle.nr_responder.specs.Fetching.{open_sinks}
 use Rattle.nr_responder.specs.private.CallsRead.{sink_buffer, sinks_from, with_registered}
-use Rattle.nr_responder.specs.Sound.{AreHeldFrom, HasOutside, claims_of}
+use Rattle.nr_regions.specs.RegisteredMemory.{AreHeldFrom}
+use Rattle.nr_responder.specs.Sound.{HasOutside, claims_of}
 use Rattle.nr_responder.specs.Views.{sink_view}
 use Rattle.nr_responder.proofs.registering.register_sinks.Given as goal
 

@@ -2,7 +2,8 @@ use Rattle.std.proofs.Common.{◌≡◌, ℕ, ◌+◌, ◌≤◌, ◌++◌, leng
 use Rattle.std.specs.Prelude.{map}
 use Rattle.nr_header.specs.Constants.{PAYLOAD_MAX}
 use Rattle.nr_responder.specs.private.Reading.{left_sinks, over_sinks, with_released}
-use Rattle.nr_responder.specs.Sound.{AreHeldFrom, HasOutside, KeepsOutside, claims_of}
+use Rattle.nr_regions.specs.RegisteredMemory.{AreHeldFrom}
+use Rattle.nr_responder.specs.Sound.{HasOutside, KeepsOutside, claims_of}
 use Rattle.nr_responder.specs.Views.{call_view, read_view, sink_view}
 use Rattle.nr_responder.proofs.sink_regions.close_over.Given as goal
 

@@ -1,9 +1,9 @@
 use Rattle.std.proofs.Common.{◌≡◌, ◌∙◌, List, get_or, sym, ap, subst}
 use Rattle.std.specs.List.{remove}
 use Rattle.std.specs.FinMap.{get}
-use Rattle.nr_regions.specs.RegisteredMemory.{IsHeld, RegisteredMemory, after_release, buffer_around, bytes_in, held_region}
+use Rattle.nr_regions.specs.RegisteredMemory.{IsHeld, RegisteredMemory, after_release, buffer_around, bytes_in, held_region, AreHeldFrom}
 use Rattle.nr_responder.specs.declared.call.OpenSink.{OpenSink}
-use Rattle.nr_responder.specs.Sound.{AreHeldFrom, claims_of}
+use Rattle.nr_responder.specs.Sound.{claims_of}
 use Rattle.nr_responder.specs.Views.{sink_view}
 use Rattle.nr_responder.proofs.Answered.{same_item}
 use Rattle.nr_responder.proofs.HeldSinks.{held_at, released_held, released_link, released_memory, released_outside}

@@ -1,10 +1,10 @@
 use Rattle.std.proofs.Common.{◌≡◌, ℕ, ◌+◌, ◌≤◌, ◌∙◌, List, length, replicate, get_or, All, refl, sym, ap, subst, arith}
 use Rattle.std.proofs.lemmas.List.{length-replicate}
 use Rattle.nr_header.specs.Constants.{PAYLOAD_MAX}
-use Rattle.nr_regions.specs.RegisteredMemory.{RegisteredMemory}
+use Rattle.nr_regions.specs.RegisteredMemory.{RegisteredMemory, AreHeldFrom}
 use Rattle.nr_endpoint.specs.LinkState.{LinkSide}
 use Rattle.nr_responder.specs.declared.call.OpenSink.{OpenSink}
-use Rattle.nr_responder.specs.Sound.{AreHeldFrom, claims_of}
+use Rattle.nr_responder.specs.Sound.{claims_of}
 use Rattle.nr_responder.proofs.BegunReads.{begins_as, has_opened, HasOpened}
 use Rattle.nr_responder.proofs.BegunWindows.{begins_outside, registered_one, sinks_one, window_zeros}
 use Rattle.nr_responder.proofs.ListedReads.{total_within}

@@ -1,11 +1,11 @@
 use Rattle.std.proofs.Common.{◌≡◌, ◌≤◌, ◌∙◌, List, length, All, refl, sym, ap, subst, arith}
 use Rattle.nr_header.specs.Constants.{PAYLOAD_MAX}
-use Rattle.nr_regions.specs.RegisteredMemory.{Outside, RegisteredMemory}
+use Rattle.nr_regions.specs.RegisteredMemory.{Outside, RegisteredMemory, AreHeldFrom}
 use Rattle.std.specs.FinMap.{FinMap, get}
 use Rattle.std.specs.Ordering.{nat_cmp}
 use Rattle.nr_endpoint.specs.LinkState.{LinkSide}
 use Rattle.nr_responder.specs.declared.call.OpenSink.{OpenSink}
-use Rattle.nr_responder.specs.Sound.{AreHeldFrom, claims_of}
+use Rattle.nr_responder.specs.Sound.{claims_of}
 use Rattle.nr_responder.proofs.BegunReads.{begins_as, has_opened, HasOpened}
 use Rattle.nr_responder.proofs.Windows.{same_outside}
 use Rattle.nr_responder.proofs.starting.begin_reads.Goals as goal

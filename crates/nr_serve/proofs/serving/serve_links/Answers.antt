@@ -1,4 +1,4 @@
-use Rattle.std.proofs.Common.{inl, inr, refl, sym, subst, ◌∙◌, ap, arith, ◌+◌, ◌≡◌, length}
+use Rattle.std.proofs.Common.{inl, inr, refl, sym, subst, ◌∙◌, arith}
 use Rattle.nr_links.specs.Asked.{Asks}
 use Rattle.nr_plain.specs.History.{pass_view}
 use Rattle.nr_serve.specs.Stops.{LinksStopped}

@@ -1,4 +1,4 @@
-use Rattle.std.proofs.Common.{◌≡◌, ◌<◌, arith, length, None, sym, subst, ◌∙◌}
+use Rattle.std.proofs.Common.{◌≡◌, arith, length, None, sym, subst, ◌∙◌}
 use Rattle.nr_turnstile.specs.Passes.{seen_by}
 use Rattle.nr_turnstile.specs.Turns.{pass_of}
 use Rattle.nr_turnstile.proofs.Held.{same_value, written}

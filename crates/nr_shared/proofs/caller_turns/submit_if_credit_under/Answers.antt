@@ -1,12 +1,9 @@
-use Rattle.std.proofs.Common.{◌≡◌, List, [], ◌∷◌, ◌++◌, refl, sym, ap, subst, ◌∙◌}
-use Rattle.std.proofs.lemmas.Bool.{eq-eqb}
-use Rattle.nr_turnstile.specs.Passes.{mine_of, seen_by}
+use Rattle.std.proofs.Common.{List, subst}
+use Rattle.nr_turnstile.specs.Passes.{seen_by}
 use Rattle.nr_turnstile.specs.Turns.{pass_of}
 use Rattle.nr_shared.specs.declared.entry.Entry.{Entry}
 use Rattle.nr_shared.specs.declared.entry.Entry.TheVariants as entries
-use Rattle.nr_shared.specs.declared.requester_with_sink.RequesterWithSink.{RequesterWithSink}
-use Rattle.nr_shared.specs.Callers.{IsReady}
-use Rattle.nr_shared.specs.Ending.{IsCause, IsRefused}
+use Rattle.nr_shared.specs.Ending.{IsCause}
 use Rattle.nr_shared.proofs.Output.{turn_written}
 use Rattle.nr_shared.proofs.Submitting.{submit_turn_sends, lacks, link_cause, refused_none, sends_none}
 use Rattle.nr_shared.proofs.caller_turns.submit_if_credit_under.Goals as goal

@@ -1,5 +1,5 @@
-use Rattle.std.proofs.Common.{◌≡◌, ℕ, ◌+◌, ◌<◌, ◌^◌, arith, length, [], ◌∷◌, ◌++◌, List, Option, Some, refl, sym, ap, subst, ◌∙◌}
-use Rattle.nr_turnstile.specs.Passes.{Steps, seen_by}
+use Rattle.std.proofs.Common.{ℕ, ◌+◌, arith, [], ◌∷◌, ◌++◌, Option, sym, ap, subst}
+use Rattle.nr_turnstile.specs.Passes.{seen_by}
 use Rattle.nr_turnstile.specs.declared.plays.View.{View}
 use Rattle.nr_turnstile.specs.Turns.{pass_of}
 use Rattle.nr_turnstile.proofs.Held.{same_value, written}

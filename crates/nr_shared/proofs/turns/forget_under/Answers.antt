@@ -1,11 +1,8 @@
-use Rattle.std.proofs.Common.{◌≡◌, ℕ, ◌+◌, ◌<◌, ◌^◌, arith, length, [], ◌∷◌, ◌++◌, List, Option, Some, sym, ap, subst, refl, ◌∙◌}
-use Rattle.nr_reduce.specs.declared.call.Call.{Call}
+use Rattle.std.proofs.Common.{◌≡◌, ℕ, ◌+◌, arith, [], ◌∷◌, ◌++◌, Some, sym, ap, subst, refl, ◌∙◌}
 use Rattle.nr_turnstile.specs.declared.plays.View.{View}
 use Rattle.nr_turnstile.specs.Passes.{Steps, seen_by, mine_of}
 use Rattle.nr_turnstile.specs.Turns.{pass_of}
 use Rattle.nr_turnstile.proofs.Held.{same_value, written}
-use Rattle.nr_requester.specs.Buffers.{bytes_of_buffers}
-use Rattle.nr_requester.specs.declared.answer.Buffers.{Buffers}
 use Rattle.nr_shared.specs.declared.entry.Entry.{Entry}
 use Rattle.nr_shared.specs.declared.entry.Entry.TheVariants as entries
 use Rattle.nr_shared.specs.declared.requester_with_sink.RequesterWithSink.{RequesterWithSink}

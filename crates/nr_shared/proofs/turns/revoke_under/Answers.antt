@@ -1,6 +1,4 @@
-use Rattle.std.proofs.Common.{◌≡◌, ℕ, ◌+◌, ◌<◌, ◌^◌, arith, length, [], ◌∷◌, ◌++◌, List, Option, Some, sym, ap, subst, refl, ◌∙◌}
-use Rattle.nr_reduce.specs.declared.call.Call.{Call}
-use Rattle.nr_turnstile.specs.declared.plays.View.{View}
+use Rattle.std.proofs.Common.{◌≡◌, ℕ, arith, Some, sym, ap, subst, refl, ◌∙◌}
 use Rattle.nr_turnstile.specs.Passes.{Steps, seen_by, mine_of}
 use Rattle.nr_turnstile.specs.Turns.{pass_of}
 use Rattle.nr_turnstile.proofs.Held.{same_value, written}

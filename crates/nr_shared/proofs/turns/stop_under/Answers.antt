@@ -1,5 +1,5 @@
-use Rattle.std.proofs.Common.{◌≡◌, ℕ, ◌+◌, ◌<◌, ◌^◌, arith, length, [], ◌∷◌, ◌++◌, List, Option, Some, refl, sym, ap, subst, ◌∙◌}
-use Rattle.nr_turnstile.specs.Passes.{Steps, seen_by}
+use Rattle.std.proofs.Common.{ℕ, ◌+◌, arith, [], ◌∷◌, ◌++◌, Option, refl, sym, ap, subst}
+use Rattle.nr_turnstile.specs.Passes.{seen_by}
 use Rattle.nr_turnstile.specs.declared.plays.View.{View}
 use Rattle.nr_turnstile.specs.Turns.{pass_of}
 use Rattle.nr_turnstile.proofs.Held.{same_value, written}
@@ -7,7 +7,7 @@ use Rattle.nr_shared.specs.declared.entry.Entry.{Entry}
 use Rattle.nr_shared.specs.declared.entry.Entry.TheVariants as entries
 use Rattle.nr_shared.specs.declared.requester_with_sink.RequesterWithSink.{RequesterWithSink}
 use Rattle.nr_shared.specs.Draining.{stopped_after}
-use Rattle.nr_shared.specs.Histories.{last_feeding, place_or_none}
+use Rattle.nr_shared.specs.Histories.{place_or_none}
 use Rattle.nr_shared.specs.Standing.{Stands}
 use Rattle.nr_shared.proofs.Adding.{steps}
 use Rattle.nr_shared.proofs.Asking.{closes_last, feeds_last, ready_on}

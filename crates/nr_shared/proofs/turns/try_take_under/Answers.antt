@@ -1,5 +1,4 @@
-use Rattle.std.proofs.Common.{◌≡◌, ℕ, ◌+◌, ◌<◌, ◌^◌, arith, true, is_some, length, [], ◌∷◌, ◌++◌, List, Option, Some, sym, ap, subst, refl, ◌∙◌}
-use Rattle.nr_reduce.specs.declared.call.Call.{Call}
+use Rattle.std.proofs.Common.{◌≡◌, ℕ, arith, true, is_some, Some, sym, ap, subst, refl, ◌∙◌}
 use Rattle.nr_turnstile.specs.declared.plays.View.{View}
 use Rattle.nr_turnstile.specs.Passes.{Steps, seen_by, mine_of}
 use Rattle.nr_turnstile.specs.Turns.{pass_of}

@@ -1,4 +1,4 @@
-use Rattle.std.proofs.Common.{arith, ap, List, ℕ}
+use Rattle.std.proofs.Common.{ap}
 use Rattle.nr_client.specs.private.InputWindows.{WindowState}
 use Rattle.nr_client.proofs.InputWindows.{takes_read}
 use Rattle.nr_client.proofs.input_window.InputWindow.read_more.Goals as goal

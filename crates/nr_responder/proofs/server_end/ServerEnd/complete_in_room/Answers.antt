@@ -1,11 +1,10 @@
-use Rattle.std.proofs.Common.{◌≡◌, ◌≤◌, List, arith, map, get_or, ap, sym, subst, ◌∙◌, refl}
+use Rattle.std.proofs.Common.{◌≡◌, List, arith, map, get_or, ap, sym, subst, ◌∙◌, refl}
 use Rattle.nr_reduce.specs.ServerMessages.{by_payload}
 use Rattle.nr_reduce.specs.ServerState.{PendingCall}
 use Rattle.nr_responder.specs.declared.call.Pending.{Pending}
 use Rattle.nr_responder.specs.ResponderState.{ResponderSide}
 use Rattle.nr_responder.specs.private.CallsRead.{verdict_of}
 use Rattle.nr_responder.specs.private.ReadsDone.{has_bad_chunk, read_payload}
-use Rattle.nr_responder.specs.Fetching.{SinkRegion}
 use Rattle.nr_responder.specs.HeldBytes.{sinks_share}
 use Rattle.nr_responder.specs.Sound.{room_for, state_of}
 use Rattle.nr_responder.specs.Views.{call_view, read_view, sink_view}

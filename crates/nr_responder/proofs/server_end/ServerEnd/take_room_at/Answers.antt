@@ -1,4 +1,4 @@
-use Rattle.std.proofs.Common.{◌≡◌, Option, Some, None, ℕ, ap, sym, subst, refl, ◌∙◌, set, get_or, List, map, arith}
+use Rattle.std.proofs.Common.{◌≡◌, ap, sym, subst, refl, ◌∙◌, set, get_or, List, map, arith}
 use Rattle.std.proofs.Math.Seq.{map-set_same}
 use Rattle.nr_reduce.specs.ServerReads.{is_read}
 use Rattle.nr_reduce.specs.ServerState.{PendingCall}

@@ -1,5 +1,5 @@
-use Rattle.std.proofs.Common.{rules, inl, inr, refl, sym, ◌∙◌}
-use Rattle.nr_shared.proofs.Moving.{nothing_moves, drains_all, drains_some}
+use Rattle.std.proofs.Common.{rules, inl, inr, refl}
+use Rattle.nr_shared.proofs.Moving.{drains_all, drains_some}
 use Rattle.nr_shared.proofs.requester_with_sink.RequesterWithSink.drain.Goals as goal
 
 pub returns-in-Ok-clause-drained : goal.returns-in-Ok-clause-drained

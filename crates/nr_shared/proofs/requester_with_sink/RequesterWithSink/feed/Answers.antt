@@ -1,4 +1,4 @@
-use Rattle.std.proofs.Common.{◌≡◌, Some, Err, refl, sym, ap, take, ◌∙◌}
+use Rattle.std.proofs.Common.{Some, Err, refl, sym, ap, take, ◌∙◌}
 use Rattle.nr_link.specs.declared.end.End.TheVariants as ends
 use Rattle.nr_requester.specs.RequesterState.{RequesterSide, RequesterState, feeding_of}
 use Rattle.nr_shared.proofs.Calls.{none_some}

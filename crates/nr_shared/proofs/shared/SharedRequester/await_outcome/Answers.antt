@@ -1,4 +1,4 @@
-use Rattle.std.proofs.Common.{◌≡◌, ℕ, [], refl, sym, subst, ◌∙◌}
+use Rattle.std.proofs.Common.{ℕ, [], refl, sym, subst, ◌∙◌}
 use Rattle.nr_turnstile.specs.Passes.{seen_by}
 use Rattle.nr_shared.specs.Callers.{HasOpenCall}
 use Rattle.nr_shared.specs.Waiting.{GivesUp, TakesAnswer}

@@ -1,4 +1,4 @@
-use Rattle.std.proofs.Common.{[], ◌∷◌, sym, ap, subst, ◌∙◌}
+use Rattle.std.proofs.Common.{[], ◌∷◌, sym, ap, ◌∙◌}
 use Rattle.nr_turnstile.specs.Passes.{home_of, seen_by}
 use Rattle.nr_shared.proofs.Closed.{same_initial_source}
 use Rattle.nr_shared.proofs.shared.SharedRequester.close.Goals as goal

@@ -1,11 +1,10 @@
-use Rattle.std.proofs.Common.{◌≡◌, sym, ap, subst, ◌∙◌}
+use Rattle.std.proofs.Common.{◌≡◌, sym, subst, ◌∙◌}
 use Rattle.nr_turnstile.specs.declared.turnstile.Pass.{Pass}
 use Rattle.nr_turnstile.specs.Passes.{seen_by}
 use Rattle.nr_turnstile.specs.Turns.{pass_of}
 use Rattle.nr_turnstile.proofs.Held.{same_value, written}
 use Rattle.nr_shared.specs.declared.source_reader.InitialSource.{InitialSource}
 use Rattle.nr_shared.specs.declared.source_reader.SourceReader.{SourceReader}
-use Rattle.nr_shared.specs.Feeding.{Feeds, FeedsFor}
 use Rattle.nr_shared.proofs.FeedsOn.{feeds_value}
 use Rattle.nr_shared.proofs.Resting.{seen_one}
 use Rattle.nr_shared.proofs.shared.SharedRequester.receive.Goals as goal

@@ -1,11 +1,10 @@
-use Rattle.std.proofs.Common.{◌≡◌, rules, sym, subst, ◌∙◌}
+use Rattle.std.proofs.Common.{rules, sym, subst, ◌∙◌}
 use Rattle.nr_turnstile.specs.declared.turnstile.Pass.{Pass}
 use Rattle.nr_turnstile.specs.Rule.{Lies}
 use Rattle.nr_turnstile.specs.Passes.{mine_of, seen_by}
 use Rattle.nr_shared.specs.declared.entry.Entry.{Entry}
 use Rattle.nr_shared.specs.declared.requester_with_sink.RequesterWithSink.{RequesterWithSink}
 use Rattle.nr_shared.specs.Output.{IsCallOutstanding}
-use Rattle.nr_shared.proofs.FeedsOn.{feeds_more, feeds_stopped, feeds_turned}
 use Rattle.nr_shared.proofs.shared.SharedRequester.receive_piece.Goals as goal
 
 pub needs_input-requires-clause-rests : goal.needs_input-requires-clause-rests

@@ -1,4 +1,4 @@
-use Rattle.std.proofs.Common.{◌≡◌, [], refl, sym, subst, ◌∙◌}
+use Rattle.std.proofs.Common.{[], refl, sym, subst, ◌∙◌}
 use Rattle.nr_reduce.specs.declared.call.Call.{Call}
 use Rattle.nr_reduce.specs.declared.call.Form.{Form}
 use Rattle.nr_rpc.specs.Credential.{CanWriteCred}

@@ -1,4 +1,4 @@
-use Rattle.std.proofs.Common.{◌≡◌, List, ◌∷◌, [], rules, refl, sym, subst, ◌∙◌}
+use Rattle.std.proofs.Common.{List, ◌∷◌, [], rules, refl, sym, subst, ◌∙◌}
 use Rattle.nr_turnstile.specs.declared.turnstile.Pass.{Pass}
 use Rattle.nr_turnstile.specs.declared.turnstile.Turnstile.{Turnstile}
 use Rattle.nr_turnstile.specs.Passes.{Rests, seen_by}

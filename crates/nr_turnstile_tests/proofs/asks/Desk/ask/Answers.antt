@@ -1,4 +1,4 @@
-use Rattle.std.proofs.Common.{◌≡◌, ◌+◌, ◌<◌, ◌^◌, length, arith, rules, sym, ◌∙◌, subst}
+use Rattle.std.proofs.Common.{rules, sym, ◌∙◌, subst}
 use Rattle.nr_turnstile.proofs.Held.{same_value, written}
 use Rattle.nr_turnstile_tests.specs.declared.asks.Desk.{Desk}
 use Rattle.nr_turnstile_tests.specs.Asks.{DeskPass, IsAsked, IsDesk}
