@@ -20,11 +20,12 @@ ghost use Rattle.nr_client.specs.private.JobReads.{AreFetched, EndsMore, Grows, 
 
 use crate::client_end::ClientEnd;
 use crate::file_calls::read_call;
+use crate::file_to_read::FileToRead;
 use crate::link::LinkEnds;
 use crate::read_data::piece_left;
 use crate::shared_calls::{outcome_of, share};
 use crate::written_pieces::write_piece;
-use nr_nfs_base::{Handle, TRANSFER_MAX};
+use nr_nfs_base::TRANSFER_MAX;
 use nr_outside::{Sink, Source};
 use nr_reduce::Outcome;
 use nr_shared::{Appended, CallRule, Pass, SharedRequester};
@@ -35,17 +36,6 @@ use std::thread::Threads;
 
 /// The most pieces that a job reads in one round. What is held ahead of the output is at most so many pieces of each job.
 const PIECES_AHEAD: usize = 4;
-
-/// A file that is read: by which user and group, its handle, its size in bytes, and by how many jobs, 1 to 16.
-#[derive(Drop)]
-pub(crate) struct FileToRead<'a> {
-    pub(crate) alloc: Global,
-    pub(crate) uid: u32,
-    pub(crate) gid: u32,
-    pub(crate) handle: &'a Handle,
-    pub(crate) size: u64,
-    pub(crate) jobs: usize,
-}
 
 /// A piece of a file that a job has read: where it begins, and the outcome of its READ.
 #[derive(Drop)]

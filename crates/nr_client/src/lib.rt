@@ -8,6 +8,7 @@ mod calling;
 mod client_end;
 mod file_calls;
 mod file_results;
+mod file_to_read;
 mod input_window;
 mod jobs;
 mod limits;

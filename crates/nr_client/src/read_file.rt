@@ -11,6 +11,7 @@ use crate::answer::outcome_of;
 use crate::asking::ask_nfs;
 use crate::client_end::ClientEnd;
 use crate::file_calls::read_call;
+use crate::file_to_read::FileToRead;
 use crate::link::Link;
 use crate::read_data::{piece_left, write_data};
 use crate::reading_ahead::{fill, forget_all, take_oldest};
@@ -22,26 +23,22 @@ use std::alloc::Global;
 
 /// One READ, of what is left of its piece. Its data are written to the output.
 fn read_on<I: Source, O: Sink, K: Sink>(
-    alloc: Global,
     link: &mut Link<I, O>,
-    uid: u32,
-    gid: u32,
-    file: &Handle,
-    size: u64,
+    file: &FileToRead<'_>,
     end: u64,
     at: &mut u64,
     out: &mut K,
 ) -> Result<(), ClientEnd>
-    requires below { at.old < size }
+    requires below { at.old < file.now.size }
     requires within { at.old < end }
-    requires piece { IsInPiece size at.old end }
-    ensures piece { OnOk result (IsInPiece size at.new end) }
+    requires piece { IsInPiece file.now.size at.old end }
+    ensures piece { OnOk result (IsInPiece file.now.size at.new end) }
     ensures more { OnOk result (at.old < at.new) }
-    ensures ok { OnOk result ((from : ℕ) (xids : List ℕ) → ReadsOn uid gid file.now size at.old from xids at.new from xids
+    ensures ok { OnOk result ((from : ℕ) (xids : List ℕ) → ReadsOn file.now.uid file.now.gid file.now.handle.now file.now.size at.old from xids at.new from xids
         (link_bytes (I.left link.old.source) (I.given link.old.source) (O.taken link.old.sink) link.old.read)
         (link_bytes (I.left link.new.source) (I.given link.new.source) (O.taken link.new.sink) link.new.read)
         link.old.requester link.new.requester (K.taken out.old) (K.taken out.new)) }
-    ensures err { IfErr result (λ why. (from : ℕ) (xids : List ℕ) → EndsSo uid gid file.now size at.old from xids xids
+    ensures err { IfErr result (λ why. (from : ℕ) (xids : List ℕ) → EndsSo file.now.uid file.now.gid file.now.handle.now file.now.size at.old from xids xids
         (link_bytes (I.left link.old.source) (I.given link.old.source) (O.taken link.old.sink) link.old.read)
         (link_bytes (I.left link.new.source) (I.given link.new.source) (O.taken link.new.sink) link.new.read)
         link.old.requester link.new.requester (K.taken out.old) (K.taken out.new) (Err why)) }
@@ -50,12 +47,15 @@ fn read_on<I: Source, O: Sink, K: Sink>(
     ensures source_faults { SourceFaults result (I.faults link.old.source) (I.faults link.new.source) }
     ensures sink_faults { SinkFaults result (O.faults link.old.sink) (O.faults link.new.sink) }
 {
-    let count = piece_left(size, *at);
-    let outcome = match outcome_of(link, read_call(alloc, uid, gid, file, *at, count)) {
+    let count = piece_left(file.size, *at);
+    let outcome = match outcome_of(
+        link,
+        read_call(file.alloc, file.uid, file.gid, file.handle, *at, count),
+    ) {
         Ok(outcome) => outcome,
         Err(end) => return Err(end),
     };
-    let step = match write_data(alloc, outcome, count, out) {
+    let step = match write_data(file.alloc, outcome, count, out) {
         Ok(step) => step,
         Err(end) => return Err(end),
     };
@@ -65,24 +65,20 @@ fn read_on<I: Source, O: Sink, K: Sink>(
 
 /// READs of the rest of a piece, one after another.
 fn read_rest<I: Source, O: Sink, K: Sink>(
-    alloc: Global,
     link: &mut Link<I, O>,
-    uid: u32,
-    gid: u32,
-    file: &Handle,
-    size: u64,
+    file: &FileToRead<'_>,
     end: u64,
     at: &mut u64,
     out: &mut K,
 ) -> Result<(), ClientEnd>
-    requires within { end ≤ size }
-    requires piece { IsInPiece size at.old end }
+    requires within { end ≤ file.now.size }
+    requires piece { IsInPiece file.now.size at.old end }
     ensures end { OnOk result (at.new ≡ end) }
-    ensures ok { OnOk result ((from : ℕ) (xids : List ℕ) → ReadsOn uid gid file.now size at.old from xids at.new from xids
+    ensures ok { OnOk result ((from : ℕ) (xids : List ℕ) → ReadsOn file.now.uid file.now.gid file.now.handle.now file.now.size at.old from xids at.new from xids
         (link_bytes (I.left link.old.source) (I.given link.old.source) (O.taken link.old.sink) link.old.read)
         (link_bytes (I.left link.new.source) (I.given link.new.source) (O.taken link.new.sink) link.new.read)
         link.old.requester link.new.requester (K.taken out.old) (K.taken out.new)) }
-    ensures err { IfErr result (λ why. (from : ℕ) (xids : List ℕ) → EndsSo uid gid file.now size at.old from xids xids
+    ensures err { IfErr result (λ why. (from : ℕ) (xids : List ℕ) → EndsSo file.now.uid file.now.gid file.now.handle.now file.now.size at.old from xids xids
         (link_bytes (I.left link.old.source) (I.given link.old.source) (O.taken link.old.sink) link.old.read)
         (link_bytes (I.left link.new.source) (I.given link.new.source) (O.taken link.new.sink) link.new.read)
         link.old.requester link.new.requester (K.taken out.old) (K.taken out.new) (Err why)) }
@@ -92,7 +88,7 @@ fn read_rest<I: Source, O: Sink, K: Sink>(
     ensures sink_faults { SinkFaults result (O.faults link.old.sink) (O.faults link.new.sink) }
 {
     'rest: while *at < end {
-        match read_on(alloc, link, uid, gid, file, size, end, at, out) {
+        match read_on(link, file, end, at, out) {
             Ok(()) => {}
             Err(why) => return Err(why),
         }
@@ -102,27 +98,23 @@ fn read_rest<I: Source, O: Sink, K: Sink>(
 
 /// The oldest READ is answered, and the rest of its piece is read, while READs of later pieces are outstanding.
 fn read_piece<I: Source, O: Sink, K: Sink>(
-    alloc: Global,
     link: &mut Link<I, O>,
-    uid: u32,
-    gid: u32,
-    file: &Handle,
-    size: u64,
+    file: &FileToRead<'_>,
     at: &mut u64,
     next: &mut u64,
     tickets: &mut Vec<Ticket>,
     out: &mut K,
 ) -> Result<(), ClientEnd>
-    requires below { at.old < size }
-    requires ahead { ReadsAhead link.old.requester size at.old next.old tickets.old.items }
+    requires below { at.old < file.now.size }
+    requires ahead { ReadsAhead link.old.requester file.now.size at.old next.old tickets.old.items }
     ensures open { AreOpen link.new.requester.state tickets.new.items }
     ensures more { OnOk result (at.old < at.new) }
-    ensures ahead { OnOk result (ReadsAhead link.new.requester size at.new next.new tickets.new.items) }
-    ensures ok { OnOk result (ReadsOn uid gid file.now size at.old at.old tickets.old.items at.new at.new tickets.new.items
+    ensures ahead { OnOk result (ReadsAhead link.new.requester file.now.size at.new next.new tickets.new.items) }
+    ensures ok { OnOk result (ReadsOn file.now.uid file.now.gid file.now.handle.now file.now.size at.old at.old tickets.old.items at.new at.new tickets.new.items
         (link_bytes (I.left link.old.source) (I.given link.old.source) (O.taken link.old.sink) link.old.read)
         (link_bytes (I.left link.new.source) (I.given link.new.source) (O.taken link.new.sink) link.new.read)
         link.old.requester link.new.requester (K.taken out.old) (K.taken out.new)) }
-    ensures err { IfErr result (λ why. EndsSo uid gid file.now size at.old at.old tickets.old.items tickets.new.items
+    ensures err { IfErr result (λ why. EndsSo file.now.uid file.now.gid file.now.handle.now file.now.size at.old at.old tickets.old.items tickets.new.items
         (link_bytes (I.left link.old.source) (I.given link.old.source) (O.taken link.old.sink) link.old.read)
         (link_bytes (I.left link.new.source) (I.given link.new.source) (O.taken link.new.sink) link.new.read)
         link.old.requester link.new.requester (K.taken out.old) (K.taken out.new) (Err why)) }
@@ -130,16 +122,16 @@ fn read_piece<I: Source, O: Sink, K: Sink>(
     ensures source_faults { SourceFaults result (I.faults link.old.source) (I.faults link.new.source) }
     ensures sink_faults { SinkFaults result (O.faults link.old.sink) (O.faults link.new.sink) }
 {
-    let end = *at + piece_left(size, *at) as u64;
-    match fill(alloc, link, uid, gid, file, size, *at, next, tickets) {
+    let end = *at + piece_left(file.size, *at) as u64;
+    match fill(link, file, *at, next, tickets) {
         Ok(()) => {}
         Err(why) => return Err(why),
     }
-    match take_oldest(alloc, link, size, at, tickets, out) {
+    match take_oldest(file.alloc, link, file.size, at, tickets, out) {
         Ok(()) => {}
         Err(why) => return Err(why),
     }
-    match read_rest(alloc, link, uid, gid, file, size, end, at, out) {
+    match read_rest(link, file, end, at, out) {
         Ok(()) => Ok(()),
         Err(why) => Err(why),
     }
@@ -147,18 +139,14 @@ fn read_piece<I: Source, O: Sink, K: Sink>(
 
 /// Reads all pieces of a file of this size.
 fn read_pieces<I: Source, O: Sink, K: Sink>(
-    alloc: Global,
     link: &mut Link<I, O>,
-    uid: u32,
-    gid: u32,
-    file: &Handle,
-    size: u64,
+    file: &FileToRead<'_>,
     tickets: &mut Vec<Ticket>,
     out: &mut K,
 ) -> Result<(), ClientEnd>
     requires { tickets.old.items ≡ [] }
     ensures open { AreOpen link.new.requester.state tickets.new.items }
-    ensures ends { EndsSo uid gid file.now size 0 0 [] tickets.new.items
+    ensures ends { EndsSo file.now.uid file.now.gid file.now.handle.now file.now.size 0 0 [] tickets.new.items
         (link_bytes (I.left link.old.source) (I.given link.old.source) (O.taken link.old.sink) link.old.read)
         (link_bytes (I.left link.new.source) (I.given link.new.source) (O.taken link.new.sink) link.new.read)
         link.old.requester link.new.requester (K.taken out.old) (K.taken out.new) result }
@@ -168,10 +156,8 @@ fn read_pieces<I: Source, O: Sink, K: Sink>(
 {
     let mut at = 0;
     let mut next = 0;
-    'pieces: while at < size {
-        match read_piece(
-            alloc, link, uid, gid, file, size, &mut at, &mut next, tickets, out,
-        ) {
+    'pieces: while at < file.size {
+        match read_piece(link, file, &mut at, &mut next, tickets, out) {
             Ok(()) => {}
             Err(why) => return Err(why),
         }
@@ -201,17 +187,16 @@ pub(crate) fn read_file_over<I: Source, O: Sink, K: Sink>(
         Ok(attributes) => attributes,
         Err(end) => return Err(end),
     };
-    let mut tickets = Vec::new(alloc);
-    let result = read_pieces(
+    let file = FileToRead {
         alloc,
-        link,
         uid,
         gid,
-        file,
-        attributes.size,
-        &mut tickets,
-        out,
-    );
+        handle: file,
+        size: attributes.size,
+        jobs: 1,
+    };
+    let mut tickets = Vec::new(alloc);
+    let result = read_pieces(link, &file, &mut tickets, out);
     forget_all(link, &mut tickets);
     result
 }

@@ -10,10 +10,10 @@ ghost use Rattle.nr_client.specs.private.OpenReads.{AreOpen, EndsSo, IsFull, IsI
 
 use crate::client_end::ClientEnd;
 use crate::file_calls::read_call;
+use crate::file_to_read::FileToRead;
 use crate::limits::READS_MAX;
 use crate::link::Link;
 use crate::read_data::{piece_left, write_data};
-use nr_nfs_base::Handle;
 use nr_outside::{Sink, Source};
 use nr_requester::Ticket;
 use std::alloc::Global;
@@ -31,28 +31,24 @@ fn may_ask<I: Source, O: Sink>(link: &Link<I, O>, size: u64, next: u64, tickets:
 
 /// Submits a READ of the next piece.
 fn ask<I: Source, O: Sink>(
-    alloc: Global,
     link: &mut Link<I, O>,
-    uid: u32,
-    gid: u32,
-    file: &Handle,
-    size: u64,
+    file: &FileToRead<'_>,
     next: &mut u64,
     tickets: &mut Vec<Ticket>,
 ) -> Result<(), ClientEnd>
-    requires may { MayAsk size next.old tickets.old.items link.old.requester }
+    requires may { MayAsk file.now.size next.old tickets.old.items link.old.requester }
     requires open { AreOpen link.old.requester.state tickets.old.items }
     ensures open { AreOpen link.new.requester.state tickets.new.items }
-    ensures ahead { OnOk result ((at : ℕ) → ReadsAhead link.old.requester size at next.old tickets.old.items → ReadsAhead link.new.requester size at next.new tickets.new.items) }
+    ensures ahead { OnOk result ((at : ℕ) → ReadsAhead link.old.requester file.now.size at next.old tickets.old.items → ReadsAhead link.new.requester file.now.size at next.new tickets.new.items) }
     ensures more { OnOk result (next.old < next.new) }
-    ensures within { OnOk result (next.new ≤ size) }
-    ensures ok { OnOk result ((at : ℕ) (t : Option (List ℕ)) → at < size → ReadsAhead link.old.requester size at next.old tickets.old.items →
-        ReadsOn uid gid file.now size at at tickets.old.items at at tickets.new.items
+    ensures within { OnOk result (next.new ≤ file.now.size) }
+    ensures ok { OnOk result ((at : ℕ) (t : Option (List ℕ)) → at < file.now.size → ReadsAhead link.old.requester file.now.size at next.old tickets.old.items →
+        ReadsOn file.now.uid file.now.gid file.now.handle.now file.now.size at at tickets.old.items at at tickets.new.items
         (link_bytes (I.left link.old.source) (I.given link.old.source) (O.taken link.old.sink) link.old.read)
         (link_bytes (I.left link.new.source) (I.given link.new.source) (O.taken link.new.sink) link.new.read)
         link.old.requester link.new.requester t t) }
-    ensures err { IfErr result (λ end. (at : ℕ) (t : Option (List ℕ)) → at < size → ReadsAhead link.old.requester size at next.old tickets.old.items →
-        EndsSo uid gid file.now size at at tickets.old.items tickets.new.items
+    ensures err { IfErr result (λ end. (at : ℕ) (t : Option (List ℕ)) → at < file.now.size → ReadsAhead link.old.requester file.now.size at next.old tickets.old.items →
+        EndsSo file.now.uid file.now.gid file.now.handle.now file.now.size at at tickets.old.items tickets.new.items
         (link_bytes (I.left link.old.source) (I.given link.old.source) (O.taken link.old.sink) link.old.read)
         (link_bytes (I.left link.new.source) (I.given link.new.source) (O.taken link.new.sink) link.new.read)
         link.old.requester link.new.requester t t (Err end)) }
@@ -60,11 +56,11 @@ fn ask<I: Source, O: Sink>(
     ensures source_faults { SourceFaults result (I.faults link.old.source) (I.faults link.new.source) }
     ensures sink_faults { SinkFaults result (O.faults link.old.sink) (O.faults link.new.sink) }
 {
-    let count = piece_left(size, *next);
+    let count = piece_left(file.size, *next);
     if let Err(_) = tickets.reserve(1) {
         return Err(ClientEnd::Memory);
     }
-    let call = match read_call(alloc, uid, gid, file, *next, count) {
+    let call = match read_call(file.alloc, file.uid, file.gid, file.handle, *next, count) {
         Ok(call) => call,
         Err(_) => return Err(ClientEnd::Memory),
     };
@@ -79,26 +75,22 @@ fn ask<I: Source, O: Sink>(
 
 /// Submits READs of the next pieces while a credit is left and fewer than the maximum are outstanding, and at least one if none is.
 pub(crate) fn fill<I: Source, O: Sink>(
-    alloc: Global,
     link: &mut Link<I, O>,
-    uid: u32,
-    gid: u32,
-    file: &Handle,
-    size: u64,
+    file: &FileToRead<'_>,
     at: u64,
     next: &mut u64,
     tickets: &mut Vec<Ticket>,
 ) -> Result<(), ClientEnd>
-    requires below { at < size }
-    requires ahead { ReadsAhead link.old.requester size at next.old tickets.old.items }
+    requires below { at < file.now.size }
+    requires ahead { ReadsAhead link.old.requester file.now.size at next.old tickets.old.items }
     ensures open { AreOpen link.new.requester.state tickets.new.items }
-    ensures ahead { OnOk result (ReadsAhead link.new.requester size at next.new tickets.new.items) }
-    ensures full { OnOk result (IsFull size next.new tickets.new.items link.new.requester) }
-    ensures ok { OnOk result ((t : Option (List ℕ)) → ReadsOn uid gid file.now size at at tickets.old.items at at tickets.new.items
+    ensures ahead { OnOk result (ReadsAhead link.new.requester file.now.size at next.new tickets.new.items) }
+    ensures full { OnOk result (IsFull file.now.size next.new tickets.new.items link.new.requester) }
+    ensures ok { OnOk result ((t : Option (List ℕ)) → ReadsOn file.now.uid file.now.gid file.now.handle.now file.now.size at at tickets.old.items at at tickets.new.items
         (link_bytes (I.left link.old.source) (I.given link.old.source) (O.taken link.old.sink) link.old.read)
         (link_bytes (I.left link.new.source) (I.given link.new.source) (O.taken link.new.sink) link.new.read)
         link.old.requester link.new.requester t t) }
-    ensures err { IfErr result (λ end. (t : Option (List ℕ)) → EndsSo uid gid file.now size at at tickets.old.items tickets.new.items
+    ensures err { IfErr result (λ end. (t : Option (List ℕ)) → EndsSo file.now.uid file.now.gid file.now.handle.now file.now.size at at tickets.old.items tickets.new.items
         (link_bytes (I.left link.old.source) (I.given link.old.source) (O.taken link.old.sink) link.old.read)
         (link_bytes (I.left link.new.source) (I.given link.new.source) (O.taken link.new.sink) link.new.read)
         link.old.requester link.new.requester t t (Err end)) }
@@ -106,8 +98,8 @@ pub(crate) fn fill<I: Source, O: Sink>(
     ensures source_faults { SourceFaults result (I.faults link.old.source) (I.faults link.new.source) }
     ensures sink_faults { SinkFaults result (O.faults link.old.sink) (O.faults link.new.sink) }
 {
-    'asked: while may_ask(link, size, *next, tickets.as_slice()) {
-        match ask(alloc, link, uid, gid, file, size, next, tickets) {
+    'asked: while may_ask(link, file.size, *next, tickets.as_slice()) {
+        match ask(link, file, next, tickets) {
             Ok(()) => {}
             Err(end) => return Err(end),
         }

@@ -22,7 +22,8 @@ ghost use Rattle.nr_client.specs.Walking.{parent_next, walk_next};
 
 use crate::asking::{ask_nfs, mount_over};
 use crate::client_end::ClientEnd;
-use crate::jobs::{FileToRead, read_shared};
+use crate::file_to_read::FileToRead;
+use crate::jobs::read_shared;
 use crate::limits::CREDITS;
 use crate::link::Link;
 use crate::listing::list_over;

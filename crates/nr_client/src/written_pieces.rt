@@ -9,7 +9,7 @@ ghost use Rattle.nr_client.specs.private.OpenReads.{GivesData, GivesNone};
 
 use crate::client_end::ClientEnd;
 use crate::file_calls::read_call;
-use crate::jobs::FileToRead;
+use crate::file_to_read::FileToRead;
 use crate::read_data::{piece_left, write_data};
 use crate::shared_calls::outcome_of;
 use nr_outside::{Sink, Source};
