@@ -1,7 +1,7 @@
 //! The calls that a responder has not answered.
 
-ghost use Rattle.std.specs.Prelude.{◌≡◌, ◌≢◌, ℕ, ◌==◌, ◌<◌, ◌≤◌, length, drop, take, get_or, map, None, Some, IfSome, true};
-ghost use Rattle.std.specs.List.{list_any};
+ghost use Rattle.std.specs.Prelude.{◌≡◌, ◌≢◌, ℕ, ◌==◌, ◌<◌, ◌≤◌, length, drop, take, get_or, map, None, Some, IfSome, true, vec_capacity};
+ghost use Rattle.std.specs.List.{list_any, remove};
 ghost use Rattle.nr_reduce.specs.ServerReads.{is_read};
 ghost use Rattle.nr_header.specs.Header.{no_lists};
 ghost use Rattle.nr_reduce.specs.declared.item.Item.{Item};
@@ -138,6 +138,16 @@ pub(crate) fn has_number(calls: &[Pending], number: u64) -> bool
     ensures { result ≡ list_any (λ c. c.number == number) calls.now }
 {
     calls.iter().any(|c| c.number == number)
+}
+
+/// Takes a call out of the list, and gives the receive buffer of its Send.
+pub(crate) fn take_receive(calls: &mut Vec<Pending>, at: usize) -> Octets
+    requires { at < length calls.old.items }
+    ensures items { calls.new.items ≡ remove calls.old.items at }
+    ensures buffer { (d : Pending) → result ≡ (get_or calls.old.items at d).buf }
+    ensures capacity { vec_capacity calls.new ≡ vec_capacity calls.old }
+{
+    calls.remove(at).buf
 }
 
 fn has_read(reads: &[ReadEntry], number: u64) -> bool

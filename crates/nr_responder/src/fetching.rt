@@ -4,13 +4,12 @@ ghost use Rattle.std.specs.Prelude.{◌≡◌, ◌≢◌, ◌⊎◌, ◌+◌, �
 ghost use Rattle.std.specs.List.{list_all, list_any};
 ghost use Rattle.nr_header.specs.Constants.{PAYLOAD_MAX};
 ghost use Rattle.nr_header.specs.WithinLimits.{read_total};
-ghost use Rattle.nr_endpoint.specs.Receives.{IsReceive};
 ghost use Rattle.nr_responder.specs.private.Handling.{FetchesCall, out};
-ghost use Rattle.nr_responder.specs.Sound.{state_of, InBuffer, ServerEndInvariant, ServerEndInvariantWith, SameInput, WindowsAreRead, WindowsInvariant};
+ghost use Rattle.nr_responder.specs.Sound.{state_of, InBuffer, ServerEndInvariant, SameInput, WindowsInvariant};
 ghost use Rattle.nr_reduce.specs.ServerReads.{is_read};
 ghost use Rattle.nr_responder.specs.Fetching.{has_bytes, HasBytes};
 ghost use Rattle.nr_reduce.specs.Chunks.{item_position};
-ghost use Rattle.nr_responder.specs.private.Starting.{FitsWindow};
+ghost use Rattle.nr_responder.specs.private.Starting.{FitsWindow, IsNewCall};
 ghost use Rattle.nr_responder.specs.private.CallsRead.{chunk_positions, HasNoBytes, reading_call};
 ghost use Rattle.nr_responder.specs.Views.{call_view, read_view};
 
@@ -95,14 +94,8 @@ fn window_start(
 impl ServerEnd {
     /// A call with a read list.
     pub(crate) fn fetch(&mut self, call: Pending, read: &[ReadSegment])
-        requires sound { ServerEndInvariantWith 1 self.old }
-        requires windows { WindowsAreRead self.old.calls.items self.old.reads.items }
-        requires live { self.old.endpoint.link.state.ended ≡ None }
+        requires call { IsNewCall self.old call read.now }
         requires frame { 0 < self.old.endpoint.link.state.place }
-        requires call { InBuffer call }
-        requires receive { IsReceive self.old.endpoint.link.state.receive_queue.receive_length call.buf }
-        requires empty { (call.around ≡ 0) × (call.room ≡ None) }
-        requires read { read.now ≡ (call_view call).lists.read }
         requires reads { read_total read.now ≤ PAYLOAD_MAX }
         requires fresh { is_read (map read_view self.old.reads.items) call.number ≡ true }
         ensures fetched { FetchesCall (state_of self.old) (state_of self.new) (call_view call) }
@@ -120,14 +113,8 @@ impl ServerEnd {
 
     /// A call whose read list has bytes.
     fn fetch_chunks(&mut self, call: Pending, read: &[ReadSegment])
-        requires sound { ServerEndInvariantWith 1 self.old }
-        requires windows { WindowsAreRead self.old.calls.items self.old.reads.items }
-        requires live { self.old.endpoint.link.state.ended ≡ None }
+        requires call { IsNewCall self.old call read.now }
         requires frame { 0 < self.old.endpoint.link.state.place }
-        requires call { InBuffer call }
-        requires receive { IsReceive self.old.endpoint.link.state.receive_queue.receive_length call.buf }
-        requires empty { (call.around ≡ 0) × (call.room ≡ None) }
-        requires read { read.now ≡ (call_view call).lists.read }
         requires reads { read_total read.now ≤ PAYLOAD_MAX }
         requires bytes { HasBytes read.now }
         requires fresh { is_read (map read_view self.old.reads.items) call.number ≡ true }
@@ -139,20 +126,17 @@ impl ServerEnd {
     {
         match chunk_positions(self.alloc, read) {
             Ok(chunks) => self.fetch_into(call, chunks.as_slice(), read),
-            Err(_) => self.run_out(),
+            Err(_) => {
+                drop(call);
+                self.run_out();
+            }
         }
     }
 
     /// A call with these chunks that have bytes.
     fn fetch_into(&mut self, call: Pending, chunks: &[u32], read: &[ReadSegment])
-        requires sound { ServerEndInvariantWith 1 self.old }
-        requires windows { WindowsAreRead self.old.calls.items self.old.reads.items }
-        requires live { self.old.endpoint.link.state.ended ≡ None }
+        requires call { IsNewCall self.old call read.now }
         requires frame { 0 < self.old.endpoint.link.state.place }
-        requires call { InBuffer call }
-        requires receive { IsReceive self.old.endpoint.link.state.receive_queue.receive_length call.buf }
-        requires empty { (call.around ≡ 0) × (call.room ≡ None) }
-        requires read { read.now ≡ (call_view call).lists.read }
         requires reads { read_total read.now ≤ PAYLOAD_MAX }
         requires bytes { HasBytes (call_view call).lists.read }
         requires chunks { chunks.now ≡ chunk_positions (call_view call).lists.read }
@@ -164,15 +148,18 @@ impl ServerEnd {
         ensures staging { self.new.endpoint.staging ≡ self.old.endpoint.staging }
     {
         if chunks.len() as u64 > self.endpoint.regions().stags_left() {
+            drop(call);
             self.end_for(REASON_STAGS);
             return;
         }
         // A read list with bytes has such a chunk, and no other call and no sink has the number of its Send.
         if chunks.is_empty() || has_number(self.calls.as_slice(), call.number) {
+            drop(call);
             self.run_out();
             return;
         }
         if has_sink(self.sinks.as_slice(), call.number) {
+            drop(call);
             self.run_out();
             return;
         }
@@ -181,13 +168,7 @@ impl ServerEnd {
 
     /// A call whose reads may begin: its payload is completed in the buffer of its sink if it can be.
     fn start(&mut self, call: Pending, chunks: &[u32], read: &[ReadSegment])
-        requires sound { ServerEndInvariantWith 1 self.old }
-        requires windows { WindowsAreRead self.old.calls.items self.old.reads.items }
-        requires live { self.old.endpoint.link.state.ended ≡ None }
-        requires call { InBuffer call }
-        requires receive { IsReceive self.old.endpoint.link.state.receive_queue.receive_length call.buf }
-        requires empty { (call.around ≡ 0) × (call.room ≡ None) }
-        requires read { read.now ≡ (call_view call).lists.read }
+        requires call { IsNewCall self.old call read.now }
         requires reads { read_total read.now ≤ PAYLOAD_MAX }
         requires chunks { chunks.now ≡ chunk_positions (call_view call).lists.read }
         requires stags { self.old.endpoint.link.state.memory.next + length chunks.now ≤ 2 ^ 32 }
@@ -209,13 +190,7 @@ impl ServerEnd {
     /// A call whose reads may begin.
     #[tactic(none)]
     fn start_reads(&mut self, call: Pending, chunks: &[u32], read: &[ReadSegment])
-        requires sound { ServerEndInvariantWith 1 self.old }
-        requires windows { WindowsAreRead self.old.calls.items self.old.reads.items }
-        requires live { self.old.endpoint.link.state.ended ≡ None }
-        requires call { InBuffer call }
-        requires receive { IsReceive self.old.endpoint.link.state.receive_queue.receive_length call.buf }
-        requires empty { (call.around ≡ 0) × (call.room ≡ None) }
-        requires read { read.now ≡ (call_view call).lists.read }
+        requires call { IsNewCall self.old call read.now }
         requires reads { read_total read.now ≤ PAYLOAD_MAX }
         requires chunks { chunks.now ≡ chunk_positions (call_view call).lists.read }
         requires stags { self.old.endpoint.link.state.memory.next + length chunks.now ≤ 2 ^ 32 }
@@ -246,13 +221,7 @@ impl ServerEnd {
 
     /// A call whose reads may begin, and whose payload is completed in the buffer of its sink.
     fn start_in_place(&mut self, call: Pending, chunks: &[u32], read: &[ReadSegment], start: usize)
-        requires sound { ServerEndInvariantWith 1 self.old }
-        requires windows { WindowsAreRead self.old.calls.items self.old.reads.items }
-        requires live { self.old.endpoint.link.state.ended ≡ None }
-        requires call { InBuffer call }
-        requires receive { IsReceive self.old.endpoint.link.state.receive_queue.receive_length call.buf }
-        requires empty { (call.around ≡ 0) × (call.room ≡ None) }
-        requires read { read.now ≡ (call_view call).lists.read }
+        requires call { IsNewCall self.old call read.now }
         requires reads { read_total read.now ≤ PAYLOAD_MAX }
         requires chunks { chunks.now ≡ chunk_positions (call_view call).lists.read }
         requires stags { self.old.endpoint.link.state.memory.next + length chunks.now ≤ 2 ^ 32 }
@@ -284,14 +253,8 @@ impl ServerEnd {
 
     /// A call whose read list has no bytes: it is ready, or ends the link. Takes memory for a Terminate alone.
     fn complete_at_once(&mut self, call: Pending, read: &[ReadSegment])
-        requires sound { ServerEndInvariantWith 1 self.old }
-        requires windows { WindowsAreRead self.old.calls.items self.old.reads.items }
-        requires live { self.old.endpoint.link.state.ended ≡ None }
+        requires call { IsNewCall self.old call read.now }
         requires frame { 0 < self.old.endpoint.link.state.place }
-        requires call { InBuffer call }
-        requires receive { IsReceive self.old.endpoint.link.state.receive_queue.receive_length call.buf }
-        requires empty { (call.around ≡ 0) × (call.room ≡ None) }
-        requires read { read.now ≡ (call_view call).lists.read }
         requires none { HasNoBytes read.now }
         requires fresh { is_read (map read_view self.old.reads.items) call.number ≡ true }
         ensures fetched { FetchesCall (state_of self.old) (state_of self.new) (call_view call) }
@@ -302,7 +265,10 @@ impl ServerEnd {
     {
         match judge_at_once(&call, read) {
             None => self.push(call, None),
-            Some(reason) => self.end_for(reason),
+            Some(reason) => {
+                drop(call);
+                self.end_for(reason);
+            }
         }
     }
 }

@@ -17,7 +17,7 @@ ghost use Rattle.nr_responder.specs.Sound.{claims_of, state_of, HasSpace, InBuff
 ghost use Rattle.nr_responder.specs.Views.{call_view, read_view, sink_view};
 
 use crate::answering::chunk_error;
-use crate::call::{OpenSink, Pending, ReadEntry, Ready, is_read, lists_again};
+use crate::call::{OpenSink, Pending, ReadEntry, Ready, is_read, lists_again, take_receive};
 use crate::heads::head_of;
 use crate::opening::{open_count, open_reads, send_and_open};
 use crate::payloads::{inline_stream, judge_payload, stream_alone, with_item};
@@ -349,8 +349,8 @@ impl ServerEnd {
         ) {
             Err(_) => self.run_out(),
             Ok(()) => {
-                let call = self.calls.remove(at);
-                self.used.push_back_reserved(call.buf);
+                let buf = take_receive(&mut self.calls, at);
+                self.used.push_back_reserved(buf);
                 close_over(
                     &mut self.endpoint,
                     &mut self.sinks,

@@ -32,7 +32,7 @@ ghost use Rattle.nr_responder.specs.Standing.{RepresentsSome, ResponderRepresent
 ghost use Rattle.nr_responder.specs.Steps.{Fed, taken_of};
 
 use crate::answering::{SENDABLE, queue_answer};
-use crate::call::{OpenSink, Pending, ReadEntry, Ready, Sent, place_of, stream_of};
+use crate::call::{OpenSink, Pending, ReadEntry, Ready, Sent, place_of, stream_of, take_receive};
 use crate::granting::Credits;
 use crate::payloads::{first_payload, ready_payload};
 use nr_endpoint::{DrainFault, Endpoint, Event};
@@ -413,8 +413,8 @@ impl ServerEnd {
             word,
             reply,
         )?;
-        let call = self.calls.remove(at);
-        self.used.push_back_reserved(call.buf);
+        let buf = take_receive(&mut self.calls, at);
+        self.used.push_back_reserved(buf);
         let _ = self.ready.pop_front();
         Ok(sent)
     }

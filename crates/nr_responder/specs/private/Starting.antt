@@ -7,6 +7,7 @@ use Rattle.nr_header.specs.declared.header.ReadSegment.{ReadSegment}
 use Rattle.nr_link.specs.Limits.{open_reads_max}
 use Rattle.nr_endpoint.specs.LinkState.{LinkSide}
 use Rattle.nr_endpoint.specs.EndpointState.{EndpointState}
+use Rattle.nr_endpoint.specs.Receives.{IsReceive}
 use Rattle.nr_reduce.specs.declared.item.Item.{Item}
 use Rattle.nr_reduce.specs.Chunks.{item_position}
 use Rattle.nr_reduce.specs.ServerState.{PendingRead}
@@ -17,8 +18,9 @@ use Rattle.nr_responder.specs.declared.call.OpenSink.{OpenSink}
 use Rattle.nr_responder.specs.Fetching.{open_sinks, is_sink}
 use Rattle.nr_responder.specs.private.CallsRead.{sinks_from, with_registered}
 use Rattle.nr_responder.specs.private.Reading.{opening, with_opened}
-use Rattle.nr_responder.specs.Sound.{HasOutside}
-use Rattle.nr_responder.specs.Views.{read_view, sink_view}
+use Rattle.nr_responder.specs.declared.server_end.ServerEnd.{ServerEnd}
+use Rattle.nr_responder.specs.Sound.{HasOutside, InBuffer, ServerEndInvariantWith, WindowsAreRead}
+use Rattle.nr_responder.specs.Views.{call_view, read_view, sink_view}
 
 -- some reads, and those of a read list whose first sink has the STag `next`
 abbrev pub reads_more : List ReadEntry → (number next : ℕ) → List ReadSegment → List ℕ → List PendingRead
@@ -38,6 +40,17 @@ pub record BeginsReads (number : ℕ) (read : List ReadSegment) (chunks : List �
 -- a call with the room of its payload
 abbrev pub with_room : Pending → ℕ → Pending
 with_room c room = record c { room = Some room }
+
+-- A call that came in a receive that the end still holds beside those of its calls and of its queue: nothing of the call is read yet, and it has no
+-- room so far.
+pub record IsNewCall (r : ServerEnd) (c : Pending) (read : List ReadSegment) : Type 0 where
+  pub sound : ServerEndInvariantWith 1 r
+  pub windows : WindowsAreRead r.calls.items r.reads.items
+  pub live : r.endpoint.link.state.ended ≡ None
+  pub buffer : InBuffer c
+  pub receive : IsReceive r.endpoint.link.state.receive_queue.receive_length c.buf
+  pub empty : (c.around ≡ 0) × (c.room ≡ None)
+  pub list : read ≡ (call_view c).lists.read
 
 -- ---- A call whose payload is completed in the buffer of its sink
 

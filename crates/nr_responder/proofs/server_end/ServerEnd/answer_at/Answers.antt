@@ -1,4 +1,4 @@
-use Rattle.std.proofs.Common.{rules, ◌≡◌, ℕ, List, length, drop, sym, ap, subst, ◌∙◌, refl, arith}
+use Rattle.std.proofs.Common.{rules, ◌≡◌, ℕ, List, [], ◌∷◌, ◌++◌, length, drop, sym, ap, subst, ◌∙◌, refl, arith}
 use Rattle.std.specs.Prelude.{map}
 use Rattle.nr_endpoint.specs.LinkState.{LinkSide}
 use Rattle.nr_endpoint.specs.Calls.{after_calls}
@@ -26,7 +26,7 @@ returns-clause-answers c =
     let whole : InBuffer p = (kept_receive 0 c.args.self.now.endpoint.link.state c.args.self.now.calls.items c.args.self.now.ready.items c.args.self.now.used.items _ _ _ c.args.at p c.requires.at c.index-2.ensures c.requires.sound.0).1 in
     let own : p.xid ≡ c.args.xid = ap (λ (x : Pending). x.xid) c.index-2.ensures ∙ c.requires.own p in
     let link = q.link ∙ (λ i. after_calls c.args.self.now.endpoint.link (answer_calls q.writes (name_for c.args.self.now.endpoint.link.state.agreed.invalidates (call_view p).lists (answer_to c.args.self.now.endpoint.link.state.agreed.down (call_view p) stream c.args.reply.now)) (message_for (own i) (c.requires.word i) (call_view p).lists (answer_to c.args.self.now.endpoint.link.state.agreed.down (call_view p) stream c.args.reply.now)))) in
-    let calls = ap (map call_view) c.remove-call.ensures.items ∙ map_removed call_view c.args.self.now.calls.items c.args.at in
+    let calls = ap (map call_view) c.take_receive-buf.ensures.items ∙ map_removed call_view c.args.self.now.calls.items c.args.at in
     let ready : c.pop_front.new.self.items ≡ drop 1 c.args.self.now.ready.items = search rules in
     record {
       at = c.args.at;
@@ -48,10 +48,10 @@ returns-clause-answers c =
 pub returns-clause-sound : goal.returns-clause-sound
 returns-clause-sound c =
     let q = c.in_ok-sent.ensures.queued in
-    let one = kept_receive 0 c.args.self.now.endpoint.link.state c.args.self.now.calls.items c.args.self.now.ready.items c.args.self.now.used.items _ _ _ c.args.at c.remove-call.result c.requires.at c.remove-call.ensures.value c.requires.sound.0 in (
-      sound_room_as 0 c.queue_answer.new.endpoint.link.state c.remove-call.new.self.items c.pop_front.new.self.items c.push_back_reserved.new.self.items _ _ _ _ _ _ (search rules) (search rules) (search rules) (sound_answered c.args.self.now.endpoint.link.state c.queue_answer.new.endpoint.link.state (writes_output q.writes) _ _ c.args.at c.remove-call.result c.args.self.now.calls.items c.remove-call.new.self.items c.args.self.now.ready.items c.pop_front.new.self.items
-          c.args.self.now.used.items c.push_back_reserved.new.self.items _ _ _ (ap (λ (l : LinkSide). l.state) (q.link ∙ answer_link c.args.self.now.endpoint.link q.writes _ _ c.requires.live)) c.requires.at one c.remove-call.ensures.items (search rules) c.requires.next (search rules) c.requires.sound.0),
-      fetched_removed c.args.self.now.endpoint c.queue_answer.new.endpoint c.args.at c.index.result.now c.args.self.now.calls.items c.remove-call.new.self.items c.args.self.now.reads.items c.args.self.now.sinks.items (ap (λ (l : LinkSide). l.state.memory) (q.link ∙ answer_link c.args.self.now.endpoint.link q.writes _ _ c.requires.live)) c.queue_answer.ensures.outside c.requires.at (c.requires.none c.index.result.now) c.remove-call.ensures.items c.requires.sound.1,
+    let one = kept_receive 0 c.args.self.now.endpoint.link.state c.args.self.now.calls.items c.args.self.now.ready.items c.args.self.now.used.items _ _ _ c.args.at c.index-2.result.now c.requires.at c.index-2.ensures c.requires.sound.0 in (
+      sound_room_as 0 c.queue_answer.new.endpoint.link.state c.take_receive-buf.new.calls.items c.pop_front.new.self.items c.push_back_reserved.new.self.items _ _ _ _ _ _ (search rules) (search rules) (search rules) (sound_answered c.args.self.now.endpoint.link.state c.queue_answer.new.endpoint.link.state (writes_output q.writes) _ _ c.args.at c.index-2.result.now c.args.self.now.calls.items c.take_receive-buf.new.calls.items c.args.self.now.ready.items c.pop_front.new.self.items
+          c.args.self.now.used.items c.push_back_reserved.new.self.items _ _ _ (ap (λ (l : LinkSide). l.state) (q.link ∙ answer_link c.args.self.now.endpoint.link q.writes _ _ c.requires.live)) c.requires.at one c.take_receive-buf.ensures.items (search rules) c.requires.next (c.push_back_reserved.ensures.items ∙ ap (λ (bytes : List ℕ). c.args.self.now.used.items ++ bytes ∷ []) (c.take_receive-buf.ensures.buffer c.index-2.result.now ∙ ap (λ (x : Pending). x.buf) (sym c.index-2.ensures))) c.requires.sound.0),
+      fetched_removed c.args.self.now.endpoint c.queue_answer.new.endpoint c.args.at c.index.result.now c.args.self.now.calls.items c.take_receive-buf.new.calls.items c.args.self.now.reads.items c.args.self.now.sinks.items (ap (λ (l : LinkSide). l.state.memory) (q.link ∙ answer_link c.args.self.now.endpoint.link q.writes _ _ c.requires.live)) c.queue_answer.ensures.outside c.requires.at (c.requires.none c.index.result.now) c.take_receive-buf.ensures.items c.requires.sound.1,
     )
 
 pub returns-clause-fed : goal.returns-clause-fed
@@ -60,4 +60,4 @@ returns-clause-fed c =
     answered_fed c.args.self.now.endpoint.link c.queue_answer.new.endpoint.link q.writes _ _ c.requires.live q.link
 
 pub returns-clause-windows : goal.returns-clause-windows
-returns-clause-windows c = λ live. removed_windows c.args.self.now.calls.items c.remove-call.new.self.items c.args.at c.index.result.now c.args.self.now.reads.items c.remove-call.ensures.items c.requires.at c.requires.windows
+returns-clause-windows c = λ live. removed_windows c.args.self.now.calls.items c.take_receive-buf.new.calls.items c.args.at c.index.result.now c.args.self.now.reads.items c.take_receive-buf.ensures.items c.requires.at c.requires.windows

@@ -15,13 +15,13 @@ use Rattle.nr_reduce.specs.ServerReads.{reads_from}
 use Rattle.nr_responder.proofs.server_end.ServerEnd.start_in_place.Goals as goal
 
 pub begin_in_place-requires-clause-live : goal.begin_in_place-requires-clause-live
-begin_in_place-requires-clause-live c = c.requires.live
+begin_in_place-requires-clause-live c = c.requires.call.live
 
 pub begin_in_place-requires-clause-held : goal.begin_in_place-requires-clause-held
-begin_in_place-requires-clause-held c = c.requires.sound.1.held
+begin_in_place-requires-clause-held c = c.requires.call.sound.1.held
 
 pub begin_in_place-requires-clause-short : goal.begin_in_place-requires-clause-short
-begin_in_place-requires-clause-short c = c.requires.sound.1.short
+begin_in_place-requires-clause-short c = c.requires.call.sound.1.short
 
 pub begin_in_place-requires-clause-one : goal.begin_in_place-requires-clause-one
 begin_in_place-requires-clause-one c = ap (λ (ps : List ℕ). length ps) c.requires.window.chunks_are
@@ -29,8 +29,8 @@ begin_in_place-requires-clause-one c = ap (λ (ps : List ℕ). length ps) c.requ
 pub begin_in_place-requires-clause-window : goal.begin_in_place-requires-clause-window
 begin_in_place-requires-clause-window c =
     let within = c.requires.window.within in
-    let len = c.requires.call.len in
-    let most = c.requires.call.buf in
+    let len = c.requires.call.buffer.len in
+    let most = c.requires.call.buffer.buf in
     (omega (arith, within), omega (arith, len, most))
 
 pub begin_in_place-requires-clause-stags : goal.begin_in_place-requires-clause-stags
@@ -41,7 +41,7 @@ begin_in_place-requires-clause-total c = c.requires.reads
 
 pub push_around-requires : goal.push_around-requires
 push_around-requires c =
-    call_fits c.args.self.now.endpoint.link.state c.args.self.now.calls.items c.args.self.now.ready.items c.args.self.now.used.items _ _ _ (let kept = c.facts.ensures.receives in omega (arith, kept)) c.requires.sound.0
+    call_fits c.args.self.now.endpoint.link.state c.args.self.now.calls.items c.args.self.now.ready.items c.args.self.now.used.items _ _ _ (let kept = c.facts.ensures.receives in omega (arith, kept)) c.requires.call.sound.0
 
 pub run_out-requires : goal.run_out-requires
 run_out-requires c = record {
@@ -49,9 +49,9 @@ run_out-requires c = record {
     sound_as 1 0 c.args.self.now.endpoint.link.state c.begin_in_place.new.endpoint.link.state c.args.self.now.calls.items c.args.self.now.ready.items c.args.self.now.used.items _ _ _ (omega arith)
         (ap (λ (l : LinkSide). l.state.receive_queue.lent) c.in-Err.ensures.err.0) (ap (λ (l : LinkSide). l.state.receive_queue.receives) c.in-Err.ensures.err.0)
         (ap (λ (l : LinkSide). l.state.receive_queue.receive_length) c.in-Err.ensures.err.0)
-        (ap (λ (l : LinkSide). l.state.send_queue.send_ends) c.in-Err.ensures.err.0) c.requires.sound.0,
+        (ap (λ (l : LinkSide). l.state.send_queue.send_ends) c.in-Err.ensures.err.0) c.requires.call.sound.0,
     kept_fetched c.args.self.now.endpoint c.begin_in_place.new.endpoint c.args.self.now.reads.items c.begin_in_place.new.reads.items c.args.self.now.calls.items c.args.self.now.sinks.items c.begin_in_place.new.sinks.items c.in-Err.ensures.err.0 c.in-Err.ensures.outside_err
-        c.in-Err.ensures.err.1.0 c.in-Err.ensures.err.1.1 c.requires.sound.1,
+        c.in-Err.ensures.err.1.0 c.in-Err.ensures.err.1.1 c.requires.call.sound.1,
   );
 }
 
@@ -59,20 +59,20 @@ pub returns-in-Ok-clause-started : goal.returns-in-Ok-clause-started
 returns-in-Ok-clause-started c =
     let after : ServerEnd = record { endpoint = c.begin_in_place.new.endpoint; calls = c.push_around.new.calls; ready = c.args.self.now.ready; reads = c.begin_in_place.new.reads; sinks = c.begin_in_place.new.sinks; used = c.args.self.now.used; credits = c.args.self.now.credits; alloc = c.args.self.now.alloc } in
     inl (started_is c.args.self.now after c.args.call (with_around c.args.call (c.args.call.len - c.args.call.stream_at + 3)) c.args.chunks.now refl c.requires.chunks
-    (subst (λ (read : List ReadSegment). BeginsReads c.args.call.number read c.args.chunks.now c.args.self.now.reads.items c.begin_in_place.new.reads.items c.args.self.now.sinks.items c.begin_in_place.new.sinks.items c.args.self.now.endpoint.link c.begin_in_place.new.endpoint.link) c.requires.read c.in-Ok.ensures.ok)
+    (subst (λ (read : List ReadSegment). BeginsReads c.args.call.number read c.args.chunks.now c.args.self.now.reads.items c.begin_in_place.new.reads.items c.args.self.now.sinks.items c.begin_in_place.new.sinks.items c.args.self.now.endpoint.link c.begin_in_place.new.endpoint.link) c.requires.call.list c.in-Ok.ensures.ok)
     c.push_around.ensures.items refl refl)
 
 pub returns-in-Ok-clause-sound : goal.returns-in-Ok-clause-sound
 returns-in-Ok-clause-sound c = (
   started_sound c.args.call.number c.args.read.now c.args.chunks.now c.args.self.now.reads.items c.begin_in_place.new.reads.items c.args.self.now.sinks.items c.begin_in_place.new.sinks.items c.args.self.now.endpoint.link c.begin_in_place.new.endpoint.link
-      c.args.self.now.calls.items c.push_around.new.calls.items (with_around c.args.call (c.args.call.len - c.args.call.stream_at + 3)) c.args.self.now.ready.items c.args.self.now.used.items _ _ _ _ c.in-Ok.ensures.ok (c.requires.receive, around_in_buffer c.args.call (c.args.call.len - c.args.call.stream_at + 3) c.requires.call) c.push_around.ensures.items c.push_around.ensures.capacity c.requires.sound.0,
+      c.args.self.now.calls.items c.push_around.new.calls.items (with_around c.args.call (c.args.call.len - c.args.call.stream_at + 3)) c.args.self.now.ready.items c.args.self.now.used.items _ _ _ _ c.in-Ok.ensures.ok (c.requires.call.receive, around_in_buffer c.args.call (c.args.call.len - c.args.call.stream_at + 3) c.requires.call.buffer) c.push_around.ensures.items c.push_around.ensures.capacity c.requires.call.sound.0,
   started_fetched c.args.self.now.endpoint c.begin_in_place.new.endpoint c.args.self.now.reads.items c.begin_in_place.new.reads.items c.args.call.number c.args.self.now.endpoint.link.state.memory.next c.args.read.now c.args.chunks.now c.args.self.now.calls.items c.push_around.new.calls.items
       (with_around c.args.call (c.args.call.len - c.args.call.stream_at + 3)) c.args.self.now.sinks.items c.begin_in_place.new.sinks.items (open_sinks (sinks_from c.args.call.number c.args.self.now.endpoint.link.state.memory.next c.args.read.now c.args.chunks.now)) c.begin_in_place.ensures.held c.begin_in_place.ensures.short
-      (c.in-Ok.ensures.outside.more (around_of c.args.self.now.calls.items) c.requires.sound.1.outside)
+      (c.in-Ok.ensures.outside.more (around_of c.args.self.now.calls.items) c.requires.call.sound.1.outside)
       c.requires.own c.in-Ok.ensures.ok.reads c.in-Ok.ensures.ok.sinks_are (λ n ne. others_none c.args.call.number c.args.self.now.endpoint.link.state.memory.next n c.args.read.now c.args.chunks.now ne) c.in-Ok.ensures.outside.kept
       (window_room c.args.self.now.endpoint c.begin_in_place.new.endpoint c.args.self.now.sinks.items c.begin_in_place.new.sinks.items c.args.self.now.reads.items c.begin_in_place.new.reads.items c.args.self.now.endpoint.link c.begin_in_place.new.endpoint.link c.args.read.now c.args.chunks.now c.args.call c.args.start (c.args.call.len - c.args.call.stream_at + 3)
-      c.requires.call c.requires.empty.1 c.requires.window c.in-Ok.ensures.outside c.requires.read (let at = c.requires.call.at in omega (arith, at)) refl c.in-Ok.ensures.ok
-      (window_apart c.args.self.now.reads.items c.begin_in_place.new.reads.items c.args.call.number c.args.self.now.endpoint.link.state.memory.next c.args.start c.args.read.now c.args.chunks.now c.in-Ok.ensures.ok.reads c.requires.fresh c.requires.window.some c.requires.window.each)) c.push_around.ensures.items c.requires.sound.1,
+      c.requires.call.buffer c.requires.call.empty.1 c.requires.window c.in-Ok.ensures.outside c.requires.call.list (let at = c.requires.call.buffer.at in omega (arith, at)) refl c.in-Ok.ensures.ok
+      (window_apart c.args.self.now.reads.items c.begin_in_place.new.reads.items c.args.call.number c.args.self.now.endpoint.link.state.memory.next c.args.start c.args.read.now c.args.chunks.now c.in-Ok.ensures.ok.reads c.requires.fresh c.requires.window.some c.requires.window.each)) c.push_around.ensures.items c.requires.call.sound.1,
 )
 
 pub returns-in-Ok-clause-input : goal.returns-in-Ok-clause-input
@@ -102,7 +102,7 @@ returns-in-Ok-clause-windows c = λ live.
     (reads_from (sinks_from c.args.call.number c.args.self.now.endpoint.link.state.memory.next c.args.read.now c.args.chunks.now) c.args.call.number [] c.args.read.now)
     c.in-Ok.ensures.ok.reads c.push_around.ensures.items refl c.requires.own
     (λ some. begun_unread c.args.call.number c.args.self.now.endpoint.link.state.memory.next c.args.start c.args.read.now c.args.chunks.now c.args.self.now.reads.items c.begin_in_place.new.reads.items
-    (c.requires.chunks ∙ ap (λ (read : List ReadSegment). chunk_positions read) (sym c.requires.read)) c.requires.window.chunks_are c.in-Ok.ensures.ok.reads) c.requires.windows
+    (c.requires.chunks ∙ ap (λ (read : List ReadSegment). chunk_positions read) (sym c.requires.call.list)) c.requires.window.chunks_are c.in-Ok.ensures.ok.reads) c.requires.call.windows
 
 pub returns-in-Err-clause-windows : goal.returns-in-Err-clause-windows
 returns-in-Err-clause-windows c = c.run_out.ensures.windows
