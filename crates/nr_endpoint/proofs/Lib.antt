@@ -41,3 +41,4 @@ pub mod AgreesByHellos
 pub mod Received
 pub mod OneDelivery
 pub mod ReceivedEvents
+pub mod Sides

@@ -27,11 +27,9 @@ impl LinkSide {
         requires size { length (payload_in (plain segment.now)) + 1 ≤ length frame.now }
         requires within { self.old.state.place + length frame.now ≤ 2 ^ 62 }
         requires lives { segment_end self.old.state (next_frame self.old.state frame.now) (plain segment.now) ≡ None }
-        ensures ok { OnOk result (self.new.state ≡ after_frame (next_frame self.old.state frame.now) (with_effect (plain segment.now) self.old.state)) }
-        ensures err { OnErr result (self.new.state ≡ self.old.state) }
+        ensures ok { OnOk result (self.new ≡ record self.old { state = after_frame (next_frame self.old.state frame.now) (with_effect (plain segment.now) self.old.state) }) }
+        ensures err { OnErr result (self.new ≡ self.old) }
         ensures queued { OnErr result (output_len self.old.state.send_queue < output_len (with_effect (plain segment.now) self.old.state).send_queue) }
-        ensures room { self.new.room ≡ self.old.room }
-        ensures outside { self.new.outside ≡ self.old.outside }
     {
         match *segment {
             Segment::Tagged { .. } => unreachable!(),
@@ -65,11 +63,9 @@ impl LinkSide {
     ) -> Result<(), Memory>
         requires some { 0 < length frame.now }
         requires within { self.old.state.place + length frame.now ≤ 2 ^ 62 }
-        ensures ok { OnOk result (self.new.state ≡ with_segment_by (next_frame self.old.state frame.now) (Tagged last opcode stag to payload.now) (tagged_end self.old.state last opcode stag to payload.now) self.old.state) }
-        ensures err { OnErr result (self.new.state ≡ self.old.state) }
+        ensures ok { OnOk result (self.new ≡ record self.old { state = with_segment_by (next_frame self.old.state frame.now) (Tagged last opcode stag to payload.now) (tagged_end self.old.state last opcode stag to payload.now) self.old.state }) }
+        ensures err { OnErr result (self.new ≡ self.old) }
         ensures queued { OnErr result (output_len self.old.state.send_queue < output_len (with_segment_by (next_frame self.old.state frame.now) (Tagged last opcode stag to payload.now) (tagged_end self.old.state last opcode stag to payload.now) self.old.state).send_queue) }
-        ensures room { self.new.room ≡ self.old.room }
-        ensures outside { self.new.outside ≡ self.old.outside }
     {
         let len = payload.len() as u64;
         if opcode == OPCODE_READ_RESPONSE && !is_expected(&self.reads, last, stag, to, len) {
@@ -94,9 +90,7 @@ impl LinkSide {
         requires expected { opcode ≡ OPCODE_READ_RESPONSE → is_expected (expected_response self.old.state.reads) last stag to len ≡ true }
         requires some { 0 < length frame.now }
         requires within { self.old.state.place + length frame.now ≤ 2 ^ 62 }
-        ensures state { self.new.state ≡ after_frame (next_frame self.old.state frame.now) (if opcode == OPCODE_READ_RESPONSE then with_read_response last len self.old.state else self.old.state) }
-        ensures room { self.new.room ≡ self.old.room }
-        ensures outside { self.new.outside ≡ self.old.outside }
+        ensures state { self.new ≡ record self.old { state = after_frame (next_frame self.old.state frame.now) (if opcode == OPCODE_READ_RESPONSE then with_read_response last len self.old.state else self.old.state) } }
     {
         if opcode == OPCODE_READ_RESPONSE {
             if last {
@@ -113,10 +107,8 @@ impl LinkSide {
         requires fine { RequestIsFine self.old.state payload.now }
         requires some { 0 < length frame.now }
         requires within { self.old.state.place + length frame.now ≤ 2 ^ 62 }
-        ensures ok { OnOk result (self.new.state ≡ after_frame (next_frame self.old.state frame.now) (with_effect (Untagged true OPCODE_READ_REQUEST 0 0 0 0 payload.now) self.old.state)) }
-        ensures err { OnErr result (self.new.state ≡ self.old.state) }
-        ensures room { self.new.room ≡ self.old.room }
-        ensures outside { self.new.outside ≡ self.old.outside }
+        ensures ok { OnOk result (self.new ≡ record self.old { state = after_frame (next_frame self.old.state frame.now) (with_effect (Untagged true OPCODE_READ_REQUEST 0 0 0 0 payload.now) self.old.state) }) }
+        ensures err { OnErr result (self.new ≡ self.old) }
     {
         let request = read_request(payload);
         match self
@@ -139,9 +131,7 @@ impl LinkSide {
         requires fine { SendIsFine self.old.state last payload.now }
         requires size { length payload.now + 1 ≤ length frame.now }
         requires within { self.old.state.place + length frame.now ≤ 2 ^ 62 }
-        ensures state { self.new.state ≡ after_frame (next_frame self.old.state frame.now) (with_effect (send_segment named last payload.now) self.old.state) }
-        ensures room { self.new.room ≡ self.old.room }
-        ensures outside { self.new.outside ≡ self.old.outside }
+        ensures state { self.new ≡ record self.old { state = after_frame (next_frame self.old.state frame.now) (with_effect (send_segment named last payload.now) self.old.state) } }
     {
         self.receive_queue.receive(named, last, payload);
         self.last = self.place;

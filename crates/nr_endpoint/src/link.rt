@@ -103,10 +103,8 @@ impl LinkSide {
     pub fn receive_frame(&mut self, awaited: Awaited, frame: &[u8]) -> bool
         requires frame { IsFrame awaited frame.now }
         requires within { self.old.state.place + length frame.now ≤ 2 ^ 62 }
-        ensures state { self.new.state ≡ (if result then with_frame self.old.state awaited frame.now else record self.old.state { ended = Some ends.Memory }) }
+        ensures state { self.new ≡ record self.old { state = (if result then with_frame self.old.state awaited frame.now else record self.old.state { ended = Some ends.Memory }) } }
         ensures queued { OnFalse result (output_len self.old.state.send_queue < output_len (with_frame self.old.state awaited frame.now).send_queue) }
-        ensures room { self.new.room ≡ self.old.room }
-        ensures outside { self.new.outside ≡ self.old.outside }
     {
         let judged = match awaited {
             Awaited::Hello(side) => self.receive_hello(side, frame),
@@ -121,11 +119,9 @@ impl LinkSide {
 
     /// The side ends, and queues what it writes last. An `Err` changes nothing.
     pub fn end_with(&mut self, end: End) -> Result<(), Memory>
-        ensures ok { OnOk result (self.new.state ≡ with_end_of end self.old.state) }
-        ensures err { OnErr result (self.new.state ≡ self.old.state) }
+        ensures ok { OnOk result (self.new ≡ record self.old { state = with_end_of end self.old.state }) }
+        ensures err { OnErr result (self.new ≡ self.old) }
         ensures queued { OnErr result (output_len self.old.state.send_queue < output_len (with_end_of end self.old.state).send_queue) }
-        ensures room { self.new.room ≡ self.old.room }
-        ensures outside { self.new.outside ≡ self.old.outside }
     {
         self.send_queue.finish(self.side, end)?;
         self.ended = Some(end);
@@ -153,11 +149,9 @@ impl LinkSide {
     fn receive_hello(&mut self, side: Side, frame: &[u8]) -> Result<(), Memory>
         requires frame { IsFrame (Awaited.Hello side) frame.now }
         requires within { self.old.state.place + length frame.now ≤ 2 ^ 62 }
-        ensures ok { OnOk result (self.new.state ≡ with_peer_hello (next_frame self.old.state frame.now) (hello_of side frame.now) self.old.state) }
-        ensures err { OnErr result (self.new.state ≡ self.old.state) }
+        ensures ok { OnOk result (self.new ≡ record self.old { state = with_peer_hello (next_frame self.old.state frame.now) (hello_of side frame.now) self.old.state }) }
+        ensures err { OnErr result (self.new ≡ self.old) }
         ensures queued { OnErr result (output_len self.old.state.send_queue < output_len (with_peer_hello (next_frame self.old.state frame.now) (hello_of side frame.now) self.old.state).send_queue) }
-        ensures room { self.new.room ≡ self.old.room }
-        ensures outside { self.new.outside ≡ self.old.outside }
     {
         match hello_in_frame(side, frame) {
             Ok(hello) => self.accept_hello(hello.private, frame),
@@ -172,11 +166,9 @@ impl LinkSide {
     fn accept_hello(&mut self, peer_private: &[u8], frame: &[u8]) -> Result<(), Memory>
         requires some { 0 < length frame.now }
         requires within { self.old.state.place + length frame.now ≤ 2 ^ 62 }
-        ensures ok { OnOk result (self.new.state ≡ after_frame (next_frame self.old.state frame.now) (with_agreement (own_private self.old.state.terms self.old.state.side peer_private.now) peer_private.now self.old.state)) }
-        ensures err { OnErr result (self.new.state ≡ self.old.state) }
+        ensures ok { OnOk result (self.new ≡ record self.old { state = after_frame (next_frame self.old.state frame.now) (with_agreement (own_private self.old.state.terms self.old.state.side peer_private.now) peer_private.now self.old.state) }) }
+        ensures err { OnErr result (self.new ≡ self.old) }
         ensures queued { OnErr result (output_len self.old.state.send_queue < output_len (with_agreement (own_private self.old.state.terms self.old.state.side peer_private.now) peer_private.now self.old.state).send_queue) }
-        ensures room { self.new.room ≡ self.old.room }
-        ensures outside { self.new.outside ≡ self.old.outside }
     {
         let own = own_private(self.terms, self.side, peer_private);
         self.send_queue.queue_hello(self.side, own.as_slice())?;
@@ -194,11 +186,9 @@ impl LinkSide {
     fn receive_fpdu(&mut self, frame: &[u8]) -> Result<(), Memory>
         requires frame { IsFrame Awaited.Fpdu frame.now }
         requires within { self.old.state.place + length frame.now ≤ 2 ^ 62 }
-        ensures ok { OnOk result (self.new.state ≡ with_fpdu (next_frame self.old.state frame.now) (next_segment self.old.state frame.now) self.old.state) }
-        ensures err { OnErr result (self.new.state ≡ self.old.state) }
+        ensures ok { OnOk result (self.new ≡ record self.old { state = with_fpdu (next_frame self.old.state frame.now) (next_segment self.old.state frame.now) self.old.state }) }
+        ensures err { OnErr result (self.new ≡ self.old) }
         ensures queued { OnErr result (output_len self.old.state.send_queue < output_len (with_fpdu (next_frame self.old.state frame.now) (next_segment self.old.state frame.now) self.old.state).send_queue) }
-        ensures room { self.new.room ≡ self.old.room }
-        ensures outside { self.new.outside ≡ self.old.outside }
     {
         match segment_in_frame(takes_invalidate(self.side, self.agreed), frame) {
             Ok(segment) => self.receive(&segment, frame),
@@ -216,11 +206,9 @@ impl LinkSide {
         requires payload { length (payload_in (plain segment.now)) < 2 ^ 16 }
         requires size { length (payload_in (plain segment.now)) + 1 ≤ length frame.now }
         requires within { self.old.state.place + length frame.now ≤ 2 ^ 62 }
-        ensures ok { OnOk result (self.new.state ≡ with_segment_by (next_frame self.old.state frame.now) (plain segment.now) (segment_end self.old.state (next_frame self.old.state frame.now) (plain segment.now)) self.old.state) }
-        ensures err { OnErr result (self.new.state ≡ self.old.state) }
+        ensures ok { OnOk result (self.new ≡ record self.old { state = with_segment_by (next_frame self.old.state frame.now) (plain segment.now) (segment_end self.old.state (next_frame self.old.state frame.now) (plain segment.now)) self.old.state }) }
+        ensures err { OnErr result (self.new ≡ self.old) }
         ensures queued { OnErr result (output_len self.old.state.send_queue < output_len (with_segment_by (next_frame self.old.state frame.now) (plain segment.now) (segment_end self.old.state (next_frame self.old.state frame.now) (plain segment.now)) self.old.state).send_queue) }
-        ensures room { self.new.room ≡ self.old.room }
-        ensures outside { self.new.outside ≡ self.old.outside }
     {
         match *segment {
             Segment::Tagged {
@@ -241,11 +229,9 @@ impl LinkSide {
         requires payload { length (payload_in (plain segment.now)) < 2 ^ 16 }
         requires size { length (payload_in (plain segment.now)) + 1 ≤ length frame.now }
         requires within { self.old.state.place + length frame.now ≤ 2 ^ 62 }
-        ensures ok { OnOk result (self.new.state ≡ with_segment_by (next_frame self.old.state frame.now) (plain segment.now) (segment_end self.old.state (next_frame self.old.state frame.now) (plain segment.now)) self.old.state) }
-        ensures err { OnErr result (self.new.state ≡ self.old.state) }
+        ensures ok { OnOk result (self.new ≡ record self.old { state = with_segment_by (next_frame self.old.state frame.now) (plain segment.now) (segment_end self.old.state (next_frame self.old.state frame.now) (plain segment.now)) self.old.state }) }
+        ensures err { OnErr result (self.new ≡ self.old) }
         ensures queued { OnErr result (output_len self.old.state.send_queue < output_len (with_segment_by (next_frame self.old.state frame.now) (plain segment.now) (segment_end self.old.state (next_frame self.old.state frame.now) (plain segment.now)) self.old.state).send_queue) }
-        ensures room { self.new.room ≡ self.old.room }
-        ensures outside { self.new.outside ≡ self.old.outside }
     {
         match self.fault(segment) {
             Some(end) => self.end_with(end),

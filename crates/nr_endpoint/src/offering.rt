@@ -128,11 +128,9 @@ impl LinkSide {
     ) -> Result<(), Memory>
         requires size { length front.now + length stream.now < 2 ^ 32 }
         requires fits { All FitsRegion writes.now }
-        ensures ok { OnOk result (self.new.state ≡ after_answer writes.now named (front.now ++ stream.now) self.old.state) }
-        ensures err { OnErr result (self.new.state ≡ self.old.state) }
+        ensures ok { OnOk result (self.new ≡ record self.old { state = after_answer writes.now named (front.now ++ stream.now) self.old.state }) }
+        ensures err { OnErr result (self.new ≡ self.old) }
         ensures live { OnErr result (has_ended self.old.state ≡ false) }
-        ensures room { self.new.room ≡ self.old.room }
-        ensures outside { self.new.outside ≡ self.old.outside }
     {
         if self.ended.is_some() {
             return Ok(());
@@ -150,11 +148,9 @@ impl LinkSide {
     ) -> Result<(), Memory>
         requires size { length front.now + length stream.now < 2 ^ 32 }
         requires fits { All FitsSharedRegion writes.now }
-        ensures ok { OnOk result (self.new.state ≡ after_shared writes.now named (front.now ++ stream.now) self.old.state) }
-        ensures err { OnErr result (self.new.state ≡ self.old.state) }
+        ensures ok { OnOk result (self.new ≡ record self.old { state = after_shared writes.now named (front.now ++ stream.now) self.old.state }) }
+        ensures err { OnErr result (self.new ≡ self.old) }
         ensures live { OnErr result (has_ended self.old.state ≡ false) }
-        ensures room { self.new.room ≡ self.old.room }
-        ensures outside { self.new.outside ≡ self.old.outside }
     {
         if self.ended.is_some() {
             return Ok(());

@@ -54,9 +54,7 @@ impl LinkSide {
     /// The side ends because the layer above is out of memory.
     pub fn run_out(&mut self) -> End
         ensures end { result ≡ ends.Memory }
-        ensures state { self.new.state ≡ record self.old.state { ended = Some ends.Memory } }
-        ensures room { self.new.room ≡ self.old.room }
-        ensures outside { self.new.outside ≡ self.old.outside }
+        ensures state { self.new ≡ record self.old { state = record self.old.state { ended = Some ends.Memory } } }
     {
         self.ended = Some(End::Memory);
         End::Memory
@@ -67,9 +65,7 @@ impl LinkSide {
         ensures event { self.old.state.receive_queue.deliveries ≡ option_to_list (option_map delivery result) ++ self.new.state.receive_queue.deliveries }
         ensures waits { is_some result ≡ nat_lt 0 (length self.old.state.receive_queue.deliveries) }
         ensures buffer { IfSome result (HasBuffer self.new.state.receive_queue.receive_length) }
-        ensures after { self.new.state ≡ (if is_some result then record self.old.state { receive_queue = delivered self.old.state.receive_queue } else self.old.state) }
-        ensures room { self.new.room ≡ self.old.room }
-        ensures outside { self.new.outside ≡ self.old.outside }
+        ensures after { self.new ≡ record self.old { state = (if is_some result then record self.old.state { receive_queue = delivered self.old.state.receive_queue } else self.old.state) } }
     {
         self.receive_queue.next_event()
     }
@@ -78,9 +74,7 @@ impl LinkSide {
     pub fn post(&mut self, buf: Octets)
         requires lent { 0 < self.old.state.receive_queue.lent }
         requires len { length buf ≡ self.old.state.receive_queue.receive_length }
-        ensures state { self.new.state ≡ record self.old.state { receive_queue = posted self.old.state.receive_queue } }
-        ensures room { self.new.room ≡ self.old.room }
-        ensures outside { self.new.outside ≡ self.old.outside }
+        ensures state { self.new ≡ record self.old { state = record self.old.state { receive_queue = posted self.old.state.receive_queue } } }
     {
         self.receive_queue.post(buf);
     }
@@ -89,11 +83,9 @@ impl LinkSide {
     /// nothing. An `Err` changes nothing.
     pub fn send(&mut self, named: Option<u32>, message: &[u8]) -> Result<(), Memory>
         requires { length message.now < 2 ^ 32 }
-        ensures ok { OnOk result (self.new.state ≡ unless_ended self.old.state (record self.old.state { send_queue = with_send_by named message.now self.old.state.send_queue })) }
-        ensures err { OnErr result (self.new.state ≡ self.old.state) }
+        ensures ok { OnOk result (self.new ≡ record self.old { state = unless_ended self.old.state (record self.old.state { send_queue = with_send_by named message.now self.old.state.send_queue }) }) }
+        ensures err { OnErr result (self.new ≡ self.old) }
         ensures live { OnErr result (has_ended self.old.state ≡ false) }
-        ensures room { self.new.room ≡ self.old.room }
-        ensures outside { self.new.outside ≡ self.old.outside }
     {
         if self.ended.is_some() {
             return Ok(());
@@ -110,11 +102,9 @@ impl LinkSide {
         stream: &[u8],
     ) -> Result<(), Memory>
         requires { length front.now + length stream.now < 2 ^ 32 }
-        ensures ok { OnOk result (self.new.state ≡ unless_ended self.old.state (record self.old.state { send_queue = with_send_by named (front.now ++ stream.now) self.old.state.send_queue })) }
-        ensures err { OnErr result (self.new.state ≡ self.old.state) }
+        ensures ok { OnOk result (self.new ≡ record self.old { state = unless_ended self.old.state (record self.old.state { send_queue = with_send_by named (front.now ++ stream.now) self.old.state.send_queue }) }) }
+        ensures err { OnErr result (self.new ≡ self.old) }
         ensures live { OnErr result (has_ended self.old.state ≡ false) }
-        ensures room { self.new.room ≡ self.old.room }
-        ensures outside { self.new.outside ≡ self.old.outside }
     {
         if self.ended.is_some() {
             return Ok(());
@@ -126,11 +116,9 @@ impl LinkSide {
     /// the side has ended, it queues nothing. An `Err` changes nothing.
     pub fn write_remote(&mut self, stag: u32, to: u64, bytes: &[u8]) -> Result<(), Memory>
         requires { to + length bytes.now ≤ 2 ^ 64 }
-        ensures ok { OnOk result (self.new.state ≡ unless_ended self.old.state (record self.old.state { send_queue = with_write stag to bytes.now self.old.state.send_queue })) }
-        ensures err { OnErr result (self.new.state ≡ self.old.state) }
+        ensures ok { OnOk result (self.new ≡ record self.old { state = unless_ended self.old.state (record self.old.state { send_queue = with_write stag to bytes.now self.old.state.send_queue }) }) }
+        ensures err { OnErr result (self.new ≡ self.old) }
         ensures live { OnErr result (has_ended self.old.state ≡ false) }
-        ensures room { self.new.room ≡ self.old.room }
-        ensures outside { self.new.outside ≡ self.old.outside }
     {
         if self.ended.is_some() {
             return Ok(());
@@ -258,10 +246,8 @@ impl LinkSide {
     /// Lets the region under an STag die, as the peer's Send with Invalidate asks: no peer reaches it any more, and it is held.
     pub fn invalidate(&mut self, stag: u32) -> Result<(), Denied>
         ensures exact { result_err result ≡ invalidate_denial self.old.state.memory stag }
-        ensures ok { OnOk result (self.new.state ≡ record self.old.state { memory = after_invalidate self.old.state.memory stag }) }
-        ensures err { OnErr result (self.new.state ≡ self.old.state) }
-        ensures room { self.new.room ≡ self.old.room }
-        ensures outside { self.new.outside ≡ self.old.outside }
+        ensures ok { OnOk result (self.new ≡ record self.old { state = record self.old.state { memory = after_invalidate self.old.state.memory stag } }) }
+        ensures err { OnErr result (self.new ≡ self.old) }
     {
         self.regions.invalidate(stag)
     }

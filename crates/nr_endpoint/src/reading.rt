@@ -17,11 +17,9 @@ impl LinkSide {
     pub fn read_all(&mut self, reads: &[RemoteRead]) -> Result<(), Memory>
         requires count { length self.old.state.reads + length reads.now ≤ open_reads_max }
         requires fits { All FitsSink reads.now }
-        ensures ok { OnOk result (self.new.state ≡ after_reads reads.now self.old.state) }
-        ensures err { OnErr result (self.new.state ≡ self.old.state) }
+        ensures ok { OnOk result (self.new ≡ record self.old { state = after_reads reads.now self.old.state }) }
+        ensures err { OnErr result (self.new ≡ self.old) }
         ensures live { OnErr result (has_ended self.old.state ≡ false) }
-        ensures room { self.new.room ≡ self.old.room }
-        ensures outside { self.new.outside ≡ self.old.outside }
     {
         if self.ended.is_some() {
             return Ok(());
@@ -36,11 +34,9 @@ impl LinkSide {
         requires size { length message.now < 2 ^ 32 }
         requires count { length self.old.state.reads + length reads.now ≤ open_reads_max }
         requires fits { All FitsSink reads.now }
-        ensures ok { OnOk result (self.new.state ≡ after_send_reads message.now reads.now self.old.state) }
-        ensures err { OnErr result (self.new.state ≡ self.old.state) }
+        ensures ok { OnOk result (self.new ≡ record self.old { state = after_send_reads message.now reads.now self.old.state }) }
+        ensures err { OnErr result (self.new ≡ self.old) }
         ensures live { OnErr result (has_ended self.old.state ≡ false) }
-        ensures room { self.new.room ≡ self.old.room }
-        ensures outside { self.new.outside ≡ self.old.outside }
     {
         if self.ended.is_some() {
             return Ok(());

@@ -1,4 +1,5 @@
-use Rattle.std.proofs.Common.{take}
+use Rattle.std.proofs.Common.{take, ap}
+use Rattle.nr_endpoint.specs.EndpointState.{LinkView}
 use Rattle.nr_endpoint.specs.LinkState.{LinkSide}
 use Rattle.nr_endpoint.specs.Requesting.{read_calls}
 use Rattle.nr_endpoint.proofs.Standing.{stands_on_all, on_ok}
@@ -10,10 +11,10 @@ pub returns-clause-state : goal.returns-clause-state
 returns-clause-state c =
     let before : LinkSide = record { awaited = c.self.inside.awaited; rest = take c.self.inside.staged c.self.inside.staging.items; state = c.self.inside.link.state } in
     let after : LinkSide = record { awaited = c.self.inside.awaited; rest = take c.self.inside.staged c.self.inside.staging.items; state = c.read_all.new.self.state } in
-    on_ok c.read_all.result (λ is. seen_all before c.self.inside.staging.items c.args.self.now after (read_calls c.args.reads.now) c.self.view_is (read_all_state before c.read_all.new.self.state c.args.reads.now is)) c.read_all.ensures.ok
+    on_ok c.read_all.result (λ is. seen_all before c.self.inside.staging.items c.args.self.now after (read_calls c.args.reads.now) c.self.view_is (read_all_state before c.read_all.new.self.state c.args.reads.now (ap (λ (l : LinkView). l.state) is))) c.read_all.ensures.ok
 
 pub returns-clause-stands : goal.returns-clause-stands
 returns-clause-stands c =
     let before : LinkSide = record { awaited = c.self.inside.awaited; rest = take c.self.inside.staged c.self.inside.staging.items; state = c.self.inside.link.state } in
     let after : LinkSide = record { awaited = c.self.inside.awaited; rest = take c.self.inside.staged c.self.inside.staging.items; state = c.read_all.new.self.state } in
-    on_ok c.read_all.result (λ is. stands_on_all c.args.self.now.link (read_calls c.args.reads.now) after (seen_all before c.self.inside.staging.items c.args.self.now after (read_calls c.args.reads.now) c.self.view_is (read_all_state before c.read_all.new.self.state c.args.reads.now is))) c.read_all.ensures.ok
+    on_ok c.read_all.result (λ is. stands_on_all c.args.self.now.link (read_calls c.args.reads.now) after (seen_all before c.self.inside.staging.items c.args.self.now after (read_calls c.args.reads.now) c.self.view_is (read_all_state before c.read_all.new.self.state c.args.reads.now (ap (λ (l : LinkView). l.state) is)))) c.read_all.ensures.ok

@@ -5,7 +5,7 @@ use Rattle.nr_wire.specs.Feeding.{bytes_taken}
 use Rattle.nr_wire.specs.Stream.{IsPartial, IsFrame, is_whole, frame_len}
 use Rattle.nr_wire.proofs.Frames.{partial_from, partial_nil, whole_from, IsFrame_take}
 use Rattle.nr_wire.proofs.Feedings.{bytes_taken_whole}
-use Rattle.nr_endpoint.specs.EndpointState.{EndpointState}
+use Rattle.nr_endpoint.specs.EndpointState.{EndpointState, LinkView}
 use Rattle.nr_endpoint.proofs.OneStep.{living, stepped_whole, stepped_partial, out_of_memory, judged, not_judged, not_judged_queues, queues_whole, in_piece, not_in_piece, whole_is, partial_is, StagedFacts, staged_facts, keeps_partial, keeps_whole}
 use Rattle.nr_endpoint.proofs.HelloFirst.{greeted_judged, greeted_out}
 use Rattle.nr_endpoint.proofs.endpoint.Endpoint.step.Goals as goal
@@ -24,7 +24,7 @@ invariant_of-self c =
       within = c.self.invariant.within;
       partial = subst (λ (n : ℕ). IsPartial Fpdu (take n c.self.inside.staging.items)) (sym found.0) (partial_nil Fpdu);
       ended_empty = λ _. found.0;
-      greeted = greeted_judged c.self.inside.awaited c.self.inside.link.state c.receive_frame.new.self.state c.split_at.result.0.now (subst (λ (e : EndpointState). e.link.state.ended ≡ None) (sym c.self.view_is) c.requires.live) c.self.invariant.greeted (judged c.receive_frame.result c.receive_frame.new.self.state _ _ c.receive_frame.ensures.state c.if-receive_frame.true);
+      greeted = greeted_judged c.self.inside.awaited c.self.inside.link.state c.receive_frame.new.self.state c.split_at.result.0.now (subst (λ (e : EndpointState). e.link.state.ended ≡ None) (sym c.self.view_is) c.requires.live) c.self.invariant.greeted (judged c.receive_frame.result c.receive_frame.new.self.state _ _ (ap (λ (l : LinkView). l.state) c.receive_frame.ensures.state) c.if-receive_frame.true);
     }
 
 taken-in-piece : (a : Awaited) (old piece : List ℕ) (s len : ℕ) → s ≡ 0 → is_whole a piece ≡ true → len ≡ frame_len a piece → len ≡ bytes_taken a (take s old) piece
@@ -63,7 +63,7 @@ returns-then-receive_frame-clause-state c =
     rw (← c.self.view_is) (inl (ap (λ (rest : List ℕ). record { awaited = Fpdu; rest = rest; state = c.receive_frame.new.self.state }) none
     ∙ stepped_whole c.self.inside.link.state c.receive_frame.new.self.state c.self.inside.awaited (take c.self.inside.staged c.self.inside.staging.items) c.args.piece.now c.split_at.result.0.now (subst (λ (e : EndpointState). e.link.state.ended ≡ None) (sym c.self.view_is) c.requires.live) (ap (is_whole c.self.inside.awaited) (none-staged c.self.inside.staging.items c.args.piece.now c.self.inside.staged found.0) ∙ found.1.0)
     (frame-in-piece c.self.inside.awaited c.self.inside.staging.items c.args.piece.now c.split_at.result.0.now c.self.inside.staged c.in-Some.len found.0 found.1.1 c.split_at.ensures.front)
-    (judged c.receive_frame.result c.receive_frame.new.self.state _ _ c.receive_frame.ensures.state c.if-receive_frame.true)))
+    (judged c.receive_frame.result c.receive_frame.new.self.state _ _ (ap (λ (l : LinkView). l.state) c.receive_frame.ensures.state) c.if-receive_frame.true)))
 
 pub returns-else-receive_frame-clause-state : goal.returns-else-receive_frame-clause-state
 returns-else-receive_frame-clause-state c =
@@ -73,7 +73,7 @@ returns-else-receive_frame-clause-state c =
     ap (is_whole c.self.inside.awaited) (none-staged c.self.inside.staging.items c.args.piece.now c.self.inside.staged found.0) ∙ found.1.0 in
     rw (← c.self.view_is) (inr (
       (ap (λ (rest : List ℕ). record { awaited = c.self.inside.awaited; rest = rest; state = c.receive_frame.new.self.state }) none
-          ∙ out_of_memory c.self.inside.link.state c.receive_frame.new.self.state c.self.inside.awaited (take c.self.inside.staged c.self.inside.staging.items) (subst (λ (e : EndpointState). e.link.state.ended ≡ None) (sym c.self.view_is) c.requires.live) (not_judged c.receive_frame.result c.receive_frame.new.self.state _ _ c.receive_frame.ensures.state c.if-receive_frame.false)),
+          ∙ out_of_memory c.self.inside.link.state c.receive_frame.new.self.state c.self.inside.awaited (take c.self.inside.staged c.self.inside.staging.items) (subst (λ (e : EndpointState). e.link.state.ended ≡ None) (sym c.self.view_is) c.requires.live) (not_judged c.receive_frame.result c.receive_frame.new.self.state _ _ (ap (λ (l : LinkView). l.state) c.receive_frame.ensures.state) c.if-receive_frame.false)),
       whole,
       queues_whole c.self.inside.link.state c.self.inside.awaited (take c.self.inside.staged c.self.inside.staging.items) c.args.piece.now c.split_at.result.0.now (subst (λ (e : EndpointState). e.link.state.ended ≡ None) (sym c.self.view_is) c.requires.live) whole
           (frame-in-piece c.self.inside.awaited c.self.inside.staging.items c.args.piece.now c.split_at.result.0.now c.self.inside.staged c.in-Some.len found.0 found.1.1 c.split_at.ensures.front)
@@ -128,12 +128,12 @@ receive_frame-requires-2-clause-within c =
 pub invariant_of-self-then-receive_frame-2 : goal.invariant_of-self-then-receive_frame-2
 invariant_of-self-then-receive_frame-2 c =
     let facts : StagedFacts c.self.inside.awaited c.self.inside.staging.items c.stage_frame-taken.new.staging.items c.args.piece.now c.self.inside.staged c.stage_frame-taken.result = staged_facts c.self.inside.awaited c.self.inside.staging.items c.stage_frame-taken.new.staging.items c.args.piece.now c.self.inside.staged c.stage_frame-taken.result c.self.invariant.len c.stage_frame-taken.ensures.room c.self.invariant.partial c.stage_frame-taken.ensures.taken c.stage_frame-taken.ensures.bytes in
-    record { len = facts.len; within = omega arith; partial = partial_nil Fpdu; ended_empty = λ _. refl; greeted = greeted_judged c.self.inside.awaited c.self.inside.link.state c.receive_frame-2.new.self.state c.split_at-2.result.0.now (subst (λ (e : EndpointState). e.link.state.ended ≡ None) (sym c.self.view_is) c.requires.live) c.self.invariant.greeted (judged c.receive_frame-2.result c.receive_frame-2.new.self.state _ _ c.receive_frame-2.ensures.state c.if-receive_frame-2.true) }
+    record { len = facts.len; within = omega arith; partial = partial_nil Fpdu; ended_empty = λ _. refl; greeted = greeted_judged c.self.inside.awaited c.self.inside.link.state c.receive_frame-2.new.self.state c.split_at-2.result.0.now (subst (λ (e : EndpointState). e.link.state.ended ≡ None) (sym c.self.view_is) c.requires.live) c.self.invariant.greeted (judged c.receive_frame-2.result c.receive_frame-2.new.self.state _ _ (ap (λ (l : LinkView). l.state) c.receive_frame-2.ensures.state) c.if-receive_frame-2.true) }
 
 pub invariant_of-self-else-receive_frame-2 : goal.invariant_of-self-else-receive_frame-2
 invariant_of-self-else-receive_frame-2 c =
     let facts : StagedFacts c.self.inside.awaited c.self.inside.staging.items c.stage_frame-taken.new.staging.items c.args.piece.now c.self.inside.staged c.stage_frame-taken.result = staged_facts c.self.inside.awaited c.self.inside.staging.items c.stage_frame-taken.new.staging.items c.args.piece.now c.self.inside.staged c.stage_frame-taken.result c.self.invariant.len c.stage_frame-taken.ensures.room c.self.invariant.partial c.stage_frame-taken.ensures.taken c.stage_frame-taken.ensures.bytes in
-    record { len = facts.len; within = omega arith; partial = partial_nil c.self.inside.awaited; ended_empty = λ _. refl; greeted = greeted_out c.self.inside.awaited c.self.inside.link.state c.receive_frame-2.new.self.state (not_judged c.receive_frame-2.result c.receive_frame-2.new.self.state _ _ c.receive_frame-2.ensures.state c.if-receive_frame-2.false) }
+    record { len = facts.len; within = omega arith; partial = partial_nil c.self.inside.awaited; ended_empty = λ _. refl; greeted = greeted_out c.self.inside.awaited c.self.inside.link.state c.receive_frame-2.new.self.state (not_judged c.receive_frame-2.result c.receive_frame-2.new.self.state _ _ (ap (λ (l : LinkView). l.state) c.receive_frame-2.ensures.state) c.if-receive_frame-2.false) }
 
 pub returns-then-receive_frame-2-clause-state : goal.returns-then-receive_frame-2-clause-state
 returns-then-receive_frame-2-clause-state c =
@@ -141,7 +141,7 @@ returns-then-receive_frame-2-clause-state c =
     let staged : c.split_at-2.result.0.now ≡ take (c.self.inside.staged + c.stage_frame-taken.result) c.stage_frame-taken.new.staging.items = c.split_at-2.ensures.front ∙ ap (take (c.self.inside.staged + c.stage_frame-taken.result)) c.as_slice.ensures.value in
     let whole : is_whole c.self.inside.awaited ((take c.self.inside.staged c.self.inside.staging.items) ++ c.args.piece.now) ≡ true = sym facts.whole ∙ ap (is_whole c.self.inside.awaited) (sym staged) ∙ whole_is (is_whole c.self.inside.awaited c.split_at-2.result.0.now) _ c.whole_frame.result c.whole_frame.ensures.exact (c.is_none.ensures ∙ ap not c.if-is_none.false) in
     rw (← c.self.view_is) (inl (stepped_whole c.self.inside.link.state c.receive_frame-2.new.self.state c.self.inside.awaited (take c.self.inside.staged c.self.inside.staging.items) c.args.piece.now c.split_at-2.result.0.now (subst (λ (e : EndpointState). e.link.state.ended ≡ None) (sym c.self.view_is) c.requires.live) whole (staged ∙ (facts.frame whole).1)
-    (judged c.receive_frame-2.result c.receive_frame-2.new.self.state _ _ c.receive_frame-2.ensures.state c.if-receive_frame-2.true)))
+    (judged c.receive_frame-2.result c.receive_frame-2.new.self.state _ _ (ap (λ (l : LinkView). l.state) c.receive_frame-2.ensures.state) c.if-receive_frame-2.true)))
 
 pub returns-else-receive_frame-2-clause-state : goal.returns-else-receive_frame-2-clause-state
 returns-else-receive_frame-2-clause-state c =
@@ -149,7 +149,7 @@ returns-else-receive_frame-2-clause-state c =
     let staged : c.split_at-2.result.0.now ≡ take (c.self.inside.staged + c.stage_frame-taken.result) c.stage_frame-taken.new.staging.items = c.split_at-2.ensures.front ∙ ap (take (c.self.inside.staged + c.stage_frame-taken.result)) c.as_slice.ensures.value in
     let whole : is_whole c.self.inside.awaited ((take c.self.inside.staged c.self.inside.staging.items) ++ c.args.piece.now) ≡ true = sym facts.whole ∙ ap (is_whole c.self.inside.awaited) (sym staged) ∙ whole_is (is_whole c.self.inside.awaited c.split_at-2.result.0.now) _ c.whole_frame.result c.whole_frame.ensures.exact (c.is_none.ensures ∙ ap not c.if-is_none.false) in
     rw (← c.self.view_is) (inr (
-      out_of_memory c.self.inside.link.state c.receive_frame-2.new.self.state c.self.inside.awaited (take c.self.inside.staged c.self.inside.staging.items) (subst (λ (e : EndpointState). e.link.state.ended ≡ None) (sym c.self.view_is) c.requires.live) (not_judged c.receive_frame-2.result c.receive_frame-2.new.self.state _ _ c.receive_frame-2.ensures.state c.if-receive_frame-2.false),
+      out_of_memory c.self.inside.link.state c.receive_frame-2.new.self.state c.self.inside.awaited (take c.self.inside.staged c.self.inside.staging.items) (subst (λ (e : EndpointState). e.link.state.ended ≡ None) (sym c.self.view_is) c.requires.live) (not_judged c.receive_frame-2.result c.receive_frame-2.new.self.state _ _ (ap (λ (l : LinkView). l.state) c.receive_frame-2.ensures.state) c.if-receive_frame-2.false),
       whole,
       queues_whole c.self.inside.link.state c.self.inside.awaited (take c.self.inside.staged c.self.inside.staging.items) c.args.piece.now c.split_at-2.result.0.now (subst (λ (e : EndpointState). e.link.state.ended ≡ None) (sym c.self.view_is) c.requires.live) whole
           (staged ∙ (facts.frame whole).1) (not_judged_queues c.receive_frame-2.result _ c.receive_frame-2.ensures.queued c.if-receive_frame-2.false),

@@ -3,6 +3,7 @@ use Rattle.nr_regions.specs.declared.right.Right.TheVariants.{Fetch}
 use Rattle.nr_regions.specs.RegisteredMemory.{bytes_at}
 use Rattle.nr_endpoint.specs.LinkState.{LinkState}
 use Rattle.nr_endpoint.specs.Views.{expected, read_request_view}
+use Rattle.nr_endpoint.proofs.Sides.{same_side}
 use Rattle.nr_endpoint.proofs.Taken.{counted_request, took_request}
 use Rattle.nr_endpoint.proofs.link.LinkSide.apply_request.Goals as goal
 
@@ -27,6 +28,6 @@ returns-clause-ok c =
       agreed = c.self.inside.agreed;
       message_max = c.self.inside.message_max;
     } in
-    rw (← c.self.view_is) (took_request s c.count_request.new.self c.respond.new.self (read_request_view c.read_request-request.result) c.in-Ok.bytes.now c.args.payload.now c.args.frame.now
+    rw (← c.self.view_is) (same_side c.self.inside.regions.room c.self.inside.regions.outside (took_request s c.count_request.new.self c.respond.new.self (read_request_view c.read_request-request.result) c.in-Ok.bytes.now c.args.payload.now c.args.frame.now
     c.count_request.ensures c.in_ok-respond-in-Ok.ensures.ok c.read_request-request.ensures
-    (c.in-Ok.ensures.ok ∙ ap (λ (len : ℕ). bytes_at c.self.inside.regions.memory (record { right = Fetch; stag = c.read_request-request.result.stag; to = c.read_request-request.result.to; len = len })) c.from.ensures))
+    (c.in-Ok.ensures.ok ∙ ap (λ (len : ℕ). bytes_at c.self.inside.regions.memory (record { right = Fetch; stag = c.read_request-request.result.stag; to = c.read_request-request.result.to; len = len })) c.from.ensures)))

@@ -1,6 +1,7 @@
 use Rattle.std.proofs.Common.{◌+◌, ◌≤◌, length, sym, subst, arith}
 use Rattle.nr_link.specs.ReceiveState.{begun_bytes}
 use Rattle.nr_endpoint.specs.EndpointState.{LinkView}
+use Rattle.nr_endpoint.proofs.Sides.{same_side}
 use Rattle.nr_endpoint.proofs.Taken.{counted_send, took_send}
 use Rattle.nr_endpoint.proofs.link.LinkSide.apply_send.Goals as goal
 
@@ -16,4 +17,4 @@ invariant_of-self c =
 
 pub returns-clause-state : goal.returns-clause-state
 returns-clause-state c =
-    rw (← c.self.view_is) (took_send _ c.receive.new.self c.args.named c.args.last c.args.payload.now c.args.frame.now c.receive.ensures)
+    rw (← c.self.view_is) (same_side c.self.inside.regions.room c.self.inside.regions.outside (took_send _ c.receive.new.self c.args.named c.args.last c.args.payload.now c.args.frame.now c.receive.ensures))

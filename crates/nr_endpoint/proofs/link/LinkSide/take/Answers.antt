@@ -4,6 +4,7 @@ use Rattle.nr_wire.specs.declared.segment.Segment.{Segment}
 use Rattle.nr_wire.specs.Segment.{IsSupported}
 use Rattle.nr_wire.specs.Segment.Segment.{Untagged}
 use Rattle.nr_wire.specs.View.{segment as plain}
+use Rattle.nr_endpoint.specs.LinkState.{LinkState}
 use Rattle.nr_endpoint.specs.Judging.{segment_end, with_effect, next_frame, after_frame}
 use Rattle.nr_link.specs.ReceiveState.{is_send}
 use Rattle.nr_endpoint.specs.ReceiveQueue.{send_segment}
@@ -31,9 +32,9 @@ apply_send-requires-clause-fine c =
 pub returns-then-opcode-eq-OPCODE_READ_REQUEST-clause-ok : goal.returns-then-opcode-eq-OPCODE_READ_REQUEST-clause-ok
 returns-then-opcode-eq-OPCODE_READ_REQUEST-clause-ok c =
     on_ok c.apply_request.result
-    (λ is. is ∙ ap (after_frame (next_frame c.args.self.now.state c.args.frame.now)) (same_request c.args.self.now.state c.in-Untagged.last c.in-Untagged.word c.in-Untagged.queue c.in-Untagged.msn c.in-Untagged.offset c.in-Untagged.payload.now)
+    (λ is. is ∙ ap (λ (x : LinkState). record c.args.self.now { state = x }) (ap (after_frame (next_frame c.args.self.now.state c.args.frame.now)) (same_request c.args.self.now.state c.in-Untagged.last c.in-Untagged.word c.in-Untagged.queue c.in-Untagged.msn c.in-Untagged.offset c.in-Untagged.payload.now)
     ∙ ap (λ (segment : Segment). after_frame (next_frame c.args.self.now.state c.args.frame.now) (with_effect (plain segment) c.args.self.now.state)) (sym (c.in-Untagged.is
-    ∙ ap (λ (opcode : ℕ). Segment.Untagged c.in-Untagged.last opcode c.in-Untagged.word c.in-Untagged.queue c.in-Untagged.msn c.in-Untagged.offset c.in-Untagged.payload) c.if-opcode-eq-OPCODE_READ_REQUEST.true)))
+    ∙ ap (λ (opcode : ℕ). Segment.Untagged c.in-Untagged.last opcode c.in-Untagged.word c.in-Untagged.queue c.in-Untagged.msn c.in-Untagged.offset c.in-Untagged.payload) c.if-opcode-eq-OPCODE_READ_REQUEST.true))))
     c.apply_request.ensures.ok
 
 pub returns-then-opcode-eq-OPCODE_READ_REQUEST-clause-queued : goal.returns-then-opcode-eq-OPCODE_READ_REQUEST-clause-queued
@@ -51,6 +52,6 @@ returns-clause-ok c =
     (alive_send c.args.self.now.state (next_frame c.args.self.now.state c.args.frame.now) c.in-Untagged.last c.in-Untagged.opcode c.in-Untagged.word c.in-Untagged.queue c.in-Untagged.msn c.in-Untagged.offset c.in-Untagged.payload.now refl
     supported.0 c.if-opcode-eq-OPCODE_READ_REQUEST.false
     (subst (λ (s : Segment). segment_end c.args.self.now.state (next_frame c.args.self.now.state c.args.frame.now) (plain s) ≡ None) c.in-Untagged.is c.requires.lives)).0 in
-    c.apply_send.ensures.state ∙ ap (after_frame (next_frame c.args.self.now.state c.args.frame.now)) (ap (λ (named : Option ℕ). with_effect (send_segment named c.in-Untagged.last c.in-Untagged.payload.now) c.args.self.now.state) c.named_by.ensures
+    c.apply_send.ensures.state ∙ ap (λ (x : LinkState). record c.args.self.now { state = x }) (ap (after_frame (next_frame c.args.self.now.state c.args.frame.now)) (ap (λ (named : Option ℕ). with_effect (send_segment named c.in-Untagged.last c.in-Untagged.payload.now) c.args.self.now.state) c.named_by.ensures
     ∙ same_send c.args.self.now.state c.in-Untagged.last c.in-Untagged.opcode c.in-Untagged.word c.in-Untagged.queue c.in-Untagged.msn c.in-Untagged.offset c.in-Untagged.payload.now opcode)
-    ∙ ap (λ (segment : Segment). after_frame (next_frame c.args.self.now.state c.args.frame.now) (with_effect (plain segment) c.args.self.now.state)) (sym c.in-Untagged.is)
+    ∙ ap (λ (segment : Segment). after_frame (next_frame c.args.self.now.state c.args.frame.now) (with_effect (plain segment) c.args.self.now.state)) (sym c.in-Untagged.is))
