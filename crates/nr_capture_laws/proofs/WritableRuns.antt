@@ -28,7 +28,7 @@ use Rattle.nr_reduce.specs.Limits.{credits_max}
 use Rattle.nr_reduce.specs.History.{AcceptedCall, accepted_as, accepted_at, accepted_calls, bytes_sent}
 use Rattle.nr_reduce.specs.Run.{client, server}
 use Rattle.nr_reduce.specs.ServerState.{ReadyCall}
-use Rattle.nr_reduce.specs.ServerMessages.{call_xid}
+use Rattle.nr_rpc.specs.Reading.{head_xid}
 use Rattle.nr_reduce.specs.AtEachMark.{AtEachMark}
 use Rattle.nr_reduce.specs.Asked.{AskedMark, AskedSoFar, IsAll, IsAwaited}
 use Rattle.nr_reduce.specs.Served.{ServedMark, IsExecuted, first_ready, next_call}
@@ -106,7 +106,7 @@ awaited_word opened link before xid h w =
     subst IsWord w.own own
 
 -- the xid of an executed call is in its payload, which is bytes
-head_word : (payload : List ℕ) (head : CallHead) → BeginsCall head payload → IsWord (call_xid head)
+head_word : (payload : List ℕ) (head : CallHead) → BeginsCall head payload → IsWord (head_xid head)
 head_word payload (calls.Version2 xid prog vers proc cred args_at) (front, behind, (auth, verifier, auth_within, verifier_within, reads, (first, rest, xid_read, others, parts), place), e) = xid_read.fits
 head_word payload (calls.Other xid rpcvers) (front, behind, (apart, (first, rest, xid_read, others, parts)), e) = xid_read.fits
 

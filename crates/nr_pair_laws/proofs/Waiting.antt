@@ -8,7 +8,8 @@ use Rattle.nr_reduce.specs.declared.call.Form.TheVariants as forms
 use Rattle.nr_reduce.specs.declared.call.Submission.TheVariants as submissions
 use Rattle.nr_reduce.specs.declared.mark.Mark.{Mark}
 use Rattle.nr_reduce.specs.declared.mark.Mark.TheVariants as marks
-use Rattle.nr_reduce.specs.History.{bytes_received, bytes_sent, fed_at, other, written_at}
+use Rattle.nr_wire.specs.Hello.{peer}
+use Rattle.nr_reduce.specs.History.{bytes_received, bytes_sent, fed_at, written_at}
 use Rattle.nr_reduce.specs.Matched.{IsPrefixOf, Matched, MatchedMark}
 use Rattle.nr_reduce.proofs.Standing.{itself}
 use Rattle.nr_laws.proofs.OnceByXid.{at_mark}
@@ -62,18 +63,18 @@ server_moves link = record {
 -- ---- The first of two pieces that wait
 
 -- A side is fed a piece in a matched run, before which the other side made some of these marks: so it had sent the piece.
-never_waits : (link : ℕ) (side : Side) (p q : Mark → Bool) → MovesBytes link side p → MovesBytes link (other side) q → (both u after : List Mark) (bytes : List ℕ) → both ≡ u ++ marks.Fed link side bytes ∷ after → Matched link both
-    → (own others more : List Mark) → filter p u ≡ own → filter q u ++ more ≡ others → length (bytes_sent link (other side) others) < length (bytes_received link side own ++ bytes) → ⊥
+never_waits : (link : ℕ) (side : Side) (p q : Mark → Bool) → MovesBytes link side p → MovesBytes link (peer side) q → (both u after : List Mark) (bytes : List ℕ) → both ≡ u ++ marks.Fed link side bytes ∷ after → Matched link both
+    → (own others more : List Mark) → filter p u ≡ own → filter q u ++ more ≡ others → length (bytes_sent link (peer side) others) < length (bytes_received link side own ++ bytes) → ⊥
 never_waits link side p q mine theirs both u after bytes is matched own others more own_is others_are waits =
-    let fits : IsPrefixOf (bytes_received link side u ++ bytes) (bytes_sent link (other side) u) = at_mark (MatchedMark link) both u (marks.Fed link side bytes) after is matched refl in
+    let fits : IsPrefixOf (bytes_received link side u ++ bytes) (bytes_sent link (peer side) u) = at_mark (MatchedMark link) both u (marks.Fed link side bytes) after is matched refl in
     let sum = length-append (bytes_received link side u ++ bytes) fits.0 in
     let whole = ap (λ (l : List ℕ). length l) fits.1 in
     let received : length (bytes_received link side u ++ bytes) ≡ length (bytes_received link side own ++ bytes) =
     ap (λ (l : List ℕ). length (l ++ bytes)) (mine.received u ∙ ap (λ (run : List Mark). bytes_received link side run) own_is) in
-    let sent : length (bytes_sent link (other side) u) ≡ length (bytes_sent link (other side) (filter q u)) = ap (λ (l : List ℕ). length l) (theirs.sent u) in
-    let later : length (bytes_sent link (other side) others) ≡ length (bytes_sent link (other side) (filter q u) ++ bytes_sent link (other side) more) =
-    ap (λ (l : List ℕ). length l) (ap (λ (run : List Mark). bytes_sent link (other side) run) (sym others_are) ∙ sent_all link (other side) (filter q u) more) in
-    let parts = length-append (bytes_sent link (other side) (filter q u)) (bytes_sent link (other side) more) in
+    let sent : length (bytes_sent link (peer side) u) ≡ length (bytes_sent link (peer side) (filter q u)) = ap (λ (l : List ℕ). length l) (theirs.sent u) in
+    let later : length (bytes_sent link (peer side) others) ≡ length (bytes_sent link (peer side) (filter q u) ++ bytes_sent link (peer side) more) =
+    ap (λ (l : List ℕ). length l) (ap (λ (run : List Mark). bytes_sent link (peer side) run) (sym others_are) ∙ sent_all link (peer side) (filter q u) more) in
+    let parts = length-append (bytes_sent link (peer side) (filter q u)) (bytes_sent link (peer side) more) in
     absurd (omega (arith, sum, whole, received, sent, later, parts, waits))
 
 excluded : (link : ℕ) (client_run server_run both : List Mark) → AreSidesOf link client_run server_run both → BothWait link client_run server_run → ⊥
