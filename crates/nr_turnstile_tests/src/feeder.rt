@@ -20,7 +20,7 @@ impl Machine for Feeder {
 
     type Entry = Snapshot<Pass<Counter>>;
 
-    ghost stands = { λ f h. RepresentsNotes f h × (f.entries ≡ length h) };
+    ghost stands = { λ f h. RepresentsNotes f.pass h × (f.entries ≡ length h) };
 
     ghost closes = { closes_none };
 
@@ -33,7 +33,7 @@ impl Machine for Feeder {
 pub trait First {
     ghost use Rattle.nr_turnstile_tests.specs.Feeds.{Noted};
 
-    ghost noted: { List Noted };
+    ghost noted: { List (Noted Counter) };
 }
 
 impl First for Brand {
