@@ -32,6 +32,7 @@ impl Machine for Feeder {
 /// The history of the first entry, for the proof.
 pub trait First {
     ghost use Rattle.nr_turnstile_tests.specs.Feeds.{Noted};
+    ghost use Rattle.nr_turnstile_tests.specs.declared.counter.Counter.{Counter};
 
     ghost noted: { List (Noted Counter) };
 }
