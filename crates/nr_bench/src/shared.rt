@@ -220,7 +220,10 @@ where
     O: Drop + Send,
     requires { 0 < threads }
 {
-    let requester = Requester::open(alloc, CREDITS).ok()?;
+    let requester = match Requester::open(alloc, CREDITS) {
+        Ok(requester) => requester,
+        Err(_) => return None,
+    };
     let (shared, mut pass) = share::<Brand, R, I, O>(rt, alloc, requester, source, sink)?;
     let Ok(mut readers) = readers_of(alloc, &shared, &mut pass, threads, count) else {
         return None;

@@ -15,6 +15,6 @@ pub readers-preserved : goal.readers-preserved
 readers-preserved g c =
     let (rests, all) = c.readers.invariant in (
       c.split.ensures.rests.0,
-      subst (All (λ r. SharedRests c.args.shared.now r.pass)) (sym c.in_ok.ensures.items)
+      subst (All (λ r. SharedRests c.args.shared.now r.pass)) (sym c.in_ok-push.ensures.items)
           (All-append (λ r. SharedRests c.args.shared.now r.pass) c.readers.readers.items _ all (all_one (λ r. SharedRests c.args.shared.now r.pass) _ c.split.ensures.rests.1)),
     )
