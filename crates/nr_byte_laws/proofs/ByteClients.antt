@@ -29,9 +29,9 @@ use Rattle.nr_reduce.specs.EndRules.{output_for_all}
 use Rattle.nr_reduce.specs.Items.{reducible_item}
 use Rattle.nr_reduce.specs.OfferedRegions.{region_grants}
 use Rattle.nr_reduce.specs.Plans.{TooLarge, Buffer, plan_of, plan_in_form, inline_plan, given_within, given_total, within, plan_size, reduced_plan, reduced_plan_by, long_plan, offering, auto_offer, auto_plan, write_offer, given_read, buffer_if, buffers, has_segment, total, read_stag, write_stag, reply_stag}
-use Rattle.nr_reduce.specs.ClientState.{ClientState, OutstandingCall, call_payload, plan_for, client_memory_at}
+use Rattle.nr_reduce.specs.ClientState.{ClientState, OutstandingCall, call_payload, plan_for, client_memory_at, region_of}
 use Rattle.nr_reduce.specs.ClientMessages.{reply_verdict}
-use Rattle.nr_reduce.specs.Client.{client_segment, outcomes_of, due_with_response, with_hello, client_rules, client_output, client_state_after, call_output, calls_output, response_output, segment_request, plan_or, outstanding_of, region_of, with_message, with_request, with_segment, revoked_call, initial_client}
+use Rattle.nr_reduce.specs.Client.{client_segment, outcomes_of, due_with_response, with_hello, client_rules, client_output, client_state_after, call_output, calls_output, response_output, segment_request, plan_or, outstanding_of, with_message, with_request, with_segment, revoked_call, initial_client}
 use Rattle.nr_reduce.specs.Run.{client, output_due}
 use Rattle.nr_laws.specs.Typed.{IsTyped}
 use Rattle.nr_byte_laws.specs.DueBytes.{CompletedInBytes}

@@ -1,5 +1,5 @@
 -- A call in form Auto that completes has a reply, if a plain server replies.
-use Rattle.std.proofs.Common.{◌≡◌, ℕ, List, [], ◌∷◌, Option, Some, None, Ok, refl, sym, ap, subst, ◌∙◌, arith, inl, inr, ◌⊎◌}
+use Rattle.std.proofs.Common.{◌≡◌, ℕ, List, [], ◌∷◌, Option, Some, None, refl, sym, ap, subst, ◌∙◌, arith, inl, inr, ◌⊎◌}
 use Rattle.nr_xdr.specs.Item.{IsBytes}
 use Rattle.nr_reduce.specs.declared.call.Form.TheVariants as forms
 use Rattle.nr_reduce.specs.declared.call.Outcome.{Outcome}
@@ -11,15 +11,14 @@ use Rattle.nr_reduce.specs.declared.outline.Plan.{Plan}
 use Rattle.nr_reduce.specs.Plans.{plan_of, lists_of}
 use Rattle.nr_reduce.specs.ChunkBytes.{IsNotGiven}
 use Rattle.nr_reduce.specs.Matched.{IsPrefixOf}
-use Rattle.nr_reduce.specs.ClientState.{call_payload}
+use Rattle.nr_reduce.specs.ClientState.{call_payload, stag_for}
 use Rattle.nr_reduce.specs.ServerState.{ReadyCall}
 use Rattle.nr_reduce.specs.Run.{client, server}
 use Rattle.nr_reduce.specs.Served.{ServedMark, IsExecuted, first_ready, next_call}
-use Rattle.nr_reduce.proofs.OwnLimits.{client_limits_of}
 use Rattle.nr_reduce.specs.declared.mark.LinkParameters.{LinkParameters}
 use Rattle.nr_link.specs.declared.end.End.{End}
 use Rattle.nr_rpc.specs.Reading.{call_of, target_of}
-use Rattle.nr_reduce.specs.Asked.{AskedMark, IsAccepted}
+use Rattle.nr_reduce.specs.Asked.{AskedMark, IsAccepted, IsPlannedAs}
 use Rattle.nr_laws.specs.Typed.{TypedMark}
 use Rattle.nr_laws.specs.MarkAt.{MarkAt}
 use Rattle.nr_laws.specs.Payloads.{HasPlan}
@@ -29,7 +28,7 @@ use Rattle.nr_laws.specs.ChunkOutcomes.{AutoHasReplies}
 use Rattle.nr_laws.proofs.OnceByXid.{at_mark, before_mark}
 use Rattle.nr_laws.proofs.Following.{far_before}
 use Rattle.nr_laws.proofs.Completed.{version_never}
-use Rattle.nr_laws.proofs.ExecutedPayloads.{planned_by, sizes_up, sizes_down}
+use Rattle.nr_laws.proofs.WaitingCalls.{accepted_plan}
 use Rattle.nr_laws.proofs.MatchedSizes.{client_within, executing_sized}
 use Rattle.nr_laws.proofs.MoreHeld.{more_held}
 use Rattle.nr_laws.proofs.OwnPayloads.{payloads_are_own}
@@ -64,8 +63,8 @@ auto_has_replies reply_to adds opened link run earlier before call xid outcome p
     plan : Plan
     plan = accepted.plan
 
-    planned : plan_of (call_payload xid call) forms.Auto (sizes_up opened link earlier) (sizes_down opened link earlier) ≡ Ok plan
-    planned = planned_by opened link earlier xid call forms.Auto plan accepted.planned
+    formed : IsPlannedAs xid call forms.Auto plan
+    formed = accepted_plan opened link earlier call forms.Auto xid plan accepted accepted.planned
 
     has : HasPlan opened link run xid plan
     has = record { call = call; form = forms.Auto; before = earlier; at = at; planned = accepted.planned }
@@ -85,11 +84,11 @@ auto_has_replies reply_to adds opened link run earlier before call xid outcome p
         let own : call_payload xid call ≡ u.payload =
         some_is_lem (call_payload xid call) u.payload (payloads_are_own opened link run u.before xid plan u.moment u.payload u.place u.reply typed far has executed) in
         let replied = at_mark (PlainReplyMark (server_with reply_to adds) link) run u.before execute executed.after executed.is plain_replies refl in
-        let up : ℕ = sizes_up opened link earlier in
-        let down : ℕ = sizes_down opened link earlier in
-        let stag : ℕ = (client opened link earlier).state.stag in
-        let by_plan = plain.auto replied.0 u.moment u.payload u.reply up down stag plan (subst IsBytes own bytes) replied.1 (client_limits_of opened link earlier).down.0
-        (ap (λ (x : List ℕ). plan_of x forms.Auto up down) (sym own) ∙ planned) in
+        let up : ℕ = formed.up in
+        let down : ℕ = formed.down in
+        let stag : ℕ = stag_for (client opened link earlier).state xid in
+        let by_plan = plain.auto replied.0 u.moment u.payload u.reply up down stag plan (subst IsBytes own bytes) replied.1 formed.down_fits.0
+        (ap (λ (x : List ℕ). plan_of x forms.Auto up down) (sym own) ∙ formed.planned) in
         let there : IsExecuted opened link u.before xid u.payload = at_mark (ServedMark IsPrefixOf opened link) run u.before execute executed.after executed.is far.served refl in
         let first = ready_first opened link u.before there in
         let answers = executing_sized opened link u.before there.call first.0 (before_mark TypedMark run u.before execute executed.after executed.is typed) (far_before opened link run u.before execute executed.after executed.is far) first.1 in

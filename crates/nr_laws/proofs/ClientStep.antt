@@ -198,7 +198,7 @@ step_piece opened k s u d all_up all_down w place (SendFrame message) rest f o l
     let whole : List ℕ = begun_bytes k.received.begun ++ message.payload in
     let same : whole ≡ message.bytes = (at_front k.received.begun w.down w.queued_down (SendFrame message) rest first l.counts.whole_down).1 in
     let sent = calls_said opened k s u d all_up all_down w l in
-    let answers = answers_one opened.first_xid k s u d all_down w message (rest ++ w.queued_down) (sym l.parts_down ∙ ap (λ (ps : List FrameContent). d ++ (ps ++ w.queued_down)) first)
+    let answers = answers_one opened k s u d all_down w message (rest ++ w.queued_down) (sym l.parts_down ∙ ap (λ (ps : List FrameContent). d ++ (ps ++ w.queued_down)) first)
     (omega (arith, sent, sent_most k, l.sends_up, ap (total_of sends_in) l.parts_up, total_append sends_in u (w.up ++ w.queued_up)))
     l.outs.follow.1
     (omega (arith, l.counts.calls_up, l.counts.sends, l.counts.all_sends, left_waiting k.written k.send_ends)) g.answered in

@@ -18,7 +18,7 @@ use Rattle.nr_reduce.specs.AtEachMark.{AtEachMark}
 use Rattle.nr_reduce.specs.Credits.{WithinGrant, calls_outstanding, credits_granted}
 use Rattle.nr_reduce.specs.ClientState.{ClientState, plan_for}
 use Rattle.nr_reduce.specs.Run.{client}
-use Rattle.nr_reduce.specs.SubmitAnswer.{unless_spent, by_plan, answer_by, submit_answer, submit_answer_after, unless_dropped}
+use Rattle.nr_reduce.specs.SubmitAnswer.{unless_spent, by_plan, answer_by, submit_answer, submit_answer_after, unless_dropped, calls_counted, unless_far}
 use Rattle.nr_laws.specs.Grant.{AcceptedMark, SubmitsWithinGrant}
 
 not_dropped_lem : (b : Bool) (answer : Submission) (xid : ℕ) → unless_dropped b answer ≡ submissions.Accepted xid → answer ≡ submissions.Accepted xid
@@ -30,13 +30,13 @@ granted : (opened : LinkParameters) (k : ClientState) (call : Call) (form : Form
 granted opened k call form (Some end) xid e = absurd cc
 granted opened k call form None xid e = by_result (plan_for k k.next_xid call form) e
   where
-    by_grant : (answer : Submission) (b : Bool) → leb k.grant (length k.outstanding) ≡ b → cond b (submissions.Refused (refusals.NoCredit (length k.outstanding) k.grant)) answer ≡ submissions.Accepted xid → length k.outstanding < k.grant
+    by_grant : (answer : Submission) (b : Bool) → leb k.grant (calls_counted k) ≡ b → cond b (submissions.Refused (refusals.NoCredit (calls_counted k) k.grant)) answer ≡ submissions.Accepted xid → length k.outstanding < k.grant
     by_grant answer true is e = absurd cc
-    by_grant answer false is e = leb-false k.grant (length k.outstanding) is
+    by_grant answer false is e = (let lt = leb-false k.grant (calls_counted k) is in omega (arith, lt))
 
     by_result : (r : Result Plan TooLarge) → by_plan k r ≡ submissions.Accepted xid → length k.outstanding < k.grant
     by_result (Ok plan) e =
-        by_grant (unless_spent (numbers_end - k.next_xid) 1 (unless_spent (numbers_end - k.stag) (regions_needed plan) (submissions.Accepted k.next_xid))) (leb k.grant (length k.outstanding)) refl e
+        by_grant (unless_far k (unless_spent (numbers_end - k.next_xid) 1 (unless_spent (numbers_end - k.stag) (regions_needed plan) (submissions.Accepted k.next_xid)))) (leb k.grant (calls_counted k)) refl e
     by_result (Err large) e = absurd cc
 
 within : (opened : LinkParameters) (link : ℕ) (before : List Mark) (call : Call) (form : Form) (xid : ℕ) → submit_answer (client opened link before) call form ≡ submissions.Accepted xid → calls_outstanding opened link before < credits_granted opened link before

@@ -22,7 +22,7 @@ use Rattle.nr_reduce.specs.Events.RunEvent.{FrameReceived, CallSubmitted, Memory
 use Rattle.nr_reduce.specs.ClientState.{ClientState}
 use Rattle.nr_reduce.specs.ClientMessages.{ReplyVerdict, reply_verdict, message_verdict}
 use Rattle.nr_reduce.specs.ClientMessages.ReplyVerdict.{EndsLink, GivesOutcome}
-use Rattle.nr_reduce.specs.Client.{client_segment, client_rules, client_end, initial_client, client_readiness, or_message_end, client_message_end, end_of_verdict}
+use Rattle.nr_reduce.specs.Client.{client_segment, client_rules, client_end, initial_client, client_readiness, or_message_end, client_message_end, end_of_verdict, or_other_sizes}
 use Rattle.nr_reduce.specs.Run.{client}
 use Rattle.nr_laws.proofs.EndReasons.{IsMessageReason, IsVerdictReason}
 use Rattle.nr_laws.specs.MatchedSoFar.{MatchedSoFar}
@@ -84,7 +84,7 @@ segment_judges : (k : ClientState) (f : Frame) (s : Segment) (at reason : ℕ) �
 unfolding client_end
 segment_judges k f s at reason is behind own e =
     by (end_of_fault f s (segment_reason ready s)) (by_fault_lem f s (segment_reason ready s) (fault_other ready s) at reason is)
-    (sym (λ i. cond (behind i) (hello_end (hello_of Responder f.bytes)) (or_message_end k f (frame_end_by (client_readiness k) grants f (own i)))) ∙ e)
+    (sym (λ i. cond (behind i) (or_other_sizes k f (hello_end (hello_of Responder f.bytes))) (or_message_end k f (frame_end_by (client_readiness k) grants f (own i)))) ∙ e)
   where
     grants : List Grant
     grants = region_grants f.end k.regions
@@ -100,7 +100,7 @@ segment_judges k f s at reason is behind own e =
 hello_stays : (k : ClientState) (f : Frame) → is_hello f ≡ true → IsHelloFrame Responder f.bytes → client_end k (FrameReceived f) ≡ None
 unfolding client_end
 hello_stays k f first read =
-    ap (λ (b : Bool). cond b (hello_end (hello_of Responder f.bytes)) (or_message_end k f (frame_end_by (client_readiness k) (region_grants f.end k.regions) f (client_segment k f)))) first
+    ap (λ (b : Bool). cond b (or_other_sizes k f (hello_end (hello_of Responder f.bytes))) (or_message_end k f (frame_end_by (client_readiness k) (region_grants f.end k.regions) f (client_segment k f)))) first
     ∙ ap hello_end read.says
 
 -- ---- The event that ends a client

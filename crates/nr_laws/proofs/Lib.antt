@@ -14,6 +14,8 @@ pub mod ReceivedMessages
 pub mod Outputs
 pub mod TaggedSegments
 pub mod OnceByXid
+pub mod EntriesApart
+pub mod WaitingCalls
 pub mod ServerOutputs
 pub mod ServerEnds
 pub mod ServerAlong

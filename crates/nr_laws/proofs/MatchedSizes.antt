@@ -13,7 +13,7 @@ use Rattle.nr_reduce.specs.Events.RunEvent.{FrameReceived, CallSubmitted, Memory
 use Rattle.nr_reduce.specs.EndRules.{EndMachine, EndState, next_end_state_by, next_end_state_in}
 use Rattle.nr_reduce.specs.OfferedRegions.{region_grants}
 use Rattle.nr_reduce.specs.ClientState.{ClientState}
-use Rattle.nr_reduce.specs.Client.{client_segment, client_rules, client_end, client_readiness, client_state_after, initial_client, or_message_end, with_hello, with_segment}
+use Rattle.nr_reduce.specs.Client.{client_segment, client_rules, client_end, client_readiness, client_state_after, initial_client, or_message_end, with_hello, with_segment, or_other_sizes}
 use Rattle.nr_reduce.specs.ServerState.{ReadyCall, ServerState}
 use Rattle.nr_reduce.specs.ServerFrames.{frame_effect}
 use Rattle.nr_reduce.specs.Server.{server_rules, server_end, server_state_after, initial_server, with_effect, with_own_hello}
@@ -173,7 +173,7 @@ client_quiet opened place r t ended up down names h = record {
 hello_stays : (opened : LinkParameters) (k : ClientState) (f : Frame) → is_hello f ≡ true → IsHelloFrame Responder f.bytes → client_end k (FrameReceived f) ≡ None
 unfolding client_end
 hello_stays opened k f is read =
-    ap (λ (b : Bool). cond b (hello_end (hello_of Responder f.bytes)) (or_message_end k f (frame_end_by (client_readiness k) (region_grants f.end k.regions) f (client_segment k f)))) is ∙ ap hello_end read.says
+    ap (λ (b : Bool). cond b (or_other_sizes k f (hello_end (hello_of Responder f.bytes))) (or_message_end k f (frame_end_by (client_readiness k) (region_grants f.end k.regions) f (client_segment k f)))) is ∙ ap hello_end read.says
 
 client_frame : (opened : LinkParameters) (place : ℕ) (k : ClientState) (f : Frame) → IsNext place (FrameReceived f) → (is_hello f ≡ true → f.bytes ≡ first_hello opened Responder) → ClientMatched opened place (record { state = k; ended = None })
     → (o : Option Stop) → client_end k (FrameReceived f) ≡ o → ClientMatched opened f.end (next_end_state_by (client_rules opened) k (FrameReceived f) o)

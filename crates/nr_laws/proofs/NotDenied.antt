@@ -32,7 +32,7 @@ use Rattle.nr_reduce.specs.Matched.{IsPrefixOf}
 use Rattle.nr_reduce.proofs.OwnStags.{AreNumbered, client_numbers}
 use Rattle.nr_laws.specs.Typed.{TypedMark, IsTyped}
 use Rattle.nr_laws.specs.Stays.{NotRevokedMark, HasNoRevoke}
-use Rattle.nr_laws.specs.EndCauses.{KeepLaws}
+use Rattle.nr_laws.specs.EndCauses.{KeepLaws, AgreesAgain}
 use Rattle.nr_laws.proofs.EndReasons.{EndsForMessage}
 use Rattle.nr_laws.proofs.FrameContents.{FrameContent, frame_bytes, total_of, sends_in, requests_in, Carries, last_segment, part_segment, written_segment}
 use Rattle.nr_laws.proofs.FrameContents.FrameContent.{HelloFrame, PartFrame, SendFrame, RequestFrame, TaggedFrame}
@@ -185,11 +185,11 @@ fed_denied opened link run bytes a o prefix typed stag offset why e =
 -- ---- Each run
 
 -- On a matched link of which nothing is revoked, and whose server hasn't ended, no access ends the client.
-pub client_not_denied : (opened : LinkParameters) (link : ℕ) (run : List Mark) → IsOpened opened → IsTyped run → KeepLaws opened link run → HasNoRevoke link run → end_of_side opened link Responder run ≡ None
+pub client_not_denied : (opened : LinkParameters) (link : ℕ) (run : List Mark) → IsOpened opened → AgreesAgain opened → IsTyped run → KeepLaws opened link run → HasNoRevoke link run → end_of_side opened link Responder run ≡ None
     → (stag offset : ℕ) (why : Denied) → end_of_side opened link Initiator run ≡ Some (ends.Denied stag offset why) → ⊥
 unfolding end_of_side
-client_not_denied opened link run o typed laws kept down stag offset why up =
+client_not_denied opened link run o again typed laws kept down stag offset why up =
     let start = starts opened link in
     client_first opened link (Accessed opened link) (λ before a. a.guarded.joined) (λ before m. WithinGrant opened link before m × NotRevokedMark link before m) (ends.Denied stag offset why) ⊥
     (λ before m a agrees typed kept. accessed_more opened link before m a agrees o kept.0 typed kept.1) (λ before bytes a prefix typed e. fed_denied opened link before bytes a o prefix typed stag offset why e) run []
-    (record { guarded = record { joined = start.joined; guards = start.guards o }; agree = start.accessed }) laws.client laws.server laws.matched (each_both (WithinGrant opened link) (NotRevokedMark link) [] run laws.grant kept) typed down up
+    (record { guarded = record { joined = start.joined; guards = start.guards o again }; agree = start.accessed }) laws.client laws.server laws.matched (each_both (WithinGrant opened link) (NotRevokedMark link) [] run laws.grant kept) typed down up

@@ -3,7 +3,7 @@ use Rattle.std.specs.Prelude.{◌≡◌, ℕ, ◌≤◌, min, ◌==◌, if◌the
 use Rattle.nr_reduce.specs.declared.call.Submission.TheVariants as submissions
 use Rattle.nr_reduce.specs.declared.mark.Mark.{Mark}
 use Rattle.nr_reduce.specs.declared.mark.Mark.TheVariants as marks
-use Rattle.nr_reduce.specs.declared.mark.Told.TheVariants.{Granted}
+use Rattle.nr_reduce.specs.declared.mark.Told.TheVariants.{Granted, Old}
 use Rattle.nr_reduce.specs.declared.mark.LinkParameters.{LinkParameters}
 use Rattle.nr_reduce.specs.Opening.{IsOpened}
 use Rattle.nr_reduce.specs.ServerState.{credit_word, is_busy}
@@ -34,6 +34,7 @@ ServerGrantsInRange = (opened : LinkParameters) (link : ℕ) (run : List Mark) �
 -- the credits that the owner of a link's server set last, at first these
 abbrev pub granted_at : ℕ → ℕ → Mark → ℕ
 granted_at link credits (marks.Told l (Granted n)) = if l == link then n else credits
+granted_at link credits (marks.Told l (Old xid at)) = credits
 granted_at link credits mark = credits
 
 abbrev pub last_granted : ℕ → ℕ → List Mark → ℕ

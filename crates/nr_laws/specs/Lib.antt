@@ -15,6 +15,7 @@ pub mod ChunkOutcomes
 pub mod PlacedBytes
 pub mod RefusedMessages
 pub mod PlainLinks
+pub mod OnceEach
 pub mod ServerRegions
 pub mod ClientRegions
 pub mod HandedBack

@@ -6,6 +6,7 @@ ghost use Rattle.nr_laws.specs.Agreed.{SidesAgree, ClientGoesByAgreement, Server
 ghost use Rattle.nr_laws.specs.Bounds.{ClientOffersFewSegments, ClientOwesFewResponses, ServerReadsFew, ServerUsesItsReceives};
 ghost use Rattle.nr_laws.specs.Places.{PlacesFollow};
 ghost use Rattle.nr_laws.specs.Once.{NoSendTwice, NoCallTwice, NoXidTwice};
+ghost use Rattle.nr_laws.specs.OnceEach.{NoEntryTwice};
 ghost use Rattle.nr_laws.specs.ChunkOutcomes.{ChunkHasCause, OthersHaveNoCause, CausedCallsComplete, NoOtherVersion, OffersArePlanned, NoOwnPlanIsRefused, AutoHasReplies, ChangesAreAnswered, ChunkAddsNothing};
 
 /// No Send is executed twice, whatever a client sends, and no accepted call completes twice. On a matched link no xid is executed
@@ -14,6 +15,12 @@ pub fn once()
     ensures sends { NoSendTwice }
     ensures calls { NoCallTwice }
     ensures xids { NoXidTwice }
+{}
+
+/// Over any number of links, whatever was sent on them, no two entries of the one journal are of one call of a client with a number: its xid is
+/// executed anew only if it has no entry, and isn't old.
+pub fn once_each()
+    ensures entries { NoEntryTwice }
 {}
 
 /// On matched links a call that is submitted after another's outcome was handed over has a place that isn't smaller.

@@ -13,8 +13,9 @@ use Rattle.nr_turnstile.specs.Rule.{Begins, Earlier, opening_view, places, place
 use Rattle.nr_turnstile.specs.declared.plays.View.{View}
 use Rattle.nr_plain.specs.declared.history_entry.HistoryEntry.{HistoryEntry}
 use Rattle.nr_plain.specs.declared.history_entry.HistoryEntry.TheVariants.{Opened, Added}
-use Rattle.nr_plain.specs.declared.history_entry.TaggedEntry.{TaggedEntry}
-use Rattle.nr_plain.specs.History.{Opening, setup_in, tagged, entries_alone, additions, history, IsHistory, StandsFor, closes_none, AreOfCalls, AddsOne, AddsNone, xid_in, entries_added, first_added, entry_to_append, PassView, OnlyOthersAdded, ExecutesAt}
+use Rattle.nr_reduce.specs.declared.mark.TaggedEntry.{TaggedEntry}
+use Rattle.nr_reduce.specs.NumberedJournal.{tagged, entries_alone}
+use Rattle.nr_plain.specs.History.{Opening, setup_in, additions, history, IsHistory, StandsFor, closes_none, AreOfCalls, AddsOne, AddsNone, xid_in, entries_added, first_added, entry_to_append, PassView, OnlyOthersAdded, ExecutesAt}
 use Rattle.nr_plain.proofs.OfCalls.{both_of_calls, later_of_calls, of_call}
 
 -- ===== histories and their entries

@@ -37,7 +37,7 @@ mod turns;
 
 pub use entry::entry_of_call;
 pub use fault::Fault;
-pub use history_entry::{HistoryEntry, TaggedEntry};
+pub use history_entry::HistoryEntry;
 pub use journal_laws::{
     calls_add_one_entry_at_most, failures_leave_the_tree, replies_are_those_of_answers,
     replies_stay, replies_tell_entries, trees_stay_sane,

@@ -15,6 +15,9 @@ pub mod Compared
 pub mod CountedBytes
 pub mod OutcomesStay
 pub mod XidsFollow
+pub mod Unresumed
+pub mod RisingXids
+pub mod ToldCredits
 pub mod Unconcerned
 pub mod OutputItems
 pub mod ServerItems

@@ -35,6 +35,8 @@ pub mod Credits
 pub mod SubmitAnswer
 pub mod Asked
 pub mod OutcomesDue
+pub mod Reopening
+pub mod NumberedJournal
 pub mod Served
 pub mod Opening
 pub mod Journal

@@ -50,7 +50,7 @@ pub use item::{
 pub use largest::largest_reply;
 pub use laws::{answers_convey_replies, plans_convey_payloads, rebuild_undoes_cut};
 pub use limits::{CREDITS_MAX, GIVEN_MAX};
-pub use mark::{Entry, LinkParameters, Mark, Marks, Told};
+pub use mark::{Entry, LinkParameters, Mark, Marks, ResumedCall, ResumedCalls, TaggedEntry, Told};
 pub use memory_laws::{memory_follows_regions, regions_go_on};
 pub use outline::{ChunkLengths, Outline, Plan, ReadOutline};
 pub use parts::{CallParts, call_item_of, call_parts, largest_reply_of, written_parts};

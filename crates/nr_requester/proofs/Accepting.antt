@@ -133,6 +133,7 @@ module _ (opened : LinkParameters) (link : ℕ) (h : RequesterSide) (run : List 
   pub submit_keeps : KeepsClient opened link (after_submit h call plan) (run ++ mark ∷ [])
   submit_keeps = record {
     wished = s.wished;
+    first = s.first;
     kept = client_stands opened link (kept_client h.state) (kept_client (after_submit h call plan).state) (input_kept h) (input_kept (after_submit h call plan)) (queue_of h.state) (queue_of (after_submit h call plan).state) run mark s.kept goes_on
         (λ lives_on. same_input link run (input_kept h) (s.kept.received stays));
     sent = λ lives_on. s.sent none;

@@ -55,7 +55,7 @@ abbrev pub credits_in_range : Opening → ℕ → Bool
 credits_in_range opening credits = nat_le 1 credits && nat_le credits opening.credits
 
 -- A line names a client of the script, and a call line that came before it; the clock doesn't pass its end; credits are granted within
--- those of the first line.
+-- those of the first line; only a client with a number begins another link.
 abbrev pub may_follow : Opening → List Line → Line → Bool
 may_follow opening before (lines.Cred client cred) = is_client opening client
 may_follow opening before (lines.Call client form prog vers proc args) = is_client opening client
@@ -66,6 +66,7 @@ may_follow opening before (lines.Tick seconds) = nat_le (seconds_after before + 
 may_follow opening before (lines.Forget client number) = is_client opening client && is_call_line client number before
 may_follow opening before (lines.Revoke client number) = is_client opening client && is_call_line client number before
 may_follow opening before (lines.Drop client) = is_client opening client
+may_follow opening before (lines.Rejoin client) = is_client opening client && opening.numbered
 may_follow opening before (lines.Raw client side bytes) = is_client opening client
 may_follow opening before (lines.Grant client credits) = is_client opening client && credits_in_range opening credits
 may_follow opening before lines.Drain = true
