@@ -174,7 +174,7 @@ submit_preserves opened link run call form xid j h =
     let a : AcceptedCall = record { xid = xid; call = call; form = form } in
     let place = length (bytes_received link Initiator run) in
     let own : xid ≡ next_sent_xid j.k = h.next ∙ ap (λ (r : EndState ClientState). next_sent_xid r.state) j.client_is in
-    let again : IsResent j.k.next_xid j.k.waiting call form = subst (λ (r : EndState ClientState). IsResent r.state.next_xid r.state.waiting call form) j.client_is h.resent in
+    let again : IsResent j.k.has_hello j.k.next_xid j.k.waiting call form = subst (λ (r : EndState ClientState). IsResent r.state.has_hello r.state.next_xid r.state.waiting call form) j.client_is h.resent in
     let planned = ap (λ (r : EndState ClientState). plan_for r.state xid call form) (sym j.client_is) ∙ h.planned in
     let limits : ClientLimits j.k = subst (λ (r : EndState ClientState). ClientLimits r.state) j.client_is (client_limits_of opened link run) in
     let m = submitted opened j.k j.s j.u j.d j.all_up j.all_down j.w place a h.plan j.linked own again planned limits in

@@ -44,7 +44,7 @@ use Rattle.nr_reduce.specs.Asked.{IsResent}
 pub record IsGoodCall (opened : LinkParameters) (r : EndState ClientState) (a : AcceptedCall) : Type 0 where
   pub stays : r.ended ≡ None
   pub next : a.xid ≡ next_sent_xid r.state
-  pub resent : IsResent r.state.next_xid r.state.waiting a.call a.form
+  pub resent : IsResent r.state.has_hello r.state.next_xid r.state.waiting a.call a.form
   pub plan : Plan
   pub planned : plan_for r.state a.xid a.call a.form ≡ Ok plan
   pub xids : a.xid < numbers_end

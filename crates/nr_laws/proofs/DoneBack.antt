@@ -138,7 +138,7 @@ closed_event opened x k ended (FrameReceived f) good h = by (is_hello f)
 closed_event opened x k ended (CallSubmitted p a) good h =
     let low = h.low in
     let next = good.next in
-    let rises : a.xid < sent_after a.xid k.next_xid k.waiting = submit_rises a.xid k.next_xid k.waiting a.call a.form good.next good.resent in
+    let rises : a.xid < sent_after a.xid k.next_xid k.waiting = submit_rises k.has_hello a.xid k.next_xid k.waiting a.call a.form good.next good.resent in
     record {
       regions = closed_append x k.regions (regions_unless_waiting (waiting_call k a.xid) p (outstanding_of k a)) h.regions (by (waiting_call k a.xid));
       low = omega (arith, low, next, rises);

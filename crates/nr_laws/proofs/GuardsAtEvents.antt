@@ -109,7 +109,7 @@ up_says : (opened : LinkParameters) (b : Bool) (message : List ℕ) → ClientMe
 up_says opened true message h = each_send (ClientContent opened) None (λ offset payload. refl) message (h, refl)
 up_says opened false message h = tt
 
-pub guards_submit : (opened : LinkParameters) (k : ClientState) (s : ServerState) (u d all_up all_down : List FrameContent) (w : Transit) (up place : ℕ) (a : AcceptedCall) (plan : Plan) → EndsAgree opened k s u d all_up all_down w → Guards opened k s u d all_up all_down w up → plan_for k a.xid a.call a.form ≡ Ok plan → a.xid ≡ next_sent_xid k → IsResent k.next_xid k.waiting a.call a.form → a.xid < numbers_end → length k.outstanding < k.grant
+pub guards_submit : (opened : LinkParameters) (k : ClientState) (s : ServerState) (u d all_up all_down : List FrameContent) (w : Transit) (up place : ℕ) (a : AcceptedCall) (plan : Plan) → EndsAgree opened k s u d all_up all_down w → Guards opened k s u d all_up all_down w up → plan_for k a.xid a.call a.form ≡ Ok plan → a.xid ≡ next_sent_xid k → IsResent k.has_hello k.next_xid k.waiting a.call a.form → a.xid < numbers_end → length k.outstanding < k.grant
     → Guards opened (client_state_after opened k (CallSubmitted place a)) s u d (all_up ++ client_frames opened k (CallSubmitted place a)) all_down (up_more w (client_frames opened k (CallSubmitted place a))) up
 unfolding client_state_after client_frames client_end
 guards_submit opened k s u d all_up all_down w up place a plan l g is own again lt room =

@@ -78,7 +78,7 @@ pub record Submitted (opened : LinkParameters) (k : ClientState) (s : ServerStat
   pub linked : EndsAgree opened (client_state_after opened k (CallSubmitted place a)) s u d (all_up ++ said) all_down (up_more w said)
 
 pub submitted : (opened : LinkParameters) (k : ClientState) (s : ServerState) (u d all_up all_down : List FrameContent) (w : Transit) (place : ℕ) (a : AcceptedCall) (plan : Plan) → EndsAgree opened k s u d all_up all_down w
-    → a.xid ≡ next_sent_xid k → IsResent k.next_xid k.waiting a.call a.form → plan_for k a.xid a.call a.form ≡ Ok plan → ClientLimits k → Submitted opened k s u d all_up all_down w place a
+    → a.xid ≡ next_sent_xid k → IsResent k.has_hello k.next_xid k.waiting a.call a.form → plan_for k a.xid a.call a.form ≡ Ok plan → ClientLimits k → Submitted opened k s u d all_up all_down w place a
 unfolding client_state_after client_frames client_output
 submitted opened k s u d all_up all_down w place a plan l own again is limits = by k.has_hello refl
   where

@@ -84,10 +84,10 @@ above n [] h = tt
 above n (o ∷ os) h = ((λ e. omega (arith, e, h.0)), above n os h.1)
 
 -- a call is accepted that is the one to be sent next
-pub own_xids_accepts : (opened : LinkParameters) (k : ClientState) (place : ℕ) (a : AcceptedCall) → a.xid ≡ next_sent_xid k → IsResent k.next_xid k.waiting a.call a.form → OwnXids opened k → OwnXids opened (client_state_after opened k (CallSubmitted place a))
+pub own_xids_accepts : (opened : LinkParameters) (k : ClientState) (place : ℕ) (a : AcceptedCall) → a.xid ≡ next_sent_xid k → IsResent k.has_hello k.next_xid k.waiting a.call a.form → OwnXids opened k → OwnXids opened (client_state_after opened k (CallSubmitted place a))
 unfolding client_state_after
 own_xids_accepts opened k place a is again h =
-    let rises : a.xid < sent_after a.xid k.next_xid k.waiting = submit_rises a.xid k.next_xid k.waiting a.call a.form is again in
+    let rises : a.xid < sent_after a.xid k.next_xid k.waiting = submit_rises k.has_hello a.xid k.next_xid k.waiting a.call a.form is again in
     record {
       apart = apart_push (λ (o : OutstandingCall). o.xid) k.outstanding (outstanding_of k a) h.apart (subst (λ (n : ℕ). IsUnused (λ (o : OutstandingCall). o.xid) n k.outstanding) (sym is) (above (next_sent_xid k) k.outstanding h.below));
       follow = both_after opened k (CallSubmitted place a) is h.follow;

@@ -35,7 +35,7 @@ pub planned_message : (xid wished stag : ℕ) (call : Call) (form : Form) (plan 
     (16 ≤ length (call_message xid wished stag plan)) × (length (call_message xid wished stag plan) ≤ p.up)
 planned_message xid wished stag call form plan p = sized_message xid wished stag p.up p.down call form plan p.planned
 
-pub short_call : (opened : LinkParameters) (k : ClientState) (a : AcceptedCall) (plan : Plan) → a.xid ≡ next_sent_xid k → IsResent k.next_xid k.waiting a.call a.form → plan_for k a.xid a.call a.form ≡ Ok plan → ClientLimits k → IsShort (message_of_call opened (outstanding_of k a))
+pub short_call : (opened : LinkParameters) (k : ClientState) (a : AcceptedCall) (plan : Plan) → a.xid ≡ next_sent_xid k → IsResent k.has_hello k.next_xid k.waiting a.call a.form → plan_for k a.xid a.call a.form ≡ Ok plan → ClientLimits k → IsShort (message_of_call opened (outstanding_of k a))
 short_call opened k a plan own again is limits =
     let same : (outstanding_of k a).plan ≡ plan = ap (λ (r : Result Plan TooLarge). plan_or (call_payload a.xid a.call) r) is in
     let p : IsPlannedAs a.xid a.call a.form plan = planned_as k a.xid a.call a.form plan limits own again is in

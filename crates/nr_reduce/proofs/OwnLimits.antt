@@ -94,11 +94,11 @@ unfolding server
 server_limits_of opened link run = server_limits opened (events link Responder run)
 
 -- The plan of the call that is sent next is for lengths within these limits: for those of the state, or those for which it was planned before.
-pub planned_as : (k : ClientState) (xid : ℕ) (call : Call) (form : Form) (plan : Plan) → ClientLimits k → xid ≡ next_sent_xid k → IsResent k.next_xid k.waiting call form → plan_for k xid call form ≡ Ok plan → IsPlannedAs xid call form plan
+pub planned_as : (k : ClientState) (xid : ℕ) (call : Call) (form : Form) (plan : Plan) → ClientLimits k → xid ≡ next_sent_xid k → IsResent k.has_hello k.next_xid k.waiting call form → plan_for k xid call form ≡ Ok plan → IsPlannedAs xid call form plan
 unfolding plan_for
 planned_as k xid call form plan limits own again is = by k.waiting own again is
   where
-    by : (ws : List WaitingCall) → xid ≡ first_xid_or k.next_xid ws → IsResent k.next_xid ws call form → plan_unless (first_of ws xid) (plan_of (call_payload xid call) form k.up_max k.down_max) ≡ Ok plan → IsPlannedAs xid call form plan
+    by : (ws : List WaitingCall) → xid ≡ first_xid_or k.next_xid ws → IsResent k.has_hello k.next_xid ws call form → plan_unless (first_of ws xid) (plan_of (call_payload xid call) form k.up_max k.down_max) ≡ Ok plan → IsPlannedAs xid call form plan
     by [] own again is = record { up = k.up_max; down = k.down_max; up_fits = limits.up; down_fits = limits.down; planned = is }
     by (w ∷ ws) own again is = same (eqb w.xid xid) (eq-eqb w.xid xid (sym own)) is
       where

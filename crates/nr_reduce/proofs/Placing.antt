@@ -133,9 +133,9 @@ next_sent_at opened link run = next_sent_xid (client opened link run).state
 abbrev pub sent_after : (xid next : ℕ) → List WaitingCall → ℕ
 sent_after xid next ws = first_xid_or (xid_unless_waiting (first_of ws xid) next) (others_than ws xid)
 
-pub submit_rises : (xid next : ℕ) (ws : List WaitingCall) (call : Call) (form : Form) → xid ≡ first_xid_or next ws → IsResent next ws call form → xid < sent_after xid next ws
-submit_rises xid next [] call form own h = omega (arith, own)
-submit_rises xid next (w ∷ ws) call form own h = by (eqb w.xid xid) (eq-eqb w.xid xid (sym own))
+pub submit_rises : (has_hello : Bool) (xid next : ℕ) (ws : List WaitingCall) (call : Call) (form : Form) → xid ≡ first_xid_or next ws → IsResent has_hello next ws call form → xid < sent_after xid next ws
+submit_rises has_hello xid next [] call form own h = omega (arith, own)
+submit_rises has_hello xid next (w ∷ ws) call form own h = by (eqb w.xid xid) (eq-eqb w.xid xid (sym own))
   where
     by : (b : Bool) → b ≡ true → xid < first_xid_or (xid_unless_waiting (cond b (Some w) None) next) (cond b ws (w ∷ ws))
     by true is = (let lt = h.rises in omega (arith, own, lt))
@@ -202,7 +202,7 @@ own_link l link false is own = absurd cc
 
 accepted_rises : (opened : LinkParameters) (link : ℕ) (before : List Mark) (call : Call) (form : Form) (xid : ℕ) → IsAccepted opened link before call form xid →
     xid < sent_after xid (client opened link before).state.next_xid (client opened link before).state.waiting
-accepted_rises opened link before call form xid h = submit_rises xid (client opened link before).state.next_xid (client opened link before).state.waiting call form h.next h.resent
+accepted_rises opened link before call form xid h = submit_rises (client opened link before).state.has_hello xid (client opened link before).state.next_xid (client opened link before).state.waiting call form h.next h.resent
 
 sent_mark : (Relates : List ℕ → List ℕ → Type 0) (opened : LinkParameters) (link : ℕ) (before : List Mark) (mark : Mark) → AskedMark Relates opened link before mark →
     next_sent_at opened link before ≤ next_sent_xid (end_state_after (client_rules opened) (client opened link before) (events_at link Initiator before mark)).state

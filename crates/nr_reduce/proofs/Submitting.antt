@@ -97,7 +97,7 @@ accepted_keeps opened link run call form xid e none numbers asked writable =
       record {
         stays = m.stays;
         next = m.next ∙ sym (ap (λ (ws : List WaitingCall). first_xid_or k.next_xid ws) none);
-        resent = subst (λ (ws : List WaitingCall). IsResent k.next_xid ws call form) (sym none) tt;
+        resent = subst (λ (ws : List WaitingCall). IsResent k.has_hello k.next_xid ws call form) (sym none) tt;
         plan = m.plan;
         planned = ap (λ (x : ℕ). plan_for k x call form) m.next ∙ m.planned;
         xids = (let a = m.xids in let b = m.next in omega (arith, a, b));

@@ -1,5 +1,5 @@
 -- The law of a link's client: which calls it accepts, what it writes, and what it hands to its callers.
-use Rattle.std.specs.Prelude.{◌≡◌, ◌≢◌, ℕ, ◌+◌, ◌<◌, ◌≤◌, ◌==◌, false, List, [], ◌∷◌, ◌++◌, map, None, Some, Ok, Contains}
+use Rattle.std.specs.Prelude.{◌≡◌, ◌≢◌, ℕ, ◌+◌, ◌<◌, ◌≤◌, ◌==◌, Bool, false, true, List, [], ◌∷◌, ◌++◌, map, None, Some, Ok, Contains}
 use Rattle.std.specs.List.{flat_map, filter}
 use Rattle.nr_wire.specs.declared.hello.Side.TheVariants.{Initiator, Responder}
 use Rattle.nr_reduce.specs.declared.call.Call.{Call}
@@ -31,23 +31,25 @@ pub record IsPlannedAs (xid : ℕ) (call : Call) (form : Form) (plan : Plan) : T
   pub down_fits : IsSendLimit down
   pub planned : plan_of (call_payload xid call) form up down ≡ Ok plan
 
--- A call that is sent again is the one that was submitted, in the same form, by a plan of that form. The next xid is larger.
-pub record IsAsSubmitted (w : WaitingCall) (next : ℕ) (call : Call) (form : Form) : Type 0 where
+-- A call that is sent again is the one that was submitted, in the same form, by a plan of that form. The next xid is larger. None is sent again
+-- before the server's hello: its plan is for lengths that this hello has to agree on.
+pub record IsAsSubmitted (has_hello : Bool) (w : WaitingCall) (next : ℕ) (call : Call) (form : Form) : Type 0 where
+  pub greeted : has_hello ≡ true
   pub call_is : call ≡ w.call
   pub form_is : form ≡ w.form
   pub planned : IsPlannedAs w.xid w.call w.form w.plan
   pub rises : w.xid < next
 
-abbrev pub IsResent : (next : ℕ) → List WaitingCall → Call → Form → Type 0
-IsResent next [] call form = Unit {0}
-IsResent next (w ∷ waiting) call form = IsAsSubmitted w (first_xid_or next waiting) call form
+abbrev pub IsResent : (has_hello : Bool) → (next : ℕ) → List WaitingCall → Call → Form → Type 0
+IsResent has_hello next [] call form = Unit {0}
+IsResent has_hello next (w ∷ waiting) call form = IsAsSubmitted has_hello w (first_xid_or next waiting) call form
 
 -- A call is accepted under the next xid, with a plan, on a link that hasn't ended, while xids and STags are left for it. Its
 -- credential can be encoded. While calls wait to be sent again, it is the first of these.
 pub record IsAccepted (opened : LinkParameters) (link : ℕ) (before : List Mark) (call : Call) (form : Form) (xid : ℕ) : Type 0 where
   pub stays : (client opened link before).ended ≡ None
   pub next : xid ≡ next_sent_xid (client opened link before).state
-  pub resent : IsResent (client opened link before).state.next_xid (client opened link before).state.waiting call form
+  pub resent : IsResent (client opened link before).state.has_hello (client opened link before).state.next_xid (client opened link before).state.waiting call form
   pub plan : Plan
   pub planned : plan_for (client opened link before).state xid call form ≡ Ok plan
   pub xids : xid < numbers_end
