@@ -23,10 +23,10 @@ use Rattle.std.proofs.lemmas.List.Elements.{Contains-append_right}
 
 -- ---- What is kept
 
-abbrev HasOpening : LinkParameters → ClientState → Type 0
+abbrev pub HasOpening : LinkParameters → ClientState → Type 0
 HasOpening opened k = (k.terms ≡ opened.client) × (k.agreed ≡ opened.agreed)
 
-opening_segment : (opened : LinkParameters) (k : ClientState) (f : Frame) (r : Result Segment ℕ) → HasOpening opened k → HasOpening opened (with_segment k f r)
+pub opening_segment : (opened : LinkParameters) (k : ClientState) (f : Frame) (r : Result Segment ℕ) → HasOpening opened k → HasOpening opened (with_segment k f r)
 opening_segment opened k f (Err reason) h = h
 opening_segment opened k f (Ok segment) h = by (message_completed k.received segment) (read_request_of segment)
   where
@@ -36,7 +36,7 @@ opening_segment opened k f (Ok segment) h = by (message_completed k.received seg
     by (Some m) None = h
     by (Some m) (Some q) = h
 
-opening_after : (opened : LinkParameters) (k : ClientState) (event : RunEvent) → HasOpening opened k → HasOpening opened (client_state_after opened k event)
+pub opening_after : (opened : LinkParameters) (k : ClientState) (event : RunEvent) → HasOpening opened k → HasOpening opened (client_state_after opened k event)
 unfolding client_state_after
 opening_after opened k (FrameReceived f) h = by (is_hello f)
   where
