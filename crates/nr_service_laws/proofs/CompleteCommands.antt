@@ -164,12 +164,12 @@ served_commands_have_causes_lem setup opened link c before after input input' ou
     has_cause result s s' input input' out out'
     (opened_is (IsServedReply setup) IsHandle (OwnEnd I O) c before dialed s s' input input' out out' result opens prints opened link (judged_plainly I O setup c.uid c.gid sane)
     (any_words I O c.export c.action input) (λ rose. rose) (λ rose. rose)
-    session.fine session.first_xid session.first_stag session.wished (exchanges_judged setup opened link ran.run both made sane plain ran.marks_are))
+    session.fine session.first_xid session.first_stag session.wished (exchanges_judged setup opened link ran.run both made sane session.fine plain ran.marks_are))
     (served_commands_end_lem opened link c before after input input' out out' result (Opened dialed s s' opens prints closes) ran
     (λ entries moment payload. plain_reply setup entries (length entries) moment payload) entries_of_call both
     (side_of (λ entries moment payload. plain_reply setup entries (length entries) moment payload) entries_of_call opened link ran.run both server plain.matched)).0
     (served_end_for_memory_lem opened link c before after input input' out out' result (Opened dialed s s' opens prints closes) ran
-    (λ entries moment payload. plain_reply setup entries (length entries) moment payload) entries_of_call both session.fine server)
+    (λ entries moment payload. plain_reply setup entries (length entries) moment payload) entries_of_call both session.fine server served.none_old)
 
 -- ---- If nothing fails
 
@@ -218,5 +218,5 @@ served_commands_complete_lem setup opened link c before after input input' out o
   complete_by result s s' input input' out out' calm
       (served_commands_have_causes_lem setup opened link c before after input input' out out' result (Opened dialed s s' opens prints closes) sane session ran both served),
   served_not_closed_lem opened link c before after input input' out out' result (Opened dialed s s' opens prints closes) ran
-      (λ entries moment payload. plain_reply setup entries (length entries) moment payload) entries_of_call both session.fine (by_server setup opened link ran.run both sane served),
+      (λ entries moment payload. plain_reply setup entries (length entries) moment payload) entries_of_call both session.fine (by_server setup opened link ran.run both sane served) served.none_old,
 )

@@ -16,7 +16,7 @@ use Rattle.nr_reduce.specs.Matched.{Matched}
 use Rattle.nr_reduce.specs.Run.{end_of_side, HasWritten}
 use Rattle.nr_reduce.specs.Served.{ServedMark}
 use Rattle.nr_laws.specs.Completion.{NothingInTransit}
-use Rattle.nr_laws.specs.EndCauses.{KeepLaws}
+use Rattle.nr_laws.specs.EndCauses.{KeepLaws, AgreesAgain, HasNoOldCall}
 use Rattle.nr_laws.specs.MatchedSoFar.{MatchedSoFar}
 use Rattle.nr_requester.specs.RequesterState.{RequesterSide}
 use Rattle.nr_laws.specs.PlainLinks.{HasPlainReplies, server_with}
@@ -49,11 +49,12 @@ pub record OwesNothing (opened : LinkParameters) (link : ℕ) (both : List Mark)
   pub written : HasWritten opened link Responder both
   pub nothing_waits : NothingInTransit opened link both
 
--- If both sides of the link also keep their laws with each Wrote in full, the client's side of these marks has not ended.
+-- If both sides of the link also keep their laws with each Wrote in full, no call is refused as old, and the hellos agree on the lengths of an
+-- earlier one, if there was one, the client's side of these marks has not ended.
 abbrev pub ServedClientsStayOpen : Type 0
 ServedClientsStayOpen =
     (reply_to : List Entry → Moment → List ℕ → Option (List ℕ)) (adds : Moment → List ℕ → List ℕ → List Entry) (opened : LinkParameters) (link : ℕ) (run both : List Mark) →
-    IsOpened opened → AllByRecursion (IsOwn link) run → IsClientSideOf reply_to adds opened link run both → KeepLaws opened link both → end_of_side opened link Initiator run ≡ None
+    IsOpened opened → AgreesAgain opened → AllByRecursion (IsOwn link) run → IsClientSideOf reply_to adds opened link run both → KeepLaws opened link both → HasNoOldCall link both → end_of_side opened link Initiator run ≡ None
 
 -- So the requester of a command over such a link has not ended when the link is hung up, unless memory ran out for a frame.
 abbrev pub EndsOpen : (opened : LinkParameters) (link : ℕ) (c : Client Text) (before after : DialerAt) (input input' : SourceAt) (out out' : SinkAt) (result : Result (Unit {0}) ClientEnd)
@@ -62,7 +63,7 @@ EndsOpen opened link c before after input input' out out' result (NotOpened end 
 EndsOpen opened link c before after input input' out out' result (Opened dialed s s' opens prints closes) =
     (ran : IsCommandRun opened link s s' dialed.ended after.ended result (tells_text c.uid c.gid c.export c.action input input' out prints.written s s' prints.text prints.made)) →
     (reply_to : List Entry → Moment → List ℕ → Option (List ℕ)) (adds : Moment → List ℕ → List ℕ → List Entry) (both : List Mark) →
-    IsOpened opened → IsClientSideOf reply_to adds opened link ran.run both → KeepLaws opened link both →
+    IsOpened opened → IsClientSideOf reply_to adds opened link ran.run both → KeepLaws opened link both → HasNoOldCall link both →
     (s'.requester.state.side.ended ≡ None) ⊎ (result ≡ Err (client.Link (calls.Ended ends.Memory)))
 
 abbrev pub ServedCommandsStayOpen : Type 0
@@ -89,16 +90,16 @@ ServedCommandsKeepLaws =
     (runs : Runs c before after input input' out out' result) →
     SaysServed (λ o l both h. MatchedSoFar o l both × ((result ≡ Err (client.Link calls.LinkWrite)) ⊎ KeepLaws o l both)) opened link c before after input input' out out' result runs
 
--- So its requester has not ended when the link is hung up, unless memory ran out for a frame or a write failed.
+-- So if no call is refused as old, its requester has not ended when the link is hung up, unless memory ran out for a frame or a write failed.
 abbrev pub ServedCommandsHaveNotEnded : Type 0
 ServedCommandsHaveNotEnded =
     (opened : LinkParameters) (link : ℕ) (c : Client Text) (before after : DialerAt) (input input' : SourceAt) (out out' : SinkAt) (result : Result (Unit {0}) ClientEnd)
     (runs : Runs c before after input input' out out' result) →
-    SaysServed (λ o l both h. (h.state.side.ended ≡ None) ⊎ ((result ≡ Err (client.Link (calls.Ended ends.Memory))) ⊎ (result ≡ Err (client.Link calls.LinkWrite)))) opened link c before after input input' out out' result runs
+    SaysServed (λ o l both h. HasNoOldCall l both → (h.state.side.ended ≡ None) ⊎ ((result ≡ Err (client.Link (calls.Ended ends.Memory))) ⊎ (result ≡ Err (client.Link calls.LinkWrite)))) opened link c before after input input' out out' result runs
 
 -- And it doesn't end with `Closed` if the server owes nothing.
 abbrev pub ServedCommandsAreNotClosed : Type 0
 ServedCommandsAreNotClosed =
     (opened : LinkParameters) (link : ℕ) (c : Client Text) (before after : DialerAt) (input input' : SourceAt) (out out' : SinkAt) (result : Result (Unit {0}) ClientEnd)
     (runs : Runs c before after input input' out out' result) →
-    SaysServed (λ o l both h. OwesNothing o l both → result ≡ Err (client.Link calls.Closed) → ⊥) opened link c before after input input' out out' result runs
+    SaysServed (λ o l both h. HasNoOldCall l both → OwesNothing o l both → result ≡ Err (client.Link calls.Closed) → ⊥) opened link c before after input input' out out' result runs
