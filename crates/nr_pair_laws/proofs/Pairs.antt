@@ -15,7 +15,7 @@ use Rattle.nr_reduce.specs.Opening.{IsOpened}
 use Rattle.nr_reduce.specs.Run.{end_of_side, server}
 use Rattle.nr_reduce.specs.Served.{Served, ServedMark}
 use Rattle.nr_reduce.specs.ServerState.{ServerState}
-use Rattle.nr_laws.specs.EndCauses.{KeepLaws}
+use Rattle.nr_laws.specs.EndCauses.{AgreesAgain, HasNoOldCall, KeepLaws}
 use Rattle.nr_laws.specs.MatchedSoFar.{MatchedSoFar}
 use Rattle.nr_laws.specs.PlainLinks.{AtPlacesOn, HasPlainReplies}
 use Rattle.nr_laws.specs.Stays.{ConveyedMark, NotRevokedMark}
@@ -39,14 +39,15 @@ use Rattle.nr_host.specs.declared.connection_limits.ConnectionLimits.{Connection
 use Rattle.nr_host.specs.declared.conn_end.ConnEnd.{ConnEnd}
 use Rattle.nr_host_laws.specs.OwnMarks.{own_marks}
 use Rattle.nr_host_laws.proofs.Lawful.{keep_the_law}
-use Rattle.nr_host_laws.proofs.OwnMarks.{same_server}
+use Rattle.nr_host_laws.proofs.OwnMarks.{none_old, same_server}
 use Rattle.nr_host_laws.proofs.TypedMarks.{all_bytes, of_calls_bytes}
 use Rattle.nr_service_laws.specs.ClientMarks.{AreMarksOf, IsOwn, without_bytes}
 use Rattle.nr_service_laws.specs.Exchanges.{Exchange, tells_text}
 use Rattle.nr_service_laws.specs.ServedCommands.{client_marks}
 use Rattle.nr_service_laws.proofs.ByteCommands.{command_calls}
 use Rattle.nr_service_laws.proofs.ByteExchanges.{CallsAreBytes}
-use Rattle.nr_service_laws.proofs.OpenLinks.{conveyed, not_revoked, own_each}
+use Rattle.nr_service_laws.proofs.OpenLinks.{agrees_first, conveyed, not_revoked, own_each}
+use Rattle.nr_service_laws.proofs.ServedOutcomes.{first_waits}
 use Rattle.nr_service_laws.proofs.ServedLaws.{ServerKeeps, matched_by, served_keep_laws_lem}
 use Rattle.nr_pair_laws.specs.Pairs.{AreSidesOf, ConnectionsHaveARun, IsConnectionRun, PairsAreServed, PairsAreTyped}
 use Rattle.nr_pair_laws.proofs.AnsweredCalls.{exchanged_in, exchanges_answered}
@@ -70,10 +71,10 @@ ended_server opened link run own why same open_still out =
     none-some why (sym open_still ∙ ap (λ (x : EndState ServerState). x.ended) (same_server opened link run ∙ ap (λ (r : List Mark). server opened link r) same) ∙ out)
 
 -- the client's marks are those of a command
-never_ends : (s : Setup) → IsSane s.tree → (opened : LinkParameters) (link : ℕ) (both : List Mark) → IsOpened opened → IsTyped both → KeepLaws opened link both → HasPlainReplies (plain_server s) link both
+never_ends : (s : Setup) → IsSane s.tree → (opened : LinkParameters) (link : ℕ) (both : List Mark) → IsOpened opened → AgreesAgain opened → IsTyped both → KeepLaws opened link both → HasNoOldCall link both → HasPlainReplies (plain_server s) link both
     → AllByRecursion (IsOwn link) (client_marks link both) → end_of_side opened link Responder both ≡ None
-never_ends s sane opened link both fine typed laws plain owns =
-    (links_stay (plain_replies s) entries_of_call opened link both fine typed laws (own_each (NotRevokedMark link) link [] both (not_revoked link) owns)
+never_ends s sane opened link both fine again typed laws fresh plain owns =
+    (links_stay (plain_replies s) entries_of_call opened link both fine again typed laws fresh (own_each (NotRevokedMark link) link [] both (not_revoked link) owns)
     (own_each (ConveyedMark opened link) link [] both (conveyed opened link) owns) (server_is_plain s sane) plain).1
 
 -- ---- The pair
@@ -117,11 +118,12 @@ pairs_are_served_lem limits first J opened link outside outside' end connection 
     let made = (tells_text c.uid c.gid c.export c.action input input' out prints.written s s' prints.text prints.made).made in
     let b = both_sides setup journal (length J) opened link ran.run own both ran.own ran.asked sides connection.served connection.over.placed in
     let are = subst (λ (r : List Mark). AreMarksOf link made (without_bytes r)) (sym sides.client_side) ran.marks_are in
+    let fresh = none_old link both own sides.server_side connection.ended.runs.own in
     record {
-      served = record { client_side = sides.client_side; typed = typed; served = b.keeps.served; matched = sides.matched; plain = b.plain };
+      served = record { client_side = sides.client_side; typed = typed; served = b.keeps.served; matched = sides.matched; plain = b.plain; none_old = fresh };
       at_places = b.at_places;
-      answered = exchanges_answered setup sane journal (length J) opened link both typed b.far b.plain b.placed made are;
-      stays = λ why is. by (λ laws. ended_server opened link both own why sides.server_side (never_ends setup sane opened link both session.fine typed laws b.plain b.owns)
+      answered = exchanges_answered setup sane journal (length J) opened link (first_waits opened link ran.first_link.resumed) both typed b.far b.plain b.placed made are;
+      stays = λ why is. by (λ laws. ended_server opened link both own why sides.server_side (never_ends setup sane opened link both session.fine (agrees_first opened ran.first_link.agreed) typed laws fresh b.plain b.owns)
           (subst (λ (e : ConnEnd). IsCause opened link own outside'.left e) is (connection.ended.cause opened same)).0)
           (served_keep_laws_lem opened link c before after input input' out out' result (Opened dialed s s' opens prints closes) ran (plain_replies setup) entries_of_call both session.fine
           (record { client_side = sides.client_side; typed = typed; served = b.keeps.served; matched = sides.matched; limits = server_is_plain setup sane; plain = b.plain })).1;

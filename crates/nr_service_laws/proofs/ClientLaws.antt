@@ -106,7 +106,7 @@ abandoned_same link xid both = any_kept (abandons link xid) (is_client_mark link
 -- ---- The law of each mark
 
 module _ (Relates : List ℕ → List ℕ → Type 0) (opened : LinkParameters) (link : ℕ) (before : List Mark) where
-  pub awaited_back : (xid : ℕ) → IsAwaited link (client_marks link before) xid → IsAwaited link before xid
+  awaited_back : (xid : ℕ) → IsAwaited link (client_marks link before) xid → IsAwaited link before xid
   awaited_back xid w = record {
     asked = w.asked;
     is_asked = subst (λ (l : List AcceptedCall). Contains l w.asked) (sym (accepted_same link before)) w.is_asked;
@@ -115,7 +115,7 @@ module _ (Relates : List ℕ → List ℕ → Type 0) (opened : LinkParameters) 
     kept = abandoned_same link xid before ∙ w.kept;
   }
 
-  waits_back : (xid : ℕ) → IsAwaitedOrWaits opened link (client_marks link before) xid → IsAwaitedOrWaits opened link before xid
+  pub waits_back : (xid : ℕ) → IsAwaitedOrWaits opened link (client_marks link before) xid → IsAwaitedOrWaits opened link before xid
   waits_back xid w = record {
     asked = w.asked;
     is_asked = subst (λ (l : List AcceptedCall). Contains (map as_accepted opened.resumed ++ l) w.asked) (sym (accepted_same link before)) w.is_asked;

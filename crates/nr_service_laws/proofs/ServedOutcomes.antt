@@ -85,11 +85,11 @@ auto_of link both earlier later call form xid own is =
     (subst (λ (r : List Mark). AllByRecursion (IsOwn link) (client_marks link r)) is own) (itself link))
 
 -- what waits is planned for lengths that an earlier hello agreed on, at each mark
-abbrev WaitsAsPlanned : LinkParameters → ℕ → Type 0
+abbrev pub WaitsAsPlanned : LinkParameters → ℕ → Type 0
 WaitsAsPlanned opened link = (run : List Mark) → ArePlannedBefore opened link run
 
 -- nothing waits on a link that was not reopened
-first_waits : (opened : LinkParameters) (link : ℕ) → opened.resumed ≡ [] → WaitsAsPlanned opened link
+pub first_waits : (opened : LinkParameters) (link : ℕ) → opened.resumed ≡ [] → WaitsAsPlanned opened link
 first_waits opened link none run = subst (AllByRecursion (IsPlannedBefore (lengths_before opened.agreed))) (sym (none_waits opened link run none)) tt
 
 one_reply : (reply_to : List Entry → Moment → List ℕ → Option (List ℕ)) (adds : Moment → List ℕ → List ℕ → List Entry) (opened : LinkParameters) (link : ℕ) (run both : List Mark)
