@@ -73,7 +73,7 @@ ArePlannedBefore opened link run = AllByRecursion (IsPlannedBefore (lengths_befo
 accepted_within : (opened : LinkParameters) (link : ℕ) (before : List Mark) (call : Call) (form : Form) (xid : ℕ) (plan : Plan) → ArePlannedBefore opened link before → IsTyped before → MatchedSoFar opened link before → IsAccepted opened link before call form xid
     → plan_for (client opened link before).state xid call form ≡ Ok plan → IsPlannedWithin opened xid call form plan
 unfolding plan_for
-accepted_within opened link before call form xid plan waits typed far a planned = by k.waiting a.next a.resent planned waits
+accepted_within opened link before call form xid plan lengths typed far a planned = by k.waiting a.next a.resent planned lengths
   where
     k : ClientState
     k = (client opened link before).state
