@@ -4,7 +4,7 @@ use Rattle.nr_xdr.specs.Item.{IsBytes}
 use Rattle.nr_wire.specs.declared.hello.Side.TheVariants.{Initiator, Responder}
 use Rattle.nr_link.specs.Frames.{frames_of}
 use Rattle.nr_reduce.specs.History.{bytes_sent, bytes_received, is_dropped}
-use Rattle.nr_reduce.specs.PlainJournal.{journal}
+use Rattle.nr_reduce.specs.NumberedJournal.{entries_alone}
 use Rattle.nr_reduce.specs.ServerState.{ReadyCall}
 use Rattle.nr_reduce.specs.Asked.{Asked}
 use Rattle.nr_reduce.specs.Served.{Served, next_call}
@@ -13,9 +13,9 @@ use Rattle.nr_laws.specs.Grant.{AcceptsByRule}
 use Rattle.nr_laws.specs.Typed.{IsTyped}
 use Rattle.nr_script.specs.declared.script.Line.{Line}
 use Rattle.nr_script.specs.Script.{ScriptLines, IsScript}
-use Rattle.nr_drill.specs.Drill.{SerialServer, Setting, Drill, plain_of, now, waiting_call, links_of, pipes_of, empty_pipes}
+use Rattle.nr_drill.specs.Drill.{SerialServer, Setting, Drill, GivenReply, now, waiting_call, reply_given, journal_of, pipes_of, empty_pipes, setting_now}
 use Rattle.nr_drill.specs.Follows.{Drains, MakeAll, setting_of, opened_drill}
-use Rattle.nr_drill.specs.Lines.{IsLink, HasNoRaw}
+use Rattle.nr_drill.specs.Lines.{IsClient, HasNoRaw, IsUnnumbered}
 use Rattle.nr_drill.specs.InBytes.{ExecutedInBytes}
 use Rattle.nr_drill.specs.WorkLeft.{DrainStep, after_step, work_left, IsLess}
 use Rattle.nr_drill.specs.DrainSteps.{Moves}
@@ -40,15 +40,14 @@ abbrev pub StepsLeaveLess : Type 0
 StepsLeaveLess = (s : Setting) (link : ℕ) (step : DrainStep) (old : Drill) → IsRunning s link old → Moves s link step old → IsTyped (after_step s link step old).marks →
     IsLess (work_left s (after_step s link step old) link) (work_left s old link)
 
--- the server has a reply to each call that waits
+-- the server has a reply to each call that waits, if that is executed as a new one
 abbrev pub AnswersCalls : Setting → Type 0
 AnswersCalls s = (link : ℕ) (d : Drill) (call : ReadyCall) → next_call (s.opened link) link d.marks ≡ Some call →
-    (reply : List ℕ) × (s.server.reply_to (journal (plain_of s.server) d.marks) (now d) call.payload ≡ Some reply)
+    (reply : List ℕ) × (s.server.reply_to (entries_alone (journal_of s d.marks)) (now d) call.payload ≡ Some reply)
 
--- what the server replies to a call that waits on a link of a drill is bytes
+-- what a call that waits on a link of a drill is answered with is bytes
 abbrev pub AnswersInBytesAt : Setting → ℕ → Drill → Type 0
-AnswersInBytesAt s link d = (call : ReadyCall) (reply : List ℕ) → waiting_call s link d.marks ≡ Some call →
-    s.server.reply_to (journal (plain_of s.server) d.marks) (now d) call.payload ≡ Some reply → IsBytes reply
+AnswersInBytesAt s link d = (call : ReadyCall) (g : GivenReply) → waiting_call s link d.marks ≡ Some call → reply_given s link d call ≡ Some g → IsBytes g.reply
 
 -- It is so on each link of each drill whose marks are of their types, and whose executed payloads are bytes.
 abbrev pub AnswersInBytes : Setting → Type 0
@@ -60,8 +59,8 @@ StepsKeepTypes = (s : Setting) (link : ℕ) (step : DrainStep) (d : Drill) → I
 
 -- After any of the first lines of a script, if none of these puts bytes into pipes, a drain ends: after a number of rounds nothing moves on any link.
 abbrev pub DrainsEnd : Type 0
-DrainsEnd = (server : SerialServer) (script : ScriptLines) → IsScript script →
+DrainsEnd = (server : SerialServer) (script : ScriptLines) → IsScript script → IsUnnumbered script →
     AnswersInBytes (setting_of server script.opening) → AnswersCalls (setting_of server script.opening) →
-    (before after : List Line) → script.lines ≡ before ++ after → ((link : ℕ) → IsLink script link → HasNoRaw before link) → (mid : Drill) →
+    (before after : List Line) → script.lines ≡ before ++ after → ((client : ℕ) → IsClient script client → HasNoRaw before client) → (mid : Drill) →
     MakeAll (setting_of server script.opening) script.opening.clients before (opened_drill server script.opening) mid →
-    (rounds : ℕ) × (new : Drill) × Drains (setting_of server script.opening) (links_of script.opening.clients) rounds mid new
+    (rounds : ℕ) × (new : Drill) × Drains (setting_now (setting_of server script.opening) mid) mid.last_links rounds mid new
