@@ -43,7 +43,8 @@ use Rattle.nr_drill.proofs.Lawful.{IsLawful, IsWritten, Keeps, own_written, up_w
 use Rattle.nr_script.specs.declared.script.Line.{Line}
 use Rattle.nr_script.specs.declared.script.Line.TheVariants as lines
 use Rattle.nr_drill.proofs.Handed.{follows_hands}
-use Rattle.nr_drill.proofs.FirstLinks.{IsFirst, AreFirst, opened_first, down_is}
+use Rattle.nr_reduce.specs.Opening.{IsFirstLink}
+use Rattle.nr_drill.proofs.FirstLinks.{AreFirst, opened_firsts, down_is}
 use Rattle.nr_drill.proofs.FirstLines.{first_line, FirstMakes, FirstMakeAll, NamesClient, made_first, all_name}
 use Rattle.nr_drill.proofs.Followed.{quiet_mark, apart, unconcerned, not_written, Extends, Acts, Holds, AreWritable, AreFit, Among, elsewhere, holds_by, cred_at, with_cred_at, keeps_raw, opened_first_links, submit_adds, up_adds, down_adds, work_adds, forget_adds, revoke_adds, drop_adds, raw_adds, moves_adds, opening_adds, keeps_forget, keeps_drop, opening_keeps, among_range, start_lawful, start_creds, opened_by_script, follows_keeps_laws, grant_adds, keeps_grant, all_fit, IsFit}
 
@@ -285,7 +286,7 @@ unfolding after_done
 dones_keep s link zero d h = h
 dones_keep s link (suc n) d h = dones_keep s link n (after_done s link d) (handing_keeps s link (slice_get (outcomes_due (s.opened link) link d.marks) 0) d refl h)
 
-pub carries_down : (s : Setting) (link n : ℕ) (d : Drill) → IsFirst (s.opened link) → Keeps s link d → Carries link d → Carries link (after_down s link n d)
+pub carries_down : (s : Setting) (link n : ℕ) (d : Drill) → IsFirstLink (s.opened link) → Keeps s link d → Carries link d → Carries link (after_down s link n d)
 unfolding after_outcomes
 carries_down s link n d first h c = subst (Carries link) (sym (down_is s link n d first)) (by (is_dropped link d.marks) refl)
   where
@@ -342,7 +343,7 @@ carries_calls : (s : Setting) (link n : ℕ) (d : Drill) → Carries link d → 
 carries_calls s link zero d c = c
 carries_calls s link (suc n) d c = carries_calls s link n (after_work s link d) (carries_work s link d c)
 
-carries_moves : (s : Setting) (link : ℕ) (d : Drill) → IsFirst (s.opened link) → Keeps s link d → Carries link d → Carries link (after_moves s link d)
+carries_moves : (s : Setting) (link : ℕ) (d : Drill) → IsFirstLink (s.opened link) → Keeps s link d → Carries link d → Carries link (after_moves s link d)
 unfolding after_moves after_all_work
 carries_moves s link d first h c =
     let one = after_all_up s link d in
@@ -555,7 +556,7 @@ line_stands s link (lines.Cred client cred) d one fit w some raw h = record {
 line_stands s link (lines.Call client form prog vers proc args) d one fit w some raw h =
     let call : Call = record { prog = prog; vers = vers; proc = proc; cred = cred_of client d; args = args } in
     stands_by s client link d (after_submit s client call form d) some one (record {
-      acts = record { own = λ k. lawful_submit s client call form d (fit.first client) (fit.opened client) (cred_at d.creds (client - 1) h.holds.creds) k; extends = submit_adds s client call form d };
+      acts = record { own = λ k. lawful_submit s client call form d (fit.first.on client) (fit.opened client) (cred_at d.creds (client - 1) h.holds.creds) k; extends = submit_adds s client call form d };
       carries = λ k c. carries_submit s client call form d k c;
     }) h
 line_stands s link (lines.Up client most) d one fit w some raw h =
@@ -565,8 +566,8 @@ line_stands s link (lines.Up client most) d one fit w some raw h =
     }) h
 line_stands s link (lines.Down client most) d one fit w some raw h =
     stands_by s client link d (after_down s client most d) some one (record {
-      acts = record { own = λ k. lawful_after_down s client most d (fit.first client) k; extends = down_adds s client most d };
-      carries = λ k c. carries_down s client most d (fit.first client) k c;
+      acts = record { own = λ k. lawful_after_down s client most d (fit.first.on client) k; extends = down_adds s client most d };
+      carries = λ k c. carries_down s client most d (fit.first.on client) k c;
     }) h
 line_stands s link (lines.Work client) d one fit w some raw h =
     stands_by s client link d (after_work s client d) some one (record {
@@ -616,8 +617,8 @@ round_stands s link [] d one first some h = h
 round_stands s link (l ∷ links) d one first some h =
     round_stands s link links (after_moves s l d) one first some.1
     (stands_by s l link d (after_moves s l d) some.0 one (record {
-      acts = record { own = λ k. lawful_moves s l d (first l) k; extends = moves_adds s l d };
-      carries = λ k c. carries_moves s l d (first l) k c;
+      acts = record { own = λ k. lawful_moves s l d (first.on l) k; extends = moves_adds s l d };
+      carries = λ k c. carries_moves s l d (first.on l) k c;
     }) h)
 
 pub drain_stands : (s : Setting) (link : ℕ) (links : List ℕ) (rounds : ℕ) (old new : Drill) → 1 ≤ link → AreFirst s → AreLinks links → Drains s links rounds old new → Stands s link old → Stands s link new
@@ -658,7 +659,7 @@ lines_passed s clients link (line ∷ others) old new one fit w n r e h =
 
 -- ===== links open
 
-opening_carries : (s : Setting) (link : ℕ) (d : Drill) → IsFirst (s.opened link) → IsLawful (s.opened link) link d.marks → is_dropped link d.marks ≡ false → Carries link d → Carries link (after_opening s link d)
+opening_carries : (s : Setting) (link : ℕ) (d : Drill) → IsFirstLink (s.opened link) → IsLawful (s.opened link) link d.marks → is_dropped link d.marks ≡ false → Carries link d → Carries link (after_opening s link d)
 unfolding after_opening
 opening_carries s link d first h standing c =
     let one = settled s link d in
@@ -668,7 +669,7 @@ opening_carries s link d first h standing c =
     (carries_up s link (length (pipes_of link one).up) one kept (carry_settled s link d standing c))
 
 -- a link that is open already
-opened_carries : (s : Setting) (link : ℕ) (d : Drill) → IsFirst (s.opened link) → Keeps s link d → Carries link d → Carries link (after_opening s link d)
+opened_carries : (s : Setting) (link : ℕ) (d : Drill) → IsFirstLink (s.opened link) → Keeps s link d → Carries link d → Carries link (after_opening s link d)
 unfolding after_opening
 opened_carries s link d first h c = by (is_dropped link d.marks) refl
   where
@@ -688,8 +689,8 @@ openings_stand s link [] d one first some h = h
 openings_stand s link (l ∷ links) d one first some h =
     openings_stand s link links (after_opening s l d) one first some.1
     (stands_by s l link d (after_opening s l d) some.0 one (record {
-      acts = record { own = λ k. opening_keeps s l d (first l) k.0; extends = opening_adds s l d };
-      carries = λ k c. opened_carries s l d (first l) k c;
+      acts = record { own = λ k. opening_keeps s l d (first.on l) k.0; extends = opening_adds s l d };
+      carries = λ k c. opened_carries s l d (first.on l) k c;
     }) h)
 
 openings_begin : (s : Setting) (link : ℕ) (links : List ℕ) (d : Drill) → 1 ≤ link → AreFirst s → AreLinks links → Among link links → IsLawful (s.opened link) link d.marks → AreWritable d.creds →
@@ -704,10 +705,10 @@ openings_begin s link (l ∷ links) d one first some among h w standing c =
     opened_here : l ≡ link → Stands s link (after_openings s links (after_opening s l d))
     opened_here same = openings_stand s link links (after_opening s l d) one first some.1 (record {
       holds = record {
-        keeps = subst (λ (k : ℕ). Keeps s k (after_opening s l d)) same (opening_keeps s l d (first l) (subst (λ (k : ℕ). IsLawful (s.opened k) k d.marks) (sym same) h));
+        keeps = subst (λ (k : ℕ). Keeps s k (after_opening s l d)) same (opening_keeps s l d (first.on l) (subst (λ (k : ℕ). IsLawful (s.opened k) k d.marks) (sym same) h));
         creds = creds;
       };
-      carries = subst (λ (k : ℕ). Carries k (after_opening s l d)) same (opening_carries s l d (first l) (subst (λ (k : ℕ). IsLawful (s.opened k) k d.marks) (sym same) h)
+      carries = subst (λ (k : ℕ). Carries k (after_opening s l d)) same (opening_carries s l d (first.on l) (subst (λ (k : ℕ). IsLawful (s.opened k) k d.marks) (sym same) h)
           (subst (λ (k : ℕ). is_dropped k d.marks ≡ false) (sym same) standing) (subst (λ (k : ℕ). Carries k d) (sym same) c));
     })
 
@@ -748,11 +749,11 @@ opened_stands server script is none link within =
     let opening = script.opening in
     let s = setting_of server opening in
     let clients = opening.clients in
-    openings_begin s link (links_of clients) (start s clients) within.0 (λ l. opened_first opening l none) (are_links 1 clients (omega arith)) (among_range link 1 clients within.0 (let b = within.1 in omega (arith, b)))
+    openings_begin s link (links_of clients) (start s clients) within.0 (opened_firsts server opening none) (are_links 1 clients (omega arith)) (among_range link 1 clients within.0 (let b = within.1 in omega (arith, b)))
     (start_lawful (parameters_of opening link) link) (start_creds clients) refl (start_carries s clients link within.0 within.1)
 
 pub fit_setting : (server : SerialServer) (script : ScriptLines) → IsScript script → IsUnnumbered script → AreFit (setting_of server script.opening)
-fit_setting server script is none = record { first = λ l. opened_first script.opening l none; opened = opened_by_script script is }
+fit_setting server script is none = record { first = opened_firsts server script.opening none; opened = opened_by_script script is }
 
 -- what a script whose clients have no numbers makes of the drill whose links are open
 pub follows_made : (server : SerialServer) (script : ScriptLines) (run : List Mark) → IsScript script → IsUnnumbered script → (follows : Follows server script run) →

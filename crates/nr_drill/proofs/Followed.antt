@@ -24,7 +24,7 @@ use Rattle.nr_reduce.specs.Run.{client, server, output_due}
 use Rattle.nr_rpc.specs.declared.cred.Cred.{Cred}
 use Rattle.nr_rpc.specs.declared.cred.Cred.TheVariants as creds
 use Rattle.nr_rpc.specs.Credential.{CanWriteCred}
-use Rattle.nr_reduce.specs.Opening.{IsOpened}
+use Rattle.nr_reduce.specs.Opening.{IsOpened, IsFirstLink}
 use Rattle.nr_reduce.specs.Asked.{Asked, AskedMark, IsAll, revoked_bytes}
 use Rattle.nr_reduce.specs.OutcomesDue.{outcomes_due}
 use Rattle.nr_reduce.specs.NumberedJournal.{Standing}
@@ -43,7 +43,7 @@ use Rattle.nr_reduce.proofs.Unconcerned.{not_judged, none_written, no_events, no
 use Rattle.nr_drill.specs.Follows.{after_line, Drains, Makes, MakeAll, Follows, parameters_of, setting_of, opened_drill}
 use Rattle.nr_drill.specs.Drill.{link_of, Setting, Drill, Pipes, GivenReply, client_of, last_link, setting_now, standing_of, reply_given, resend_mark, after_resends, unwritten, after_output, after_all_output, settled, pipes_of, with_mark, after_submit, after_feeding, after_feeding_up, after_up, waiting_call, after_answer, after_call, after_execution, after_work, after_calls, after_drop, after_raw, after_feeding_down, after_handing, after_done, after_dones, after_outcomes, after_down, answer_of_line, open_xid, after_giving_up, after_forget, after_taking_back, after_revoke, after_all_up, after_all_work, after_all_down, after_moves, after_round, after_opening, after_openings, SerialServer, with_pipes, appended, empty_pipes, start, links_of, cred_of, after_grant}
 use Rattle.nr_drill.proofs.Lawful.{IsLawful, IsWritten, IsDueOf, Keeps, lawful_mark, left_is, due_more, more_due, due_of, lawful_settled, lawful_drop, lawful_forget, lawful_submit, lawful_after_up, lawful_after_down, lawful_work, lawful_revoke, lawful_moves, lawful_grant, quiet_grant}
-use Rattle.nr_drill.proofs.FirstLinks.{IsFirst, AreFirst, opened_first, now_is}
+use Rattle.nr_drill.proofs.FirstLinks.{AreFirst, opened_firsts, now_is}
 use Rattle.nr_drill.specs.Lines.{IsUnnumbered}
 
 -- ===== marks of other links
@@ -414,7 +414,7 @@ line_holds s link (lines.Call client form prog vers proc args) d fit w h =
     let own = last_link client d in
     let call : Call = record { prog = prog; vers = vers; proc = proc; cred = cred_of client d; args = args } in
     holds_now s own link d (after_submit t own call form d) (record {
-      own = λ k. lawful_submit t own call form d (fit.first own) (fit.opened own) (cred_at d.creds (client - 1) h.creds) k;
+      own = λ k. lawful_submit t own call form d (fit.first.on own) (fit.opened own) (cred_at d.creds (client - 1) h.creds) k;
       extends = submit_adds t own call form d;
     }) h
 line_holds s link (lines.Up client most) d fit w h =
@@ -424,7 +424,7 @@ line_holds s link (lines.Up client most) d fit w h =
 line_holds s link (lines.Down client most) d fit w h =
     let t = setting_now s d in
     let own = last_link client d in
-    holds_now s own link d (after_down t own most d) (record { own = λ k. lawful_after_down t own most d (fit.first own) k; extends = down_adds t own most d }) h
+    holds_now s own link d (after_down t own most d) (record { own = λ k. lawful_after_down t own most d (fit.first.on own) k; extends = down_adds t own most d }) h
 line_holds s link (lines.Work client) d fit w h =
     let t = setting_now s d in
     let own = last_link client d in
@@ -460,7 +460,7 @@ pub round_holds : (s : Setting) (link : ℕ) (links : List ℕ) (d : Drill) → 
 round_holds s link [] d first h = h
 round_holds s link (l ∷ links) d first h =
     round_holds s link links (after_moves s l d) first
-    (holds_by s l link d (after_moves s l d) (record { own = λ k. lawful_moves s l d (first l) k; extends = moves_adds s l d }) h)
+    (holds_by s l link d (after_moves s l d) (record { own = λ k. lawful_moves s l d (first.on l) k; extends = moves_adds s l d }) h)
 
 pub drain_holds : (s : Setting) (link : ℕ) (links : List ℕ) (rounds : ℕ) (old new : Drill) → Drains s links rounds old new → AreFirst s → Holds s link old → Holds s link new
 drain_holds s link links zero old new drains first h = subst (Holds s link) (sym drains.1) h
@@ -576,7 +576,7 @@ opening_adds s link d =
     (down_adds s link (length (pipes_of link two).down) two)
 
 -- a link that opens keeps its laws
-pub opening_keeps : (s : Setting) (link : ℕ) (d : Drill) → IsFirst (s.opened link) → IsLawful (s.opened link) link d.marks → Keeps s link (after_opening s link d)
+pub opening_keeps : (s : Setting) (link : ℕ) (d : Drill) → IsFirstLink (s.opened link) → IsLawful (s.opened link) link d.marks → Keeps s link (after_opening s link d)
 unfolding after_opening
 opening_keeps s link d first h =
     let one = settled s link d in
@@ -587,7 +587,7 @@ pub openings_keep : (s : Setting) (link : ℕ) (links : List ℕ) (d : Drill) �
 openings_keep s link [] d first h = h
 openings_keep s link (l ∷ links) d first h =
     openings_keep s link links (after_opening s l d) first
-    (holds_by s l link d (after_opening s l d) (record { own = λ k. opening_keeps s l d (first l) k.0; extends = opening_adds s l d }) h)
+    (holds_by s l link d (after_opening s l d) (record { own = λ k. opening_keeps s l d (first.on l) k.0; extends = opening_adds s l d }) h)
 
 pub openings_hold : (s : Setting) (link : ℕ) (links : List ℕ) (d : Drill) → AreFirst s → Among link links → IsLawful (s.opened link) link d.marks → AreWritable d.creds → Holds s link (after_openings s links d)
 openings_hold s link [] d first among h w = absurd among
@@ -598,7 +598,7 @@ openings_hold s link (l ∷ links) d first among h w = by (eqb l link) refl amon
 
     opened_here : l ≡ link → Holds s link (after_openings s links (after_opening s l d))
     opened_here same = openings_keep s link links (after_opening s l d) first (record {
-      keeps = subst (λ (k : ℕ). Keeps s k (after_opening s l d)) same (opening_keeps s l d (first l) (subst (λ (k : ℕ). IsLawful (s.opened k) k d.marks) (sym same) h));
+      keeps = subst (λ (k : ℕ). Keeps s k (after_opening s l d)) same (opening_keeps s l d (first.on l) (subst (λ (k : ℕ). IsLawful (s.opened k) k d.marks) (sym same) h));
       creds = creds;
     })
 
@@ -640,7 +640,7 @@ pub record KeepsAll (o : LinkParameters) (link : ℕ) (run : List Mark) : Type 0
   pub served : Served o link run
   pub accepts : AcceptsByRule o link run
 
-pub laws_of : (o : LinkParameters) (link : ℕ) (run : List Mark) → IsFirst o → IsLawful o link run → IsWritten o link run → KeepsAll o link run
+pub laws_of : (o : LinkParameters) (link : ℕ) (run : List Mark) → IsFirstLink o → IsLawful o link run → IsWritten o link run → KeepsAll o link run
 laws_of o link run first h w = record {
   asked = record {
     each = h.asked;
@@ -741,11 +741,11 @@ unfolding opened_drill
 follows_keeps_laws server script run is none follows link low high =
     let s = setting_of server script.opening in
     let opening = script.opening in
-    let firsts : AreFirst s = (λ l. opened_first opening l none) in
+    let firsts : AreFirst s = opened_firsts server opening none in
     let first = openings_hold s link (links_of opening.clients) (start s opening.clients) firsts (among_range link 1 opening.clients low (omega (arith, high)))
     (start_lawful (parameters_of opening link) link) (start_creds opening.clients) in
     let now = (opened_first_links server opening none).setting in
     let last = lines_made s s opening.clients link script.lines (opened_drill server opening) follows.last now (record { first = firsts; opened = opened_by_script script is }) (all_fit server script is none) follows.makes
     (subst (λ (t : Setting). Holds t link (opened_drill server opening)) (sym now) first) in
     let held : Holds s link follows.last = subst (λ (t : Setting). Holds t link follows.last) (follows_first server script run is none follows).setting last in
-    subst (KeepsAll (parameters_of opening link) link) (sym follows.marks_are) (laws_of (parameters_of opening link) link follows.last.marks (firsts link) held.keeps.0 held.keeps.1)
+    subst (KeepsAll (parameters_of opening link) link) (sym follows.marks_are) (laws_of (parameters_of opening link) link follows.last.marks (firsts.on link) held.keeps.0 held.keeps.1)

@@ -21,7 +21,7 @@ use Rattle.nr_reduce.specs.declared.mark.Told.TheVariants.{Granted}
 use Rattle.nr_reduce.specs.declared.mark.Told.TheVariants as told
 use Rattle.nr_reduce.specs.declared.mark.LinkParameters.{LinkParameters}
 use Rattle.nr_reduce.specs.AtEachMark.{AtEachMark}
-use Rattle.nr_reduce.specs.Opening.{IsOpened}
+use Rattle.nr_reduce.specs.Opening.{IsOpened, IsFirstLink}
 use Rattle.nr_rpc.specs.Credential.{CanWriteCred}
 use Rattle.nr_reduce.specs.History.{AcceptedCall, CompletedCall, accepted_as, accepted_at, accepted_calls, completed_at, completed_calls, bytes_received, abandons, is_abandoned, is_dropped}
 use Rattle.nr_reduce.specs.OutcomesDue.{is_completed, outcomes_of_call, outcomes_due}
@@ -50,7 +50,7 @@ use Rattle.nr_drill.specs.Follows.{Drains, Follows, parameters_of, setting_of, o
 use Rattle.nr_drill.specs.Lines.{IsClient, IsUnnumbered}
 use Rattle.nr_drill.proofs.Lawful.{IsLawful, answer_asked, lawful_submit, lawful_after_up, lawful_after_down, lawful_work, lawful_revoke}
 use Rattle.nr_drill.proofs.Followed.{no_event, apart, Extends, Holds, cred_at, round_holds, elsewhere, among_range, opened_by_script, openings_hold, opening_keeps, start_lawful, start_creds, opening_adds, submit_adds, up_adds, down_adds, work_adds, forget_adds, revoke_adds, drop_adds, raw_adds, moves_adds, grant_adds, all_fit, IsFit, AreFit, holds_by, with_cred_at, drain_holds, keeps_forget, keeps_drop, keeps_raw, keeps_grant, opened_first_links}
-use Rattle.nr_drill.proofs.FirstLinks.{IsFirst, AreFirst, opened_first}
+use Rattle.nr_drill.proofs.FirstLinks.{AreFirst, opened_firsts}
 use Rattle.nr_drill.proofs.FirstLines.{first_line, FirstMakes, FirstMakeAll, made_first, all_name}
 use Rattle.nr_reduce.proofs.Unresumed.{none_waits}
 use Rattle.nr_reduce.specs.NumberedJournal.{Standing}
@@ -166,7 +166,7 @@ fresh_if : (o : LinkParameters) (r : EndState ClientState) (b : Bool) (es : List
 fresh_if o r true es h = h
 fresh_if o r false es h = tt
 
-fresh_mark : (o : LinkParameters) (link : ℕ) (run : List Mark) (mark : Mark) → IsFirst o → AskedMark IsAll o link run mark → AreFresh o (client o link run) (events_at link Initiator run mark)
+fresh_mark : (o : LinkParameters) (link : ℕ) (run : List Mark) (mark : Mark) → IsFirstLink o → AskedMark IsAll o link run mark → AreFresh o (client o link run) (events_at link Initiator run mark)
 fresh_mark o link run (marks.Submit l call form (submissions.Accepted xid)) first h = by (eqb l link) refl
   where
     a : AcceptedCall
@@ -190,7 +190,7 @@ fresh_mark o link run (marks.Revoke l xid bytes) first h = fresh_if o (client o 
 fresh_mark o link run (marks.Drop l) first h = tt
 fresh_mark o link run (marks.Told l what) first h = fresh_if o (client o link run) _ (ServerTold what ∷ []) (tt, tt)
 
-below_from : (o : LinkParameters) (link : ℕ) (before run : List Mark) → IsFirst o → XidsBelow o (client o link before).state → AtEachMark (AskedMark IsAll o link) before run → XidsBelow o (client o link (before ++ run)).state
+below_from : (o : LinkParameters) (link : ℕ) (before run : List Mark) → IsFirstLink o → XidsBelow o (client o link before).state → AtEachMark (AskedMark IsAll o link) before run → XidsBelow o (client o link (before ++ run)).state
 below_from o link before [] first h asked = subst (λ (r : List Mark). XidsBelow o (client o link r).state) (sym (append-nil before)) h
 below_from o link before (mark ∷ run) first h asked =
     let next : XidsBelow o (client o link (before ++ mark ∷ [])).state =
@@ -202,7 +202,7 @@ below_first : (o : LinkParameters) (link : ℕ) → XidsBelow o (client o link [
 unfolding client events
 below_first o link = record { waiting = tt; brought = tt }
 
-pub xids_below : (o : LinkParameters) (link : ℕ) (run : List Mark) → IsFirst o → AtEachMark (AskedMark IsAll o link) [] run → XidsBelow o (client o link run).state
+pub xids_below : (o : LinkParameters) (link : ℕ) (run : List Mark) → IsFirstLink o → AtEachMark (AskedMark IsAll o link) [] run → XidsBelow o (client o link run).state
 xids_below o link run first asked = below_from o link [] run first (below_first o link) asked
 
 -- ===== one mark more
@@ -497,7 +497,7 @@ none_of_lem n xid (c ∷ outs) le h = by (eqb c.xid xid) refl (none_of_lem n xid
     by true is rest = absurd (let a = h.0 in let b = eqb-true c.xid xid is in omega (arith, a, b, le))
     by false is rest = rest
 
-submit_brings : (o : LinkParameters) (link : ℕ) (run : List Mark) (call : Call) (form : Form) (answer : Submission) → IsFirst o → XidsBelow o (client o link run).state →
+submit_brings : (o : LinkParameters) (link : ℕ) (run : List Mark) (call : Call) (form : Form) (answer : Submission) → IsFirstLink o → XidsBelow o (client o link run).state →
     AskedMark IsAll o link run (marks.Submit link call form answer) → BringsNone o link run (marks.Submit link call form answer)
 submit_brings o link run call form (submissions.Accepted xid) first below asked =
     let outs = (client o link run).state.outcomes in
@@ -519,7 +519,7 @@ submit_brings o link run call form submissions.Dropped first below asked = recor
     by true = refl
     by false = refl
 
-submit_hands : (s : Setting) (link : ℕ) (call : Call) (form : Form) (d : Drill) → IsFirst (s.opened link) → IsOpened (s.opened link) → CanWriteCred call.cred → IsLawful (s.opened link) link d.marks → HandsAll s link d →
+submit_hands : (s : Setting) (link : ℕ) (call : Call) (form : Form) (d : Drill) → IsFirstLink (s.opened link) → IsOpened (s.opened link) → CanWriteCred call.cred → IsLawful (s.opened link) link d.marks → HandsAll s link d →
     HandsAll s link (after_submit s link call form d)
 unfolding after_submit
 submit_hands s link call form d first numbers writable lawful h =
@@ -556,7 +556,7 @@ line_hands s link (lines.Cred client cred) d fit k h = h
 line_hands s link (lines.Call client form prog vers proc args) d fit k h =
     let call : Call = record { prog = prog; vers = vers; proc = proc; cred = cred_of client d; args = args } in
     hands_by s client link d (after_submit s client call form d) (record {
-      own = λ l e. submit_hands s client call form d (fit.first client) (fit.opened client) (cred_at d.creds (client - 1) k.creds) l e;
+      own = λ l e. submit_hands s client call form d (fit.first.on client) (fit.opened client) (cred_at d.creds (client - 1) k.creds) l e;
       extends = submit_adds s client call form d;
     }) k.keeps.0 h
 line_hands s link (lines.Up client most) d fit k h =
@@ -613,13 +613,13 @@ line_holds_first s link (lines.Cred client cred) d fit w h = record { keeps = h.
 line_holds_first s link (lines.Call client form prog vers proc args) d fit w h =
     let call : Call = record { prog = prog; vers = vers; proc = proc; cred = cred_of client d; args = args } in
     holds_by s client link d (after_submit s client call form d) (record {
-      own = λ k. lawful_submit s client call form d (fit.first client) (fit.opened client) (cred_at d.creds (client - 1) h.creds) k;
+      own = λ k. lawful_submit s client call form d (fit.first.on client) (fit.opened client) (cred_at d.creds (client - 1) h.creds) k;
       extends = submit_adds s client call form d;
     }) h
 line_holds_first s link (lines.Up client most) d fit w h =
     holds_by s client link d (after_up s client most d) (record { own = λ k. lawful_after_up s client most d k; extends = up_adds s client most d }) h
 line_holds_first s link (lines.Down client most) d fit w h =
-    holds_by s client link d (after_down s client most d) (record { own = λ k. lawful_after_down s client most d (fit.first client) k; extends = down_adds s client most d }) h
+    holds_by s client link d (after_down s client most d) (record { own = λ k. lawful_after_down s client most d (fit.first.on client) k; extends = down_adds s client most d }) h
 line_holds_first s link (lines.Work client) d fit w h =
     holds_by s client link d (after_work s client d) (record { own = λ k. lawful_work s client d k; extends = work_adds s client d }) h
 line_holds_first s link (lines.Tick seconds) d fit w h = record { keeps = h.keeps; creds = h.creds }
@@ -663,10 +663,10 @@ lines_hand s clients link (line ∷ others) old new fit w e k h =
 openings_hand : (s : Setting) (link : ℕ) (links : List ℕ) (d : Drill) → AreFirst s → IsLawful (s.opened link) link d.marks → HandsAll s link d → HandsAll s link (after_openings s links d)
 openings_hand s link [] d first lawful h = h
 openings_hand s link (l ∷ links) d first lawful h =
-    openings_hand s link links (after_opening s l d) first (opened_lawful s l link d (first l) lawful)
+    openings_hand s link links (after_opening s l d) first (opened_lawful s l link d (first.on l) lawful)
     (hands_by s l link d (after_opening s l d) (record { own = λ own e. opening_hands s l d; extends = opening_adds s l d }) lawful h)
   where
-    opened_lawful : (s : Setting) (l link : ℕ) (d : Drill) → IsFirst (s.opened l) → IsLawful (s.opened link) link d.marks → IsLawful (s.opened link) link (after_opening s l d).marks
+    opened_lawful : (s : Setting) (l link : ℕ) (d : Drill) → IsFirstLink (s.opened l) → IsLawful (s.opened link) link d.marks → IsLawful (s.opened link) link (after_opening s l d).marks
     opened_lawful s l link d first lawful = by (eqb l link) refl
       where
         differs : false ≡ true → ⊥
@@ -695,7 +695,7 @@ handed_after server script before after d is none parts makes link within =
     let s = setting_of server opening in
     let clients = opening.clients in
     let o = parameters_of opening link in
-    let firsts : AreFirst s = (λ l. opened_first opening l none) in
+    let firsts : AreFirst s = opened_firsts server opening none in
     let began = openings_hold s link (links_of clients) (start s clients) firsts (among_range link 1 clients within.0 (let b = within.1 in omega (arith, b))) (start_lawful o link) (start_creds clients) in
     let first = openings_hand s link (links_of clients) (start s clients) firsts (start_lawful o link) (start_hands o link) in
     lines_hand s clients link before (opened_drill server opening) d (record { first = firsts; opened = opened_by_script script is })

@@ -19,7 +19,7 @@ use Rattle.nr_reduce.specs.declared.mark.Told.TheVariants.{Granted}
 use Rattle.nr_reduce.specs.declared.mark.Told.TheVariants as told
 use Rattle.nr_reduce.specs.declared.mark.LinkParameters.{LinkParameters}
 use Rattle.nr_reduce.specs.AtEachMark.{AtEachMark}
-use Rattle.nr_reduce.specs.Opening.{IsOpened}
+use Rattle.nr_reduce.specs.Opening.{IsOpened, IsFirstLink}
 use Rattle.nr_reduce.specs.NumberedJournal.{Standing}
 use Rattle.nr_reduce.specs.NumberedJournal.Standing.{Old, Kept, New}
 use Rattle.nr_reduce.specs.SubmitAnswer.{unless_dropped, submit_answer, submit_answer_after}
@@ -44,7 +44,7 @@ use Rattle.nr_reduce.proofs.Standing.{AtEachMark_more, itself, sent_one}
 use Rattle.nr_laws.proofs.LiveRegions.{passes_any}
 use Rattle.nr_laws.specs.Grant.{AcceptedMark, AcceptsByRule}
 use Rattle.nr_drill.specs.Drill.{Setting, Drill, Pipes, GivenReply, client_of, is_sent_again, settles, standing_of, reply_given, unwritten, after_output, after_all_output, settled, pipes_of, with_mark, after_submit, after_feeding, after_feeding_up, after_up, if_standing, waiting_call, after_answer, after_call, after_execution, after_work, after_calls, after_drop, after_feeding_down, after_handing, after_done, after_dones, after_outcomes, after_down, answer_at, answer_of_line, is_open, open_xid, after_giving_up, after_forget, after_taking_back, after_revoke, after_all_up, after_all_work, after_moves, after_grant}
-use Rattle.nr_drill.proofs.FirstLinks.{IsFirst, AreFirst, own_client, down_is}
+use Rattle.nr_drill.proofs.FirstLinks.{AreFirst, own_client, down_is}
 
 -- what a side has to write is what it wrote and what it hasn't written yet
 abbrev pub IsDueOf : LinkParameters → ℕ → Side → List Mark → Type 0
@@ -245,7 +245,7 @@ not_dropped true answer xid e = absurd cc
 not_dropped false answer xid e = e
 
 -- what a client answers keeps the law
-pub answer_asked : (o : LinkParameters) (link : ℕ) (run : List Mark) (call : Call) (form : Form) (answer : Submission) → IsFirst o → IsOpened o → CanWriteCred call.cred → IsLawful o link run →
+pub answer_asked : (o : LinkParameters) (link : ℕ) (run : List Mark) (call : Call) (form : Form) (answer : Submission) → IsFirstLink o → IsOpened o → CanWriteCred call.cred → IsLawful o link run →
     submit_answer_after o link run call form ≡ answer → AskedMark IsAll o link run (marks.Submit link call form answer)
 unfolding submit_answer_after
 answer_asked o link run call form (submissions.Accepted xid) first numbers writable h e =
@@ -263,7 +263,7 @@ answer_accepted o link run call form submissions.Dropped e = tt
 abbrev pub Keeps : Setting → ℕ → Drill → Type 0
 Keeps s link d = IsLawful (s.opened link) link d.marks × IsWritten (s.opened link) link d.marks
 
-pub lawful_submit : (s : Setting) (link : ℕ) (call : Call) (form : Form) (d : Drill) → IsFirst (s.opened link) → IsOpened (s.opened link) → CanWriteCred call.cred → Keeps s link d → Keeps s link (after_submit s link call form d)
+pub lawful_submit : (s : Setting) (link : ℕ) (call : Call) (form : Form) (d : Drill) → IsFirstLink (s.opened link) → IsOpened (s.opened link) → CanWriteCred call.cred → Keeps s link d → Keeps s link (after_submit s link call form d)
 unfolding after_submit
 lawful_submit s link call form d first numbers writable h =
     let o = s.opened link in
@@ -426,7 +426,7 @@ lawful_dones s link zero d h = h
 lawful_dones s link (suc n) d h =
     lawful_dones s link n (after_done s link d) (lawful_handing (s.opened link) link (slice_get (outcomes_due (s.opened link) link d.marks) 0) d refl h)
 
-pub lawful_after_down : (s : Setting) (link n : ℕ) (d : Drill) → IsFirst (s.opened link) → Keeps s link d → Keeps s link (after_down s link n d)
+pub lawful_after_down : (s : Setting) (link n : ℕ) (d : Drill) → IsFirstLink (s.opened link) → Keeps s link d → Keeps s link (after_down s link n d)
 unfolding after_outcomes
 lawful_after_down s link n d first h =
     let o = s.opened link in
@@ -520,7 +520,7 @@ accepted_of : (s : Setting) (link xid : ℕ) (mark : Mark) → AreFirst s → Co
 accepted_of s link xid (marks.Submit l call form answer) first h = by (client_of s l == client_of s link && not (is_sent_again s l answer)) refl h
   where
     here_too : client_of s l == client_of s link ≡ true → eqb l link ≡ true
-    here_too is = eq-eqb l link (sym (own_client s l (first l)) ∙ eqb-true (client_of s l) (client_of s link) is ∙ own_client s link (first link))
+    here_too is = eq-eqb l link (sym (own_client s l (first.unnumbered l)) ∙ eqb-true (client_of s l) (client_of s link) is ∙ own_client s link (first.unnumbered link))
 
     by : (b : Bool) → client_of s l == client_of s link && not (is_sent_again s l answer) ≡ b → Contains (cond b (answer ∷ []) []) (submissions.Accepted xid) →
         (a : AcceptedCall) × Contains (cond (eqb l link) (accepted_as answer call form) []) a × (a.xid ≡ xid)
@@ -601,7 +601,7 @@ lawful_revoke s link number d first h = lawful_taking_back s link number (open_x
 
 -- ===== a round on a link
 
-pub lawful_moves : (s : Setting) (link : ℕ) (d : Drill) → IsFirst (s.opened link) → Keeps s link d → Keeps s link (after_moves s link d)
+pub lawful_moves : (s : Setting) (link : ℕ) (d : Drill) → IsFirstLink (s.opened link) → Keeps s link d → Keeps s link (after_moves s link d)
 unfolding after_moves after_all_work
 lawful_moves s link d first h =
     let one = after_all_up s link d in

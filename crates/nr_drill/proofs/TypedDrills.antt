@@ -1,7 +1,7 @@
 -- The run of a drill is of its types: what its script says is, and so are the replies with which calls are executed.
 use Rattle.std.specs.Prelude.{◌-◌, slice_get, slice_index_or, slice_set, replicate}
 use Rattle.std.specs.List.{AllByRecursion}
-use Rattle.std.proofs.Common.{◌≡◌, ℕ, zero, suc, ◌+◌, ◌^◌, ◌<◌, Bool, true, false, List, [], ◌∷◌, ◌++◌, length, take, drop, Option, None, Some, refl, sym, ◌∙◌, subst}
+use Rattle.std.proofs.Common.{◌≡◌, ℕ, zero, suc, ◌+◌, ◌^◌, ◌<◌, Bool, true, false, List, [], ◌∷◌, ◌++◌, length, take, drop, Option, None, Some, refl, sym, subst}
 use Rattle.nr_xdr.specs.Item.{IsBytes}
 use Rattle.nr_xdr.proofs.WordBytes.{IsBytes_take, IsBytes_drop}
 use Rattle.nr_wire.specs.declared.hello.Side.{Side}
@@ -37,16 +37,17 @@ use Rattle.nr_laws.proofs.Bytes.{bytes_both}
 use Rattle.nr_script.specs.declared.script.Line.{Line}
 use Rattle.nr_script.specs.declared.script.Line.TheVariants as lines
 use Rattle.nr_script.specs.Script.{ScriptLines, IsTypedCred, IsTypedLine, IsScript}
-use Rattle.nr_drill.specs.Drill.{SerialServer, Setting, Drill, Pipes, GivenReply, plain_of, client_of, last_link, setting_now, standing_of, reply_given, unwritten, after_output, after_all_output, settled, pipes_of, with_pipes, with_mark, with_cred, appended, empty_pipes, cred_of, after_submit, after_feeding, after_feeding_up, after_up, waiting_call, after_answer, after_call, after_execution, after_work, after_calls, after_drop, after_raw, after_feeding_down, after_handing, after_done, after_dones, after_outcomes, after_down, answer_of_line, open_xid, after_giving_up, after_forget, after_taking_back, after_revoke, after_all_up, after_all_work, after_moves, after_round, after_opening, after_openings, start, links_of, after_grant}
-use Rattle.nr_drill.specs.Follows.{after_line, Drains, Makes, MakeAll, Follows, setting_of, opened_drill}
+use Rattle.nr_drill.specs.Drill.{SerialServer, Setting, Drill, Pipes, GivenReply, plain_of, client_of, standing_of, reply_given, unwritten, after_output, after_all_output, settled, pipes_of, with_pipes, with_mark, with_cred, appended, empty_pipes, cred_of, after_submit, after_feeding, after_feeding_up, after_up, waiting_call, after_answer, after_call, after_execution, after_work, after_calls, after_drop, after_raw, after_feeding_down, after_handing, after_done, after_dones, after_outcomes, after_down, answer_of_line, open_xid, after_giving_up, after_forget, after_taking_back, after_revoke, after_all_up, after_all_work, after_moves, after_round, after_opening, after_openings, start, links_of, after_grant}
+use Rattle.nr_drill.specs.Follows.{Drains, Follows, setting_of, opened_drill}
 use Rattle.nr_drill.specs.Lines.{IsUnnumbered}
-use Rattle.nr_drill.proofs.FirstLinks.{AreFirst, opened_first, down_is}
-use Rattle.nr_drill.proofs.Followed.{IsFit, all_fit, made_keeps, same_setting, opened_first_links}
+use Rattle.nr_drill.proofs.FirstLinks.{AreFirst, opened_firsts, down_is}
 use Rattle.nr_drill.specs.InBytes.{RepliedMark, RepliedInBytes, ExecutedMark}
 use Rattle.nr_script.proofs.ByteLists.{no_bytes_lem}
 use Rattle.nr_byte_laws.proofs.ByteClients.{client_due}
 use Rattle.nr_byte_laws.proofs.ByteServers.{server_due}
 use Rattle.nr_byte_laws.proofs.CallBytes.{payload_is_bytes}
+use Rattle.nr_drill.proofs.Carried.{follows_made}
+use Rattle.nr_drill.proofs.FirstLines.{first_line, FirstMakes, FirstMakeAll}
 
 -- ===== a drill that is of its types
 
@@ -191,7 +192,7 @@ unfolding after_outcomes
 down_keeps s P k link n d h =
     let pipes = pipes_of link d in
     let fed = after_feeding_down link n d in
-    subst P (sym (down_is s link n d (k.first link)))
+    subst P (sym (down_is s link n d (k.first.on link)))
     (settled_keeps s P k link (after_outcomes s link fed)
     (dones_keep s P k link (length (outcomes_due (s.opened link) link fed.marks)) fed
     (k.quiet d fed (fed_quiet s link Initiator (take n pipes.down) (record pipes { down = drop n pipes.down }) d) (fed_down_typed link n d) h)))
@@ -250,38 +251,34 @@ raw_typed : (link : ℕ) (side : Side) (bytes : List ℕ) (dropped : Bool) (d : 
 raw_typed link side bytes true d b h = h
 raw_typed link side bytes false d b h = piped link (appended side bytes (pipes_of link d)) d (behind_bytes side bytes (pipes_of link d) b (pipes_at d.pipes (link - 1) h.pipes)) h
 
-line_keeps : (s : Setting) (P : Drill → Type 0) → KeptBySteps s P → (line : Line) (d : Drill) → setting_now s d ≡ s → IsFit s line → IsTypedLine line → P d → P (after_line s line d)
+line_keeps : (s : Setting) (P : Drill → Type 0) → KeptBySteps s P → (line : Line) (d : Drill) → IsTypedLine line → P d → P (first_line s line d)
 unfolding after_submit
-line_keeps s P k (lines.Cred client cred) d now w l h =
+line_keeps s P k (lines.Cred client cred) d l h =
     k.quiet d (with_cred client cred d) (Same refl) (λ t. record { typed = t.typed; pipes = t.pipes; creds = with_cred_at_lem d.creds (client - 1) cred t.creds l }) h
-line_keeps s P k (lines.Call client form prog vers proc args) d now w l h =
-    let link = last_link client d in
+line_keeps s P k (lines.Call client form prog vers proc args) d l h =
     let call : Call = record { prog = prog; vers = vers; proc = proc; cred = cred_of client d; args = args } in
-    let answer = submit_answer_after (s.opened link) link d.marks call form in
-    let mark = marks.Submit link call form answer in
-    subst (λ (t : Setting). P (after_submit t link call form d)) (sym now)
-    (settled_keeps s P k link (with_mark mark d)
-    (k.quiet d (with_mark mark d) (submit_quiet s link call form answer d)
-    (λ t. marked mark d (submit_mark link d.marks call form answer l.0 (l.1, l.2, l.3, l.4) (cred_at_lem d.creds (client - 1) t.creds)) t) h))
-line_keeps s P k (lines.Up client most) d now w l h = subst (λ (t : Setting). P (after_up t (last_link client d) most d)) (sym now) (up_keeps s P k (last_link client d) most d h)
-line_keeps s P k (lines.Down client most) d now w l h = subst (λ (t : Setting). P (after_down t (last_link client d) most d)) (sym now) (down_keeps s P k (last_link client d) most d h)
-line_keeps s P k (lines.Work client) d now w l h = subst (λ (t : Setting). P (after_work t (last_link client d) d)) (sym now) (work_keeps s P k (last_link client d) d h)
-line_keeps s P k (lines.Tick seconds) d now w l h =
+    let answer = submit_answer_after (s.opened client) client d.marks call form in
+    let mark = marks.Submit client call form answer in
+    settled_keeps s P k client (with_mark mark d)
+    (k.quiet d (with_mark mark d) (submit_quiet s client call form answer d)
+    (λ t. marked mark d (submit_mark client d.marks call form answer l.0 (l.1, l.2, l.3, l.4) (cred_at_lem d.creds (client - 1) t.creds)) t) h)
+line_keeps s P k (lines.Up client most) d l h = up_keeps s P k client most d h
+line_keeps s P k (lines.Down client most) d l h = down_keeps s P k client most d h
+line_keeps s P k (lines.Work client) d l h = work_keeps s P k client d h
+line_keeps s P k (lines.Tick seconds) d l h =
     k.quiet d (record d { seconds = d.seconds + seconds }) (Same refl) (λ t. record { typed = t.typed; pipes = t.pipes; creds = t.creds }) h
-line_keeps s P k (lines.Forget client number) d now w l h = subst (λ (t : Setting). P (after_forget t (last_link client d) number d)) (sym now) (forget_keeps s P k (last_link client d) number d h)
-line_keeps s P k (lines.Revoke client number) d now w l h = subst (λ (t : Setting). P (after_revoke t (last_link client d) number d)) (sym now) (revoke_keeps s P k (last_link client d) number d h)
-line_keeps s P k (lines.Drop client) d now w l h =
-    let link = last_link client d in
-    k.quiet d (after_drop link d) (More (marks.Drop link) refl tt refl) (λ t. piped link empty_pipes (with_mark (marks.Drop link) d) (no_bytes_lem, no_bytes_lem) (marked (marks.Drop link) d tt t)) h
-line_keeps s P k (lines.Rejoin client) d now w l h = absurd w.1
-line_keeps s P k (lines.Raw client side bytes) d now w l h =
-    let link = last_link client d in
-    let dropped = is_dropped link d.marks in
-    k.quiet d (after_raw link side bytes dropped d) (raw_quiet s link side bytes dropped d) (raw_typed link side bytes dropped d l) h
-line_keeps s P k (lines.Grant client credits) d now w l h =
-    let mark = marks.Told (last_link client d) (Granted credits) in
-    k.quiet d (after_grant (last_link client d) credits d) (More mark refl tt refl) (marked mark d tt) h
-line_keeps s P k lines.Drain d now w l h = h
+line_keeps s P k (lines.Forget client number) d l h = forget_keeps s P k client number d h
+line_keeps s P k (lines.Revoke client number) d l h = revoke_keeps s P k client number d h
+line_keeps s P k (lines.Drop client) d l h =
+    k.quiet d (after_drop client d) (More (marks.Drop client) refl tt refl) (λ t. piped client empty_pipes (with_mark (marks.Drop client) d) (no_bytes_lem, no_bytes_lem) (marked (marks.Drop client) d tt t)) h
+line_keeps s P k (lines.Rejoin client) d l h = h
+line_keeps s P k (lines.Raw client side bytes) d l h =
+    let dropped = is_dropped client d.marks in
+    k.quiet d (after_raw client side bytes dropped d) (raw_quiet s client side bytes dropped d) (raw_typed client side bytes dropped d l) h
+line_keeps s P k (lines.Grant client credits) d l h =
+    let mark = marks.Told client (Granted credits) in
+    k.quiet d (after_grant client credits d) (More mark refl tt refl) (marked mark d tt) h
+line_keeps s P k lines.Drain d l h = h
 
 moves_keep : (s : Setting) (P : Drill → Type 0) → KeptBySteps s P → (link : ℕ) (d : Drill) → P d → P (after_moves s link d)
 unfolding after_moves after_all_work
@@ -299,28 +296,24 @@ pub drain_keeps : (s : Setting) (P : Drill → Type 0) → KeptBySteps s P → (
 drain_keeps s P k links zero old new drains h = subst P (sym drains.1) h
 drain_keeps s P k links (suc rounds) old new drains h = drain_keeps s P k links rounds (after_round s links old) new drains.1 (round_keeps s P k links old h)
 
-made_keep_lem : (s : Setting) (P : Drill → Type 0) → KeptBySteps s P → (clients : ℕ) (line : Line) (old new : Drill) → setting_now s old ≡ s → IsFit s line → IsTypedLine line → Makes s clients line old new → P old → P new
-made_keep_lem s P k clients (lines.Cred client cred) old new now w l e h = subst P (sym e) (line_keeps s P k (lines.Cred client cred) old now w l h)
-made_keep_lem s P k clients (lines.Call client form prog vers proc args) old new now w l e h = subst P (sym e) (line_keeps s P k (lines.Call client form prog vers proc args) old now w l h)
-made_keep_lem s P k clients (lines.Up client most) old new now w l e h = subst P (sym e) (line_keeps s P k (lines.Up client most) old now w l h)
-made_keep_lem s P k clients (lines.Down client most) old new now w l e h = subst P (sym e) (line_keeps s P k (lines.Down client most) old now w l h)
-made_keep_lem s P k clients (lines.Work client) old new now w l e h = subst P (sym e) (line_keeps s P k (lines.Work client) old now w l h)
-made_keep_lem s P k clients (lines.Tick seconds) old new now w l e h = subst P (sym e) (line_keeps s P k (lines.Tick seconds) old now w l h)
-made_keep_lem s P k clients (lines.Forget client number) old new now w l e h = subst P (sym e) (line_keeps s P k (lines.Forget client number) old now w l h)
-made_keep_lem s P k clients (lines.Revoke client number) old new now w l e h = subst P (sym e) (line_keeps s P k (lines.Revoke client number) old now w l h)
-made_keep_lem s P k clients (lines.Drop client) old new now w l e h = subst P (sym e) (line_keeps s P k (lines.Drop client) old now w l h)
-made_keep_lem s P k clients (lines.Rejoin client) old new now w l e h = subst P (sym e) (line_keeps s P k (lines.Rejoin client) old now w l h)
-made_keep_lem s P k clients (lines.Raw client side bytes) old new now w l e h = subst P (sym e) (line_keeps s P k (lines.Raw client side bytes) old now w l h)
-made_keep_lem s P k clients (lines.Grant client credits) old new now w l e h = subst P (sym e) (line_keeps s P k (lines.Grant client credits) old now w l h)
-made_keep_lem s P k clients lines.Drain old new now w l e h =
-    drain_keeps s P k old.last_links e.0 old new (subst (λ (t : Setting). Drains t old.last_links e.0 old new) now e.1) h
+made_keeps : (s : Setting) (P : Drill → Type 0) → KeptBySteps s P → (clients : ℕ) (line : Line) (old new : Drill) → IsTypedLine line → FirstMakes s clients line old new → P old → P new
+made_keeps s P k clients (lines.Cred client cred) old new l e h = subst P (sym e) (line_keeps s P k (lines.Cred client cred) old l h)
+made_keeps s P k clients (lines.Call client form prog vers proc args) old new l e h = subst P (sym e) (line_keeps s P k (lines.Call client form prog vers proc args) old l h)
+made_keeps s P k clients (lines.Up client most) old new l e h = subst P (sym e) (line_keeps s P k (lines.Up client most) old l h)
+made_keeps s P k clients (lines.Down client most) old new l e h = subst P (sym e) (line_keeps s P k (lines.Down client most) old l h)
+made_keeps s P k clients (lines.Work client) old new l e h = subst P (sym e) (line_keeps s P k (lines.Work client) old l h)
+made_keeps s P k clients (lines.Tick seconds) old new l e h = subst P (sym e) (line_keeps s P k (lines.Tick seconds) old l h)
+made_keeps s P k clients (lines.Forget client number) old new l e h = subst P (sym e) (line_keeps s P k (lines.Forget client number) old l h)
+made_keeps s P k clients (lines.Revoke client number) old new l e h = subst P (sym e) (line_keeps s P k (lines.Revoke client number) old l h)
+made_keeps s P k clients (lines.Drop client) old new l e h = subst P (sym e) (line_keeps s P k (lines.Drop client) old l h)
+made_keeps s P k clients (lines.Rejoin client) old new l e h = subst P (sym e) (line_keeps s P k (lines.Rejoin client) old l h)
+made_keeps s P k clients (lines.Raw client side bytes) old new l e h = subst P (sym e) (line_keeps s P k (lines.Raw client side bytes) old l h)
+made_keeps s P k clients (lines.Grant client credits) old new l e h = subst P (sym e) (line_keeps s P k (lines.Grant client credits) old l h)
+made_keeps s P k clients lines.Drain old new l e h = drain_keeps s P k (links_of clients) e.0 old new e.1 h
 
-pub lines_keep : (s : Setting) (P : Drill → Type 0) → KeptBySteps s P → (clients : ℕ) (all : List Line) (old new : Drill) → setting_now s old ≡ s → AllByRecursion (IsFit s) all → AllByRecursion IsTypedLine all →
-    MakeAll s clients all old new → P old → P new
-lines_keep s P k clients [] old new now w l e h = subst P (sym e) h
-lines_keep s P k clients (line ∷ others) old new now w l e h =
-    let keeps = made_keeps s clients line old e.0 (subst (λ (t : Setting). IsFit t line) (sym now) w.0) e.1 in
-    lines_keep s P k clients others e.0 new (same_setting s old e.0 keeps ∙ now) w.1 l.1 e.2 (made_keep_lem s P k clients line old e.0 now w.0 l.0 e.1 h)
+pub lines_keep : (s : Setting) (P : Drill → Type 0) → KeptBySteps s P → (clients : ℕ) (all : List Line) (old new : Drill) → AllByRecursion IsTypedLine all → FirstMakeAll s clients all old new → P old → P new
+lines_keep s P k clients [] old new l e h = subst P (sym e) h
+lines_keep s P k clients (line ∷ others) old new l e h = lines_keep s P k clients others e.0 new l.1 e.2 (made_keeps s P k clients line old e.0 l.0 e.1 h)
 
 pub openings_keep : (s : Setting) (P : Drill → Type 0) → KeptBySteps s P → (links : List ℕ) (d : Drill) → P d → P (after_openings s links d)
 unfolding after_opening
@@ -338,7 +331,7 @@ unfolding opened_drill
 follows_keeps_by_steps server script run P is none follows k h =
     let s = setting_of server script.opening in
     let clients = script.opening.clients in
-    lines_keep s P k clients script.lines (opened_drill server script.opening) follows.last (opened_first_links server script.opening none).setting (all_fit server script is none) is.typed follows.makes
+    lines_keep s P k clients script.lines (opened_drill server script.opening) follows.last is.typed (follows_made server script run is none follows)
     (openings_keep s P k (links_of clients) (start s clients) h)
 
 -- ===== before anything happened
@@ -378,5 +371,5 @@ pub follows_is_typed : (server : SerialServer) (script : ScriptLines) (run : Lis
 follows_is_typed server script run is none replied follows =
     let s = setting_of server script.opening in
     let last = follows_keeps_by_steps server script run (λ d. RepliedInBytes d.marks → IsTypedDrill d) is none follows
-    (typed_if s (λ link. opened_first script.opening link none)) (λ replied. start_typed s script.opening.clients) in
+    (typed_if s (opened_firsts server script.opening none)) (λ replied. start_typed s script.opening.clients) in
     subst IsTyped (sym follows.marks_are) (last (subst RepliedInBytes follows.marks_are replied)).typed

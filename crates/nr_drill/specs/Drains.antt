@@ -4,7 +4,7 @@ use Rattle.nr_xdr.specs.Item.{IsBytes}
 use Rattle.nr_wire.specs.declared.hello.Side.TheVariants.{Initiator, Responder}
 use Rattle.nr_link.specs.Frames.{frames_of}
 use Rattle.nr_reduce.specs.History.{bytes_sent, bytes_received, is_dropped}
-use Rattle.nr_reduce.specs.NumberedJournal.{entries_alone}
+use Rattle.nr_reduce.specs.NumberedJournal.{entries_alone, number_heard}
 use Rattle.nr_reduce.specs.ServerState.{ReadyCall}
 use Rattle.nr_reduce.specs.Asked.{Asked}
 use Rattle.nr_reduce.specs.Served.{Served, next_call}
@@ -19,9 +19,11 @@ use Rattle.nr_drill.specs.Lines.{IsClient, HasNoRaw, IsUnnumbered}
 use Rattle.nr_drill.specs.InBytes.{ExecutedInBytes}
 use Rattle.nr_drill.specs.WorkLeft.{DrainStep, after_step, work_left, IsLess}
 use Rattle.nr_drill.specs.DrainSteps.{Moves}
+use Rattle.nr_reduce.specs.Opening.{IsFirstLink}
 
 -- The state of a link of a drill before and after each step: both sides keep their laws and have written what was due; what each received and
--- what waits is what the other sent, until the link is dropped, and then nothing waits; each side has the hello of the other.
+-- what waits is what the other sent, until the link is dropped, and then nothing waits; each side has the hello of the other, and so the server the
+-- number of the client.
 pub record IsRunning (s : Setting) (link : ℕ) (d : Drill) : Type 0 where
   pub asked : Asked (s.opened link) link d.marks
   pub served : Served (s.opened link) link d.marks
@@ -33,11 +35,12 @@ pub record IsRunning (s : Setting) (link : ℕ) (d : Drill) : Type 0 where
   pub gone : is_dropped link d.marks ≡ true → pipes_of link d ≡ empty_pipes
   pub client_heard : frames_of Responder (bytes_received link Initiator d.marks) ≢ []
   pub server_heard : frames_of Initiator (bytes_received link Responder d.marks) ≢ []
+  pub number : number_heard d.marks link ≡ (s.opened link).client.number
 
--- On a link that runs a step that moves something leaves less work. On a link with bytes that a script put there it needn't: what is read as a
--- Read Response by its client may be read as a Send by its server.
+-- On a link that runs, and that was not reopened, a step that moves something leaves less work. On a link with bytes that a script put there it
+-- needn't: what is read as a Read Response by its client may be read as a Send by its server.
 abbrev pub StepsLeaveLess : Type 0
-StepsLeaveLess = (s : Setting) (link : ℕ) (step : DrainStep) (old : Drill) → IsRunning s link old → Moves s link step old → IsTyped (after_step s link step old).marks →
+StepsLeaveLess = (s : Setting) (link : ℕ) (step : DrainStep) (old : Drill) → IsFirstLink (s.opened link) → IsRunning s link old → Moves s link step old → IsTyped (after_step s link step old).marks →
     IsLess (work_left s (after_step s link step old) link) (work_left s old link)
 
 -- the server has a reply to each call that waits, if that is executed as a new one
@@ -55,7 +58,7 @@ AnswersInBytes s = (link : ℕ) (d : Drill) → IsTyped d.marks → ExecutedInBy
 
 -- What a step of a drain writes down on a link that runs is of its types, if a reply to a call that waits there is bytes.
 abbrev pub StepsKeepTypes : Type 0
-StepsKeepTypes = (s : Setting) (link : ℕ) (step : DrainStep) (d : Drill) → IsRunning s link d → AnswersInBytesAt s link d → IsTyped d.marks → IsTyped (after_step s link step d).marks
+StepsKeepTypes = (s : Setting) (link : ℕ) (step : DrainStep) (d : Drill) → IsFirstLink (s.opened link) → IsRunning s link d → AnswersInBytesAt s link d → IsTyped d.marks → IsTyped (after_step s link step d).marks
 
 -- After any of the first lines of a script, if none of these puts bytes into pipes, a drain ends: after a number of rounds nothing moves on any link.
 abbrev pub DrainsEnd : Type 0

@@ -44,7 +44,7 @@ DrillTreesAreInBytes = (tree : Tree) → IsDrill tree → IsInBytes tree
 
 -- over a tree in bytes each reply of a run is bytes
 abbrev pub PlainRunsReplyInBytes : Type 0
-PlainRunsReplyInBytes = (tree : Tree) (script : ScriptLines) (run : List Mark) → IsInBytes tree → IsScript script → Follows (server_of (drill_setup tree script.opening)) script run → RepliedInBytes run
+PlainRunsReplyInBytes = (tree : Tree) (script : ScriptLines) (run : List Mark) → IsInBytes tree → IsScript script → IsUnnumbered script → Follows (server_of (drill_setup tree script.opening)) script run → RepliedInBytes run
 
 -- Over a tree in bytes a drain ends after any of the first lines of a script, if none of these puts bytes into pipes.
 abbrev pub PlainDrainsEnd : Type 0
