@@ -101,12 +101,11 @@ take_in_bytes (suc n) [] h = tt
 take_in_bytes (suc n) (t ∷ T) h = (h.0, take_in_bytes n T h.1)
 
 -- the reply of a given one
-reply_in : Option GivenReply → Option (List ℕ)
+abbrev reply_in : Option GivenReply → Option (List ℕ)
 reply_in None = None
 reply_in (Some g) = Some g.reply
 
 given_is : (moment : Moment) (place : ℕ) (reply : Option (List ℕ)) (g : GivenReply) → given moment place reply ≡ Some g → reply ≡ Some g.reply
-unfolding reply_in
 given_is moment place None g e = absurd cc
 given_is moment place (Some reply) g e = ap reply_in e
 
