@@ -79,7 +79,7 @@ all_name opening before (line ∷ others) h = (names_client opening before line 
 
 -- ===== so do the lines of a script whose clients have no numbers
 
-index_in : (from n i x : ℕ) → x ≡ from + i → slice_index_or (range_with_len from n) i x ≡ x
+pub index_in : (from n i x : ℕ) → x ≡ from + i → slice_index_or (range_with_len from n) i x ≡ x
 index_in from zero i x e = refl
 index_in from (suc n) zero x e = omega (arith, e)
 index_in from (suc n) (suc i) x e = index_in (from + 1) n i x (omega (arith, e))

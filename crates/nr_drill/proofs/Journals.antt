@@ -45,7 +45,7 @@ use Rattle.std.proofs.lemmas.Bool.{leb-true}
 -- ===== what the marks of such a run are
 
 -- a call is executed on a link whose server heard a client without a number, and none is told to be old
-abbrev UnnumberedMark : List Mark → Mark → Type 0
+abbrev pub UnnumberedMark : List Mark → Mark → Type 0
 UnnumberedMark before (marks.Execute l xid moment payload place reply) = (frames_of Initiator (bytes_received l Responder before) ≢ []) × (number_heard before l ≡ 0)
 UnnumberedMark before (marks.Told l (told.Old xid at)) = ⊥
 UnnumberedMark before mark = Unit {0}
