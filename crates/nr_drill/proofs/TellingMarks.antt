@@ -16,7 +16,6 @@ use Rattle.nr_reduce.specs.declared.mark.Mark.TheVariants as marks
 use Rattle.nr_reduce.specs.PlainJournal.{entries_added, journal}
 use Rattle.nr_reduce.specs.History.{bytes_sent, bytes_received, written_at, fed_at, is_dropped}
 use Rattle.nr_reduce.specs.Run.{end_of_side}
-use Rattle.nr_drill.specs.declared.report.CallState.{CallState}
 use Rattle.nr_drill.specs.declared.report.CallState.TheVariants as states
 use Rattle.nr_drill.specs.declared.report.CallReport.{CallReport}
 use Rattle.nr_drill.specs.declared.report.LinkEnds.{LinkEnds}
