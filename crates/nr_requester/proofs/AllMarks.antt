@@ -44,11 +44,22 @@ no_frames_if false es h = tt
 
 -- ---- As it is opened
 
-pub begins : Begins
+-- a link that was not reopened
+abbrev first_link : LinkParameters → LinkParameters
+first_link any = record any { resumed = []; agreed = None }
+
+answers_begin : (any : LinkParameters) (link : ℕ) (staging : List ℕ) → AnswersAfter (first_link any) link (opened_as any.first_xid any.first_stag any.wished any.client staging) []
 unfolding opened_as events completed_calls accepted_calls marks_of
+answers_begin any link staging =
+    record { outcomes = refl; hands_back = tt; holds = tt; calls = tt; awaited = tt; submitted = tt; tickets = tt; to_come = λ xid le. refl; regions = record { before = tt; calls = tt } }
+
+pub begins : Begins
+unfolding opened_as marks_of
 begins opened link staging first number = record {
   keeps = begins_client opened link staging first number;
-  answers = record { outcomes = refl; hands_back = tt; holds = tt; calls = tt; awaited = tt; submitted = tt; tickets = tt; to_come = λ xid le. refl; regions = record { before = tt; calls = tt } };
+  answers =
+      (let same : first_link opened ≡ opened = (λ i. record opened { resumed = sym first.resumed i; agreed = sym first.agreed i }) in
+      subst (λ (p : LinkParameters). AnswersAfter p link (opened_as p.first_xid p.first_stag p.wished p.client staging) []) same (answers_begin opened link staging));
   counted = refl;
 }
 
