@@ -24,8 +24,8 @@ use Rattle.nr_drill.proofs.TypedDrills.{IsTypedDrill, AddsQuiet, KeptBySteps, ma
 use Rattle.nr_drill.proofs.TypedDrills.AddsQuiet.{Same, More}
 use Rattle.nr_drill.proofs.LessScripts.{all_front}
 use Rattle.nr_drill.specs.Lines.{IsUnnumbered}
-use Rattle.nr_drill.proofs.FirstLinks.{AreFirst, opened_firsts}
-use Rattle.nr_drill.proofs.FirstLines.{FirstMakeAll}
+use Rattle.nr_drill.proofs.FirstLinks.{opened_firsts}
+use Rattle.nr_drill.specs.Unnumbered.{AreFirst, FirstMakeAll}
 
 pub record IsByteDrill (d : Drill) : Type 0 where
   pub typed : IsTypedDrill d

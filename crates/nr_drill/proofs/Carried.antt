@@ -44,9 +44,10 @@ use Rattle.nr_script.specs.declared.script.Line.{Line}
 use Rattle.nr_script.specs.declared.script.Line.TheVariants as lines
 use Rattle.nr_drill.proofs.Handed.{follows_hands}
 use Rattle.nr_reduce.specs.Opening.{IsFirstLink}
-use Rattle.nr_drill.proofs.FirstLinks.{AreFirst, opened_firsts, down_is}
-use Rattle.nr_drill.proofs.FirstLines.{first_line, FirstMakes, FirstMakeAll, NamesClient, made_first, all_name}
+use Rattle.nr_drill.proofs.FirstLinks.{opened_firsts, down_is}
+use Rattle.nr_drill.proofs.FirstLines.{NamesClient, made_first, all_name}
 use Rattle.nr_drill.proofs.Followed.{quiet_mark, apart, unconcerned, not_written, Extends, Acts, Holds, AreWritable, AreFit, Among, elsewhere, holds_by, cred_at, with_cred_at, keeps_raw, opened_first_links, submit_adds, up_adds, down_adds, work_adds, forget_adds, revoke_adds, drop_adds, raw_adds, moves_adds, opening_adds, keeps_forget, keeps_drop, opening_keeps, among_range, start_lawful, start_creds, opened_by_script, follows_keeps_laws, grant_adds, keeps_grant, all_fit, IsFit}
+use Rattle.nr_drill.specs.Unnumbered.{AreFirst, first_line, FirstMakes, FirstMakeAll}
 
 -- what each side sent is what the other received and what waits
 pub record IsCarried (link : ℕ) (d : Drill) : Type 0 where

@@ -27,7 +27,8 @@ use Rattle.nr_drill.specs.Follows.{is_empty, is_still, Drains, Follows, paramete
 use Rattle.nr_drill.proofs.Followed.{Among, among_range, Extends, no_event, submit_adds, up_adds, down_adds, work_adds, forget_adds, revoke_adds, drop_adds, raw_adds, grant_adds}
 use Rattle.nr_drill.proofs.Carried.{neither_raw, true_not, other_than, IsSameHere, same_here, follows_made}
 use Rattle.nr_drill.proofs.NoneLost.{NoneLost, follows_lose_nothing}
-use Rattle.nr_drill.proofs.FirstLines.{first_line, FirstMakes, FirstMakeAll, NamesClient, all_name, both_true}
+use Rattle.nr_drill.proofs.FirstLines.{NamesClient, all_name, both_true}
+use Rattle.nr_drill.specs.Unnumbered.{first_line, FirstMakes, FirstMakeAll}
 
 none_left : (xs : List ℕ) → is_empty xs ≡ true → xs ≡ []
 none_left [] e = refl

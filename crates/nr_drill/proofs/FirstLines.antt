@@ -6,34 +6,12 @@ use Rattle.nr_reduce.specs.History.{is_dropped}
 use Rattle.nr_texts.specs.declared.opening.Opening.{Opening}
 use Rattle.nr_script.specs.declared.script.Line.{Line}
 use Rattle.nr_script.specs.declared.script.Line.TheVariants as lines
-use Rattle.nr_drill.specs.Drill.{SerialServer, Setting, Drill, last_link, links_of, setting_now, cred_of, with_cred, after_submit, after_up, after_down, after_work, after_forget, after_revoke, after_drop, after_raw, after_grant}
+use Rattle.nr_drill.specs.Drill.{SerialServer, Setting, Drill, last_link, links_of, setting_now, cred_of, after_submit, after_up, after_down, after_work, after_forget, after_revoke, after_drop, after_raw, after_grant}
 use Rattle.nr_drill.specs.Follows.{after_line, Drains, Makes, MakeAll, setting_of}
 use Rattle.nr_drill.proofs.Followed.{IsFit, HasFirstLinks, made_keeps, same_setting}
 use Rattle.nr_script.specs.Script.{FollowOn, may_follow, is_client, is_call_line, credits_in_range}
 use Rattle.std.proofs.lemmas.Bool.{leb-true}
-
-abbrev pub first_line : Setting → Line → Drill → Drill
-first_line s (lines.Cred client cred) d = with_cred client cred d
-first_line s (lines.Call client form prog vers proc args) d = after_submit s client (record { prog = prog; vers = vers; proc = proc; cred = cred_of client d; args = args }) form d
-first_line s (lines.Up client most) d = after_up s client most d
-first_line s (lines.Down client most) d = after_down s client most d
-first_line s (lines.Work client) d = after_work s client d
-first_line s (lines.Tick seconds) d = record d { seconds = d.seconds + seconds }
-first_line s (lines.Forget client number) d = after_forget s client number d
-first_line s (lines.Revoke client number) d = after_revoke s client number d
-first_line s (lines.Drop client) d = after_drop client d
-first_line s (lines.Rejoin client) d = d
-first_line s (lines.Raw client side bytes) d = after_raw client side bytes (is_dropped client d.marks) d
-first_line s (lines.Grant client credits) d = after_grant client credits d
-first_line s lines.Drain d = d
-
-abbrev pub FirstMakes : Setting → ℕ → Line → Drill → Drill → Type 0
-FirstMakes s clients lines.Drain old new = (rounds : ℕ) × Drains s (links_of clients) rounds old new
-FirstMakes s clients line old new = new ≡ first_line s line old
-
-abbrev pub FirstMakeAll : Setting → ℕ → List Line → Drill → Drill → Type 0
-FirstMakeAll s clients [] old new = new ≡ old
-FirstMakeAll s clients (line ∷ others) old new = (mid : Drill) × FirstMakes s clients line old mid × FirstMakeAll s clients others mid new
+use Rattle.nr_drill.specs.Unnumbered.{first_line, FirstMakes, FirstMakeAll}
 
 -- a line names a client from 1 on
 abbrev pub NamesClient : Line → Type 0

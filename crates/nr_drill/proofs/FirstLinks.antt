@@ -1,5 +1,5 @@
 -- Links that were not reopened, of clients without numbers: nothing is sent again on them, and each is the only link of its client.
-use Rattle.std.proofs.Common.{◌≡◌, ℕ, ◌+◌, ◌-◌, zero, suc, Bool, false, List, [], ◌++◌, refl, sym, ap, ◌∙◌, append-nil, length}
+use Rattle.std.proofs.Common.{◌≡◌, ℕ, ◌+◌, ◌-◌, zero, suc, Bool, false, List, ◌++◌, refl, sym, ap, ◌∙◌, append-nil, length}
 use Rattle.std.specs.Prelude.{◌==◌, if◌then◌else◌, map, slice_index_or}
 use Rattle.std.specs.List.{range_with_len}
 use Rattle.nr_reduce.specs.declared.mark.Mark.{Mark}
@@ -11,10 +11,7 @@ use Rattle.nr_texts.specs.declared.opening.Opening.{Opening}
 use Rattle.nr_drill.specs.Follows.{parameters_of, setting_of}
 use Rattle.nr_drill.specs.Drill.{SerialServer, Setting, Drill, client_of, setting_now, start, resend_mark, settled, after_resends, after_outcomes, after_feeding_down, after_down}
 use Rattle.nr_reduce.specs.Run.{client}
-
-pub record AreFirst (s : Setting) : Type 0 where
-  pub on : (link : ℕ) → IsFirstLink (s.opened link)
-  pub unnumbered : (link : ℕ) → (s.opened link).client.number ≡ 0
+use Rattle.nr_drill.specs.Unnumbered.{AreFirst}
 
 -- each link is that of the client of its number
 pub own_client : (s : Setting) (link : ℕ) → (s.opened link).client.number ≡ 0 → client_of s link ≡ link

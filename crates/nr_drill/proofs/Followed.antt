@@ -43,8 +43,9 @@ use Rattle.nr_reduce.proofs.Unconcerned.{not_judged, none_written, no_events, no
 use Rattle.nr_drill.specs.Follows.{after_line, Drains, Makes, MakeAll, Follows, parameters_of, setting_of, opened_drill}
 use Rattle.nr_drill.specs.Drill.{link_of, Setting, Drill, Pipes, GivenReply, client_of, last_link, setting_now, standing_of, reply_given, resend_mark, after_resends, unwritten, after_output, after_all_output, settled, pipes_of, with_mark, after_submit, after_feeding, after_feeding_up, after_up, waiting_call, after_answer, after_call, after_execution, after_work, after_calls, after_drop, after_raw, after_feeding_down, after_handing, after_done, after_dones, after_outcomes, after_down, answer_of_line, open_xid, after_giving_up, after_forget, after_taking_back, after_revoke, after_all_up, after_all_work, after_all_down, after_moves, after_round, after_opening, after_openings, SerialServer, with_pipes, appended, empty_pipes, start, links_of, cred_of, after_grant}
 use Rattle.nr_drill.proofs.Lawful.{IsLawful, IsWritten, IsDueOf, Keeps, lawful_mark, left_is, due_more, more_due, due_of, lawful_settled, lawful_drop, lawful_forget, lawful_submit, lawful_after_up, lawful_after_down, lawful_work, lawful_revoke, lawful_moves, lawful_grant, quiet_grant}
-use Rattle.nr_drill.proofs.FirstLinks.{AreFirst, opened_firsts, now_is}
+use Rattle.nr_drill.proofs.FirstLinks.{opened_firsts, now_is}
 use Rattle.nr_drill.specs.Lines.{IsUnnumbered}
+use Rattle.nr_drill.specs.Unnumbered.{AreFirst}
 
 -- ===== marks of other links
 

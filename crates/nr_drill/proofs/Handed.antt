@@ -50,12 +50,13 @@ use Rattle.nr_drill.specs.Follows.{Drains, Follows, parameters_of, setting_of, o
 use Rattle.nr_drill.specs.Lines.{IsClient, IsUnnumbered}
 use Rattle.nr_drill.proofs.Lawful.{IsLawful, answer_asked, lawful_submit, lawful_after_up, lawful_after_down, lawful_work, lawful_revoke}
 use Rattle.nr_drill.proofs.Followed.{no_event, apart, Extends, Holds, cred_at, round_holds, elsewhere, among_range, opened_by_script, openings_hold, opening_keeps, start_lawful, start_creds, opening_adds, submit_adds, up_adds, down_adds, work_adds, forget_adds, revoke_adds, drop_adds, raw_adds, moves_adds, grant_adds, all_fit, IsFit, AreFit, holds_by, with_cred_at, drain_holds, keeps_forget, keeps_drop, keeps_raw, keeps_grant, opened_first_links}
-use Rattle.nr_drill.proofs.FirstLinks.{AreFirst, opened_firsts}
-use Rattle.nr_drill.proofs.FirstLines.{first_line, FirstMakes, FirstMakeAll, made_first, all_name}
+use Rattle.nr_drill.proofs.FirstLinks.{opened_firsts}
+use Rattle.nr_drill.proofs.FirstLines.{made_first, all_name}
 use Rattle.nr_reduce.proofs.Unresumed.{none_waits}
 use Rattle.nr_reduce.specs.NumberedJournal.{Standing}
 use Rattle.nr_reduce.specs.NumberedJournal.Standing.{Old, Kept, New}
 use Rattle.nr_reduce.specs.Served.{last_frame_at}
+use Rattle.nr_drill.specs.Unnumbered.{AreFirst, first_line, FirstMakes, FirstMakeAll}
 
 -- ===== the xids of outcomes are below the one that is given next
 

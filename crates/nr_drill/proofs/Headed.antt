@@ -36,8 +36,9 @@ use Rattle.nr_reduce.specs.History.{is_dropped}
 use Rattle.nr_laws.specs.Stays.{HasNoRevoke, AreConveyedOrRefused}
 use Rattle.nr_drill.specs.Lines.{IsClient, IsUnnumbered}
 use Rattle.nr_drill.specs.Memory.{KeepsMemory}
-use Rattle.nr_drill.proofs.Journals.{IsPlainRun, follows_is_plain, plain_run, follows_heard, by_numbers, journal_alone, none_numbered}
-use Rattle.nr_drill.proofs.FirstLinks.{AreFirst, opened_firsts, own_client}
+use Rattle.nr_drill.proofs.Journals.{follows_is_plain, plain_run, follows_heard, by_numbers, journal_alone, none_numbered}
+use Rattle.nr_drill.proofs.FirstLinks.{opened_firsts, own_client}
+use Rattle.nr_drill.specs.Unnumbered.{AreFirst, IsPlainRun}
 
 -- ===== the links at the end
 

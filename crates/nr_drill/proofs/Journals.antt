@@ -1,10 +1,9 @@
 -- The one journal of a drill whose clients have no numbers: each call is executed at its end, with the reply of the plain server there.
 use Rattle.std.specs.Prelude.{◌-◌, ◌==◌, if◌then◌else◌, map, slice_get}
 use Rattle.std.specs.List.{AllByRecursion, flat_map, range_with_len}
-use Rattle.std.proofs.Common.{◌≡◌, ◌≢◌, ℕ, ◌+◌, ◌≤◌, zero, suc, arith, Bool, true, false, List, [], ◌∷◌, ◌++◌, length, take, drop, Option, None, Some, refl, sym, ap, subst, ◌∙◌, append_assoc, append-nil, leb}
+use Rattle.std.proofs.Common.{◌≡◌, ℕ, ◌+◌, ◌≤◌, zero, suc, arith, Bool, true, false, List, [], ◌∷◌, ◌++◌, length, take, drop, Option, None, Some, refl, sym, ap, subst, ◌∙◌, append_assoc, append-nil, leb}
 use Rattle.nr_wire.specs.declared.hello.Side.{Side}
 use Rattle.nr_wire.specs.declared.hello.Side.TheVariants.{Initiator, Responder}
-use Rattle.nr_link.specs.Frames.{frames_of}
 use Rattle.nr_reduce.specs.declared.call.Call.{Call}
 use Rattle.nr_reduce.specs.declared.mark.Entry.{Entry}
 use Rattle.nr_reduce.specs.declared.mark.TaggedEntry.{TaggedEntry}
@@ -17,7 +16,7 @@ use Rattle.nr_reduce.specs.PlainJournal.{PlainServer, entries_added, journal}
 use Rattle.nr_reduce.specs.NumberedJournal.{Standing, JournaledByNumber, NumberedMark, IsExecutedBy, entries_alone, tagged, standing_for, number_heard, added_by, tagged_by, tagged_from, tagged_journal}
 use Rattle.nr_reduce.specs.NumberedJournal.Standing.{Old, Kept, New}
 use Rattle.nr_reduce.specs.Journal.{Journaled, AnsweredByPlainServer, PlacedMark, PlainMark}
-use Rattle.nr_reduce.specs.History.{CompletedCall, bytes_received, is_dropped}
+use Rattle.nr_reduce.specs.History.{CompletedCall, is_dropped}
 use Rattle.nr_reduce.specs.AtEachMark.{AtEachMark}
 use Rattle.nr_reduce.specs.OutcomesDue.{outcomes_due}
 use Rattle.nr_reduce.specs.SubmitAnswer.{submit_answer_after}
@@ -35,26 +34,15 @@ use Rattle.nr_script.specs.Script.{ScriptLines, IsScript, FollowOn, may_follow}
 use Rattle.nr_drill.specs.Drill.{SerialServer, Setting, Drill, Pipes, plain_of, now, given, reply_by, standing_of, reply_given, journal_of, unwritten, after_output, after_all_output, settled, pipes_of, with_mark, after_submit, after_feeding, after_feeding_up, after_up, waiting_call, after_answer, after_call, after_execution, after_work, after_calls, after_raw, after_feeding_down, after_handing, after_done, after_dones, after_outcomes, after_down, answer_of_line, client_of, open_xid, after_giving_up, after_forget, after_taking_back, after_revoke, after_all_up, after_all_work, after_moves, after_round, after_opening, after_openings, start, links_of, cred_of}
 use Rattle.nr_drill.specs.Follows.{Drains, Follows, parameters_of, setting_of, opened_drill}
 use Rattle.nr_drill.specs.Lines.{IsClient, IsUnnumbered}
-use Rattle.nr_drill.proofs.FirstLinks.{AreFirst, opened_firsts, down_is}
-use Rattle.nr_drill.proofs.FirstLines.{first_line, FirstMakes, FirstMakeAll, both_true}
+use Rattle.nr_drill.proofs.FirstLinks.{opened_firsts, down_is}
+use Rattle.nr_drill.proofs.FirstLines.{both_true}
 use Rattle.nr_drill.proofs.Followed.{Extends, work_adds, up_adds, moves_adds}
 use Rattle.nr_drill.proofs.Carried.{follows_made}
-use Rattle.nr_drill.proofs.LessScripts.{Heard, heard_by_lem, number_more, lines_heard, opened_heard}
+use Rattle.nr_drill.proofs.LessScripts.{heard_by_lem, number_more, lines_heard, opened_heard}
 use Rattle.std.proofs.lemmas.Bool.{leb-true}
+use Rattle.nr_drill.specs.Unnumbered.{AreFirst, first_line, FirstMakes, FirstMakeAll, UnnumberedMark, IsPlainRun, HeardNone}
 
 -- ===== what the marks of such a run are
-
--- a call is executed on a link whose server heard a client without a number, and none is told to be old
-abbrev pub UnnumberedMark : List Mark → Mark → Type 0
-UnnumberedMark before (marks.Execute l xid moment payload place reply) = (frames_of Initiator (bytes_received l Responder before) ≢ []) × (number_heard before l ≡ 0)
-UnnumberedMark before (marks.Told l (told.Old xid at)) = ⊥
-UnnumberedMark before mark = Unit {0}
-
--- each call is executed at the journal's end, with the reply of the plain server there
-pub record IsPlainRun (server : SerialServer) (run : List Mark) : Type 0 where
-  pub placed : AtEachMark (PlacedMark (plain_of server)) [] run
-  pub plain_replies : AtEachMark (PlainMark (plain_of server)) [] run
-  pub unnumbered : AtEachMark UnnumberedMark [] run
 
 plain_mark : (server : SerialServer) (run : List Mark) (mark : Mark) → PlacedMark (plain_of server) run mark → PlainMark (plain_of server) run mark → UnnumberedMark run mark → IsPlainRun server run → IsPlainRun server (run ++ mark ∷ [])
 plain_mark server run mark p r u h = record {
@@ -183,11 +171,6 @@ down_plain server s link n d first h =
     subst (λ (x : Drill). IsPlainRun server x.marks) (sym (down_is s link n d first))
     (settled_plain server s link (after_outcomes s link fed) (dones_plain server s link (length (outcomes_due (s.opened link) link fed.marks)) fed
     (feeding_plain server link Initiator (take n (pipes_of link d).down) (record (pipes_of link d) { down = drop n (pipes_of link d).down }) d h)))
-
--- a link of a client without a number, whose server heard it
-record HeardNone (s : Setting) (link : ℕ) (run : List Mark) : Type 0 where
-  heard : Heard (s.opened link) link run
-  none : (s.opened link).client.number ≡ 0
 
 given_plain : (s : Setting) (link : ℕ) (call : ReadyCall) (reply : Option (List ℕ)) (d : Drill) → HeardNone s link d.marks → s.server.reply_to (entries_alone (journal_of s d.marks)) (now d) call.payload ≡ reply → IsPlainRun s.server d.marks →
     IsPlainRun s.server (after_answer s link call (given (now d) (length (journal_of s d.marks)) reply) d).marks

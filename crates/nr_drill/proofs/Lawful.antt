@@ -44,7 +44,8 @@ use Rattle.nr_reduce.proofs.Standing.{AtEachMark_more, itself, sent_one}
 use Rattle.nr_laws.proofs.LiveRegions.{passes_any}
 use Rattle.nr_laws.specs.Grant.{AcceptedMark, AcceptsByRule}
 use Rattle.nr_drill.specs.Drill.{Setting, Drill, Pipes, GivenReply, client_of, is_sent_again, settles, standing_of, reply_given, unwritten, after_output, after_all_output, settled, pipes_of, with_mark, after_submit, after_feeding, after_feeding_up, after_up, if_standing, waiting_call, after_answer, after_call, after_execution, after_work, after_calls, after_drop, after_feeding_down, after_handing, after_done, after_dones, after_outcomes, after_down, answer_at, answer_of_line, is_open, open_xid, after_giving_up, after_forget, after_taking_back, after_revoke, after_all_up, after_all_work, after_moves, after_grant}
-use Rattle.nr_drill.proofs.FirstLinks.{AreFirst, own_client, down_is}
+use Rattle.nr_drill.proofs.FirstLinks.{own_client, down_is}
+use Rattle.nr_drill.specs.Unnumbered.{AreFirst}
 
 -- what a side has to write is what it wrote and what it hasn't written yet
 abbrev pub IsDueOf : LinkParameters → ℕ → Side → List Mark → Type 0

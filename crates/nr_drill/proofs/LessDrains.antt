@@ -24,8 +24,9 @@ use Rattle.nr_drill.proofs.Drained.{cut_at, all_last}
 use Rattle.nr_drill.proofs.LessScripts.{all_front, step_runs, other_runs, script_runs}
 use Rattle.nr_drill.proofs.LessSteps.{steps_leave_less}
 use Rattle.nr_drill.proofs.OneRun.{made_once}
-use Rattle.nr_drill.proofs.FirstLinks.{AreFirst, opened_firsts, own_client}
-use Rattle.nr_drill.proofs.FirstLines.{FirstMakeAll, NamesClient, all_name, made_first, all_makes}
+use Rattle.nr_drill.proofs.FirstLinks.{opened_firsts, own_client}
+use Rattle.nr_drill.proofs.FirstLines.{NamesClient, all_name, made_first, all_makes}
+use Rattle.nr_drill.specs.Unnumbered.{AreFirst, FirstMakeAll}
 
 -- ===== the marks that a run begins with
 

@@ -35,11 +35,12 @@ use Rattle.nr_drill.proofs.LessSteps.{running_keeps, running_carries}
 use Rattle.nr_drill.proofs.LessUp.{up_less_lem}
 use Rattle.nr_drill.proofs.LessDown.{down_less_lem, outcomes_leave}
 use Rattle.nr_drill.proofs.LessScripts.{step_runs, other_runs, script_runs, all_front}
-use Rattle.nr_drill.proofs.FirstLinks.{AreFirst, opened_firsts, none_waiting, down_is}
+use Rattle.nr_drill.proofs.FirstLinks.{opened_firsts, none_waiting, down_is}
 use Rattle.nr_drill.proofs.FirstLines.{NamesClient, all_name, made_first, first_drains}
 use Rattle.nr_reduce.specs.Opening.{IsFirstLink}
 use Rattle.nr_reduce.specs.NumberedJournal.{Standing, standing_for}
 use Rattle.nr_reduce.specs.NumberedJournal.Standing.{New}
+use Rattle.nr_drill.specs.Unnumbered.{AreFirst}
 
 -- ===== the order
 

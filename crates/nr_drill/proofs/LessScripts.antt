@@ -46,8 +46,8 @@ use Rattle.nr_drill.proofs.LessWork.{leaves_through, settled_leaves, own, no_dro
 use Rattle.nr_drill.proofs.LessFrames.{frames_one, completed_is, still_heard}
 use Rattle.nr_drill.proofs.LessSteps.{running_keeps, running_carries}
 use Rattle.nr_drill.proofs.LessDown.{all_written_lem, outcomes_leave}
-use Rattle.nr_drill.proofs.FirstLines.{first_line, FirstMakes, FirstMakeAll, NamesClient, all_name}
-use Rattle.nr_drill.proofs.FirstLinks.{AreFirst, opened_firsts, down_is}
+use Rattle.nr_drill.proofs.FirstLines.{NamesClient, all_name}
+use Rattle.nr_drill.proofs.FirstLinks.{opened_firsts, down_is}
 use Rattle.nr_reduce.specs.Opening.{IsFirstLink}
 use Rattle.nr_reduce.specs.NumberedJournal.{number_in_frames, number_heard}
 use Rattle.nr_link.specs.declared.agreement.SideTerms.{SideTerms}
@@ -56,13 +56,9 @@ use Rattle.nr_link.specs.Agreement.{initiator_private, client_number, number_by}
 use Rattle.nr_wire.specs.Constants.{UNITS_MAX}
 use Rattle.nr_wire.specs.Terms.{units_byte, terms_encoding, terms_in}
 use Rattle.nr_wire.proofs.PrivateData.{terms_are_read}
+use Rattle.nr_drill.specs.Unnumbered.{AreFirst, first_line, FirstMakes, FirstMakeAll, Heard}
 
 -- ===== each side has the hello of the other
-
-pub record Heard (o : LinkParameters) (link : ℕ) (run : List Mark) : Type 0 where
-  pub client : frames_of Responder (bytes_received link Initiator run) ≢ []
-  pub server : frames_of Initiator (bytes_received link Responder run) ≢ []
-  pub number : number_heard run link ≡ o.client.number
 
 received_both : (link : ℕ) (side : Side) (run more : List Mark) → bytes_received link side (run ++ more) ≡ bytes_received link side run ++ bytes_received link side more
 unfolding bytes_received

@@ -27,11 +27,12 @@ use Rattle.nr_drill.specs.Lines.{IsClient, IsUnnumbered}
 use Rattle.nr_drill.proofs.Lawful.{own_written, up_written, down_written}
 use Rattle.nr_drill.proofs.Followed.{Extends, submit_adds, up_adds, down_adds, work_adds, forget_adds, revoke_adds, drop_adds, raw_adds, moves_adds, opening_adds, grant_adds}
 use Rattle.nr_drill.proofs.Carried.{same_dropped, same_sent, same_received, own_pipes, still_room, own_fed, up_fed, down_fed, dropped_at_last, IsSameHere, same_here, other_than, AreLinks, are_links, start_carries, follows_made}
-use Rattle.nr_drill.proofs.FirstLines.{first_line, FirstMakes, FirstMakeAll, NamesClient, all_name}
+use Rattle.nr_drill.proofs.FirstLines.{NamesClient, all_name}
 use Rattle.nr_reduce.specs.NumberedJournal.{Standing}
 use Rattle.nr_reduce.specs.NumberedJournal.Standing.{Old, Kept, New}
 use Rattle.nr_reduce.specs.ClientState.{WaitingCall}
 use Rattle.nr_reduce.specs.Served.{last_frame_at}
+use Rattle.nr_drill.specs.Unnumbered.{first_line, FirstMakes, FirstMakeAll}
 
 pub record NoneLost (link : ℕ) (d : Drill) : Type 0 where
   pub room : link - 1 < length d.pipes

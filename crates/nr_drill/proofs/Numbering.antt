@@ -39,7 +39,7 @@ use Rattle.nr_reduce.specs.Opening.{IsFirstLink}
 use Rattle.nr_drill.specs.Lines.{IsUnnumbered}
 use Rattle.nr_drill.proofs.Carried.{follows_made}
 use Rattle.nr_drill.proofs.FirstLinks.{same_parameters}
-use Rattle.nr_drill.proofs.FirstLines.{first_line, FirstMakes, FirstMakeAll}
+use Rattle.nr_drill.specs.Unnumbered.{first_line, FirstMakes, FirstMakeAll}
 
 -- ===== links
 

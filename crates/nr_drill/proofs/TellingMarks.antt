@@ -42,9 +42,10 @@ use Rattle.nr_reduce.specs.Journal.{PlacedMark, PlainMark}
 use Rattle.nr_reduce.specs.NumberedJournal.{entries_alone}
 use Rattle.nr_reduce.proofs.Steps.{AtEachMark_first}
 use Rattle.nr_drill.proofs.Followed.{follows_first}
-use Rattle.nr_drill.proofs.Journals.{IsPlainRun, UnnumberedMark, follows_is_plain, journal_alone, length_alone}
-use Rattle.nr_drill.proofs.FirstLinks.{AreFirst, opened_firsts, own_client}
+use Rattle.nr_drill.proofs.Journals.{follows_is_plain, journal_alone, length_alone}
+use Rattle.nr_drill.proofs.FirstLinks.{opened_firsts, own_client}
 use Rattle.nr_drill.proofs.FirstLines.{index_in}
+use Rattle.nr_drill.specs.Unnumbered.{AreFirst, UnnumberedMark, IsPlainRun}
 
 -- ===== logs
 

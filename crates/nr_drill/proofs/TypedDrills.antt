@@ -40,14 +40,14 @@ use Rattle.nr_script.specs.Script.{ScriptLines, IsTypedCred, IsTypedLine, IsScri
 use Rattle.nr_drill.specs.Drill.{SerialServer, Setting, Drill, Pipes, GivenReply, plain_of, client_of, standing_of, reply_given, unwritten, after_output, after_all_output, settled, pipes_of, with_pipes, with_mark, with_cred, appended, empty_pipes, cred_of, after_submit, after_feeding, after_feeding_up, after_up, waiting_call, after_answer, after_call, after_execution, after_work, after_calls, after_drop, after_raw, after_feeding_down, after_handing, after_done, after_dones, after_outcomes, after_down, answer_of_line, open_xid, after_giving_up, after_forget, after_taking_back, after_revoke, after_all_up, after_all_work, after_moves, after_round, after_opening, after_openings, start, links_of, after_grant}
 use Rattle.nr_drill.specs.Follows.{Drains, Follows, setting_of, opened_drill}
 use Rattle.nr_drill.specs.Lines.{IsUnnumbered}
-use Rattle.nr_drill.proofs.FirstLinks.{AreFirst, opened_firsts, down_is}
+use Rattle.nr_drill.proofs.FirstLinks.{opened_firsts, down_is}
 use Rattle.nr_drill.specs.InBytes.{RepliedMark, RepliedInBytes, ExecutedMark}
 use Rattle.nr_script.proofs.ByteLists.{no_bytes_lem}
 use Rattle.nr_byte_laws.proofs.ByteClients.{client_due}
 use Rattle.nr_byte_laws.proofs.ByteServers.{server_due}
 use Rattle.nr_byte_laws.proofs.CallBytes.{payload_is_bytes}
 use Rattle.nr_drill.proofs.Carried.{follows_made}
-use Rattle.nr_drill.proofs.FirstLines.{first_line, FirstMakes, FirstMakeAll}
+use Rattle.nr_drill.specs.Unnumbered.{AreFirst, first_line, FirstMakes, FirstMakeAll}
 
 -- ===== a drill that is of its types
 
