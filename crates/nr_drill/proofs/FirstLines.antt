@@ -134,7 +134,7 @@ pub all_first : (s : Setting) (clients : ℕ) (all : List Line) (old new : Drill
 all_first s clients [] old new now last w n e = e
 all_first s clients (line ∷ others) old new now last w n e =
     let next = later s clients line old e.0 now w.0 e.1 last in
-    (e.0, (makes_first s clients line old e.0 now last w.0 n.0 e.1, all_first s clients others e.0 new next.0 next.1 w.1 n.1 e.2))
+    (e.0, makes_first s clients line old e.0 now last w.0 n.0 e.1, all_first s clients others e.0 new next.0 next.1 w.1 n.1 e.2)
 
 pub all_makes : (s : Setting) (clients : ℕ) (all : List Line) (old new : Drill) → setting_now s old ≡ s → old.last_links ≡ links_of clients → AllByRecursion (IsFit s) all → AllByRecursion NamesClient all →
     FirstMakeAll s clients all old new → MakeAll s clients all old new
@@ -142,7 +142,7 @@ all_makes s clients [] old new now last w n e = e
 all_makes s clients (line ∷ others) old new now last w n e =
     let made = first_makes s clients line old e.0 now last w.0 n.0 e.1 in
     let next = later s clients line old e.0 now w.0 made last in
-    (e.0, (made, all_makes s clients others e.0 new next.0 next.1 w.1 n.1 e.2))
+    (e.0, made, all_makes s clients others e.0 new next.0 next.1 w.1 n.1 e.2)
 
 -- from the drill whose links are open, of a script whose clients have no numbers
 pub made_first : (server : SerialServer) (opening : Opening) (all : List Line) (old new : Drill) → HasFirstLinks server opening old → AllByRecursion (IsFit (setting_of server opening)) all → AllByRecursion NamesClient all →

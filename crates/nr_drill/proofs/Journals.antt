@@ -44,7 +44,7 @@ use Rattle.nr_drill.specs.Unnumbered.{AreFirst, first_line, FirstMakes, FirstMak
 
 -- ===== what the marks of such a run are
 
-plain_mark : (server : SerialServer) (run : List Mark) (mark : Mark) → PlacedMark (plain_of server) run mark → PlainMark (plain_of server) run mark → UnnumberedMark run mark → IsPlainRun server run → IsPlainRun server (run ++ mark ∷ [])
+pub plain_mark : (server : SerialServer) (run : List Mark) (mark : Mark) → PlacedMark (plain_of server) run mark → PlainMark (plain_of server) run mark → UnnumberedMark run mark → IsPlainRun server run → IsPlainRun server (run ++ mark ∷ [])
 plain_mark server run mark p r u h = record {
   placed = AtEachMark_more (PlacedMark (plain_of server)) [] run mark h.placed p;
   plain_replies = AtEachMark_more (PlainMark (plain_of server)) [] run mark h.plain_replies r;
@@ -129,7 +129,7 @@ pub length_alone : (T : List TaggedEntry) → length (entries_alone T) ≡ lengt
 length_alone [] = refl
 length_alone (t ∷ T) = ap (λ (n : ℕ). n + 1) (length_alone T)
 
-length_journal : (s : Setting) (run : List Mark) → IsPlainRun s.server run → length (journal_of s run) ≡ length (journal (plain_of s.server) run)
+pub length_journal : (s : Setting) (run : List Mark) → IsPlainRun s.server run → length (journal_of s run) ≡ length (journal (plain_of s.server) run)
 length_journal s run h = sym (length_alone (journal_of s run)) ∙ ap (λ (es : List Entry). length es) (journal_alone s run h)
 
 -- ===== each step
@@ -189,18 +189,18 @@ execution_plain s link (Some call) d heard h =
     subst (λ (is : Standing). IsPlainRun s.server (after_call s link call is (reply_by s.server T (now d) call.payload is) d).marks) (sym new)
     (given_plain s link call (s.server.reply_to (entries_alone T) (now d) call.payload) d heard refl h)
 
-work_plain : (s : Setting) (link : ℕ) (d : Drill) → HeardNone s link d.marks → IsPlainRun s.server d.marks → IsPlainRun s.server (after_work s link d).marks
+pub work_plain : (s : Setting) (link : ℕ) (d : Drill) → HeardNone s link d.marks → IsPlainRun s.server d.marks → IsPlainRun s.server (after_work s link d).marks
 unfolding after_work
 work_plain s link d heard h = execution_plain s link (waiting_call s link d.marks) d heard h
 
-still_none : (s : Setting) (link acted : ℕ) (old new : Drill) → Extends acted old new → HeardNone s link old.marks → HeardNone s link new.marks
+pub still_none : (s : Setting) (link acted : ℕ) (old new : Drill) → Extends acted old new → HeardNone s link old.marks → HeardNone s link new.marks
 still_none s link acted old new x h = record { heard = heard_by_lem (s.opened link) link acted old new x h.heard; none = h.none }
 
 calls_plain : (s : Setting) (link n : ℕ) (d : Drill) → HeardNone s link d.marks → IsPlainRun s.server d.marks → IsPlainRun s.server (after_calls s link n d).marks
 calls_plain s link zero d heard h = h
 calls_plain s link (suc n) d heard h = calls_plain s link n (after_work s link d) (still_none s link link d (after_work s link d) (work_adds s link d) heard) (work_plain s link d heard h)
 
-moves_plain : (s : Setting) (link : ℕ) (d : Drill) → IsFirstLink (s.opened link) → HeardNone s link d.marks → IsPlainRun s.server d.marks → IsPlainRun s.server (after_moves s link d).marks
+pub moves_plain : (s : Setting) (link : ℕ) (d : Drill) → IsFirstLink (s.opened link) → HeardNone s link d.marks → IsPlainRun s.server d.marks → IsPlainRun s.server (after_moves s link d).marks
 unfolding after_moves after_all_work
 moves_plain s link d first heard h =
     let one = after_all_up s link d in
@@ -295,7 +295,7 @@ all_plain : (s : Setting) (clients : ℕ) (all : List Line) (old new : Drill) �
 all_plain s clients [] old new first w heard e h = subst (λ (d : Drill). IsPlainRun s.server d.marks) (sym e) h
 all_plain s clients (line ∷ others) old new first w heard e h =
     all_plain s clients others e.0 new first w.1
-    (λ link low high. record { heard = lines_heard (s.opened link) s clients link (line ∷ []) old e.0 (e.0, (e.1, refl)) (heard link low high).heard; none = (heard link low high).none })
+    (λ link low high. record { heard = lines_heard (s.opened link) s clients link (line ∷ []) old e.0 (e.0, e.1, refl) (heard link low high).heard; none = (heard link low high).none })
     e.2 (made_plain s clients line old e.0 first w.0 heard e.1 h)
 
 -- ===== links open

@@ -455,33 +455,33 @@ neither_of true b e = absurd cc
 neither_of false b e = (refl, e)
 
 own_call : (s : Setting) (link l x xid : ℕ) → client_of s l == client_of s link && x == xid ≡ false → eqb l link && eqb x xid ≡ false
-own_call s link l x xid no = by (eqb l link) refl
+own_call s link l x xid off = by (eqb l link) refl
   where
     by : (b : Bool) → eqb l link ≡ b → b && eqb x xid ≡ false
     by true is =
         let same : client_of s l == client_of s link ≡ true = eq-eqb (client_of s l) (client_of s link) (ap (client_of s) (eqb-true l link is)) in
-        sym (ap (λ (b : Bool). b && eqb x xid) same) ∙ no
+        sym (ap (λ (b : Bool). b && eqb x xid) same) ∙ off
     by false is = refl
 
 not_settled : (s : Setting) (link xid : ℕ) (mark : Mark) → settles s (client_of s link) xid mark ≡ false → (list_any (λ (c : CompletedCall). eqb c.xid xid) (completed_at link mark) ≡ false) × (abandons link xid mark ≡ false)
-not_settled s link xid (marks.Done l x outcome) no = by (eqb l link) (own_call s link l x xid no)
+not_settled s link xid (marks.Done l x outcome) off = by (eqb l link) (own_call s link l x xid off)
   where
     or_nothing : (b : Bool) → b ≡ false → b || false ≡ false
     or_nothing true e = e
     or_nothing false e = refl
 
     by : (b : Bool) → b && eqb x xid ≡ false → (list_any (λ (c : CompletedCall). eqb c.xid xid) (cond b (record { xid = x; outcome = outcome } ∷ []) []) ≡ false) × (false ≡ false)
-    by true no = (or_nothing (eqb x xid) no, refl)
-    by false no = (refl, refl)
-not_settled s link xid (marks.Forget l x) no = (refl, own_call s link l x xid no)
-not_settled s link xid (marks.Revoke l x bytes) no = (refl, own_call s link l x xid no)
-not_settled s link xid (marks.Lost l x) no = (refl, own_call s link l x xid no)
-not_settled s link xid (marks.Submit l call form answer) no = (refl, refl)
-not_settled s link xid (marks.Wrote l side bytes) no = (refl, refl)
-not_settled s link xid (marks.Fed l side bytes) no = (refl, refl)
-not_settled s link xid (marks.Execute l x moment payload place reply) no = (refl, refl)
-not_settled s link xid (marks.Drop l) no = (refl, refl)
-not_settled s link xid (marks.Told l what) no = (refl, refl)
+    by true off = (or_nothing (eqb x xid) off, refl)
+    by false off = (refl, refl)
+not_settled s link xid (marks.Forget l x) off = (refl, own_call s link l x xid off)
+not_settled s link xid (marks.Revoke l x bytes) off = (refl, own_call s link l x xid off)
+not_settled s link xid (marks.Lost l x) off = (refl, own_call s link l x xid off)
+not_settled s link xid (marks.Submit l call form answer) off = (refl, refl)
+not_settled s link xid (marks.Wrote l side bytes) off = (refl, refl)
+not_settled s link xid (marks.Fed l side bytes) off = (refl, refl)
+not_settled s link xid (marks.Execute l x moment payload place reply) off = (refl, refl)
+not_settled s link xid (marks.Drop l) off = (refl, refl)
+not_settled s link xid (marks.Told l what) off = (refl, refl)
 
 or_false : (a b : Bool) → a ≡ false → b ≡ false → a || b ≡ false
 or_false true b e f = e
@@ -493,9 +493,9 @@ any_both p (x ∷ xs) ys e f = (let parts = neither_of (p x) (list_any p xs) e i
 
 none_settles : (s : Setting) (link xid : ℕ) (run : List Mark) → list_any (settles s (client_of s link) xid) run ≡ false → (is_completed link xid run ≡ false) × (is_abandoned link xid run ≡ false)
 unfolding completed_calls
-none_settles s link xid [] no = (refl, refl)
-none_settles s link xid (mark ∷ run) no =
-    let parts = neither_of (settles s (client_of s link) xid mark) (list_any (settles s (client_of s link) xid) run) no in
+none_settles s link xid [] off = (refl, refl)
+none_settles s link xid (mark ∷ run) off =
+    let parts = neither_of (settles s (client_of s link) xid mark) (list_any (settles s (client_of s link) xid) run) off in
     let one = not_settled s link xid mark parts.0 in
     let rest = none_settles s link xid run parts.1 in (
       any_both (λ (c : CompletedCall). eqb c.xid xid) (completed_at link mark) (flat_map (completed_at link) run) one.0 rest.0,

@@ -245,7 +245,7 @@ unfolding after_work
 work_idle s link d e = ap (λ (c : Option ReadyCall). after_execution s link c d) e
 
 -- the server has a reply to each call that waits, if it is executed as a new one, and all calls are: the clients have no numbers
-record Answering (s : Setting) : Type 0 where
+pub record Answering (s : Setting) : Type 0 where
   first : AreFirst s
   each : AnswersCalls s
 
