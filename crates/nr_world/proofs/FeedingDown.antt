@@ -7,7 +7,7 @@ use Rattle.nr_reduce.specs.declared.mark.Mark.TheVariants as marks
 use Rattle.nr_reduce.proofs.Unconcerned.{fed_elsewhere}
 use Rattle.nr_requester.specs.RequesterState.{RequesterSide}
 use Rattle.nr_requester.specs.Standing.{StandsOn}
-use Rattle.nr_drill.specs.Drill.{Setting, Drill, Pipes, pipes_of, with_pipes, with_mark, after_feeding, after_feeding_down, after_outcomes, after_down, settled}
+use Rattle.nr_drill.specs.Drill.{Drill, Pipes, pipes_of, with_pipes, with_mark, after_feeding, after_feeding_down, after_outcomes, after_down, settled}
 use Rattle.nr_drill.specs.InBytes.{RepliedInBytes}
 use Rattle.nr_world.specs.DrillLinkState.{DrillLinkState}
 use Rattle.nr_world.specs.LinkStands.{LinkStands}

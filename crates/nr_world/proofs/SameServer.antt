@@ -105,7 +105,11 @@ unfolding after_resends
 resends_leave s link d = resent (calls_to_resend (client (s.opened link) link d.marks)) d
   where
     resent : (ws : List WaitingCall) (d : Drill) → Leaves s d (record d { marks = d.marks ++ map (resend_mark link) ws })
-    resent [] d = subst (λ (run : List Mark). Leaves s d (record d { marks = run })) (sym (append-nil d.marks)) (leaves_all s d)
+    resent [] d = record {
+      seconds = refl;
+      journal = ap (λ (run : List Mark). journal (plain_of s.server) run) (append-nil d.marks);
+      plain = λ h. subst (λ (run : List Mark). IsPlainRun s.server run) (sym (append-nil d.marks)) h;
+    }
     resent (w ∷ ws) d =
         let mark = resend_mark link w in
         leaves_both s d (with_mark mark d) (record d { marks = d.marks ++ map (resend_mark link) (w ∷ ws) }) (leaves_mark s mark d refl (λ before. (tt, (tt, tt))))
