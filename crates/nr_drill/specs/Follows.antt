@@ -81,3 +81,7 @@ pub record Follows (server : SerialServer) (script : ScriptLines) (run : List Ma
   pub last : Drill
   pub makes : MakeAll (setting_of server script.opening) script.opening.clients script.lines (opened_drill server script.opening) last
   pub marks_are : run ≡ last.marks
+
+-- what the links of the run were opened with
+abbrev pub last_setting : {server : SerialServer} {script : ScriptLines} {run : List Mark} → Follows server script run → Setting
+last_setting {server = server} {script = script} follows = setting_now (setting_of server script.opening) follows.last

@@ -92,8 +92,9 @@ later_if name others =
     if_if LineIsRight (bytes_eq name (codes "forget")) (number_line lines.Forget others) _ (number_if lines.Forget others (λ c n. (tt, tt)))
     (if_if LineIsRight (bytes_eq name (codes "revoke")) (number_line lines.Revoke others) _ (number_if lines.Revoke others (λ c n. (tt, tt)))
     (if_if LineIsRight (bytes_eq name (codes "drop")) (client_line lines.Drop others) _ (client_if lines.Drop others (λ c. (tt, tt)))
+    (if_if LineIsRight (bytes_eq name (codes "rejoin")) (client_line lines.Rejoin others) _ (client_if lines.Rejoin others (λ c. (tt, tt)))
     (if_if LineIsRight (bytes_eq name (codes "grant")) (number_line lines.Grant others) _ (number_if lines.Grant others (λ c n. (tt, tt)))
-    (if_if LineIsRight (bytes_eq name (codes "drain")) (drain_line others) None (drain_if others) tt))))
+    (if_if LineIsRight (bytes_eq name (codes "drain")) (drain_line others) None (drain_if others) tt)))))
 
 plain_if : (name : List ℕ) (others : List (List ℕ)) → If LineIsRight (plain_line name others)
 plain_if name others =
