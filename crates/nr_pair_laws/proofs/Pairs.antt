@@ -11,7 +11,7 @@ use Rattle.nr_reduce.specs.declared.mark.Mark.{Mark}
 use Rattle.nr_reduce.specs.Asked.{AskedSoFar, IsAll}
 use Rattle.nr_reduce.specs.AtEachMark.{AtEachMark}
 use Rattle.nr_reduce.specs.EndRules.{EndState}
-use Rattle.nr_reduce.specs.Opening.{IsOpened}
+use Rattle.nr_reduce.specs.Opening.{IsFirstLink, IsOpened}
 use Rattle.nr_reduce.specs.Run.{end_of_side, server}
 use Rattle.nr_reduce.specs.Served.{Served, ServedMark}
 use Rattle.nr_reduce.specs.ServerState.{ServerState}
@@ -30,6 +30,7 @@ use Rattle.nr_plain.specs.ReplyLaws.{plain_server}
 use Rattle.nr_plain.specs.Setup.{Setup}
 use Rattle.nr_plain.proofs.PlainServers.{server_is_plain}
 use Rattle.nr_byte_laws.specs.InBytes.{IsInBytes}
+use Rattle.nr_byte_laws.proofs.ByteClients.{none_again}
 use Rattle.nr_client.specs.declared.call_end.CallEnd.TheVariants as calls
 use Rattle.nr_client.specs.declared.client_end.ClientEnd.TheVariants as client
 use Rattle.nr_commands.specs.Running.Runs.{NotOpened, Opened}
@@ -135,19 +136,19 @@ pairs_are_served_lem limits first J opened link outside outside' end connection 
 
 -- a list with both sides is of its types, if each call of the command is of bytes
 pub sides_typed : (limits : ConnectionLimits) (first : Opening) (J : List Entry) (opened : LinkParameters) (link : ℕ) (outside outside' : Outside) (end : ConnEnd)
-    (connection : IsConnectionRun limits first J opened link outside outside' end) (run both : List Mark) (made : List Exchange) → AllByRecursion (IsOwn link) run → AskedSoFar opened link run
+    (connection : IsConnectionRun limits first J opened link outside outside' end) (run both : List Mark) (made : List Exchange) → IsFirstLink opened → AllByRecursion (IsOwn link) run → AskedSoFar opened link run
     → AreMarksOf link made (without_bytes run) → AreSidesOf link run connection.ended.run both → IsInBytes (setup_in first).tree → AreOfCalls (setup_in first) [] J → CallsAreBytes made → IsTyped both
-sides_typed limits first J opened link outside outside' end connection run both made owns asked are sides tree entries words =
+sides_typed limits first J opened link outside outside' end connection run both made first_link owns asked are sides tree entries words =
     let setup = setup_in first in
     let journal : List Entry = J ++ connection.over.more in
     let b = both_sides setup journal (length J) opened link run connection.ended.run both owns asked sides connection.served connection.over.placed in
     let are_both = subst (λ (r : List Mark). AreMarksOf link made (without_bytes r)) (sym sides.client_side) are in
-    pair_is_typed setup journal opened link both made tree (all_bytes setup J connection.over.more (of_calls_bytes setup [] J entries) connection.over.of_calls) b.far b.at_places b.owns
+    pair_is_typed setup journal opened link both made (none_again opened first_link.resumed) tree (all_bytes setup J connection.over.more (of_calls_bytes setup [] J entries) connection.over.of_calls) b.far b.at_places b.owns
     (subst (λ (r : List Mark). AreMarksOf link made r) (exchanged_in link both) are_both) words sides.no_others
 
 pub pairs_are_typed_lem : PairsAreTyped
 pairs_are_typed_lem limits first J opened link outside outside' end connection c before after input input' out out' result (NotOpened why is fails same_input same_out) of tree entries = tt
 pairs_are_typed_lem limits first J opened link outside outside' end connection c before after input input' out out' result (Opened dialed s s' opens prints closes) of tree entries = λ ran both sides.
     sides_typed limits first J opened link outside outside' end connection ran.run both
-    (tells_text c.uid c.gid c.export c.action input input' out prints.written s s' prints.text prints.made).made ran.own ran.asked ran.marks_are sides tree entries
+    (tells_text c.uid c.gid c.export c.action input input' out prints.written s s' prints.text prints.made).made ran.first_link ran.own ran.asked ran.marks_are sides tree entries
     (command_calls c.uid c.gid c.export c.action input input' out prints.written s s' prints.text prints.made (of.uid, of.gid) of.export of.names)
