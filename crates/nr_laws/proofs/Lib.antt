@@ -14,6 +14,11 @@ pub mod ReceivedMessages
 pub mod Outputs
 pub mod TaggedSegments
 pub mod OnceByXid
+mod OutstandingSubmits
+mod ResumedCalls
+mod EarlierLinks
+mod JournalPlaces
+mod CompletedChanges
 pub mod EntriesApart
 pub mod WaitingCalls
 pub mod ServerOutputs
@@ -65,6 +70,7 @@ pub mod CompletedFrames
 pub mod DistinctKeys
 pub mod OwnXids
 pub mod NothingLeft
+pub mod NumbersHeard
 pub mod OutputFrames
 pub mod PendingFrames
 pub mod PendingExecuted
@@ -85,6 +91,7 @@ pub mod AgreeingMarks
 pub mod EachRun
 pub mod AccountedCalls
 pub mod AccountedRuns
+mod ResentCalls
 pub mod SettledLinks
 pub mod AllowedResponses
 pub mod FaultlessSegments
@@ -101,6 +108,7 @@ pub mod Replies
 pub mod ReadLimits
 pub mod RequestFields
 mod AgreedSizes
+mod SizesAgain
 pub mod Guards
 pub mod GuardsAtServer
 pub mod GuardsAtClient
