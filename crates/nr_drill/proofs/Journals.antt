@@ -82,7 +82,7 @@ zero_from before (mark ∷ run) h = (
 tagged_entry : (client xid : ℕ) (e : Entry) → (tagged client xid e).entry ≡ e
 tagged_entry client xid e = by (client == 0)
   where
-    by : (b : Bool) → (if b then record { entry = e; client = 0; xid = 0 } else record { entry = e; client = client; xid = xid }).entry ≡ e
+    by : (b : Bool) → (let t : TaggedEntry = if b then record { entry = e; client = 0; xid = 0 } else record { entry = e; client = client; xid = xid } in t.entry) ≡ e
     by true = refl
     by false = refl
 
@@ -127,7 +127,7 @@ journal_alone s run h = alone_is (plain_of s.server) (number_heard run) run (zer
 
 pub length_alone : (T : List TaggedEntry) → length (entries_alone T) ≡ length T
 length_alone [] = refl
-length_alone (t ∷ T) = ap (λ (n : ℕ). n + 1) (length_alone T)
+length_alone (t ∷ T) = ap (λ (n : ℕ). suc n) (length_alone T)
 
 pub length_journal : (s : Setting) (run : List Mark) → IsPlainRun s.server run → length (journal_of s run) ≡ length (journal (plain_of s.server) run)
 length_journal s run h = sym (length_alone (journal_of s run)) ∙ ap (λ (es : List Entry). length es) (journal_alone s run h)

@@ -18,7 +18,7 @@ use Rattle.nr_script.proofs.ByteLists.{no_bytes_lem}
 use Rattle.nr_drill.specs.Drill.{Setting, Drill, Pipes, pipes_of, with_mark, unwritten, after_output, after_all_output, settled, after_feeding, after_feeding_up, after_feeding_down, after_up, after_handing, after_done, after_dones, after_outcomes, waiting_call, after_answer, after_execution, after_work, GivenReply, standing_of, reply_given, after_call}
 use Rattle.nr_drill.specs.WorkLeft.DrainStep.{AllUp, Work, AllDown}
 use Rattle.nr_drill.specs.Drains.{AnswersInBytesAt, StepsKeepTypes}
-use Rattle.nr_byte_laws.proofs.ByteClients.{client_due}
+use Rattle.nr_byte_laws.proofs.ByteClients.{client_due, none_again}
 use Rattle.nr_byte_laws.proofs.ByteServers.{server_due}
 use Rattle.nr_drill.proofs.FirstLinks.{down_is}
 use Rattle.nr_reduce.specs.NumberedJournal.{Standing}
@@ -78,7 +78,7 @@ unfolding after_up after_outcomes after_work
 steps_keep_types s link AllUp d start running replies typed =
     let pipes = pipes_of link d in
     let bytes = pipe_bytes _ pipes.up (bytes_sent link Initiator d.marks) (is_dropped link d.marks) running.up (λ gone. ap (λ (p : Pipes). p.up) (running.gone gone))
-    (subst IsBytes (sym running.asked.written) (client_due (s.opened link) link d.marks typed)) in
+    (subst IsBytes (sym running.asked.written) (client_due (s.opened link) link d.marks (none_again (s.opened link) start.resumed) typed)) in
     settles s link (after_feeding_up link (length pipes.up) d)
     (feeds link Responder (take (length pipes.up) pipes.up) (record pipes { up = drop (length pipes.up) pipes.up }) d (IsBytes_take (length pipes.up) pipes.up bytes) typed)
 steps_keep_types s link Work d start running replies typed = executes s link (waiting_call s link d.marks) d replies refl typed

@@ -43,11 +43,12 @@ use Rattle.nr_drill.specs.Lines.{IsUnnumbered}
 use Rattle.nr_drill.proofs.FirstLinks.{opened_firsts, down_is}
 use Rattle.nr_drill.specs.InBytes.{RepliedMark, RepliedInBytes, ExecutedMark}
 use Rattle.nr_script.proofs.ByteLists.{no_bytes_lem}
-use Rattle.nr_byte_laws.proofs.ByteClients.{client_due}
+use Rattle.nr_byte_laws.proofs.ByteClients.{client_due, none_again}
 use Rattle.nr_byte_laws.proofs.ByteServers.{server_due}
 use Rattle.nr_byte_laws.proofs.CallBytes.{payload_is_bytes}
 use Rattle.nr_drill.proofs.Carried.{follows_made}
 use Rattle.nr_drill.specs.Unnumbered.{AreFirst, first_line, FirstMakes, FirstMakeAll}
+use Rattle.nr_reduce.specs.Opening.{IsFirstLink}
 
 -- ===== a drill that is of its types
 
@@ -92,10 +93,10 @@ behind_bytes Responder bytes p b h = (h.0, bytes_both p.down bytes h.1 b)
 -- ===== each step of a drill
 
 -- what a side has to write, and hasn't written, are bytes
-unwritten_bytes : (o : LinkParameters) (link : ℕ) (side : Side) (run : List Mark) → IsTyped run → IsBytes (unwritten o link side run)
+unwritten_bytes : (o : LinkParameters) (link : ℕ) (side : Side) (run : List Mark) → IsFirstLink o → IsTyped run → IsBytes (unwritten o link side run)
 unfolding unwritten
-unwritten_bytes o link Initiator run typed = IsBytes_drop (length (bytes_sent link Initiator run)) (output_due o link Initiator run) (client_due o link run typed)
-unwritten_bytes o link Responder run typed = IsBytes_drop (length (bytes_sent link Responder run)) (output_due o link Responder run) (server_due o link run typed)
+unwritten_bytes o link Initiator run first typed = IsBytes_drop (length (bytes_sent link Initiator run)) (output_due o link Initiator run) (client_due o link run (none_again o first.resumed) typed)
+unwritten_bytes o link Responder run first typed = IsBytes_drop (length (bytes_sent link Responder run)) (output_due o link Responder run) (server_due o link run typed)
 
 output_typed : (link : ℕ) (side : Side) (bytes : List ℕ) (d : Drill) → IsBytes bytes → IsTypedDrill d → IsTypedDrill (after_output link side bytes d)
 output_typed link side [] d b h = h
@@ -167,7 +168,7 @@ handing_quiet s link (Some c) d = More (marks.Done link c.xid c.outcome) refl tt
 all_output_keeps : (s : Setting) (P : Drill → Type 0) → KeptBySteps s P → (link : ℕ) (side : Side) (d : Drill) → P d → P (after_all_output s link side d)
 all_output_keeps s P k link side d h =
     let bytes = unwritten (s.opened link) link side d.marks in
-    k.quiet d (after_all_output s link side d) (output_quiet s link side bytes d) (λ t. output_typed link side bytes d (unwritten_bytes (s.opened link) link side d.marks t.typed) t) h
+    k.quiet d (after_all_output s link side d) (output_quiet s link side bytes d) (λ t. output_typed link side bytes d (unwritten_bytes (s.opened link) link side d.marks (k.first.on link) t.typed) t) h
 
 settled_keeps : (s : Setting) (P : Drill → Type 0) → KeptBySteps s P → (link : ℕ) (d : Drill) → P d → P (settled s link d)
 unfolding settled

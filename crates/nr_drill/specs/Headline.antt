@@ -106,7 +106,7 @@ abbrev pub ChangesHaveEntries : SerialServer → List TaggedEntry → (ℕ → L
 ChangesHaveEntries server T opened link run = (before : List Mark) (xid : ℕ) (call : Call) (form : Form) (moment : Moment) (payload reply : List ℕ) →
     IsAskedFor opened link run xid call form → MarkAt run before (marks.Done link xid (outcomes.Reply reply)) →
     form_conveyed form (call_payload xid call) ≡ Some payload → server.adds moment payload reply ≢ [] →
-    HasEntry (plain_of server) T (opened link).client.number xid call form reply
+    HasEntry (plain_of server) T (opened link).client.number xid payload reply
 
 -- What is promised of the run of a drill. `last_setting follows` says what its links were opened with: the first link of each client as the first
 -- line of the script says, and a later one as it was reopened from the one before. A link is matched if no line puts bytes into its pipes (`laws`); it
