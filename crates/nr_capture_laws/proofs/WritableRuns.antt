@@ -53,7 +53,6 @@ use Rattle.nr_capture.specs.Writable.{IsWritable, IsWritableMark, IsWritableOutc
 use Rattle.nr_capture.proofs.WrittenCaptures.{capture_back}
 use Rattle.nr_drill.specs.Drill.{SerialServer, link_of as mark_link}
 use Rattle.nr_drill.specs.Follows.{parameters_of}
-use Rattle.nr_drill.specs.Lines.{IsUnnumbered}
 use Rattle.nr_drill.specs.Headline.{IsDrillRun}
 use Rattle.nr_drill.specs.private.Drafts.{NumberedMark}
 use Rattle.nr_drill.proofs.Followed.{KeepsAll, follows_keeps_laws}
@@ -134,7 +133,7 @@ writable_outcome (outcomes.Version low high) b w = w
 
 -- ===== the marks of a run
 
-module _ (server : SerialServer) (script : ScriptLines) (run : List Mark) (is : IsScript script) (none : IsUnnumbered script) (writable : AreWritable script) (d : IsDrillRun server script run) where
+module _ (server : SerialServer) (script : ScriptLines) (run : List Mark) (is : IsScript script) (writable : AreWritable script) (d : IsDrillRun server script run) where
   abbrev Right : CapturedMark → Type 0
   Right mark = (is_link script.opening (link_of mark) ≡ true) × IsWritableMark mark
 
@@ -156,8 +155,8 @@ module _ (server : SerialServer) (script : ScriptLines) (run : List Mark) (is : 
       let link = mark_link mark in
       let opened = parameters_of script.opening link in
       let n : NumberedMark script.opening.clients before mark =
-      AtEachMark_at (NumberedMark script.opening.clients) [] before mark after (subst (AtEachMark (NumberedMark script.opening.clients) []) e (drill_numbered server script run is none d.follows)) in
-      let laws : KeepsAll opened link run = follows_keeps_laws server script run is none d.follows link n.above n.within in
+      AtEachMark_at (NumberedMark script.opening.clients) [] before mark after (subst (AtEachMark (NumberedMark script.opening.clients) []) e (drill_numbered server script run is is.unnumbered d.follows)) in
+      let laws : KeepsAll opened link run = follows_keeps_laws server script run is is.unnumbered d.follows link n.above n.within in
       let typed : AtEachMark TypedMark [] (before ++ mark ∷ after) = subst (AtEachMark TypedMark []) e d.typed in
       let asked = subst (AtEachMark (AskedMark IsAll opened link) []) e laws.asked.each in
       let served = subst (AtEachMark (ServedMark IsAll opened link) []) e laws.served.each in
@@ -239,10 +238,10 @@ module _ (server : SerialServer) (script : ScriptLines) (run : List Mark) (is : 
   marks_of_all [] h = tt
   marks_of_all (mark ∷ all) h = (h.0.1, marks_of_all all h.1)
 
-run_writable : (server : SerialServer) (script : ScriptLines) (run : List Mark) → IsScript script → IsUnnumbered script → AreWritable script → IsDrillRun server script run → IsWritable (captured script.opening run)
+run_writable : (server : SerialServer) (script : ScriptLines) (run : List Mark) → IsScript script → AreWritable script → IsDrillRun server script run → IsWritable (captured script.opening run)
 unfolding captured
-run_writable server script run is none writable d =
-    let all = all_right server script run is none writable d [] run refl (follows_writable server script run is none writable d.follows) in
+run_writable server script run is writable d =
+    let all = all_right server script run is writable d [] run refl (follows_writable server script run is is.unnumbered writable d.follows) in
     record {
       opening = record {
         some_clients = is.some_clients;
@@ -255,15 +254,15 @@ run_writable server script run is none writable d =
         some_server_units = is.some_server_units;
         few_server_units = is.few_server_units;
       };
-      links = links_of_all server script run is none writable d (flat_map captured_mark run) all;
-      marks = marks_of_all server script run is none writable d (flat_map captured_mark run) all;
+      links = links_of_all server script run is writable d (flat_map captured_mark run) all;
+      marks = marks_of_all server script run is writable d (flat_map captured_mark run) all;
     }
 
 pub writable : RunsAreWritable
-writable server script run (inl read) none d = run_writable server script run (script_is read.0 script read.1 read.2) none (read_is_writable read.0 script read.2) d
-writable server script run (inr made) none d =
+writable server script run (inl read) d = run_writable server script run (script_is read.0 script read.1 read.2) (read_is_writable read.0 script read.2) d
+writable server script run (inr made) d =
     let same = sym made.6 in
-    run_writable server script run (subst IsScript same (made_is made.0 made.1 made.2 made.3 made.4 made.5)) none (subst AreWritable same (made_is_writable made.0 made.1 made.2)) d
+    run_writable server script run (subst IsScript same (made_is made.0 made.1 made.2 made.3 made.4 made.5)) (subst AreWritable same (made_is_writable made.0 made.1 made.2)) d
 
 pub read_back : RunsAreReadBack
-read_back server script run source none d = capture_back (captured script.opening run) (writable server script run source none d)
+read_back server script run source d = capture_back (captured script.opening run) (writable server script run source d)

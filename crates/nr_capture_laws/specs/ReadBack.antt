@@ -10,7 +10,6 @@ use Rattle.nr_capture.specs.Capture.{capture_of}
 use Rattle.nr_capture.specs.Captured.{Captured, captured}
 use Rattle.nr_capture.specs.Writable.{IsWritable}
 use Rattle.nr_drill.specs.Drill.{SerialServer}
-use Rattle.nr_drill.specs.Lines.{IsUnnumbered}
 use Rattle.nr_drill.specs.Headline.{IsDrillRun}
 
 -- a script that a text of at most this many bytes says
@@ -24,10 +23,10 @@ IsMade script = (seed : ℕ) × (clients : ℕ) × (calls : ℕ) × (1 ≤ clien
 -- The capture can be written: its numbers are words, its bytes are bytes, its credentials are those of a drill, each mark is of a link of the
 -- first line.
 abbrev pub RunsAreWritable : Type 0
-RunsAreWritable = (server : SerialServer) (script : ScriptLines) (run : List Mark) → IsRead script ⊎ IsMade script → IsUnnumbered script → IsDrillRun server script run →
+RunsAreWritable = (server : SerialServer) (script : ScriptLines) (run : List Mark) → IsRead script ⊎ IsMade script → IsDrillRun server script run →
     IsWritable (captured script.opening run)
 
 -- what its text says is the capture
 abbrev pub RunsAreReadBack : Type 0
-RunsAreReadBack = (server : SerialServer) (script : ScriptLines) (run : List Mark) → IsRead script ⊎ IsMade script → IsUnnumbered script → IsDrillRun server script run →
+RunsAreReadBack = (server : SerialServer) (script : ScriptLines) (run : List Mark) → IsRead script ⊎ IsMade script → IsDrillRun server script run →
     capture_of (Captured script.opening run) ≡ Ok (captured script.opening run)
