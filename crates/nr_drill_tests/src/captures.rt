@@ -113,6 +113,7 @@ const OPENING: Opening = Opening {
     capacity: 9,
     client_units: 1,
     server_units: 1,
+    numbered: false,
     invalidates: false,
 };
 
