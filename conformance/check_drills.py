@@ -3,11 +3,12 @@
     python3 conformance/check_drills.py [--only WORD] [--jobs N] [--drains]
     python3 conformance/check_drills.py --record PROGRAM
 
-It takes the scripts of scripts.json.gz that run, and those of drills.json.gz, with what the built nfsrdma printed of them. Of a
-script that is generated it also evaluates the generator, whose script must be what the text says, and the line of sums. The
-replies of the plain server are those recorded in plain_scripts.json.gz; with --record they are asked of the built plain_calls,
-and recorded. With --drains it makes each drain step by step, and asks that each step of a link that moves something leaves less
-work, as long as no line before put bytes into the pipes of the link. Exit status: 0 all agree, 1 some differ, 2 nothing could be run."""
+It takes the scripts of scripts.json.gz that run, and those of drills.json.gz, with what the built nfsrdma printed of them; and those
+of rejoin_scripts.json.gz: their clients have numbers, so they are no scripts yet, and are read line by line. Of a script that is
+generated it also evaluates the generator, whose script must be what the text says, and the line of sums. The replies of the plain
+server are those recorded in plain_scripts.json.gz; with --record they are asked of the built plain_calls, and recorded. With
+--drains it makes each drain step by step, and asks that each step of a link that moves something leaves less work, as long as no
+line before put bytes into the pipes of the link. Exit status: 0 all agree, 1 some differ, 2 nothing could be run."""
 import argparse
 import gzip
 import json
@@ -22,7 +23,7 @@ from antt import ROOT, Project
 from check_definitions import HERE, NAMES, RUNS, Names, Recorded, recorded, shorten
 from compare_scripts import SCRIPTS
 from ends import Ends
-from values import NONE, CannotEvaluate, Fn, Value, call, deeply, show, some
+from values import NONE, CannotEvaluate, Con, Fn, Value, call, deeply, show, some
 
 PLAIN = os.path.join(HERE, 'plain_scripts.json.gz')
 DRILLS = os.path.join(HERE, 'drills.json.gz')
@@ -34,6 +35,8 @@ USES = (
     'use Rattle.nr_plain.specs.Added.{entries_of_call}',
     'use Rattle.nr_script.specs.Script.{script_of}',
     'use Rattle.nr_script.specs.Generator.{made_script}',
+    'use Rattle.nr_script.specs.Lines.{line_in}',
+    'use Rattle.nr_texts.specs.Openings.{opening_in}',
     'use Rattle.std.specs.Prelude.{length}',
     'use Rattle.nr_reduce.specs.Run.{server}',
     'use Rattle.nr_drill.specs.Drill.{pipes_of, after_round, setting_now}',
@@ -45,6 +48,7 @@ USES = (
 )
 ROLES = {
     'adds': 'λ moment payload reply. entries_of_call moment payload reply', 'script_of': 'λ text. script_of text',
+    'first': 'λ words. opening_in words', 'other': 'λ words. line_in words',
     'now': 'λ setting drill. setting_now setting drill', 'round': 'λ setting links drill. after_round setting links drill',
     'line': 'λ setting line drill. after_line setting line drill', 'still': 'λ setting drill link. is_still setting drill link',
     'setting': 'λ server opening. setting_of server opening', 'opened': 'λ server opening. opened_drill server opening',
@@ -98,6 +102,17 @@ class Drills:
 
     def ask(self, role: str, *args: Value) -> Value:
         return call(self.role[role], *args)
+
+    def read(self, text: str) -> Value:
+        """What a text says: a script, or the number of its first invalid line. If its clients have numbers, what its lines say."""
+        lines = [line for line in text.split('\n') if line and not line.startswith('#')]
+        read = self.ask('script_of', list(text.encode('latin-1')))
+        if 'numbered' not in lines[0].split(' ') or read.n == 'Ok':
+            return read
+        words = [[list(word.encode('latin-1')) for word in line.split(' ')] for line in lines]
+        parts = [self.ask('first', words[0]), *(self.ask('other', w) for w in words[1:])]
+        bad = [i + 1 for i, part in enumerate(parts) if part == NONE]
+        return Con('Err', bad[0]) if bad else Con('Ok', {'opening': parts[0].a[0], 'lines': [part.a[0] for part in parts[1:]]})
 
     def made(self, script: Value, answers: Answers) -> tuple[Value, Value]:
         """What a script is made with, and the drill after its last line."""
@@ -181,7 +196,7 @@ def first_difference(computed: str, wanted: str) -> str | None:
 
 def compared(drills: Drills, script: Recorded, answers: dict[str, str]) -> str | None:
     """What differs between a recorded script and the definitions."""
-    read = drills.ask('script_of', list(script['script'].encode('latin-1')))
+    read = drills.read(script['script'])
     if read.n != 'Ok':
         return 'it is no script, at line %d' % read.a[0]
     if 'seed' in script and drills.ask('made', script['seed'], script['clients'], script['calls']) != read.a[0]:
