@@ -1,6 +1,6 @@
 //! A script is run.
 
-ghost use Rattle.std.specs.Prelude.{◌≡◌, ◌≤◌, [], false, IfOk, OnOk, length};
+ghost use Rattle.std.specs.Prelude.{◌≡◌, ◌≤◌, [], IfOk, OnOk, length};
 ghost use Rattle.nr_texts.specs.Limits.{clients_max};
 ghost use Rattle.nr_drill.specs.DrillSetup.{GivesReport};
 ghost use Rattle.nr_world.specs.private.Results.{AreEndsOf, ReportsWorld};
@@ -42,9 +42,8 @@ impl World {
     }
 }
 
-/// Runs a script whose clients have no numbers, and reports the drill. It fails if memory runs out, or if a mark would have 2^32 bytes or more.
+/// Runs a script, and reports the drill. It fails if memory runs out, or if a mark would have 2^32 bytes or more.
 pub fn run_world(alloc: Global, script: &Script) -> Result<Report, Memory>
-    requires { script.now.opening.numbered ≡ false }
     ensures { IfOk result (λ report. GivesReport script.now report) }
 {
     let opening = script.opening();

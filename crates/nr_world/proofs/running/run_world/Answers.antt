@@ -9,7 +9,7 @@ pub open-requires-clause-capacity : goal.open-requires-clause-capacity
 open-requires-clause-capacity c = subst (λ (o : Opening). o.capacity ≤ capacity_max) (sym c.opening-opening.ensures.is) c.opening-opening.ensures.script.capacity
 
 pub open-requires-clause-unnumbered : goal.open-requires-clause-unnumbered
-open-requires-clause-unnumbered c = subst (λ (o : Opening). o.numbered ≡ false) (sym c.opening-opening.ensures.is) c.requires
+open-requires-clause-unnumbered c = subst (λ (o : Opening). o.numbered ≡ false) (sym c.opening-opening.ensures.is) c.opening-opening.ensures.script.unnumbered
 
 pub all_lines-requires : goal.all_lines-requires
 all_lines-requires c = lines_fit_as c.args.script.now c.opening-opening.result c.lines.result.now c.in_ok-world.world c.opening-opening.ensures.is c.lines.ensures c.opening-opening.ensures.script c.in_ok-world.ensures
