@@ -44,11 +44,11 @@ use Rattle.nr_drill.specs.Unnumbered.{AreFirst, IsPlainRun}
 
 len_range : (from n : ℕ) → length (range_with_len from n) ≡ n
 len_range from zero = refl
-len_range from (suc n) = ap (λ (m : ℕ). m + 1) (len_range (from + 1) n)
+len_range from (suc n) = ap (λ (m : ℕ). suc m) (len_range (from + 1) n)
 
 len_map : {X : Type 0} (f : ℕ → X) (xs : List ℕ) → length (map f xs) ≡ length xs
 len_map f [] = refl
-len_map f (x ∷ xs) = ap (λ (m : ℕ). m + 1) (len_map f xs)
+len_map f (x ∷ xs) = ap (λ (m : ℕ). suc m) (len_map f xs)
 
 -- each link is that of a client
 is_client_of : (server : SerialServer) (script : ScriptLines) (d : Drill) (link : ℕ) → HasFirstLinks server script.opening d → IsLink d link → IsClient script link

@@ -235,6 +235,7 @@ run_begins server script run is none follows link step d x =
 -- Each step of a link in a drain of a run that moves something leaves less work, if no line before the drain puts bytes into its pipes.
 pub follows_leaves_less : (server : SerialServer) (script : ScriptLines) (run : List Mark) → IsScript script → IsUnnumbered script → IsTyped run → Follows server script run → (link : ℕ) → IsClient script link →
     DrainStepsLeaveLess server script link
+unfolding first_step
 follows_leaves_less server script run is none typed follows link within step d x raw moves =
     let s = setting_of server script.opening in
     let firsts = opened_firsts server script.opening none in

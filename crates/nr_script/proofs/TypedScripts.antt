@@ -135,13 +135,7 @@ opened_if (Some o) h = by o.numbered refl
   where
     by : (b : Bool) → o.numbered ≡ b → If IsRead (cond b None (Some (record { opening = o; lines = [] })))
     by true e = tt
-    by false e = record {
-      opening = h;
-      unnumbered = e;
-      follow_on = tt;
-      creds = tt;
-      typed = tt;
-    }
+    by false e = record { opening = h; unnumbered = e; follow_on = tt; creds = tt; typed = tt }
 
 followed_if : (script : ScriptLines) (line : Option Line) → IsRead script → If LineIsRight line → If IsRead (followed_by script line)
 followed_if script None is h = tt

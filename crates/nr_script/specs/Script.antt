@@ -83,7 +83,8 @@ abbrev pub is_skipped : List ℕ → Bool
 is_skipped [] = true
 is_skipped (c ∷ others) = c == hash
 
--- What is read so far, with one line more: at first nothing, then the first line, then the others. The clients of a script have no numbers.
+-- What is read so far, with one line more: at first nothing, then the first line, then the others. A first line whose clients have numbers is
+-- invalid as long as drills run none.
 abbrev pub opened_by : Option Opening → Option ScriptLines
 opened_by None = None
 opened_by (Some opening) = if opening.numbered then None else Some (record { opening = opening; lines = [] })
@@ -155,8 +156,8 @@ IsTypedLine (lines.Call client form prog vers proc args) = HasWordPosition form 
 IsTypedLine (lines.Raw client side bytes) = IsBytes bytes
 IsTypedLine line = Unit {0}
 
--- The numbers of the first line are in range, its clients have no numbers, there are at most 2^24 other lines, each may follow those before it
--- and is of its type, and credentials can be encoded.
+-- The numbers of the first line are in range, there are at most 2^24 other lines, each may follow those before it and is of its type, and
+-- credentials can be encoded.
 pub record IsScript (script : ScriptLines) : Type 0 where
   pub some_clients : 1 ≤ script.opening.clients
   pub few_clients : script.opening.clients ≤ clients_max

@@ -42,13 +42,17 @@ fn first_line(alloc: Global, line: &[u8]) -> Result<Option<Option<Opening>>, Mem
         return Ok(Some(None));
     }
     let words = words_of(alloc, line)?;
-    let Some(opening) = opening_in(words.as_slice()) else {
-        return Ok(None);
-    };
-    if opening.numbered {
-        return Ok(None);
+    match opening_in(words.as_slice()) {
+        Some(opening) => {
+            // Drills run no clients with numbers.
+            if opening.numbered {
+                Ok(None)
+            } else {
+                Ok(Some(Some(opening)))
+            }
+        }
+        None => Ok(None),
     }
-    Ok(Some(Some(opening)))
 }
 
 /// The first line of a script, with the number of the line after it and the text from there on.
