@@ -50,14 +50,13 @@ use Rattle.nr_commands.specs.ByJobs.{link_of}
 use Rattle.nr_commands.specs.ByJobs.GetsByJobs.{Found, NotFound, NotOpened}
 use Rattle.nr_commands.specs.Commands.{Finds}
 use Rattle.nr_commands.specs.Sessions.{SessionAt, sink_of, source_of}
-use Rattle.nr_host.specs.Connections.{answers_of, IsOwn as IsServers}
+use Rattle.nr_host.specs.Connections.{answers_of}
 use Rattle.nr_host_laws.specs.OwnMarks.{own_marks}
 use Rattle.nr_service_laws.specs.ClientMarks.{AreMarksOf, without_bytes}
 use Rattle.nr_service_laws.specs.Exchanges.{Exchange, asked_exchanges, followed_exchanges, tells_finds, tells_mounts}
 use Rattle.nr_service_laws.specs.Exchanges.Exchange.{Answered}
 use Rattle.nr_service_laws.specs.ReplyEnds.{AreAnswers}
 use Rattle.nr_service_laws.specs.ServedCommands.{client_marks, is_client_mark}
-use Rattle.nr_host_laws.proofs.OwnMarks.{none_old}
 use Rattle.nr_service_laws.proofs.Judged.{answers_more}
 use Rattle.nr_service_laws.proofs.JudgedParts.{AreJudged, judged_both, reads_after}
 use Rattle.nr_service_laws.proofs.ServedAnswers.{submit_of}
@@ -250,16 +249,16 @@ pub none_earlier : Earlier closes_of []
 none_earlier p q e at is = absurd (some-ne-none e (sym at))
 
 -- a run of a `get` by jobs and that of a connection
-job_served : (setup : Setup) → IsSane setup.tree → (J more : List Entry) (opened : LinkParameters) (link : ℕ) (own : List Mark) → AtEachMark (λ earlier mark. IsServers link mark) [] own → Served opened link own → AllPlaced setup (J ++ more) (length J) (answers_of own)
+job_served : (setup : Setup) → IsSane setup.tree → (J more : List Entry) (opened : LinkParameters) (link : ℕ) (own : List Mark) → Served opened link own → AllPlaced setup (J ++ more) (length J) (answers_of own)
     → (s : SessionAt) (source : SourceAt) (sink : SinkAt) (log log' : Option LinkLog) (result : Result (Unit {0}) ClientEnd) (made : List Exchange) (history : List SharedEntry)
     (ran : IsJobsRun opened link s source sink log log' result made history) → Earlier closes_of history → (both : List Mark) → AreSidesOf link ran.run own both → IsTyped both
     → IsServedJobs setup J more opened link ran.run both made history
-job_served setup sane J more opened link own servers law placed s source sink log log' result made history ran earlier both sides typed =
+job_served setup sane J more opened link own law placed s source sink log log' result made history ran earlier both sides typed =
     let b = job_sides setup (J ++ more) (length J) opened link ran.run own both ran.own ran.asked sides law placed in
     let marks_are : client_marks link both ≡ run_of ran.alone ran.fed link history = sides.client_side ∙ ran.run_is in
     let waits = first_waits opened link ran.first_link.resumed in
     record {
-      served = record { client_side = sides.client_side; typed = typed; served = b.served; matched = sides.matched; plain = b.plain; none_old = none_old link both own sides.server_side servers };
+      served = record { client_side = sides.client_side; typed = typed; served = b.served; matched = sides.matched; plain = b.plain };
       so_far = b.far;
       at_places = b.at_places;
       answered = record {
@@ -274,13 +273,13 @@ job_served setup sane J more opened link own servers law placed s source sink lo
 pub jobs_are_served_lem : JobsAreServed
 jobs_are_served_lem limits first J opened link outside outside' end connection get before after out out' result (NotOpened why is fails same) sane = tt
 jobs_are_served_lem limits first J opened link outside outside' end connection get before after out out' result (NotFound dialed s s' why opens finds is same closes) sane = λ ran both sides typed.
-    job_served (setup_in first) sane J connection.over.more opened link connection.ended.run connection.ended.runs.own connection.served connection.over.placed s (source_of s') (sink_of s') dialed.ended after.ended result
+    job_served (setup_in first) sane J connection.over.more opened link connection.ended.run connection.served connection.over.placed s (source_of s') (sink_of s') dialed.ended after.ended result
     (tells_finds get.uid get.gid get.export get.path s s' (Err why) finds).made [] ran none_earlier both sides typed
 jobs_are_served_lem limits first J opened link outside outside' end connection get before after out out' result (Found dialed s s' file opens finds hangs) sane = by hangs.reads
   where
     served : (made : List Exchange) (history : List SharedEntry) (ran : IsJobsRun opened link s hangs.source hangs.sink dialed.ended after.ended result made history) → Earlier closes_of history → (both : List Mark)
         → AreSidesOf link ran.run connection.ended.run both → IsTyped both → IsServedJobs (setup_in first) J connection.over.more opened link ran.run both made history
-    served = job_served (setup_in first) sane J connection.over.more opened link connection.ended.run connection.ended.runs.own connection.served connection.over.placed s hangs.source hangs.sink dialed.ended after.ended result
+    served = job_served (setup_in first) sane J connection.over.more opened link connection.ended.run connection.served connection.over.placed s hangs.source hangs.sink dialed.ended after.ended result
 
     found : List Exchange
     found = (tells_finds get.uid get.gid get.export get.path s s' (Ok file) finds).made

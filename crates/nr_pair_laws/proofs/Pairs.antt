@@ -121,7 +121,7 @@ pairs_are_served_lem limits first J opened link outside outside' end connection 
     let are = subst (λ (r : List Mark). AreMarksOf link made (without_bytes r)) (sym sides.client_side) ran.marks_are in
     let fresh = none_old link both own sides.server_side connection.ended.runs.own in
     record {
-      served = record { client_side = sides.client_side; typed = typed; served = b.keeps.served; matched = sides.matched; plain = b.plain; none_old = fresh };
+      served = record { client_side = sides.client_side; typed = typed; served = b.keeps.served; matched = sides.matched; plain = b.plain };
       at_places = b.at_places;
       answered = exchanges_answered setup sane journal (length J) opened link (first_waits opened link ran.first_link.resumed) both typed b.far b.plain b.placed made are;
       stays = λ why is. by (λ laws. ended_server opened link both own why sides.server_side (never_ends setup sane opened link both session.fine (agrees_first opened ran.first_link.agreed) typed laws fresh b.plain b.owns)

@@ -15,6 +15,7 @@ use Rattle.nr_reduce.specs.Events.{RunEvent, events}
 use Rattle.nr_reduce.specs.History.{bytes_received, bytes_sent, fed_at, written_at}
 use Rattle.nr_reduce.specs.PlainJournal.{PlainServer}
 use Rattle.nr_reduce.specs.Run.{output_due}
+use Rattle.nr_reduce.specs.NumberedJournal.{number_heard, number_in_frames}
 use Rattle.nr_reduce.specs.Served.{ServedMark, first_ready, last_at, last_frame_at, next_call}
 use Rattle.nr_reduce.specs.Server.{initial_server, server_rules}
 use Rattle.nr_reduce.specs.ServerState.{ServerState}
@@ -46,6 +47,10 @@ last_same : (link : ℕ) (both : List Mark) → last_frame_at link both ≡ last
 unfolding last_frame_at
 last_same link both = ap (λ (bytes : List ℕ). last_at (frames_of Initiator bytes)) (received_same link both)
 
+heard_same : (link : ℕ) (both : List Mark) → number_heard both link ≡ number_heard (own_marks link both) link
+unfolding number_heard
+heard_same link both = ap (λ (bytes : List ℕ). number_in_frames (frames_of Initiator bytes)) (received_same link both)
+
 next_same : (opened : LinkParameters) (link : ℕ) (both : List Mark) → next_call opened link both ≡ next_call opened link (own_marks link both)
 unfolding next_call
 next_same opened link both = ap (λ (e : EndState ServerState). first_ready e.state.ready e.ended) (same_server opened link both)
@@ -67,7 +72,7 @@ module _ (Relates : List ℕ → List ℕ → Type 0) (opened : LinkParameters) 
       record { call = (h same).call; is_next = next_same opened link before ∙ (h same).is_next; own = (h same).own; conveyed = (h same).conveyed }
   served_back (marks.Told l (Granted credits)) h = h
   served_back (marks.Told l (Old xid at)) h = λ same.
-      record { call = (h same).call; is_next = next_same opened link before ∙ (h same).is_next; own = (h same).own; last = (h same).last ∙ sym (last_same link before) }
+      record { call = (h same).call; is_next = next_same opened link before ∙ (h same).is_next; own = (h same).own; numbered = λ none. (h same).numbered (sym (heard_same link before) ∙ none); last = (h same).last ∙ sym (last_same link before) }
   served_back (marks.Submit l call form answer) h = tt
   served_back (marks.Wrote l Initiator bytes) h = tt
   served_back (marks.Fed l side bytes) h = tt

@@ -169,7 +169,7 @@ served_commands_have_causes_lem setup opened link c before after input input' ou
     (λ entries moment payload. plain_reply setup entries (length entries) moment payload) entries_of_call both
     (side_of (λ entries moment payload. plain_reply setup entries (length entries) moment payload) entries_of_call opened link ran.run both server plain.matched)).0
     (served_end_for_memory_lem opened link c before after input input' out out' result (Opened dialed s s' opens prints closes) ran
-    (λ entries moment payload. plain_reply setup entries (length entries) moment payload) entries_of_call both session.fine server served.none_old)
+    (λ entries moment payload. plain_reply setup entries (length entries) moment payload) entries_of_call both session.fine server)
 
 -- ---- If nothing fails
 
@@ -218,5 +218,5 @@ served_commands_complete_lem setup opened link c before after input input' out o
   complete_by result s s' input input' out out' calm
       (served_commands_have_causes_lem setup opened link c before after input input' out out' result (Opened dialed s s' opens prints closes) sane session ran both served),
   served_not_closed_lem opened link c before after input input' out out' result (Opened dialed s s' opens prints closes) ran
-      (λ entries moment payload. plain_reply setup entries (length entries) moment payload) entries_of_call both session.fine (by_server setup opened link ran.run both sane served) served.none_old,
+      (λ entries moment payload. plain_reply setup entries (length entries) moment payload) entries_of_call both session.fine (by_server setup opened link ran.run both sane served),
 )

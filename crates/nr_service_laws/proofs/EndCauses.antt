@@ -72,8 +72,8 @@ not_failed result h end is (inr (inr failed)) = absurd (let wrong = sym is ∙ f
 
 pub served_end_for_memory_lem : ServedCommandsEndForMemory
 served_end_for_memory_lem opened link c before after input input' out out' result (NotOpened end is fails same_input same_out) = tt
-served_end_for_memory_lem opened link c before after input input' out out' result (Opened dialed s s' opens prints closes) = λ ran reply_to adds both fine served fresh end is.
+served_end_for_memory_lem opened link c before after input input' out out' result (Opened dialed s s' opens prints closes) = λ ran reply_to adds both fine served end is.
     for_memory result s'.requester end is
     (not_failed result s'.requester end is
-    (served_not_ended_lem opened link c before after input input' out out' result (Opened dialed s s' opens prints closes) ran reply_to adds both fine served fresh))
+    (served_not_ended_lem opened link c before after input input' out out' result (Opened dialed s s' opens prints closes) ran reply_to adds both fine served))
     (ends_have_causes_lem c before after input input' out out' result (Opened dialed s s' opens prints closes) (calls.Ended end) is)

@@ -26,6 +26,7 @@ use Rattle.nr_commands.specs.Running.Runs.{NotOpened, Opened}
 use Rattle.nr_service_laws.specs.ClientMarks.{IsOwn, StandsAt}
 use Rattle.nr_service_laws.specs.EndCauses.{CauseAt}
 use Rattle.nr_service_laws.specs.ServedLinks.{IsServedBy, OwesNothing, ServedCommandsAreNotClosed}
+use Rattle.nr_service_laws.proofs.NotOld.{no_old_call}
 use Rattle.nr_service_laws.proofs.ClientLaws.{outstanding_in_both, written_in_both}
 use Rattle.nr_service_laws.proofs.EndCauses.{ends_have_causes_lem}
 use Rattle.nr_service_laws.proofs.OpenLinks.{agrees_first, conveyed, not_revoked, own_each}
@@ -73,8 +74,9 @@ none_at_all n none some = omega (arith, none, some)
 
 pub served_not_closed_lem : ServedCommandsAreNotClosed
 served_not_closed_lem opened link c before after input input' out out' result (NotOpened end is fails same_input same_out) = tt
-served_not_closed_lem opened link c before after input input' out out' result (Opened dialed s s' opens prints closes) = λ ran reply_to adds both fine served fresh owes closed.
+served_not_closed_lem opened link c before after input input' out out' result (Opened dialed s s' opens prints closes) = λ ran reply_to adds both fine served owes closed.
     let laws = served_keep_laws_lem opened link c before after input input' out out' result (Opened dialed s s' opens prints closes) ran reply_to adds both fine served in
+    let fresh = no_old_call opened link both served.typed laws.0 ran.unnumbered in
     let live = live_at result opened link s'.requester ran.ahead ran.run closed ran.stands in
     let cause = ends_have_causes_lem c before after input input' out out' result (Opened dialed s s' opens prints closes) calls.Closed closed in
     let waits = waits_at opened link ran.run s'.bytes s'.requester live cause in

@@ -32,6 +32,7 @@ use Rattle.nr_commands.specs.Running.Runs.{NotOpened, Opened}
 use Rattle.nr_service_laws.specs.ClientMarks.{IsOwn, StandsAt}
 use Rattle.nr_service_laws.specs.ServedCommands.{client_marks, is_client_mark}
 use Rattle.nr_service_laws.specs.ServedLinks.{ServedClientsStayOpen, ServedCommandsStayOpen}
+use Rattle.nr_service_laws.proofs.NotOld.{no_old_call}
 
 -- ---- Marks that are no client's
 
@@ -169,5 +170,6 @@ requester_open result opened link h ahead run (inr (is, out)) stays = inr is
 
 pub served_commands_stay_lem : ServedCommandsStayOpen
 served_commands_stay_lem opened link c before after input input' out out' result (NotOpened end is fails same_input same_out) = tt
-served_commands_stay_lem opened link c before after input input' out out' result (Opened dialed s s' opens prints closes) = λ ran reply_to adds both is_opened served laws fresh.
+served_commands_stay_lem opened link c before after input input' out out' result (Opened dialed s s' opens prints closes) = λ ran reply_to adds both is_opened served laws.
+    let fresh = no_old_call opened link both served.typed served.matched ran.unnumbered in
     requester_open result opened link s'.requester ran.ahead ran.run ran.stands (served_clients_stay_lem reply_to adds opened link ran.run both is_opened (agrees_first opened ran.first_link.agreed) ran.own served laws fresh)

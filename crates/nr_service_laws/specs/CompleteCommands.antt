@@ -12,7 +12,6 @@ use Rattle.nr_reduce.specs.Matched.{Matched}
 use Rattle.nr_link.specs.declared.agreement.SideTerms.{SideTerms}
 use Rattle.nr_reduce.specs.Opening.{IsOpened, ClientOpened}
 use Rattle.nr_reduce.specs.Served.{ServedMark}
-use Rattle.nr_laws.specs.EndCauses.{HasNoOldCall}
 use Rattle.nr_laws.specs.PlainLinks.{HasPlainReplies}
 use Rattle.nr_laws.specs.Typed.{IsTyped}
 use Rattle.nr_tree.specs.Sane.{IsSane}
@@ -33,14 +32,13 @@ use Rattle.nr_service_laws.specs.ServedCommands.{client_marks}
 use Rattle.nr_service_laws.specs.ServedLinks.{OwesNothing}
 
 -- A run has both sides of a link, whose client has made these marks. The server keeps its law with each Wrote in full, the link is matched, and the
--- plain server that was opened with this setup answers its calls, none of which is refused as old. Nothing is asked of what the client does.
+-- plain server that was opened with this setup answers its calls. Nothing is asked of what the client does.
 pub record IsServedPlainly (setup : Setup) (opened : LinkParameters) (link : ℕ) (run both : List Mark) : Type 0 where
   pub client_side : client_marks link both ≡ run
   pub typed : IsTyped both
   pub served : AtEachMark (ServedMark IsAll opened link) [] both
   pub matched : Matched link both
   pub plain : HasPlainReplies (plain_server setup) link both
-  pub none_old : HasNoOldCall link both
 
 -- the client's side of the link is opened as a session on these terms opens it
 pub record IsSession (opened : LinkParameters) (terms : SideTerms) : Type 0 where

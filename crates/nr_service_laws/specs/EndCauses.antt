@@ -15,7 +15,6 @@ use Rattle.nr_reduce.specs.declared.mark.Entry.{Entry}
 use Rattle.nr_reduce.specs.declared.mark.LinkParameters.{LinkParameters}
 use Rattle.nr_reduce.specs.declared.mark.Mark.{Mark}
 use Rattle.nr_reduce.specs.Opening.{IsOpened}
-use Rattle.nr_laws.specs.EndCauses.{HasNoOldCall}
 use Rattle.nr_requester.specs.Answers.{answer_of}
 use Rattle.nr_requester.specs.RequesterState.{RequesterSide, queue_of}
 use Rattle.nr_words.specs.Lines.{Text}
@@ -59,15 +58,14 @@ EndsHaveCauses =
     (c : Client Text) (before after : DialerAt) (input input' : SourceAt) (out out' : SinkAt) (result : Result (Unit {0}) ClientEnd)
     (runs : Runs c before after input input' out out' result) → HasCause c before after input input' out out' result runs
 
--- So a command over a matched link whose server keeps its law with each Wrote in full, and refuses no call as old, ends with `Ended` only if
--- memory ran out.
+-- So a command over a matched link whose server keeps its law with each Wrote in full ends with `Ended` only if memory ran out.
 abbrev pub EndsForMemory : (opened : LinkParameters) (link : ℕ) (c : Client Text) (before after : DialerAt) (input input' : SourceAt) (out out' : SinkAt) (result : Result (Unit {0}) ClientEnd)
     → (runs : Runs c before after input input' out out' result) → Type 0
 EndsForMemory opened link c before after input input' out out' result (NotOpened end is fails same_input same_out) = ⊤
 EndsForMemory opened link c before after input input' out out' result (Opened dialed s s' opens prints closes) =
     (ran : IsCommandRun opened link s s' dialed.ended after.ended result (tells_text c.uid c.gid c.export c.action input input' out prints.written s s' prints.text prints.made)) →
     (reply_to : List Entry → Moment → List ℕ → Option (List ℕ)) (adds : Moment → List ℕ → List ℕ → List Entry) (both : List Mark) →
-    IsOpened opened → IsServedBy reply_to adds opened link ran.run both → HasNoOldCall link both →
+    IsOpened opened → IsServedBy reply_to adds opened link ran.run both →
     (end : End) → result ≡ Err (client.Link (calls.Ended end)) → end ≡ ends.Memory
 
 abbrev pub ServedCommandsEndForMemory : Type 0

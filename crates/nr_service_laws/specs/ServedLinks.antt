@@ -63,7 +63,7 @@ EndsOpen opened link c before after input input' out out' result (NotOpened end 
 EndsOpen opened link c before after input input' out out' result (Opened dialed s s' opens prints closes) =
     (ran : IsCommandRun opened link s s' dialed.ended after.ended result (tells_text c.uid c.gid c.export c.action input input' out prints.written s s' prints.text prints.made)) →
     (reply_to : List Entry → Moment → List ℕ → Option (List ℕ)) (adds : Moment → List ℕ → List ℕ → List Entry) (both : List Mark) →
-    IsOpened opened → IsClientSideOf reply_to adds opened link ran.run both → KeepLaws opened link both → HasNoOldCall link both →
+    IsOpened opened → IsClientSideOf reply_to adds opened link ran.run both → KeepLaws opened link both →
     (s'.requester.state.side.ended ≡ None) ⊎ (result ≡ Err (client.Link (calls.Ended ends.Memory)))
 
 abbrev pub ServedCommandsStayOpen : Type 0
@@ -90,16 +90,16 @@ ServedCommandsKeepLaws =
     (runs : Runs c before after input input' out out' result) →
     SaysServed (λ o l both h. MatchedSoFar o l both × ((result ≡ Err (client.Link calls.LinkWrite)) ⊎ KeepLaws o l both)) opened link c before after input input' out out' result runs
 
--- So if no call is refused as old, its requester has not ended when the link is hung up, unless memory ran out for a frame or a write failed.
+-- So its requester has not ended when the link is hung up, unless memory ran out for a frame or a write failed.
 abbrev pub ServedCommandsHaveNotEnded : Type 0
 ServedCommandsHaveNotEnded =
     (opened : LinkParameters) (link : ℕ) (c : Client Text) (before after : DialerAt) (input input' : SourceAt) (out out' : SinkAt) (result : Result (Unit {0}) ClientEnd)
     (runs : Runs c before after input input' out out' result) →
-    SaysServed (λ o l both h. HasNoOldCall l both → (h.state.side.ended ≡ None) ⊎ ((result ≡ Err (client.Link (calls.Ended ends.Memory))) ⊎ (result ≡ Err (client.Link calls.LinkWrite)))) opened link c before after input input' out out' result runs
+    SaysServed (λ o l both h. (h.state.side.ended ≡ None) ⊎ ((result ≡ Err (client.Link (calls.Ended ends.Memory))) ⊎ (result ≡ Err (client.Link calls.LinkWrite)))) opened link c before after input input' out out' result runs
 
 -- And it doesn't end with `Closed` if the server owes nothing.
 abbrev pub ServedCommandsAreNotClosed : Type 0
 ServedCommandsAreNotClosed =
     (opened : LinkParameters) (link : ℕ) (c : Client Text) (before after : DialerAt) (input input' : SourceAt) (out out' : SinkAt) (result : Result (Unit {0}) ClientEnd)
     (runs : Runs c before after input input' out out' result) →
-    SaysServed (λ o l both h. HasNoOldCall l both → OwesNothing o l both → result ≡ Err (client.Link calls.Closed) → ⊥) opened link c before after input input' out out' result runs
+    SaysServed (λ o l both h. OwesNothing o l both → result ≡ Err (client.Link calls.Closed) → ⊥) opened link c before after input input' out out' result runs
