@@ -20,7 +20,7 @@ use Rattle.nr_reduce.specs.declared.mark.Told.TheVariants as told
 use Rattle.nr_reduce.specs.declared.mark.LinkParameters.{LinkParameters}
 use Rattle.nr_reduce.specs.AtEachMark.{AtEachMark}
 use Rattle.nr_reduce.specs.Opening.{IsOpened, IsFirstLink}
-use Rattle.nr_reduce.specs.NumberedJournal.{Standing}
+use Rattle.nr_reduce.specs.NumberedJournal.{Standing, number_heard, standing_for}
 use Rattle.nr_reduce.specs.NumberedJournal.Standing.{Old, Kept, New}
 use Rattle.nr_reduce.specs.SubmitAnswer.{unless_dropped, submit_answer, submit_answer_after}
 use Rattle.nr_reduce.specs.Matched.{IsPrefixOf}
@@ -43,7 +43,7 @@ use Rattle.nr_reduce.proofs.Unresumed.{none_waits, awaited_or_waits}
 use Rattle.nr_reduce.proofs.Standing.{AtEachMark_more, itself, sent_one}
 use Rattle.nr_laws.proofs.LiveRegions.{passes_any}
 use Rattle.nr_laws.specs.Grant.{AcceptedMark, AcceptsByRule}
-use Rattle.nr_drill.specs.Drill.{Setting, Drill, Pipes, GivenReply, client_of, is_sent_again, settles, standing_of, reply_given, unwritten, after_output, after_all_output, settled, pipes_of, with_mark, after_submit, after_feeding, after_feeding_up, after_up, if_standing, waiting_call, after_answer, after_call, after_execution, after_work, after_calls, after_drop, after_feeding_down, after_handing, after_done, after_dones, after_outcomes, after_down, answer_at, answer_of_line, is_open, open_xid, after_giving_up, after_forget, after_taking_back, after_revoke, after_all_up, after_all_work, after_moves, after_grant}
+use Rattle.nr_drill.specs.Drill.{Setting, Drill, Pipes, GivenReply, client_of, is_sent_again, settles, standing_of, reply_given, unwritten, after_output, after_all_output, settled, pipes_of, with_mark, after_submit, after_feeding, after_feeding_up, after_up, if_standing, waiting_call, after_answer, after_call, after_execution, after_work, after_calls, after_drop, after_feeding_down, after_handing, after_done, after_dones, after_outcomes, after_down, answer_at, answer_of_line, is_open, open_xid, after_giving_up, after_forget, after_taking_back, after_revoke, after_all_up, after_all_work, after_moves, after_grant, journal_of}
 use Rattle.nr_drill.proofs.FirstLinks.{own_client, down_is}
 use Rattle.nr_drill.specs.Unnumbered.{AreFirst}
 
@@ -256,7 +256,7 @@ answer_asked o link run call form submissions.Dropped first numbers writable h e
 
 answer_accepted : (o : LinkParameters) (link : ℕ) (run : List Mark) (call : Call) (form : Form) (answer : Submission) →
     submit_answer_after o link run call form ≡ answer → AcceptedMark o link run (marks.Submit link call form answer)
-answer_accepted o link run call form (submissions.Accepted xid) e = λ same. e
+answer_accepted o link run call form (submissions.Accepted xid) e = λ same. inl e
 answer_accepted o link run call form (submissions.Refused why) e = tt
 answer_accepted o link run call form submissions.Dropped e = tt
 
@@ -297,21 +297,25 @@ lawful_answer s link call (Some g) d next h =
     let mark = marks.Execute link call.xid g.moment call.payload g.place g.reply in
     lawful_settled s link (with_mark mark d) (lawful_mark o link d.marks mark h.0 refl refl tt (λ same. record { call = call; is_next = next; own = refl; conveyed = refl }) tt)
 
--- an old call ends the link
-lawful_call : (s : Setting) (link : ℕ) (call : ReadyCall) (is : Standing) (answer : Option GivenReply) (d : Drill) → next_call (s.opened link) link d.marks ≡ Some call → Keeps s link d →
+-- an old call is one of a client with a number, and ends the link
+old_numbered : (s : Setting) (link : ℕ) (call : ReadyCall) (d : Drill) (top : ℕ) → standing_of s link d call ≡ Old top → number_heard d.marks link ≢ 0
+unfolding standing_of
+old_numbered s link call d top e zero = absurd (let new : New ≡ Old top = sym (ap (λ (n : ℕ). standing_for (journal_of s d.marks) n call.xid) zero) ∙ e in cc)
+
+lawful_call : (s : Setting) (link : ℕ) (call : ReadyCall) (is : Standing) (answer : Option GivenReply) (d : Drill) → standing_of s link d call ≡ is → next_call (s.opened link) link d.marks ≡ Some call → Keeps s link d →
     Keeps s link (after_call s link call is answer d)
-lawful_call s link call (Old top) answer d next h =
+lawful_call s link call (Old top) answer d stood next h =
     let o = s.opened link in
     let mark = marks.Told link (told.Old call.xid (last_frame_at link d.marks)) in
-    lawful_settled s link (with_mark mark d) (lawful_mark o link d.marks mark h.0 refl refl tt (λ same. record { call = call; is_next = next; own = refl; last = refl }) tt)
-lawful_call s link call (Kept place) answer d next h = lawful_answer s link call answer d next h
-lawful_call s link call New answer d next h = lawful_answer s link call answer d next h
+    lawful_settled s link (with_mark mark d) (lawful_mark o link d.marks mark h.0 refl refl tt (λ same. record { call = call; numbered = old_numbered s link call d top stood; is_next = next; own = refl; last = refl }) tt)
+lawful_call s link call (Kept place) answer d stood next h = lawful_answer s link call answer d next h
+lawful_call s link call New answer d stood next h = lawful_answer s link call answer d next h
 
 lawful_waiting : (s : Setting) (link : ℕ) (call : Option ReadyCall) (d : Drill) → if_standing (is_dropped link d.marks) (next_call (s.opened link) link d.marks) ≡ call → Keeps s link d →
     Keeps s link (after_execution s link call d)
 lawful_waiting s link None d e h = h
 lawful_waiting s link (Some call) d e h =
-    lawful_call s link call (standing_of s link d call) (reply_given s link d call) d
+    lawful_call s link call (standing_of s link d call) (reply_given s link d call) d refl
     (is_next (is_dropped link d.marks) call (next_call (s.opened link) link d.marks) e) h
 
 pub lawful_work : (s : Setting) (link : ℕ) (d : Drill) → Keeps s link d → Keeps s link (after_work s link d)

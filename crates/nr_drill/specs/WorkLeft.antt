@@ -32,8 +32,8 @@ send_bytes_left s d link =
 abbrev pub stays : Option End → ℕ
 stays end = if is_none end then 1 else 0
 
--- Of a link: the sides that haven't ended; the calls that wait to be sent again; the bytes of the last frames of Sends still to go up; the Read Requests that are open or
--- owed; the calls that are complete and not executed; the bytes that wait for the client; those that wait for the server.
+-- Of a link: the sides that haven't ended; the calls that wait to be sent again; the bytes of the last frames of Sends still to go up; the Read
+-- Requests that are open or owed; the calls that are complete and not executed; the bytes that wait for the client; those that wait for the server.
 unfoldable pub work_left : Setting → Drill → ℕ → List ℕ
 work_left s d link =
     let opened = s.opened link in
