@@ -39,7 +39,7 @@ use Rattle.nr_laws.specs.ChunkOutcomes.{AutoHasReplies}
 use Rattle.nr_laws.proofs.OnceByXid.{at_mark, before_mark}
 use Rattle.nr_laws.proofs.Following.{far_before}
 use Rattle.nr_laws.proofs.Completed.{version_never}
-use Rattle.nr_laws.proofs.WaitingCalls.{IsPlannedBefore, planned_before}
+use Rattle.nr_laws.proofs.WaitingCalls.{IsPlannedBefore, planned_then}
 use Rattle.nr_laws.proofs.AgreedSizes.{matched_down}
 use Rattle.nr_laws.proofs.SizesAgain.{lengths_again}
 use Rattle.nr_laws.proofs.MatchedSizes.{client_within, client_again, executing_sized}
@@ -165,4 +165,4 @@ auto_replies reply_to adds opened link run earlier before call xid outcome waits
     by (outcomes.Version low high) there = absurd (version_never opened link run before there.after xid low high typed far there.is)
 
 pub auto_has_replies : AutoHasReplies
-auto_has_replies reply_to adds opened link run earlier before call xid outcome opens = auto_replies reply_to adds opened link run earlier before call xid outcome (planned_before opened link earlier opens)
+auto_has_replies reply_to adds opened link run earlier before call xid outcome resumes = auto_replies reply_to adds opened link run earlier before call xid outcome (planned_then opened link earlier resumes)
