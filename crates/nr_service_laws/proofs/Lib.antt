@@ -11,7 +11,6 @@ pub mod ReplyRequests
 pub mod ReplyParts
 pub mod ReplyCommands
 pub mod ServedOutcomes
-pub mod NotOld
 pub mod OpenLinks
 pub mod ClientLaws
 pub mod ServedLaws

@@ -14,6 +14,7 @@ use Rattle.nr_reduce.specs.SoFar.{InFull}
 use Rattle.nr_laws.specs.EndCauses.{KeepLaws, HasNoOldCall}
 use Rattle.nr_laws.specs.Stays.{ConveyedMark, NotRevokedMark}
 use Rattle.nr_laws.proofs.NeitherEnds.{matched_calls_complete}
+use Rattle.nr_laws.proofs.NoOldCalls.{no_old_call}
 use Rattle.nr_requester.specs.RequesterState.{RequesterSide}
 use Rattle.nr_requester.proofs.Accepting.{counts_as_client}
 use Rattle.nr_client.specs.declared.call_end.CallEnd.TheVariants as calls
@@ -26,7 +27,6 @@ use Rattle.nr_commands.specs.Running.Runs.{NotOpened, Opened}
 use Rattle.nr_service_laws.specs.ClientMarks.{IsOwn, StandsAt}
 use Rattle.nr_service_laws.specs.EndCauses.{CauseAt}
 use Rattle.nr_service_laws.specs.ServedLinks.{IsServedBy, OwesNothing, ServedCommandsAreNotClosed}
-use Rattle.nr_service_laws.proofs.NotOld.{no_old_call}
 use Rattle.nr_service_laws.proofs.ClientLaws.{outstanding_in_both, written_in_both}
 use Rattle.nr_service_laws.proofs.EndCauses.{ends_have_causes_lem}
 use Rattle.nr_service_laws.proofs.OpenLinks.{agrees_first, conveyed, not_revoked, own_each}

@@ -24,6 +24,7 @@ use Rattle.nr_reduce.specs.Hellos.{client_private}
 use Rattle.nr_laws.specs.EndCauses.{AgreesAgain}
 use Rattle.nr_laws.specs.Stays.{ConveyedMark, NotRevokedMark}
 use Rattle.nr_laws.proofs.NeitherEnds.{links_stay}
+use Rattle.nr_laws.proofs.NoOldCalls.{no_old_call}
 use Rattle.nr_requester.specs.RequesterState.{RequesterSide}
 use Rattle.nr_client.specs.declared.client_end.ClientEnd.{ClientEnd}
 use Rattle.nr_client.specs.declared.client_end.ClientEnd.TheVariants as client
@@ -32,7 +33,6 @@ use Rattle.nr_commands.specs.Running.Runs.{NotOpened, Opened}
 use Rattle.nr_service_laws.specs.ClientMarks.{IsOwn, StandsAt}
 use Rattle.nr_service_laws.specs.ServedCommands.{client_marks, is_client_mark}
 use Rattle.nr_service_laws.specs.ServedLinks.{ServedClientsStayOpen, ServedCommandsStayOpen}
-use Rattle.nr_service_laws.proofs.NotOld.{no_old_call}
 
 -- ---- Marks that are no client's
 

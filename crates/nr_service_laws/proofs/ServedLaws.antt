@@ -14,6 +14,7 @@ use Rattle.nr_reduce.specs.Served.{ServedMark}
 use Rattle.nr_reduce.proofs.SoFarLaws.{AtEachMark_each, served_mark}
 use Rattle.nr_laws.specs.EndCauses.{KeepLaws}
 use Rattle.nr_laws.specs.MatchedSoFar.{MatchedSoFar}
+use Rattle.nr_laws.proofs.NoOldCalls.{no_old_call}
 use Rattle.nr_client.specs.declared.call_end.CallEnd.TheVariants as calls
 use Rattle.nr_client.specs.declared.client_end.ClientEnd.{ClientEnd}
 use Rattle.nr_client.specs.declared.client_end.ClientEnd.TheVariants as client
@@ -23,7 +24,6 @@ use Rattle.nr_service_laws.specs.ClientMarks.{IsOwn, IsWholeFor}
 use Rattle.nr_service_laws.specs.ServedCommands.{IsClientSideOf, client_marks}
 use Rattle.nr_service_laws.specs.ServedLinks.{IsServedBy, ServedCommandsHaveNotEnded, ServedCommandsKeepLaws}
 use Rattle.nr_service_laws.proofs.ClientLaws.{asked_in_both, grant_in_both, whole_each}
-use Rattle.nr_service_laws.proofs.NotOld.{no_old_call}
 use Rattle.nr_service_laws.proofs.OpenLinks.{agrees_first, requester_open, served_clients_stay_lem}
 
 -- the server's law and the link

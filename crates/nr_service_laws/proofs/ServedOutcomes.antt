@@ -24,7 +24,7 @@ use Rattle.nr_laws.proofs.AutoReplies.{ArePlannedBefore, auto_replies}
 use Rattle.nr_laws.proofs.ChunkCauses.{chunk_has_cause}
 use Rattle.nr_laws.proofs.LaterMarks.{mark_later}
 use Rattle.nr_laws.proofs.Completed.{version_never}
-use Rattle.nr_laws.proofs.WaitingCalls.{IsPlannedBefore, planned_before}
+use Rattle.nr_laws.proofs.WaitingCalls.{IsPlannedBefore, planned_then}
 use Rattle.nr_commands.specs.Running.Runs.{NotOpened, Opened}
 use Rattle.nr_service_laws.specs.ClientMarks.{IsOwn}
 use Rattle.nr_service_laws.specs.CommandEnds.{AreReplies, IsReplyOutcome}
@@ -154,7 +154,7 @@ have_replies reply_to adds opened link run both waits own served =
     (each_reply reply_to adds opened link run both waits (subst (λ (r : List Mark). AllByRecursion (IsOwn link) r) (sym served.client_side) own) served [] both refl)
 
 pub served_clients_have_replies_lem : ServedClientsHaveReplies
-served_clients_have_replies_lem reply_to adds opened link run both is_opened own served = have_replies reply_to adds opened link run both (λ earlier. planned_before opened link earlier is_opened) own served
+served_clients_have_replies_lem reply_to adds opened link run both resumes own served = have_replies reply_to adds opened link run both (λ earlier. planned_then opened link earlier resumes) own served
 
 pub served_commands_end_lem : ServedCommandsExcludeEnds
 served_commands_end_lem opened link c before after input input' out out' result (NotOpened end is fails same_input same_out) = tt
