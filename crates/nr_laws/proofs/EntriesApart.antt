@@ -31,12 +31,13 @@ apart_more (t ∷ T) last h new = (each_append (IsOther t) T (last ∷ []) h.0 (
 
 none_there : (at client xid : ℕ) (T : List TaggedEntry) (last : TaggedEntry) → last.client ≡ client → last.xid ≡ xid → place_from at client xid T ≡ None → AllByRecursion (λ (t : TaggedEntry). IsOther t last) T
 none_there at client xid [] last own is e = tt
-none_there at client xid (t ∷ T) last own is e = by (eqb t.client client) (eqb t.xid xid) refl refl e
+none_there at client xid (t ∷ T) last own is e = by (eqb t.client client) (eqb t.xid xid) refl refl e (none_there (at + 1) client xid T last own is)
   where
-    by : (a b : Bool) → eqb t.client client ≡ a → eqb t.xid xid ≡ b → cond (a && b) (Some at) (place_from (at + 1) client xid T) ≡ None → AllByRecursion (λ (y : TaggedEntry). IsOther y last) (t ∷ T)
-    by true true c x e = absurd cc
-    by true false c x e = ((λ some same also. absurd (let wrong : true ≡ false = sym (eq-eqb t.xid xid (also ∙ is)) ∙ x in cc)), none_there (at + 1) client xid T last own is e)
-    by false b c x e = ((λ some same also. absurd (let wrong : true ≡ false = sym (eq-eqb t.client client (same ∙ own)) ∙ c in cc)), none_there (at + 1) client xid T last own is e)
+    by : (a b : Bool) → eqb t.client client ≡ a → eqb t.xid xid ≡ b → cond (a && b) (Some at) (place_from (at + 1) client xid T) ≡ None
+        → (place_from (at + 1) client xid T ≡ None → AllByRecursion (λ (y : TaggedEntry). IsOther y last) T) → AllByRecursion (λ (y : TaggedEntry). IsOther y last) (t ∷ T)
+    by true true c x e others = absurd cc
+    by true false c x e others = ((λ some same also. absurd (let wrong : true ≡ false = sym (eq-eqb t.xid xid (also ∙ is)) ∙ x in cc)), others e)
+    by false b c x e others = ((λ some same also. absurd (let wrong : true ≡ false = sym (eq-eqb t.client client (same ∙ own)) ∙ c in cc)), others e)
 
 none_numbered : (T : List TaggedEntry) (last : TaggedEntry) → last.client ≡ 0 → AllByRecursion (λ (t : TaggedEntry). IsOther t last) T
 none_numbered [] last is = tt

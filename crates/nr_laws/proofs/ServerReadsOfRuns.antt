@@ -147,7 +147,7 @@ reads_event opened es k outs (CallSubmitted p a) fine numbered None stays reads 
 reads_event opened es k outs (MemoryRevoked p xid) fine numbered None stays reads = λ live. other_reads opened es (MemoryRevoked p xid) k k outs [] refl refl refl refl refl refl reads
 reads_event opened es k outs (CallExecuted e) fine numbered None stays reads = λ live. executed_reads opened es k outs e reads
 reads_event opened es k outs (QueueWritten taken) fine numbered None stays reads = λ live. other_reads opened es (QueueWritten taken) k (record k { written = k.written + taken }) outs [] refl refl refl refl refl refl reads
-reads_event opened es k outs (ServerTold what) fine numbered None stays reads = λ live. other_reads opened es (ServerTold what) k (record k { credit = credit_told what }) outs [] refl refl refl refl refl refl reads
+reads_event opened es k outs (ServerTold what) fine numbered None stays reads = λ live. other_reads opened es (ServerTold what) k (record k { credit = credit_told k.credit what }) outs [] refl refl refl refl refl refl reads
 
 reads_in : (opened : LinkParameters) (es : List RunEvent) (k : ServerState) (ended : Option Stop) (outs : List Output) (e : RunEvent) → ServerFine (record { state = k; ended = ended }) e → AreNumbered 1 k.regions → (ended ≡ None → ReadsAt opened es k outs)
     → (next_end_state_in (server_rules opened) k e ended).ended ≡ None → ReadsAt opened (es ++ e ∷ []) (next_end_state_in (server_rules opened) k e ended).state (outs ++ outputs_in (server_rules opened) (server_says opened) server_final_outputs k e ended)

@@ -20,7 +20,7 @@ pub fn once()
 /// Over any number of links, whatever was sent on them, no two entries of the one journal are of one call of a client with a number: its xid is
 /// executed anew only if it has no entry, and isn't old.
 pub fn once_each()
-    ensures entries { NoEntryTwice }
+    ensures { NoEntryTwice }
 {}
 
 /// On matched links a call that is submitted after another's outcome was handed over has a place that isn't smaller.
