@@ -43,6 +43,7 @@ says_more opened k s t d all_up all_down said place h calls waiting says = recor
   lives = h.lives;
   up_said = h.up_said;
   asked = h.asked;
+  resent = h.resent;
   calls = calls;
   waiting = waiting;
   down_said = accesses_append k.regions [] all_down said h.down_said says;
@@ -236,11 +237,11 @@ accessed_execute opened k s d all_up all_down place e r rest h first own whole r
 pub accessed_written_down : (taken : ℕ) (opened : LinkParameters) (k : ClientState) (s : ServerState) (d all_up all_down : List FrameContent) (place : ℕ) → AccessesAgree opened k s d all_up all_down place
     → AccessesAgree opened k (server_state_after opened s (QueueWritten taken)) d all_up all_down place
 unfolding server_state_after
-accessed_written_down taken opened k s d all_up all_down place h = record { early = h.early; lives = h.lives; up_said = h.up_said; asked = h.asked; calls = h.calls; waiting = h.waiting; down_said = h.down_said }
+accessed_written_down taken opened k s d all_up all_down place h = record { early = h.early; lives = h.lives; up_said = h.up_said; asked = h.asked; resent = h.resent; calls = h.calls; waiting = h.waiting; down_said = h.down_said }
 
 -- ---- It is told something
 
 pub accessed_told : (opened : LinkParameters) (k : ClientState) (s : ServerState) (d all_up all_down : List FrameContent) (place : ℕ) (what : Told) → AccessesAgree opened k s d all_up all_down place
     → AccessesAgree opened k (server_state_after opened s (ServerTold what)) d all_up all_down place
 unfolding server_state_after
-accessed_told opened k s d all_up all_down place what h = record { early = h.early; lives = h.lives; up_said = h.up_said; asked = h.asked; calls = h.calls; waiting = h.waiting; down_said = h.down_said }
+accessed_told opened k s d all_up all_down place what h = record { early = h.early; lives = h.lives; up_said = h.up_said; asked = h.asked; resent = h.resent; calls = h.calls; waiting = h.waiting; down_said = h.down_said }

@@ -188,7 +188,7 @@ submit_preserves opened link run call form xid j h =
     (λ typed kept agree.
     let stags : stag_for j.k xid + regions_needed h.plan ≤ numbers_end = subst (λ (r : EndState ClientState). stag_for r.state xid + regions_needed h.plan ≤ numbers_end) j.client_is (accepted_stags opened link run call form xid h) in
     subst (λ (ps : List FrameContent). AccessesAgree opened (client_state_after opened j.k (CallSubmitted place a)) j.s j.d (j.all_up ++ ps) j.all_down place) (sym m.said_is)
-    (accessed_submit opened j.k j.s j.d j.all_up j.all_down place a h.plan agree planned h.xids stags typed.0 typed.1 limits))
+    (accessed_submit opened j.k j.s j.d j.all_up j.all_down place a h.plan agree planned own again h.xids stags typed.0 typed.1 limits))
 
 -- a Wrote of all that is due
 takes_all_up : (opened : LinkParameters) (link : ℕ) (run : List Mark) (bytes : List ℕ) (k : ClientState) → client opened link run ≡ live k → bytes_sent link Initiator run ++ bytes ≡ output_due opened link Initiator run → k.written + length bytes ≡ k.due

@@ -12,7 +12,7 @@ use Rattle.nr_reduce.specs.Events.{RunEvent, if_own, events_at, events}
 use Rattle.nr_reduce.specs.EndRules.{EndState, EndMachine, end_state_after}
 use Rattle.nr_reduce.specs.ClientState.{initial_client_state as client_initial_state, waiting_from}
 use Rattle.nr_reduce.specs.ServerState.{initial_server_state as server_initial_state}
-use Rattle.nr_reduce.specs.Client.{client_rules, has_same_sizes}
+use Rattle.nr_reduce.specs.Client.{client_rules}
 use Rattle.nr_reduce.specs.Server.{server_rules}
 use Rattle.nr_reduce.specs.Run.{client, server, output_due}
 use Rattle.nr_reduce.specs.AtEachMark.{AtEachMark}
@@ -21,18 +21,17 @@ use Rattle.nr_reduce.specs.Asked.{AskedMark, IsAll}
 use Rattle.nr_reduce.specs.Served.{ServedMark}
 use Rattle.nr_reduce.proofs.Steps.{client_one, server_one}
 use Rattle.nr_laws.specs.Typed.{TypedMark}
-use Rattle.nr_laws.proofs.AgreedSizes.{up_limited, down_limited, matched_up, matched_down, matched_agreement}
+use Rattle.nr_laws.proofs.AgreedSizes.{up_limited, down_limited}
 use Rattle.nr_laws.proofs.FrameContents.FrameContent.{HelloFrame}
 use Rattle.nr_laws.proofs.TotalsAtClient.{totals_first}
 use Rattle.nr_reduce.specs.Opening.{IsOpened, AreResumed, lengths_before}
 use Rattle.nr_laws.proofs.Guards.{Guards, AreSizedResends}
 use Rattle.nr_laws.proofs.OfferedAccesses.{AccessesAgree}
+use Rattle.nr_laws.proofs.AccessesAtClient.{first_early, first_live, first_offered}
 use Rattle.nr_laws.proofs.AgreeingRuns.{place_of, RunAgrees, MarkAgrees, preserved, none_preserve, fed_up_preserves, fed_down_preserves}
 use Rattle.nr_laws.proofs.AgreeingMarks.{submit_preserves, wrote_up_preserves, wrote_down_preserves, execute_preserves, revoke_preserves, told_preserves}
 use Rattle.nr_laws.proofs.ReceivedMessages.{was_live_lem}
-use Rattle.nr_laws.specs.EndCauses.{AgreesAgain}
 use Rattle.nr_reduce.specs.declared.mark.ResumedCall.{ResumedCall}
-use Rattle.nr_link.specs.declared.agreement.Agreement.{Agreement}
 use Rattle.nr_laws.proofs.PlannedSizes.{planned_message}
 use Rattle.nr_reduce.specs.Plans.{regions_needed}
 use Rattle.nr_reduce.proofs.RisingXids.{xids_rise}
@@ -59,30 +58,17 @@ server_unended opened link before more e = unended (server_rules opened) (λ run
 -- both ends as they are opened, with their guards
 pub record BothOpened (opened : LinkParameters) (link : ℕ) : Type 0 where
   pub joined : RunAgrees opened link []
-  pub guards : IsOpened opened → AgreesAgain opened → Guards opened joined.k joined.s joined.u joined.d joined.all_up joined.all_down joined.w (place_of opened joined.u)
+  pub guards : IsOpened opened → Guards opened joined.k joined.s joined.u joined.d joined.all_up joined.all_down joined.w (place_of opened joined.u)
   pub accessed : AccessesAgree opened joined.k joined.s joined.d joined.all_up joined.all_down (length (bytes_received link Initiator []))
 
--- the calls that wait are planned for lengths up to those that are agreed on again
-lengths_again : (opened : LinkParameters) → AgreesAgain opened → (lengths_before opened.agreed).up ≤ matched_up opened
-lengths_again opened again = by opened.agreed again
-  where
-    first : (up down : ℕ) → (up == matched_up opened && down == matched_down opened) ≡ true → up ≤ matched_up opened
-    first up down e = (let same = eqb-true up (matched_up opened) (and_parts (eqb up (matched_up opened)) (eqb down (matched_down opened)) e).0 in omega (arith, same))
-
-    by : (agreed : Option Agreement) → has_same_sizes agreed (matched_agreement opened) ≡ true → (lengths_before agreed).up ≤ matched_up opened
-    by None e = (up_limited opened).0
-    by (Some a) e = first a.up a.down e
-
-resends_from : (opened : LinkParameters) (agreed : Agreement) (first stag : ℕ) (rs : List ResumedCall) (next : ℕ) → agreed.up ≤ matched_up opened → AreResumed agreed first rs next → AreSizedResends opened (waiting_from stag rs)
-resends_from opened agreed first stag [] next le h = tt
-resends_from opened agreed first stag (r ∷ rs) next le h =
+-- the messages of the calls that wait have the sizes by which they were planned
+resends_from : (opened : LinkParameters) (first stag : ℕ) (rs : List ResumedCall) (next : ℕ) → AreResumed (lengths_before opened.agreed) first rs next → AreSizedResends opened (waiting_from stag rs)
+resends_from opened first stag [] next h = tt
+resends_from opened first stag (r ∷ rs) next h =
     let own = h.1.0 in (
-      λ wished at. (let size = planned_message r.xid wished at r.call r.form r.plan own.planned in (size.0, (let most = size.1 in let up = own.up in omega (arith, most, up, le)))),
-      resends_from opened agreed (r.xid + 1) (stag + regions_needed r.plan) rs next le h.1.1,
+      λ wished at. (let size = planned_message r.xid wished at r.call r.form r.plan own.planned in (size.0, (let most = size.1 in let up = own.up in omega (arith, most, up)))),
+      resends_from opened (r.xid + 1) (stag + regions_needed r.plan) rs next h.1.1,
     )
-
-first_resends : (opened : LinkParameters) → IsOpened opened → AgreesAgain opened → AreSizedResends opened (waiting_from opened.first_stag opened.resumed)
-first_resends opened o again = resends_from opened (lengths_before opened.agreed) 1 opened.first_stag opened.resumed opened.first_xid (lengths_again opened again) o.resumed
 
 pub starts : (opened : LinkParameters) (link : ℕ) → BothOpened opened link
 unfolding client server events output_due bytes_received bytes_sent split
@@ -126,7 +112,7 @@ starts opened link = record {
     bytes_up = λ i. omega arith;
     bytes_down = λ i. omega arith;
   };
-  guards = λ o again. record {
+  guards = λ o. record {
     server = record {
       counts = totals_first opened;
       reads = record { answered = []; asked = []; parts = refl; answers = (refl, refl); requests = refl };
@@ -142,7 +128,8 @@ starts opened link = record {
     names = tt;
     credit = omega arith;
     calls = tt;
-    resends = first_resends opened o again;
+    resends = resends_from opened 1 opened.first_stag opened.resumed opened.first_xid o.resumed;
+    again = λ e. absurd cc;
     within = record { fit = tt; few = lit< tt; small = tt };
     sinks = omega arith;
     xids = tt;
@@ -151,7 +138,16 @@ starts opened link = record {
     answered = record { rise = λ n m lt. xids_rise opened n m o lt; once = λ x. omega arith; given = λ x some. absurd (omega (arith, some)); open_calls = λ n lt. absurd (omega (arith, lt)); room = λ n lt. absurd (omega (arith, lt)) };
     reached = ([], refl);
   };
-  accessed = record { early = tt; lives = tt; up_said = (tt, tt); asked = tt; calls = tt; waiting = tt; down_said = tt };
+  accessed = record {
+    early = first_early 0 (waiting_from opened.first_stag opened.resumed);
+    lives = first_live (waiting_from opened.first_stag opened.resumed);
+    up_said = (tt, tt);
+    asked = tt;
+    resent = first_offered (waiting_from opened.first_stag opened.resumed);
+    calls = tt;
+    waiting = tt;
+    down_said = tt;
+  };
 }
 
 -- ---- Each mark

@@ -31,7 +31,7 @@ EndsForMessage end = (at : ℕ) × (reason : ℕ) × (end ≡ ends.Bad at reason
 
 -- of a matched link the side that ends first ends so
 abbrev pub FirstServerEnd : Type 0
-FirstServerEnd = (opened : LinkParameters) (link : ℕ) (run : List Mark) → IsOpened opened → AgreesAgain opened → IsTyped run → KeepLaws opened link run → HasNoOldCall link run →
+FirstServerEnd = (opened : LinkParameters) (link : ℕ) (run : List Mark) → IsOpened opened → IsTyped run → KeepLaws opened link run → HasNoOldCall link run →
     end_of_side opened link Initiator run ≡ None → (end : End) → end_of_side opened link Responder run ≡ Some end → EndsForCall end
 
 abbrev pub FirstClientEnd : Type 0

@@ -27,7 +27,7 @@ use Rattle.nr_reduce.specs.Asked.{AskedMark, IsAll}
 use Rattle.nr_reduce.specs.Served.{ServedMark}
 use Rattle.nr_reduce.proofs.Steps.{client_one, server_one, ended_stays}
 use Rattle.nr_laws.specs.Typed.{TypedMark}
-use Rattle.nr_laws.specs.EndCauses.{IsDenied, NotOldMark}
+use Rattle.nr_laws.specs.EndCauses.{IsDenied, NotOldMark, AgreesAgain}
 use Rattle.nr_laws.proofs.EndReasons.{EndsForCall, EndsForMessage, FirstServerEnd, FirstClientEnd}
 use Rattle.nr_laws.proofs.FrameContents.{total_of, sends_in, requests_in}
 use Rattle.nr_laws.proofs.Bytes.{bytes_both}
@@ -144,9 +144,9 @@ server_from opened link o end (m ∷ run) before g asked served matched grant ty
 
 pub first_server_end : FirstServerEnd
 unfolding end_of_side
-first_server_end opened link run o again typed laws fresh up end down =
+first_server_end opened link run o typed laws fresh up end down =
     let start = starts opened link in
-    server_from opened link o end run [] (record { joined = start.joined; guards = start.guards o again }) laws.client laws.server laws.matched laws.grant typed fresh up down
+    server_from opened link o end run [] (record { joined = start.joined; guards = start.guards o }) laws.client laws.server laws.matched laws.grant typed fresh up down
 
 -- ---- The client
 
@@ -194,9 +194,9 @@ fed_ends opened link run (marks.Revoke l xid bytes) k end Lasting matched typed 
 fed_ends opened link run (marks.Drop l) k end Lasting matched typed fed e = absurd (none_ends opened k _ end refl e)
 fed_ends opened link run (marks.Told l what) k end Lasting matched typed fed e = absurd (none_ends opened k _ end (other_events (eqb l link) _) e)
 
-client_fed : (opened : LinkParameters) (link : ℕ) (run : List Mark) (bytes : List ℕ) (g : Guarded opened link run) → IsOpened opened → IsPrefixOf (bytes_received link Initiator run ++ bytes) (bytes_sent link Responder run) → IsBytes bytes
+client_fed : (opened : LinkParameters) (link : ℕ) (run : List Mark) (bytes : List ℕ) (g : Guarded opened link run) → IsOpened opened → AgreesAgain opened → IsPrefixOf (bytes_received link Initiator run ++ bytes) (bytes_sent link Responder run) → IsBytes bytes
     → (end : End) → (end_state_after (client_rules opened) (live g.joined.k) (map FrameReceived (frames_completed Responder (bytes_received link Initiator run) bytes))).ended ≡ Some end → IsClientEnd end
-client_fed opened link run bytes g o prefix typed end e =
+client_fed opened link run bytes g o again prefix typed end e =
     let j = g.joined in
     let got = bytes_received link Initiator run in
     let stream : IsOutput (j.d ++ (j.w.down ++ j.w.queued_down)) = subst IsOutput (sym j.linked.parts_down) j.linked.stream_down in
@@ -206,7 +206,7 @@ client_fed opened link run bytes g o prefix typed end e =
     let place = length (concat (frames_at opened Responder 0 0 j.d)) in
     let es = events_of place (frames_at opened Responder n r a.new) in
     let same : map FrameReceived (frames_completed Responder got bytes) ≡ es = ap (λ (fs : List Frame). map FrameReceived fs) a.frames in
-    client_ends opened j.s j.u j.all_down a.left o end (place_of opened j.u) a.new j.k j.d j.all_up j.w n r place j.linked g.guards a.parts (omega arith) (omega arith) a.place a.bytes_are a.some
+    client_ends opened j.s j.u j.all_down a.left o again end (place_of opened j.u) a.new j.k j.d j.all_up j.w n r place j.linked g.guards a.parts (omega arith) (omega arith) a.place a.bytes_are a.some
     (ap (λ (xs : List RunEvent). (end_state_after (client_rules opened) (live j.k) xs).ended) (sym same) ∙ e)
 
 -- along a run, what is kept while neither side ends decides why the client ends
@@ -248,4 +248,4 @@ unfolding end_of_side
 first_client_end opened link run o again typed laws down end up =
     let start = starts opened link in
     client_first opened link (Guarded opened link) (λ before g. g.joined) (WithinGrant opened link) end (IsClientEnd end) (λ before m g agrees typed within. guarded_more opened link before m g.joined agrees o within g.guards)
-    (λ before bytes g prefix typed e. client_fed opened link before bytes g o prefix typed end e) run [] (record { joined = start.joined; guards = start.guards o again }) laws.client laws.server laws.matched laws.grant typed down up
+    (λ before bytes g prefix typed e. client_fed opened link before bytes g o again prefix typed end e) run [] (record { joined = start.joined; guards = start.guards o }) laws.client laws.server laws.matched laws.grant typed down up

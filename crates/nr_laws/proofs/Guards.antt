@@ -41,6 +41,7 @@ use Rattle.nr_laws.proofs.Outputs.{message_of_call}
 use Rattle.nr_laws.proofs.SendFrames.{each_send}
 use Rattle.nr_reduce.specs.StandingLaws.{xid_of_send}
 use Rattle.nr_reduce.specs.Plans.{call_message}
+use Rattle.nr_reduce.specs.Opening.{lengths_before}
 
 -- a message of a client has the size of one, by what both sides agree on, version 1, a kind that a client sends, and at most one read chunk;
 -- and it names no STag
@@ -77,9 +78,9 @@ IsAsked opened o = ClientMessage opened (message_of_call opened o) × HasOwnXid 
 abbrev pub AreSized : LinkParameters → List OutstandingCall → Type 0
 AreSized opened os = AllByRecursion (IsAsked opened) os
 
--- the message of a call that waits to be sent again has the size of one too, whatever its STags are
+-- the message of a call that waits to be sent again has the size of one too, whatever its STags are, by what an earlier hello agreed on
 abbrev pub IsSizedResend : LinkParameters → WaitingCall → Type 0
-IsSizedResend opened w = (wished stag : ℕ) → (16 ≤ length (call_message w.xid wished stag w.plan)) × (length (call_message w.xid wished stag w.plan) ≤ matched_up opened)
+IsSizedResend opened w = (wished stag : ℕ) → (16 ≤ length (call_message w.xid wished stag w.plan)) × (length (call_message w.xid wished stag w.plan) ≤ (lengths_before opened.agreed).up)
 
 abbrev pub AreSizedResends : LinkParameters → List WaitingCall → Type 0
 AreSizedResends opened ws = AllByRecursion (IsSizedResend opened) ws
@@ -94,6 +95,7 @@ pub record Guards (opened : LinkParameters) (k : ClientState) (s : ServerState) 
   pub credit : s.credit ≤ opened.granted
   pub calls : AreSized opened k.outstanding
   pub resends : AreSizedResends opened k.waiting
+  pub again : k.has_hello ≡ true → (lengths_before opened.agreed).up ≤ matched_up opened
   pub within : AreWithin s.reads s.regions
   pub sinks : length s.regions ≤ s.received.sends
   pub xids : XidsFrom (xid_of_send opened) 0 all_up

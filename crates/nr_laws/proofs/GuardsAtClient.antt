@@ -13,7 +13,7 @@ use Rattle.nr_link.specs.Frames.{Frame, is_hello}
 use Rattle.nr_link.specs.Output.{msn_word, segment_count}
 use Rattle.nr_link.specs.ReceiveState.{begun_bytes, ReadRequest, message_completed, read_request_of}
 use Rattle.nr_reduce.specs.declared.mark.LinkParameters.{LinkParameters}
-use Rattle.nr_reduce.specs.Opening.{IsOpened}
+use Rattle.nr_reduce.specs.Opening.{IsOpened, lengths_before}
 use Rattle.nr_reduce.specs.Limits.{credits_max}
 use Rattle.nr_reduce.specs.Events.{RunEvent}
 use Rattle.nr_reduce.specs.Events.RunEvent.{FrameReceived}
@@ -43,7 +43,8 @@ use Rattle.nr_laws.proofs.ClientFrame.{calls_said}
 use Rattle.nr_laws.proofs.AnsweredSteps.{Answered, answered_message_lem, answered_same}
 use Rattle.nr_wire.specs.declared.hello.Side.TheVariants.{Responder}
 use Rattle.nr_laws.proofs.FirstHellos.{first_hello}
-use Rattle.nr_laws.proofs.AgreedSizes.{SizesAgree, matched_down, client_keeps_sizes, client_takes_sizes, matched_invalidates}
+use Rattle.nr_laws.proofs.SizesAgain.{hello_agrees, lengths_again, reached_opening}
+use Rattle.nr_laws.proofs.AgreedSizes.{SizesAgree, matched_up, matched_down, client_keeps_sizes, client_takes_sizes, matched_invalidates}
 use Rattle.nr_laws.proofs.Guards.{ClientContent, ServerContent, IsAsked, AreSized, Guards, AreSizedResends}
 use Rattle.nr_laws.proofs.GuardsAtServer.{each_at}
 use Rattle.nr_laws.proofs.Basics.{each_append, each_right, each_take, each_kept, each_all}
@@ -122,9 +123,9 @@ asked_of s w place sink at size stag to rest c first sinks stags within =
 -- ---- What is kept
 
 guards_down : (opened : LinkParameters) (k t : ClientState) (s : ServerState) (u d all_up all_down : List FrameContent) (w : Transit) (place : ℕ) (p : FrameContent) (rest said : List FrameContent) (event : RunEvent) → Guards opened k s u d all_up all_down w place
-    → ServerAgrees opened t s (down_one w said rest) place → WithinWindow opened t → AllByRecursion (ClientContent opened) said → SizesAgree opened t s u → AreSized opened t.outstanding → AreSizedResends opened t.waiting → XidsFrom (xid_of_send opened) (0 + total_of sends_in all_up) said → t.has_hello ≡ true → Answered (xid_of_send opened) t s u (d ++ p ∷ []) all_down (down_one w said rest) → client_end k event ≡ None → t ≡ client_state_after opened k event
+    → ServerAgrees opened t s (down_one w said rest) place → WithinWindow opened t → AllByRecursion (ClientContent opened) said → SizesAgree opened t s u → AreSized opened t.outstanding → AreSizedResends opened t.waiting → XidsFrom (xid_of_send opened) (0 + total_of sends_in all_up) said → t.has_hello ≡ true → (lengths_before opened.agreed).up ≤ matched_up opened → Answered (xid_of_send opened) t s u (d ++ p ∷ []) all_down (down_one w said rest) → client_end k event ≡ None → t ≡ client_state_after opened k event
     → Guards opened t s u (d ++ p ∷ []) (all_up ++ said) all_down (down_one w said rest) place
-guards_down opened k t s u d all_up all_down w place p rest said event g server window up sizes calls resends xids hello answered stays is = record {
+guards_down opened k t s u d all_up all_down w place p rest said event g server window up sizes calls resends xids hello again answered stays is = record {
   server = server;
   window = window;
   sizes = sizes;
@@ -134,6 +135,7 @@ guards_down opened k t s u d all_up all_down w place p rest said event g server 
   credit = g.credit;
   calls = calls;
   resends = resends;
+  again = λ e. again;
   within = g.within;
   sinks = g.sinks;
   xids = xids_append (xid_of_send opened) 0 all_up said g.xids xids;
@@ -217,7 +219,7 @@ guards_hello_down opened k s u d all_up all_down w place rest f l g first is own
       limits = g.server.limits;
     } in
     subst (λ (ps : List FrameContent). Guards opened t s u (d ++ HelloFrame ∷ []) (all_up ++ ps) all_down (down_one w ps rest) place) (sym says)
-    (guards_down opened k t s u d all_up all_down w place HelloFrame rest said (FrameReceived f) g server (subst (WithinWindow opened) (sym after) (record { window = g.window.window; grant = g.window.grant; receives = g.window.receives })) (asks_up opened k.outstanding g.calls) (subst (λ (x : ClientState). SizesAgree opened x s u) (sym after) (client_takes_sizes opened k s u f own g.sizes)) (subst (λ (x : ClientState). AreSized opened x.outstanding) (sym after) g.calls) (subst (λ (x : ClientState). AreSizedResends opened x.waiting) (sym after) g.resends) asked (ap (λ (x : ClientState). x.has_hello) after)
+    (guards_down opened k t s u d all_up all_down w place HelloFrame rest said (FrameReceived f) g server (subst (WithinWindow opened) (sym after) (record { window = g.window.window; grant = g.window.grant; receives = g.window.receives })) (asks_up opened k.outstanding g.calls) (subst (λ (x : ClientState). SizesAgree opened x s u) (sym after) (client_takes_sizes opened k s u f own g.sizes)) (subst (λ (x : ClientState). AreSized opened x.outstanding) (sym after) g.calls) (subst (λ (x : ClientState). AreSizedResends opened x.waiting) (sym after) g.resends) asked (ap (λ (x : ClientState). x.has_hello) after) (lengths_again opened (hello_agrees opened k f (reached_opening opened k g.reached) is own stays))
     (answered_same (xid_of_send opened) k t s u d all_down w (down_one w said rest) HelloFrame (ap (λ (x : ClientState). x.outstanding) after) (ap (λ (x : ClientState). x.sends) after) refl g.answered) stays refl)
 
 pub guards_send_down : (opened : LinkParameters) (k : ClientState) (s : ServerState) (u d all_up all_down : List FrameContent) (w : Transit) (place : ℕ) (message : SentMessage) (rest : List FrameContent) (f : Frame) → IsOpened opened → EndsAgree opened k s u d all_up all_down w → Guards opened k s u d all_up all_down w place → w.down ≡ SendFrame message ∷ rest
@@ -249,7 +251,7 @@ guards_send_down opened k s u d all_up all_down w place message rest f o l g fir
       limits = g.server.limits;
     } in
     subst (λ (ps : List FrameContent). Guards opened t s u (d ++ SendFrame message ∷ []) (all_up ++ ps) all_down (down_one w ps rest) place) (sym says)
-    (guards_down opened k t s u d all_up all_down w place (SendFrame message) rest [] (FrameReceived f) g server (subst (WithinWindow opened) (sym after) window) tt (client_keeps_sizes opened k t s u f (Ok segment) after hello g.sizes) (sized_frame opened k t f (Ok segment) after g.calls) (resends_frame opened k t f (Ok segment) after g.resends) tt (behind_hello_lem opened k t s u d all_up all_down w f (Ok segment) after hello)
+    (guards_down opened k t s u d all_up all_down w place (SendFrame message) rest [] (FrameReceived f) g server (subst (WithinWindow opened) (sym after) window) tt (client_keeps_sizes opened k t s u f (Ok segment) after hello g.sizes) (sized_frame opened k t f (Ok segment) after g.calls) (resends_frame opened k t f (Ok segment) after g.resends) tt (behind_hello_lem opened k t s u d all_up all_down w f (Ok segment) after hello) (g.again hello)
     (answered_message_lem (xid_of_send opened) k t s u d all_down w (down_one w [] rest) message
     (ap (λ (x : ClientState). x.outstanding) after ∙ ap (λ (xs : List ℕ). filter (λ (o : OutstandingCall). not (eqb o.xid (word_at 0 xs))) k.outstanding) same) (ap (λ (x : ClientState). x.sends) after) g.answered) stays refl)
   where
@@ -311,7 +313,7 @@ guards_read_down opened k s u d all_up all_down w place sink at size stag to res
       limits = g.server.limits;
     } in
     guards_down opened k t s u d all_up all_down w place (RequestFrame sink at size stag to) rest said (FrameReceived f) g server (subst (WithinWindow opened) (sym after) (record { window = g.window.window; grant = g.window.grant; receives = g.window.receives }))
-    (tagged_up opened k f (Ok segment) piece.behind reads) (client_keeps_sizes opened k t s u f (Ok segment) after hello g.sizes) (sized_frame opened k t f (Ok segment) after g.calls) (resends_frame opened k t f (Ok segment) after g.resends) (tagged_xids (xid_of_send opened) (0 + total_of sends_in all_up) opened k f (Ok segment) piece.behind reads) (behind_hello_lem opened k t s u d all_up all_down w f (Ok segment) after hello)
+    (tagged_up opened k f (Ok segment) piece.behind reads) (client_keeps_sizes opened k t s u f (Ok segment) after hello g.sizes) (sized_frame opened k t f (Ok segment) after g.calls) (resends_frame opened k t f (Ok segment) after g.resends) (tagged_xids (xid_of_send opened) (0 + total_of sends_in all_up) opened k f (Ok segment) piece.behind reads) (behind_hello_lem opened k t s u d all_up all_down w f (Ok segment) after hello) (g.again hello)
     (answered_same (xid_of_send opened) k t s u d all_down w (down_one w said rest) (RequestFrame sink at size stag to) (ap (λ (x : ClientState). x.outstanding) after) (ap (λ (x : ClientState). x.sends) after) refl g.answered) stays refl
   where
     ap_regions : (opened : LinkParameters) (k : ClientState) (es : List RunEvent) → end_state_after (client_rules opened) (initial_client opened) es ≡ live k
@@ -337,7 +339,7 @@ guards_part_down opened k s u d all_up all_down w place named offset payload res
       limits = g.server.limits;
     } in
     subst (λ (ps : List FrameContent). Guards opened t s u (d ++ PartFrame named offset payload ∷ []) (all_up ++ ps) all_down (down_one w ps rest) place) (sym says)
-    (guards_down opened k t s u d all_up all_down w place (PartFrame named offset payload) rest [] (FrameReceived f) g server (subst (WithinWindow opened) (sym after) (record { window = g.window.window; grant = g.window.grant; receives = g.window.receives })) tt (client_keeps_sizes opened k t s u f (Ok segment) after hello g.sizes) (sized_frame opened k t f (Ok segment) after g.calls) (resends_frame opened k t f (Ok segment) after g.resends) tt (behind_hello_lem opened k t s u d all_up all_down w f (Ok segment) after hello)
+    (guards_down opened k t s u d all_up all_down w place (PartFrame named offset payload) rest [] (FrameReceived f) g server (subst (WithinWindow opened) (sym after) (record { window = g.window.window; grant = g.window.grant; receives = g.window.receives })) tt (client_keeps_sizes opened k t s u f (Ok segment) after hello g.sizes) (sized_frame opened k t f (Ok segment) after g.calls) (resends_frame opened k t f (Ok segment) after g.resends) tt (behind_hello_lem opened k t s u d all_up all_down w f (Ok segment) after hello) (g.again hello)
     (answered_same (xid_of_send opened) k t s u d all_down w (down_one w [] rest) (PartFrame named offset payload) (ap (λ (x : ClientState). x.outstanding) after) (ap (λ (x : ClientState). x.sends) after) refl g.answered) stays refl)
 
 pub guards_tagged_down : (opened : LinkParameters) (k : ClientState) (s : ServerState) (u d all_up all_down : List FrameContent) (w : Transit) (place : ℕ) (last : Bool) (opcode stag to : ℕ) (payload : List ℕ) (rest : List FrameContent) (f : Frame) → Guards opened k s u d all_up all_down w place
@@ -358,5 +360,5 @@ guards_tagged_down opened k s u d all_up all_down w place last opcode stag to pa
       limits = g.server.limits;
     } in
     subst (λ (ps : List FrameContent). Guards opened t s u (d ++ TaggedFrame last opcode stag to payload ∷ []) (all_up ++ ps) all_down (down_one w ps rest) place) (sym says)
-    (guards_down opened k t s u d all_up all_down w place (TaggedFrame last opcode stag to payload) rest [] (FrameReceived f) g server (subst (WithinWindow opened) (sym after) (record { window = g.window.window; grant = g.window.grant; receives = g.window.receives })) tt (client_keeps_sizes opened k t s u f (Ok segment) after hello g.sizes) (sized_frame opened k t f (Ok segment) after g.calls) (resends_frame opened k t f (Ok segment) after g.resends) tt (behind_hello_lem opened k t s u d all_up all_down w f (Ok segment) after hello)
+    (guards_down opened k t s u d all_up all_down w place (TaggedFrame last opcode stag to payload) rest [] (FrameReceived f) g server (subst (WithinWindow opened) (sym after) (record { window = g.window.window; grant = g.window.grant; receives = g.window.receives })) tt (client_keeps_sizes opened k t s u f (Ok segment) after hello g.sizes) (sized_frame opened k t f (Ok segment) after g.calls) (resends_frame opened k t f (Ok segment) after g.resends) tt (behind_hello_lem opened k t s u d all_up all_down w f (Ok segment) after hello) (g.again hello)
     (answered_same (xid_of_send opened) k t s u d all_down w (down_one w [] rest) (TaggedFrame last opcode stag to payload) (ap (λ (x : ClientState). x.outstanding) after) (ap (λ (x : ClientState). x.sends) after) refl g.answered) stays refl)

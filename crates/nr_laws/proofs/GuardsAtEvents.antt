@@ -10,7 +10,7 @@ use Rattle.nr_reduce.specs.declared.mark.LinkParameters.{LinkParameters}
 use Rattle.nr_reduce.specs.declared.mark.Told.{Told}
 use Rattle.nr_reduce.specs.Served.{ToldInRange}
 use Rattle.nr_reduce.specs.declared.outline.Plan.{Plan}
-use Rattle.nr_reduce.specs.Opening.{IsOpened}
+use Rattle.nr_reduce.specs.Opening.{IsOpened, lengths_before}
 use Rattle.nr_reduce.specs.Limits.{numbers_end}
 use Rattle.nr_reduce.specs.Plans.{call_message, TooLarge, plan_of}
 use Rattle.nr_reduce.specs.History.{AcceptedCall, ExecutedCall}
@@ -66,10 +66,10 @@ reached_more opened k event stays r = (
 -- ---- A call is submitted
 
 -- the message of a call that is sent next has the size of one
-fits_message : (opened : LinkParameters) (k : ClientState) (a : AcceptedCall) (plan : Plan) → plan_for k a.xid a.call a.form ≡ Ok plan → a.xid ≡ next_sent_xid k → AreSizedResends opened k.waiting → k.up_max ≤ matched_up opened → (stag : ℕ)
+fits_message : (opened : LinkParameters) (k : ClientState) (a : AcceptedCall) (plan : Plan) → plan_for k a.xid a.call a.form ≡ Ok plan → a.xid ≡ next_sent_xid k → AreSizedResends opened k.waiting → IsResent k.has_hello k.next_xid k.waiting a.call a.form → (k.has_hello ≡ true → (lengths_before opened.agreed).up ≤ matched_up opened) → k.up_max ≤ matched_up opened → (stag : ℕ)
     → (16 ≤ length (call_message a.xid opened.wished stag plan)) × (length (call_message a.xid opened.wished stag plan) ≤ matched_up opened)
 unfolding plan_for
-fits_message opened k a plan is own resends up stag = by k.waiting is own resends
+fits_message opened k a plan is own resends resent again up stag = by k.waiting is own resends resent
   where
     anew : Result Plan TooLarge
     anew = plan_of (call_payload a.xid a.call) a.form k.up_max k.down_max
@@ -77,20 +77,23 @@ fits_message opened k a plan is own resends up stag = by k.waiting is own resend
     Fits : ℕ → Plan → Type 0
     Fits xid p = (16 ≤ length (call_message xid opened.wished stag p)) × (length (call_message xid opened.wished stag p) ≤ matched_up opened)
 
-    by : (ws : List WaitingCall) → plan_unless (first_of ws a.xid) anew ≡ Ok plan → a.xid ≡ first_xid_or k.next_xid ws → AreSizedResends opened ws → Fits a.xid plan
-    by [] is own h = (let size = sized_message a.xid opened.wished stag k.up_max k.down_max a.call a.form plan is in (size.0, (let most = size.1 in omega (arith, most, up))))
-    by (w ∷ ws) is own h = again (eqb w.xid a.xid) (eq-eqb w.xid a.xid (sym own)) is
+    by : (ws : List WaitingCall) → plan_unless (first_of ws a.xid) anew ≡ Ok plan → a.xid ≡ first_xid_or k.next_xid ws → AreSizedResends opened ws → IsResent k.has_hello k.next_xid ws a.call a.form → Fits a.xid plan
+    by [] is own h resent = (let size = sized_message a.xid opened.wished stag k.up_max k.down_max a.call a.form plan is in (size.0, (let most = size.1 in omega (arith, most, up))))
+    by (w ∷ ws) is own h resent = waits (eqb w.xid a.xid) (eq-eqb w.xid a.xid (sym own)) is
       where
-        again : (b : Bool) → b ≡ true → plan_unless (cond b (Some w) None) anew ≡ Ok plan → Fits a.xid plan
-        again true e is = (let same : w.plan ≡ plan = cc in subst (λ (p : Plan). Fits a.xid p) same (subst (λ (n : ℕ). Fits n w.plan) (sym own) (h.0 opened.wished stag)))
-        again false e is = absurd cc
+        fits : Fits w.xid w.plan
+        fits = (let size = h.0 opened.wished stag in (size.0, (let most = size.1 in let up = again resent.greeted in omega (arith, most, up))))
 
-sized_call : (opened : LinkParameters) (k : ClientState) (a : AcceptedCall) (plan : Plan) → plan_for k a.xid a.call a.form ≡ Ok plan → a.xid ≡ next_sent_xid k → AreSizedResends opened k.waiting → a.xid < numbers_end → k.up_max ≤ matched_up opened → IsAsked opened (outstanding_of k a)
-sized_call opened k a plan is own resends lt up =
+        waits : (b : Bool) → b ≡ true → plan_unless (cond b (Some w) None) anew ≡ Ok plan → Fits a.xid plan
+        waits true e is = (let same : w.plan ≡ plan = cc in subst (λ (p : Plan). Fits a.xid p) same (subst (λ (n : ℕ). Fits n w.plan) (sym own) fits))
+        waits false e is = absurd cc
+
+sized_call : (opened : LinkParameters) (k : ClientState) (a : AcceptedCall) (plan : Plan) → plan_for k a.xid a.call a.form ≡ Ok plan → a.xid ≡ next_sent_xid k → AreSizedResends opened k.waiting → IsResent k.has_hello k.next_xid k.waiting a.call a.form → (k.has_hello ≡ true → (lengths_before opened.agreed).up ≤ matched_up opened) → a.xid < numbers_end → k.up_max ≤ matched_up opened → IsAsked opened (outstanding_of k a)
+sized_call opened k a plan is own resends resent again lt up =
     let stag : ℕ = stag_for k a.xid in
     let words = call_words_lem a.xid opened.wished stag (outstanding_of k a).plan lt in
     let fits = subst (λ (p : Plan). (16 ≤ length (call_message a.xid opened.wished stag p)) × (length (call_message a.xid opened.wished stag p) ≤ matched_up opened))
-    (sym (planned (call_payload a.xid a.call) (plan_for k a.xid a.call a.form) plan is)) (fits_message opened k a plan is own resends up stag) in
+    (sym (planned (call_payload a.xid a.call) (plan_for k a.xid a.call a.form) plan is)) (fits_message opened k a plan is own resends resent again up stag) in
     ((fits.0, fits.1, words.version, words.kind, one_chunk a.xid opened.wished stag (outstanding_of k a).plan), words.xid_is)
 
 resends_others : (opened : LinkParameters) (xid : ℕ) (ws : List WaitingCall) → AreSizedResends opened ws → AreSizedResends opened (others_than ws xid)
@@ -112,11 +115,11 @@ up_says opened false message h = tt
 pub guards_submit : (opened : LinkParameters) (k : ClientState) (s : ServerState) (u d all_up all_down : List FrameContent) (w : Transit) (up place : ℕ) (a : AcceptedCall) (plan : Plan) → EndsAgree opened k s u d all_up all_down w → Guards opened k s u d all_up all_down w up → plan_for k a.xid a.call a.form ≡ Ok plan → a.xid ≡ next_sent_xid k → IsResent k.has_hello k.next_xid k.waiting a.call a.form → a.xid < numbers_end → length k.outstanding < k.grant
     → Guards opened (client_state_after opened k (CallSubmitted place a)) s u d (all_up ++ client_frames opened k (CallSubmitted place a)) all_down (up_more w (client_frames opened k (CallSubmitted place a))) up
 unfolding client_state_after client_frames client_end
-guards_submit opened k s u d all_up all_down w up place a plan l g is own again lt room =
+guards_submit opened k s u d all_up all_down w up place a plan l g is own resent lt room =
     let t = client_state_after opened k (CallSubmitted place a) in
     let said = client_frames opened k (CallSubmitted place a) in
     let message = message_of_call opened (outstanding_of k a) in
-    let one = sized_call opened k a plan is own g.resends lt g.sizes.client_up in
+    let one = sized_call opened k a plan is own g.resends resent g.again lt g.sizes.client_up in
     record {
       server = record {
         counts = totals_accepts opened k s w place a g.server.counts;
@@ -134,6 +137,7 @@ guards_submit opened k s u d all_up all_down w up place a plan l g is own again 
       credit = g.credit;
       calls = each_append (IsAsked opened) k.outstanding (outstanding_of k a ∷ []) g.calls (one, tt);
       resends = resends_others opened a.xid k.waiting g.resends;
+      again = g.again;
       within = g.within;
       sinks = g.sinks;
       xids = xids_append (xid_of_send opened) 0 all_up said g.xids (new_xid k.has_hello refl);
@@ -159,7 +163,7 @@ guards_submit opened k s u d all_up all_down w up place a plan l g is own again 
     new_xid true e =
         let sends : total_of sends_in all_up ≡ k.sends = calls_said opened k s u d all_up all_down w l ∙ ap (λ (b : Bool). cond b k.sends 0) e in
         subst (λ (b : Bool). XidsFrom (xid_of_send opened) (0 + total_of sends_in all_up) (cond b (send_frames None message) [])) (sym e)
-        (send_xids_from (xid_of_send opened) (0 + total_of sends_in all_up) message ((sized_call opened k a plan is own g.resends lt g.sizes.client_up).1 ∙ number ∙ ap (xid_of_send opened) (omega (arith, sends))))
+        (send_xids_from (xid_of_send opened) (0 + total_of sends_in all_up) message ((sized_call opened k a plan is own g.resends resent g.again lt g.sizes.client_up).1 ∙ number ∙ ap (xid_of_send opened) (omega (arith, sends))))
     new_xid false e = subst (λ (b : Bool). XidsFrom (xid_of_send opened) (0 + total_of sends_in all_up) (cond b (send_frames None message) [])) (sym e) tt
 
 -- ---- Memory is revoked, and a queue is written
@@ -193,6 +197,7 @@ guards_revoke opened k s u d all_up all_down w up place xid g = record {
   credit = g.credit;
   calls = sized_revoked opened xid k.outstanding g.calls;
   resends = resends_revoked opened xid k.waiting g.resends;
+  again = g.again;
   within = g.within;
   sinks = g.sinks;
   xids = g.xids;
@@ -215,6 +220,7 @@ guards_written_up opened k s u d all_up all_down w up taken all ends g = record 
   credit = g.credit;
   calls = g.calls;
   resends = g.resends;
+  again = g.again;
   within = g.within;
   sinks = g.sinks;
   xids = g.xids;
@@ -245,6 +251,7 @@ guards_execute opened k s u d all_up all_down w up e r rest o l g fits first own
       credit = g.credit;
       calls = g.calls;
       resends = g.resends;
+      again = g.again;
       within = g.within;
       sinks = g.sinks;
       xids = g.xids;
@@ -268,6 +275,7 @@ guards_written_down opened k s u d all_up all_down w up taken all ends g = recor
   credit = g.credit;
   calls = g.calls;
   resends = g.resends;
+  again = g.again;
   within = g.within;
   sinks = g.sinks;
   xids = g.xids;
@@ -291,6 +299,7 @@ guards_told opened k s u d all_up all_down w up what granted g = record {
   credit = told_most opened s.credit what granted g.credit;
   calls = g.calls;
   resends = g.resends;
+  again = g.again;
   within = g.within;
   sinks = g.sinks;
   xids = g.xids;

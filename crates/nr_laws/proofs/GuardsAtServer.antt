@@ -80,6 +80,7 @@ guards_up opened k s t u d all_up all_down w place end p rest said g server down
   credit = omega (arith, credit, g.credit);
   calls = g.calls;
   resends = g.resends;
+  again = g.again;
   within = within;
   sinks = sinks;
   xids = g.xids;

@@ -101,6 +101,7 @@ pub mod Replies
 pub mod ReadLimits
 pub mod RequestFields
 mod AgreedSizes
+mod SizesAgain
 pub mod Guards
 pub mod GuardsAtServer
 pub mod GuardsAtClient

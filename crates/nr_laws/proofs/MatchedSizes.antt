@@ -1,19 +1,16 @@
 -- On a matched link each side goes by what both agree on, from the other's hello on.
 use Rattle.std.proofs.Common.{◌≡◌, ℕ, zero, suc, ◌≤◌, ◌<◌, Bool, true, false, cond, List, [], ◌∷◌, ◌++◌, length, Option, None, Some, refl, sym, ap, subst, ◌∙◌, arith, append-nil, length-append, eqb-true}
 use Rattle.nr_wire.specs.declared.hello.Side.TheVariants.{Initiator, Responder}
-use Rattle.nr_wire.specs.Hello.{hello_of}
 use Rattle.nr_link.specs.declared.agreement.Agreement.{Agreement}
 use Rattle.nr_link.specs.declared.end.End.{End as Stop}
 use Rattle.nr_link.specs.Frames.{is_hello, Frame}
-use Rattle.nr_link.specs.Ending.{hello_end, frame_end_by}
 use Rattle.nr_reduce.specs.declared.mark.Mark.{Mark}
 use Rattle.nr_reduce.specs.declared.mark.LinkParameters.{LinkParameters}
 use Rattle.nr_reduce.specs.Events.{RunEvent, events}
 use Rattle.nr_reduce.specs.Events.RunEvent.{FrameReceived, CallSubmitted, MemoryRevoked, CallExecuted, QueueWritten, ServerTold}
 use Rattle.nr_reduce.specs.EndRules.{EndMachine, EndState, next_end_state_by, next_end_state_in}
-use Rattle.nr_reduce.specs.OfferedRegions.{region_grants}
 use Rattle.nr_reduce.specs.ClientState.{ClientState}
-use Rattle.nr_reduce.specs.Client.{client_segment, client_rules, client_end, client_readiness, client_state_after, initial_client, or_message_end, with_hello, with_segment, or_other_sizes, has_same_sizes}
+use Rattle.nr_reduce.specs.Client.{client_segment, client_rules, client_end, client_state_after, initial_client, with_hello, with_segment, has_same_sizes}
 use Rattle.nr_reduce.specs.ServerState.{ReadyCall, ServerState}
 use Rattle.nr_reduce.specs.ServerFrames.{frame_effect}
 use Rattle.nr_reduce.specs.Server.{server_rules, server_end, server_state_after, initial_server, with_effect, with_own_hello}
@@ -32,10 +29,9 @@ use Rattle.nr_laws.proofs.ClientRun.{client_goes}
 use Rattle.nr_laws.proofs.ServerAlong.{ServerPlain, outs_of}
 use Rattle.nr_laws.proofs.ServerEnds.{hello_goes, stopped_as_old}
 use Rattle.nr_reduce.specs.declared.mark.Told.{Told}
-use Rattle.nr_reduce.specs.Hellos.{agreement_with}
 use Rattle.nr_reduce.proofs.Unresumed.{HasOpening, opening_segment, opening_after}
-use Rattle.nr_link.specs.Reasons.{REASON_SIZES}
-use Rattle.nr_link.specs.declared.end.End.TheVariants as ends
+use Rattle.nr_laws.specs.EndCauses.{AgreesAgain}
+use Rattle.nr_laws.proofs.SizesAgain.{hello_stays}
 use Rattle.nr_laws.proofs.ServerSide.{server_goes, client_receives_of}
 use Rattle.nr_laws.proofs.FirstHellos.{first_hello, first_hello_is, first_of_server}
 use Rattle.nr_laws.proofs.AgreedSizes.{matched_agreement, matched_up, matched_down, matched_invalidates, up_limited, down_limited, client_agrees, server_agrees, segment_sizes}
@@ -166,13 +162,9 @@ client_hears opened link run typed far =
 abbrev ClientSized : LinkParameters → ClientState → Type 0
 ClientSized opened k = (k.up_max ≡ matched_up opened) × (k.down_max ≡ matched_down opened) × (k.invalidates ≡ matched_invalidates opened)
 
--- what an earlier hello agreed on, if there was one, are the same lengths
-abbrev AgreesAsBefore : LinkParameters → Type 0
-AgreesAsBefore opened = has_same_sizes opened.agreed (matched_agreement opened) ≡ true
-
 record ClientMatched (opened : LinkParameters) (place : ℕ) (r : EndState ClientState) : Type 0 where
   first : place ≡ 0 → r.ended ≡ None
-  sized : 0 < place → AgreesAsBefore opened → ClientSized opened r.state
+  sized : 0 < place → AgreesAgain opened → ClientSized opened r.state
   within : (r.state.up_max ≤ matched_up opened) × (r.state.down_max ≤ matched_down opened)
   opening : HasOpening opened r.state
 
@@ -192,15 +184,6 @@ client_quiet opened place r t ended up down names opening h = record {
   opening = opening;
 }
 
-hello_stays : (opened : LinkParameters) (k : ClientState) (f : Frame) → is_hello f ≡ true → f.bytes ≡ first_hello opened Responder → HasOpening opened k → AgreesAsBefore opened → client_end k (FrameReceived f) ≡ None
-unfolding client_end client_agreement
-hello_stays opened k f is own opening same =
-    let read : IsHelloFrame Responder f.bytes = subst (IsHelloFrame Responder) (sym own) (first_hello_is opened Responder) in
-    let again : has_same_sizes k.agreed (agreement_with k.terms f) ≡ true = (λ i. has_same_sizes (opening.1 i) (agreement_with (opening.0 i) f)) ∙ ap (λ (a : Agreement). has_same_sizes opened.agreed a) (client_agrees opened f own) ∙ same in
-    ap (λ (b : Bool). cond b (or_other_sizes k f (hello_end (hello_of Responder f.bytes))) (or_message_end k f (frame_end_by (client_readiness k) (region_grants f.end k.regions) f (client_segment k f)))) is
-    ∙ ap (λ (o : Option Stop). or_other_sizes k f o) (ap hello_end read.says)
-    ∙ ap (λ (b : Bool). cond b None (Some (ends.Bad f.at REASON_SIZES))) again
-
 client_frame : (opened : LinkParameters) (place : ℕ) (k : ClientState) (f : Frame) → IsNext place (FrameReceived f) → (is_hello f ≡ true → f.bytes ≡ first_hello opened Responder) → ClientMatched opened place (record { state = k; ended = None })
     → (o : Option Stop) → client_end k (FrameReceived f) ≡ o → ClientMatched opened f.end (next_end_state_by (client_rules opened) k (FrameReceived f) o)
 unfolding client_state_after
@@ -209,7 +192,7 @@ client_frame opened place k f next hears h (Some end) stops = by (is_hello f) re
     by : (b : Bool) → is_hello f ≡ b → ClientMatched opened f.end (record { state = k; ended = Some end })
     by true is = record {
       first = λ e. absurd (let l = next.1 in omega (arith, e, l));
-      sized = λ e same. absurd (let wrong : None ≡ Some end = sym (hello_stays opened k f is (hears is) h.opening same) ∙ stops in cc);
+      sized = λ e same. absurd (let wrong : None ≡ Some end = sym (hello_stays opened k f h.opening is (hears is) same) ∙ stops in cc);
       within = h.within;
       opening = h.opening;
     }

@@ -101,7 +101,7 @@ module _ (reply_to : List Entry → Moment → List ℕ → Option (List ℕ)) (
 
       by : (o : Option End) → (client opened link run).ended ≡ o → (p : Option End) → (server opened link run).ended ≡ p → ((client opened link run).ended ≡ None) × ((server opened link run).ended ≡ None)
       by None is None own = (is, own)
-      by None is (Some end) own = absurd (server_stays_lem opened link run opens again h.typed h.laws h.fresh h.conveyed is end own)
+      by None is (Some end) own = absurd (server_stays_lem opened link run opens h.typed h.laws h.fresh h.conveyed is end own)
       by (Some end) is None own = absurd (client_stays_lem run h own end is)
       by (Some a) is (Some b) own = absurd (both a b is own (one_side link before mark))
 

@@ -64,7 +64,7 @@ AgreesAgain opened = has_same_sizes opened.agreed (agreement (client_private ope
 -- client breaks a rule of the link, finds no receive, or is denied by the server's memory; each message is of a kind that a client sends,
 -- none has the xid of a call that is pending, and a payload with a head has the xid of its message.
 abbrev pub ServerEndsForCalls : Type 0
-ServerEndsForCalls = (opened : LinkParameters) (link : ℕ) (run : List Mark) → IsOpened opened → AgreesAgain opened → IsTyped run → KeepLaws opened link run → HasNoOldCall link run →
+ServerEndsForCalls = (opened : LinkParameters) (link : ℕ) (run : List Mark) → IsOpened opened → IsTyped run → KeepLaws opened link run → HasNoOldCall link run →
     end_of_side opened link Initiator run ≡ None → (end : End) → end_of_side opened link Responder run ≡ Some end → IsCallEnd end
 
 -- On a matched link whose server hasn't ended, the client ends only for what a reply is, or for an access that its memory denies: no segment
