@@ -76,9 +76,9 @@ no_xid_twice opened link run before between xid yid moment now payload asked pla
     let y = b.submit.own_xid in
     let m = a.submit.number in
     let n = b.submit.number in
-    let place : v.earlier ≡ w.earlier =
+    let there : v.earlier ≡ w.earlier =
     one_submit opened link run v.earlier w.earlier (v.later ++ first ∷ (between ++ second ∷ h.after)) (w.later ++ second ∷ h.after) v.call w.call v.form w.form v.xid w.xid far (omega (arith, x, y, same)) one two in
-    let sends = ap (λ (r : List Mark). (client opened link r).state.sends) place in
+    let sends = ap (λ (r : List Mark). (client opened link r).state.sends) there in
     let equal : a.executed.call.number ≡ b.executed.call.number = omega (arith, m, n, sends) in
     executes_once IsPrefixOf opened link run before between h.after xid yid moment now payload asked place later reply answer whole far.served
     a.executed.call b.executed.call a.executed.is_next b.executed.is_next equal

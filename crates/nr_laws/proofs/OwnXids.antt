@@ -1,5 +1,5 @@
 -- Outstanding calls have xids of their own.
-use Rattle.std.proofs.Common.{◌≡◌, ℕ, ◌+◌, Bool, true, false, not, cond, eqb, ◌⊎◌, inl, inr, List, [], ◌∷◌, Option, None, Some, Result, Ok, Err, refl, sym, subst, arith, map, ◌<◌, ◌≤◌}
+use Rattle.std.proofs.Common.{◌≡◌, ℕ, ◌+◌, Bool, true, false, not, cond, eqb, ◌⊎◌, inl, inr, List, [], ◌∷◌, ◌++◌, Option, None, Some, Result, Ok, Err, refl, sym, subst, ◌∙◌, arith, map, ◌<◌, ◌≤◌}
 use Rattle.std.specs.List.{filter}
 use Rattle.nr_wire.specs.Segment.{Segment}
 use Rattle.nr_xdr.specs.Fields.{word_at}

@@ -15,12 +15,15 @@ use Rattle.nr_reduce.proofs.Sizes.{message_size}
 use Rattle.nr_laws.proofs.Outputs.{IsShort, message_of_call}
 
 -- a plan fits a Send of the length for which it was made
-pub planned_size : (xid : ℕ) (call : Call) (form : Form) (plan : Plan) (p : IsPlannedAs xid call form plan) → plan_size plan ≤ p.up
-planned_size xid call form plan p =
-    let message = message_size (call_payload xid call) form p.up p.down 0 0 0 plan p.planned in
+pub plan_fits : (xid up down : ℕ) (call : Call) (form : Form) (plan : Plan) → plan_of (call_payload xid call) form up down ≡ Ok plan → plan_size plan ≤ up
+plan_fits xid up down call form plan is =
+    let message = message_size (call_payload xid call) form up down 0 0 0 plan is in
     let size = message.0 in
     let most = message.1 in
     omega (arith, size, most)
+
+pub planned_size : (xid : ℕ) (call : Call) (form : Form) (plan : Plan) (p : IsPlannedAs xid call form plan) → plan_size plan ≤ p.up
+planned_size xid call form plan p = plan_fits xid p.up p.down call form plan p.planned
 
 -- its message has the fixed words of a header, and fits too
 pub sized_message : (xid wished stag up down : ℕ) (call : Call) (form : Form) (plan : Plan) → plan_of (call_payload xid call) form up down ≡ Ok plan →

@@ -24,7 +24,8 @@ use Rattle.nr_reduce.proofs.Unresumed.{HasOpening, opening_after}
 use Rattle.nr_laws.specs.EndCauses.{AgreesAgain}
 use Rattle.nr_laws.proofs.Brought.{IsHelloFrame}
 use Rattle.nr_laws.proofs.FirstHellos.{first_hello, first_hello_is}
-use Rattle.nr_laws.proofs.AgreedSizes.{matched_agreement, matched_up, matched_down, up_limited, client_agrees}
+use Rattle.nr_link.specs.Agreement.{IsSendLimit}
+use Rattle.nr_laws.proofs.AgreedSizes.{matched_agreement, matched_up, up_limited, client_agrees}
 
 -- ---- The server's hello
 
@@ -42,24 +43,35 @@ hello_end_is opened k f opening first own =
 pub hello_stays : (opened : LinkParameters) (k : ClientState) (f : Frame) → HasOpening opened k → is_hello f ≡ true → f.bytes ≡ first_hello opened Responder → AgreesAgain opened → client_end k (FrameReceived f) ≡ None
 hello_stays opened k f opening first own again = hello_end_is opened k f opening first own ∙ ap (λ (b : Bool). cond b None (Some (ends.Bad f.at REASON_SIZES))) again
 
-pub hello_agrees : (opened : LinkParameters) (k : ClientState) (f : Frame) → HasOpening opened k → is_hello f ≡ true → f.bytes ≡ first_hello opened Responder → client_end k (FrameReceived f) ≡ None → AgreesAgain opened
-hello_agrees opened k f opening first own stays = by (has_same_sizes opened.agreed (matched_agreement opened)) (sym (hello_end_is opened k f opening first own) ∙ stays)
+-- any hello that doesn't end it agrees on the same lengths
+pub hello_same : (k : ClientState) (f : Frame) → is_hello f ≡ true → client_end k (FrameReceived f) ≡ None → has_same_sizes k.agreed (agreement_with k.terms f) ≡ true
+unfolding client_end
+hello_same k f first stays =
+    by (hello_end (hello_of Responder f.bytes))
+    (sym (ap (λ (b : Bool). cond b (or_other_sizes k f (hello_end (hello_of Responder f.bytes))) (or_message_end k f (frame_end_by (client_readiness k) (region_grants f.end k.regions) f (client_segment k f)))) first) ∙ stays)
   where
-    by : (b : Bool) → cond b None (Some (ends.Bad f.at REASON_SIZES)) ≡ None → b ≡ true
-    by true e = refl
-    by false e = absurd cc
+    same : (b : Bool) → cond b None (Some (ends.Bad f.at REASON_SIZES)) ≡ None → b ≡ true
+    same true e = refl
+    same false e = absurd cc
+
+    by : (o : Option End) → or_other_sizes k f o ≡ None → has_same_sizes k.agreed (agreement_with k.terms f) ≡ true
+    by None e = same (has_same_sizes k.agreed (agreement_with k.terms f)) e
+    by (Some end) e = absurd cc
+
+pub hello_agrees : (opened : LinkParameters) (k : ClientState) (f : Frame) → HasOpening opened k → is_hello f ≡ true → f.bytes ≡ first_hello opened Responder → client_end k (FrameReceived f) ≡ None → AgreesAgain opened
+unfolding client_agreement
+hello_agrees opened k f opening first own stays =
+    let same : agreement_with opened.client f ≡ matched_agreement opened = client_agrees opened f own in
+    ap (λ (a : Agreement). has_same_sizes opened.agreed a) (sym same) ∙ (λ i. has_same_sizes (sym opening.1 i) (agreement_with (sym opening.0 i) f)) ∙ hello_same k f first stays
 
 -- ---- The calls that wait are planned for lengths up to those that are agreed on again
 
-pub lengths_again : (opened : LinkParameters) → AgreesAgain opened → (lengths_before opened.agreed).up ≤ matched_up opened
-lengths_again opened again = by opened.agreed again
-  where
-    first : (up down : ℕ) → (eqb up (matched_up opened) && eqb down (matched_down opened)) ≡ true → up ≤ matched_up opened
-    first up down e = (let same = eqb-true up (matched_up opened) (and_parts (eqb up (matched_up opened)) (eqb down (matched_down opened)) e).0 in omega (arith, same))
+pub lengths_same : (agreed : Option Agreement) (a : Agreement) → IsSendLimit a.up → has_same_sizes agreed a ≡ true → (lengths_before agreed).up ≤ a.up
+lengths_same None a fits e = fits.0
+lengths_same (Some earlier) a fits e = (let same = eqb-true earlier.up a.up (and_parts (eqb earlier.up a.up) (eqb earlier.down a.down) e).0 in omega (arith, same))
 
-    by : (agreed : Option Agreement) → has_same_sizes agreed (matched_agreement opened) ≡ true → (lengths_before agreed).up ≤ matched_up opened
-    by None e = (up_limited opened).0
-    by (Some a) e = first a.up a.down e
+pub lengths_again : (opened : LinkParameters) → AgreesAgain opened → (lengths_before opened.agreed).up ≤ matched_up opened
+lengths_again opened again = lengths_same opened.agreed (matched_agreement opened) (up_limited opened) again
 
 -- ---- A client that some events lead to
 
