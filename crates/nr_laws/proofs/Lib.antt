@@ -85,6 +85,7 @@ pub mod AgreeingMarks
 pub mod EachRun
 pub mod AccountedCalls
 pub mod AccountedRuns
+mod ResentCalls
 pub mod SettledLinks
 pub mod AllowedResponses
 pub mod FaultlessSegments
