@@ -35,7 +35,7 @@ use Rattle.std.proofs.lemmas.Bool.{eq-eqb}
 use Rattle.nr_laws.proofs.EventOutputs.{IsNext, along, place_after}
 use Rattle.nr_laws.proofs.ClientSays.{ClientGood}
 use Rattle.nr_laws.proofs.ClientRun.{client_goes}
-use Rattle.nr_laws.proofs.AgreedSizes.{segment_sizes}
+use Rattle.nr_laws.proofs.AgreedSizes.{segment_sizes, segment_hello}
 use Rattle.nr_laws.proofs.Basics.{each_append, each_kept}
 
 -- the lists of a plan leave room in a Send of this length
@@ -111,21 +111,12 @@ fit_segment up k f (Err reason) h = h
 fit_segment up k f (Ok s) h =
     fit_request up (with_message k f.end (message_completed k.received s)) (due_with_response k f s) (read_request_of s) (fit_message up k f.end (message_completed k.received s) h)
 
-segment_hello : (k : ClientState) (f : Frame) (r : Result Segment ℕ) → (with_segment k f r).has_hello ≡ k.has_hello
-segment_hello k f (Err reason) = refl
-segment_hello k f (Ok s) = by (message_completed k.received s) (read_request_of s)
-  where
-    by : (m : Option (List ℕ)) (q : Option ReadRequest) → (with_request (with_message k f.end m) (due_with_response k f s) q).has_hello ≡ k.has_hello
-    by None None = refl
-    by None (Some q) = refl
-    by (Some m) None = refl
-    by (Some m) (Some q) = refl
-
 few_hello : (opened : LinkParameters) (place : ℕ) (k : ClientState) (f : Frame) → place ≡ 0 → 0 < f.end → is_hello f ≡ true → client_end k (FrameReceived f) ≡ None → FewAt opened place k → FewAt opened f.end (with_hello opened k f)
 unfolding client_agreement
 few_hello opened place k f first some is stays h =
     let a : Agreement = agreement_with opened.client f in
-    let limits = (agreements_bounded (client_private opened) (private_of f)).0 in
+    let bounds = agreements_bounded (client_private opened) (private_of f) in
+    let limits = bounds.0 in
     let up : k.up_max ≡ send_unit = h.first first in
     let same : has_same_sizes opened.agreed a ≡ true = (λ i. has_same_sizes (sym h.opening.1 i) (agreement_with (sym h.opening.0 i) f)) ∙ hello_same k f is stays in
     record {
@@ -133,7 +124,7 @@ few_hello opened place k f first some is stays h =
       first = λ e. absurd (omega (arith, e, some));
       fit = fit_more k.up_max (with_hello opened k f).up_max k.outstanding (omega (arith, up, limits.0)) h.fit;
       resends = h.resends;
-      again = λ e. lengths_same opened.agreed a limits same;
+      again = λ e. (lengths_same opened.agreed a bounds.0 bounds.1 same).0;
       opening = h.opening;
     }
 

@@ -31,10 +31,10 @@ use Rattle.nr_laws.proofs.ServerEnds.{hello_goes, stopped_as_old}
 use Rattle.nr_reduce.specs.declared.mark.Told.{Told}
 use Rattle.nr_reduce.proofs.Unresumed.{HasOpening, opening_segment, opening_after}
 use Rattle.nr_laws.specs.EndCauses.{AgreesAgain}
-use Rattle.nr_laws.proofs.SizesAgain.{hello_stays}
+use Rattle.nr_laws.proofs.SizesAgain.{hello_stays, hello_agrees}
 use Rattle.nr_laws.proofs.ServerSide.{server_goes, client_receives_of}
 use Rattle.nr_laws.proofs.FirstHellos.{first_hello, first_hello_is, first_of_server}
-use Rattle.nr_laws.proofs.AgreedSizes.{matched_agreement, matched_up, matched_down, matched_invalidates, up_limited, down_limited, client_agrees, server_agrees, segment_sizes}
+use Rattle.nr_laws.proofs.AgreedSizes.{matched_up, matched_down, matched_invalidates, up_limited, down_limited, client_agrees, server_agrees, segment_sizes, segment_hello}
 use Rattle.nr_laws.proofs.MatchedHellos.{HearsHello, HearHello, FirstIs, first_part, first_more, brought_hello, heard_at, heard_along, server_hears}
 
 some_place : (place : ℕ) → (place ≡ 0 → ⊥) → 0 < place
@@ -167,21 +167,24 @@ record ClientMatched (opened : LinkParameters) (place : ℕ) (r : EndState Clien
   sized : 0 < place → AgreesAgain opened → ClientSized opened r.state
   within : (r.state.up_max ≤ matched_up opened) × (r.state.down_max ≤ matched_down opened)
   opening : HasOpening opened r.state
+  again : r.state.has_hello ≡ true → AgreesAgain opened
 
-client_later : (opened : LinkParameters) (place end : ℕ) (r t : EndState ClientState) → 0 < place → 0 < end → t.state.up_max ≡ r.state.up_max → t.state.down_max ≡ r.state.down_max → t.state.invalidates ≡ r.state.invalidates → HasOpening opened t.state → ClientMatched opened place r → ClientMatched opened end t
-client_later opened place end r t some later up down names opening h = record {
+client_later : (opened : LinkParameters) (place end : ℕ) (r t : EndState ClientState) → 0 < place → 0 < end → t.state.up_max ≡ r.state.up_max → t.state.down_max ≡ r.state.down_max → t.state.invalidates ≡ r.state.invalidates → t.state.has_hello ≡ r.state.has_hello → HasOpening opened t.state → ClientMatched opened place r → ClientMatched opened end t
+client_later opened place end r t some later up down names hello opening h = record {
   first = λ e. absurd (omega (arith, e, later));
   sized = λ e same. (up ∙ (h.sized some same).0, down ∙ (h.sized some same).1, names ∙ (h.sized some same).2);
   within = (omega (arith, up, h.within.0), omega (arith, down, h.within.1));
   opening = opening;
+  again = λ e. h.again (sym hello ∙ e);
 }
 
-client_quiet : (opened : LinkParameters) (place : ℕ) (r t : EndState ClientState) → t.ended ≡ r.ended → t.state.up_max ≡ r.state.up_max → t.state.down_max ≡ r.state.down_max → t.state.invalidates ≡ r.state.invalidates → HasOpening opened t.state → ClientMatched opened place r → ClientMatched opened place t
-client_quiet opened place r t ended up down names opening h = record {
+client_quiet : (opened : LinkParameters) (place : ℕ) (r t : EndState ClientState) → t.ended ≡ r.ended → t.state.up_max ≡ r.state.up_max → t.state.down_max ≡ r.state.down_max → t.state.invalidates ≡ r.state.invalidates → t.state.has_hello ≡ r.state.has_hello → HasOpening opened t.state → ClientMatched opened place r → ClientMatched opened place t
+client_quiet opened place r t ended up down names hello opening h = record {
   first = λ e. ended ∙ h.first e;
   sized = λ e same. (up ∙ (h.sized e same).0, down ∙ (h.sized e same).1, names ∙ (h.sized e same).2);
   within = (omega (arith, up, h.within.0), omega (arith, down, h.within.1));
   opening = opening;
+  again = λ e. h.again (sym hello ∙ e);
 }
 
 client_frame : (opened : LinkParameters) (place : ℕ) (k : ClientState) (f : Frame) → IsNext place (FrameReceived f) → (is_hello f ≡ true → f.bytes ≡ first_hello opened Responder) → ClientMatched opened place (record { state = k; ended = None })
@@ -195,9 +198,10 @@ client_frame opened place k f next hears h (Some end) stops = by (is_hello f) re
       sized = λ e same. absurd (let wrong : None ≡ Some end = sym (hello_stays opened k f h.opening is (hears is) same) ∙ stops in cc);
       within = h.within;
       opening = h.opening;
+      again = h.again;
     }
     by false is = client_later opened place f.end (record { state = k; ended = None }) (record { state = k; ended = Some end })
-        (let some = above_zero f.at is in let at = next.0 in omega (arith, some, at)) (let l = next.1 in omega (arith, l)) refl refl refl h.opening h
+        (let some = above_zero f.at is in let at = next.0 in omega (arith, some, at)) (let l = next.1 in omega (arith, l)) refl refl refl refl h.opening h
 client_frame opened place k f next hears h None stays = by (is_hello f) refl
   where
     by : (b : Bool) → is_hello f ≡ b → ClientMatched opened f.end (record { state = cond b (with_hello opened k f) (with_segment k f (client_segment k f)); ended = None })
@@ -206,23 +210,23 @@ client_frame opened place k f next hears h None stays = by (is_hello f) refl
         let up : (client_agreement opened f).up ≡ matched_up opened = ap (λ (a : Agreement). a.up) agreed in
         let down : (client_agreement opened f).down ≡ matched_down opened = ap (λ (a : Agreement). a.down) agreed in
         let names : (client_agreement opened f).invalidates ≡ matched_invalidates opened = ap (λ (a : Agreement). a.invalidates) agreed in
-        record { first = λ e. absurd (let l = next.1 in omega (arith, e, l)); sized = λ e same. (up, down, names); within = (omega (arith, up), omega (arith, down)); opening = h.opening }
+        record { first = λ e. absurd (let l = next.1 in omega (arith, e, l)); sized = λ e same. (up, down, names); within = (omega (arith, up), omega (arith, down)); opening = h.opening; again = λ e. hello_agrees opened k f h.opening is (hears is) stays }
     by false is =
         let same = segment_sizes k f (client_segment k f) in
         client_later opened place f.end (record { state = k; ended = None }) (record { state = with_segment k f (client_segment k f); ended = None })
-        (let some = above_zero f.at is in let at = next.0 in omega (arith, some, at)) (let l = next.1 in omega (arith, l)) same.0 same.1 same.2 (opening_segment opened k f (client_segment k f) h.opening) h
+        (let some = above_zero f.at is in let at = next.0 in omega (arith, some, at)) (let l = next.1 in omega (arith, l)) same.0 same.1 same.2 (segment_hello k f (client_segment k f)) (opening_segment opened k f (client_segment k f) h.opening) h
 
 client_step : (opened : LinkParameters) (place : ℕ) (k : ClientState) (ended : Option Stop) (e : RunEvent) → IsNext place e → ClientGood opened (record { state = k; ended = ended }) e × HearsHello (first_hello opened Responder) e
     → ClientMatched opened place (record { state = k; ended = ended }) → ClientMatched opened (place_after place e) (next_end_state_in (client_rules opened) k e ended)
 unfolding client_state_after client_end
 client_step opened place k None (FrameReceived f) next good h = client_frame opened place k f next good.1 h (client_end k (FrameReceived f)) refl
-client_step opened place k None (CallSubmitted p a) next good h = client_quiet opened place (record { state = k; ended = None }) (record { state = client_state_after opened k (CallSubmitted p a); ended = None }) refl refl refl refl (opening_after opened k (CallSubmitted p a) h.opening) h
-client_step opened place k None (MemoryRevoked p xid) next good h = client_quiet opened place (record { state = k; ended = None }) (record { state = client_state_after opened k (MemoryRevoked p xid); ended = None }) refl refl refl refl (opening_after opened k (MemoryRevoked p xid) h.opening) h
+client_step opened place k None (CallSubmitted p a) next good h = client_quiet opened place (record { state = k; ended = None }) (record { state = client_state_after opened k (CallSubmitted p a); ended = None }) refl refl refl refl refl (opening_after opened k (CallSubmitted p a) h.opening) h
+client_step opened place k None (MemoryRevoked p xid) next good h = client_quiet opened place (record { state = k; ended = None }) (record { state = client_state_after opened k (MemoryRevoked p xid); ended = None }) refl refl refl refl refl (opening_after opened k (MemoryRevoked p xid) h.opening) h
 client_step opened place k None (CallExecuted e) next good h = h
-client_step opened place k None (QueueWritten taken) next good h = client_quiet opened place (record { state = k; ended = None }) (record { state = client_state_after opened k (QueueWritten taken); ended = None }) refl refl refl refl (opening_after opened k (QueueWritten taken) h.opening) h
-client_step opened place k None (ServerTold what) next good h = client_quiet opened place (record { state = k; ended = None }) (record { state = client_state_after opened k (ServerTold what); ended = None }) refl refl refl refl (opening_after opened k (ServerTold what) h.opening) h
+client_step opened place k None (QueueWritten taken) next good h = client_quiet opened place (record { state = k; ended = None }) (record { state = client_state_after opened k (QueueWritten taken); ended = None }) refl refl refl refl refl (opening_after opened k (QueueWritten taken) h.opening) h
+client_step opened place k None (ServerTold what) next good h = client_quiet opened place (record { state = k; ended = None }) (record { state = client_state_after opened k (ServerTold what); ended = None }) refl refl refl refl refl (opening_after opened k (ServerTold what) h.opening) h
 client_step opened place k (Some end) (FrameReceived f) next good h =
-    client_later opened place f.end (record { state = k; ended = Some end }) (record { state = k; ended = Some end }) (some_place place (λ e. (let wrong : Some end ≡ None = h.first e in cc))) (let l = next.1 in omega (arith, l)) refl refl refl h.opening h
+    client_later opened place f.end (record { state = k; ended = Some end }) (record { state = k; ended = Some end }) (some_place place (λ e. (let wrong : Some end ≡ None = h.first e in cc))) (let l = next.1 in omega (arith, l)) refl refl refl refl h.opening h
 client_step opened place k (Some end) (CallSubmitted p a) next good h = h
 client_step opened place k (Some end) (MemoryRevoked p xid) next good h = h
 client_step opened place k (Some end) (CallExecuted e) next good h = h
@@ -238,11 +242,14 @@ client_matched opened link run typed far =
     along rules (λ k e. []) (λ end. []) (λ r e. ClientGood opened r e × HearsHello bytes e) (λ es place r outs. ClientMatched opened place r)
     (λ es place r outs e next good h. client_step opened place r.state r.ended e next good h)
     [] 0 (initial_client opened) [] es (heard_along rules (ClientGood opened) bytes 0 (initial_client opened) es (client_goes opened link run typed far.asked).goes (client_hears opened link run typed far))
-    (record { first = λ e. refl; sized = λ e same. absurd (omega (arith, e)); within = ((up_limited opened).0, (down_limited opened).0); opening = (refl, refl) })
+    (record { first = λ e. refl; sized = λ e same. absurd (omega (arith, e)); within = ((up_limited opened).0, (down_limited opened).0); opening = (refl, refl); again = λ e. absurd cc })
 
 pub client_within : (opened : LinkParameters) (link : ℕ) (run : List Mark) → IsTyped run → MatchedSoFar opened link run
     → ((client opened link run).state.up_max ≤ matched_up opened) × ((client opened link run).state.down_max ≤ matched_down opened)
 client_within opened link run typed far = (client_matched opened link run typed far).within
+
+pub client_again : (opened : LinkParameters) (link : ℕ) (run : List Mark) → IsTyped run → MatchedSoFar opened link run → (client opened link run).state.has_hello ≡ true → AgreesAgain opened
+client_again opened link run typed far hello = (client_matched opened link run typed far).again hello
 
 -- a server that has a call to execute received a hello
 pub executing_sized : (opened : LinkParameters) (link : ℕ) (run : List Mark) (call : ReadyCall) (others : List ReadyCall) → IsTyped run → MatchedSoFar opened link run → (server opened link run).state.ready ≡ call ∷ others

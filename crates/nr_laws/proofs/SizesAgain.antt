@@ -25,7 +25,7 @@ use Rattle.nr_laws.specs.EndCauses.{AgreesAgain}
 use Rattle.nr_laws.proofs.Brought.{IsHelloFrame}
 use Rattle.nr_laws.proofs.FirstHellos.{first_hello, first_hello_is}
 use Rattle.nr_link.specs.Agreement.{IsSendLimit}
-use Rattle.nr_laws.proofs.AgreedSizes.{matched_agreement, matched_up, up_limited, client_agrees}
+use Rattle.nr_laws.proofs.AgreedSizes.{matched_agreement, matched_up, matched_down, up_limited, down_limited, client_agrees}
 
 -- ---- The server's hello
 
@@ -66,12 +66,16 @@ hello_agrees opened k f opening first own stays =
 
 -- ---- The calls that wait are planned for lengths up to those that are agreed on again
 
-pub lengths_same : (agreed : Option Agreement) (a : Agreement) → IsSendLimit a.up → has_same_sizes agreed a ≡ true → (lengths_before agreed).up ≤ a.up
-lengths_same None a fits e = fits.0
-lengths_same (Some earlier) a fits e = (let same = eqb-true earlier.up a.up (and_parts (eqb earlier.up a.up) (eqb earlier.down a.down) e).0 in omega (arith, same))
+pub lengths_same : (agreed : Option Agreement) (a : Agreement) → IsSendLimit a.up → IsSendLimit a.down → has_same_sizes agreed a ≡ true → ((lengths_before agreed).up ≤ a.up) × ((lengths_before agreed).down ≤ a.down)
+lengths_same None a up down e = (up.0, down.0)
+lengths_same (Some earlier) a up down e =
+    let both = and_parts (eqb earlier.up a.up) (eqb earlier.down a.down) e in
+    let same_up = eqb-true earlier.up a.up both.0 in
+    let same_down = eqb-true earlier.down a.down both.1 in
+    (omega (arith, same_up), omega (arith, same_down))
 
-pub lengths_again : (opened : LinkParameters) → AgreesAgain opened → (lengths_before opened.agreed).up ≤ matched_up opened
-lengths_again opened again = lengths_same opened.agreed (matched_agreement opened) (up_limited opened) again
+pub lengths_again : (opened : LinkParameters) → AgreesAgain opened → ((lengths_before opened.agreed).up ≤ matched_up opened) × ((lengths_before opened.agreed).down ≤ matched_down opened)
+lengths_again opened again = lengths_same opened.agreed (matched_agreement opened) (up_limited opened) (down_limited opened) again
 
 -- ---- A client that some events lead to
 

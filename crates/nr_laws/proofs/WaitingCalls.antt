@@ -18,6 +18,8 @@ use Rattle.nr_reduce.specs.ClientState.{WaitingCall, ClientState, first_of, othe
 use Rattle.nr_reduce.specs.Client.{client_rules, client_state_after, initial_client, client_segment, with_segment, with_hello, outstanding_of, revoked_waiting, with_message, with_request, due_with_response, plan_or}
 use Rattle.nr_reduce.specs.Run.{client}
 use Rattle.nr_reduce.specs.Asked.{IsAccepted, IsPlannedAs}
+use Rattle.nr_reduce.specs.Opening.{IsOpened, AreResumed, lengths_before}
+use Rattle.nr_link.specs.declared.agreement.Agreement.{Agreement}
 use Rattle.nr_reduce.proofs.OwnLimits.{client_limits_of, planned_as}
 use Rattle.nr_reduce.proofs.OwnStags.{kept_after}
 use Rattle.nr_reduce.proofs.Placing.{segment_waiting}
@@ -151,3 +153,45 @@ others_there Q (w ∷ ws) xid h = by (eqb w.xid xid)
     by : (b : Bool) → AllByRecursion Q (cond b ws (w ∷ ws))
     by true = h.1
     by false = h
+
+-- ---- It is planned for lengths that an earlier hello agreed on
+
+pub record IsPlannedBefore (agreed : Agreement) (w : WaitingCall) : Type 0 where
+  pub planned : IsPlannedAs w.xid w.call w.form w.plan
+  pub up : planned.up ≤ agreed.up
+  pub down : planned.down ≤ agreed.down
+
+abbrev PlannedBefore : LinkParameters → ClientState → Type 0
+PlannedBefore opened k = AllByRecursion (IsPlannedBefore (lengths_before opened.agreed)) k.waiting
+
+before_first : (agreed : Agreement) (first stag : ℕ) (rs : List ResumedCall) (next : ℕ) → AreResumed agreed first rs next → AllByRecursion (IsPlannedBefore agreed) (waiting_from stag rs)
+before_first agreed first stag [] next h = tt
+before_first agreed first stag (r ∷ rs) next h =
+    let own = h.1.0 in
+    (record { planned = own.planned; up = own.up; down = own.down }, before_first agreed (r.xid + 1) (stag + regions_needed r.plan) rs next h.1.1)
+
+before_revoked : (agreed : Agreement) (xid : ℕ) (ws : List WaitingCall) → AllByRecursion (IsPlannedBefore agreed) ws → AllByRecursion (IsPlannedBefore agreed) (map (revoked_waiting xid) ws)
+before_revoked agreed xid [] h = tt
+before_revoked agreed xid (w ∷ ws) h = (by (eqb w.xid xid), before_revoked agreed xid ws h.1)
+  where
+    by : (b : Bool) → IsPlannedBefore agreed (cond b (record w { is_revoked = true }) w)
+    by true = (let own = h.0 in record { planned = own.planned; up = own.up; down = own.down })
+    by false = h.0
+
+before_event : (opened : LinkParameters) (k : ClientState) (e : RunEvent) → PlannedBefore opened k → PlannedBefore opened (client_state_after opened k e)
+unfolding client_state_after
+before_event opened k (FrameReceived f) h = by (is_hello f)
+  where
+    by : (b : Bool) → PlannedBefore opened (cond b (with_hello opened k f) (with_segment k f (client_segment k f)))
+    by true = h
+    by false = subst (AllByRecursion (IsPlannedBefore (lengths_before opened.agreed))) (sym (segment_waiting k f (client_segment k f))) h
+before_event opened k (CallSubmitted place a) h = others_there (IsPlannedBefore (lengths_before opened.agreed)) k.waiting a.xid h
+before_event opened k (MemoryRevoked place xid) h = before_revoked (lengths_before opened.agreed) xid k.waiting h
+before_event opened k (CallExecuted call) h = h
+before_event opened k (QueueWritten taken) h = h
+before_event opened k (ServerTold what) h = h
+
+pub planned_before : (opened : LinkParameters) (link : ℕ) (run : List Mark) → IsOpened opened → AllByRecursion (IsPlannedBefore (lengths_before opened.agreed)) (client opened link run).state.waiting
+unfolding client
+planned_before opened link run o =
+    kept_after (client_rules opened) (PlannedBefore opened) (before_event opened) (initial_client opened) (events link Initiator run) (before_first (lengths_before opened.agreed) 1 opened.first_stag opened.resumed opened.first_xid o.resumed)
