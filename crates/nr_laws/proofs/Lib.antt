@@ -14,6 +14,10 @@ pub mod ReceivedMessages
 pub mod Outputs
 pub mod TaggedSegments
 pub mod OnceByXid
+mod OutstandingSubmits
+mod ResumedCalls
+mod EarlierLinks
+mod JournalPlaces
 pub mod EntriesApart
 pub mod WaitingCalls
 pub mod ServerOutputs

@@ -154,6 +154,34 @@ others_there Q (w ∷ ws) xid h = by (eqb w.xid xid)
     by true = h.1
     by false = h
 
+-- ---- What holds of each call that waits from the start, revoked or not, holds on
+
+module _ (Q : WaitingCall → Type 0) (opened : LinkParameters) (revoked : (w : WaitingCall) → Q w → Q (record w { is_revoked = true })) where
+  each_revoked : (xid : ℕ) (ws : List WaitingCall) → AllByRecursion Q ws → AllByRecursion Q (map (revoked_waiting xid) ws)
+  each_revoked xid [] h = tt
+  each_revoked xid (w ∷ ws) h = (by (eqb w.xid xid), each_revoked xid ws h.1)
+    where
+      by : (b : Bool) → Q (cond b (record w { is_revoked = true }) w)
+      by true = revoked w h.0
+      by false = h.0
+
+  each_event : (k : ClientState) (e : RunEvent) → AllByRecursion Q k.waiting → AllByRecursion Q (client_state_after opened k e).waiting
+  unfolding client_state_after
+  each_event k (FrameReceived f) h = by (is_hello f)
+    where
+      by : (b : Bool) → AllByRecursion Q (cond b (with_hello opened k f) (with_segment k f (client_segment k f))).waiting
+      by true = h
+      by false = subst (AllByRecursion Q) (sym (segment_waiting k f (client_segment k f))) h
+  each_event k (CallSubmitted place a) h = others_there Q k.waiting a.xid h
+  each_event k (MemoryRevoked place xid) h = each_revoked xid k.waiting h
+  each_event k (CallExecuted call) h = h
+  each_event k (QueueWritten taken) h = h
+  each_event k (ServerTold what) h = h
+
+  pub waits_on : AllByRecursion Q (waiting_from opened.first_stag opened.resumed) → (link : ℕ) (run : List Mark) → AllByRecursion Q (client opened link run).state.waiting
+  unfolding client
+  waits_on first link run = kept_after (client_rules opened) (λ k. AllByRecursion Q k.waiting) each_event (initial_client opened) (events link Initiator run) first
+
 -- ---- It is planned for lengths that an earlier hello agreed on
 
 pub record IsPlannedBefore (agreed : Agreement) (w : WaitingCall) : Type 0 where
@@ -161,37 +189,13 @@ pub record IsPlannedBefore (agreed : Agreement) (w : WaitingCall) : Type 0 where
   pub up : planned.up ≤ agreed.up
   pub down : planned.down ≤ agreed.down
 
-abbrev PlannedBefore : LinkParameters → ClientState → Type 0
-PlannedBefore opened k = AllByRecursion (IsPlannedBefore (lengths_before opened.agreed)) k.waiting
-
 before_first : (agreed : Agreement) (first stag : ℕ) (rs : List ResumedCall) (next : ℕ) → AreResumed agreed first rs next → AllByRecursion (IsPlannedBefore agreed) (waiting_from stag rs)
 before_first agreed first stag [] next h = tt
 before_first agreed first stag (r ∷ rs) next h =
     let own = h.1.0 in
     (record { planned = own.planned; up = own.up; down = own.down }, before_first agreed (r.xid + 1) (stag + regions_needed r.plan) rs next h.1.1)
 
-before_revoked : (agreed : Agreement) (xid : ℕ) (ws : List WaitingCall) → AllByRecursion (IsPlannedBefore agreed) ws → AllByRecursion (IsPlannedBefore agreed) (map (revoked_waiting xid) ws)
-before_revoked agreed xid [] h = tt
-before_revoked agreed xid (w ∷ ws) h = (by (eqb w.xid xid), before_revoked agreed xid ws h.1)
-  where
-    by : (b : Bool) → IsPlannedBefore agreed (cond b (record w { is_revoked = true }) w)
-    by true = (let own = h.0 in record { planned = own.planned; up = own.up; down = own.down })
-    by false = h.0
-
-before_event : (opened : LinkParameters) (k : ClientState) (e : RunEvent) → PlannedBefore opened k → PlannedBefore opened (client_state_after opened k e)
-unfolding client_state_after
-before_event opened k (FrameReceived f) h = by (is_hello f)
-  where
-    by : (b : Bool) → PlannedBefore opened (cond b (with_hello opened k f) (with_segment k f (client_segment k f)))
-    by true = h
-    by false = subst (AllByRecursion (IsPlannedBefore (lengths_before opened.agreed))) (sym (segment_waiting k f (client_segment k f))) h
-before_event opened k (CallSubmitted place a) h = others_there (IsPlannedBefore (lengths_before opened.agreed)) k.waiting a.xid h
-before_event opened k (MemoryRevoked place xid) h = before_revoked (lengths_before opened.agreed) xid k.waiting h
-before_event opened k (CallExecuted call) h = h
-before_event opened k (QueueWritten taken) h = h
-before_event opened k (ServerTold what) h = h
-
 pub planned_before : (opened : LinkParameters) (link : ℕ) (run : List Mark) → IsOpened opened → AllByRecursion (IsPlannedBefore (lengths_before opened.agreed)) (client opened link run).state.waiting
-unfolding client
 planned_before opened link run o =
-    kept_after (client_rules opened) (PlannedBefore opened) (before_event opened) (initial_client opened) (events link Initiator run) (before_first (lengths_before opened.agreed) 1 opened.first_stag opened.resumed opened.first_xid o.resumed)
+    waits_on (IsPlannedBefore (lengths_before opened.agreed)) opened (λ w h. record { planned = h.planned; up = h.up; down = h.down })
+    (before_first (lengths_before opened.agreed) 1 opened.first_stag opened.resumed opened.first_xid o.resumed) link run
