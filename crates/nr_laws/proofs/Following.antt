@@ -69,66 +69,68 @@ events_more link side run (mark ∷ more) =
           ∙ ap (λ (es : List RunEvent). es ++ next.0) (events_one link side run mark) ∙ append_assoc (events link side run) one next.0,
     )
 
--- A call whose outcome was handed over isn't executed after that.
-not_after : (opened : LinkParameters) (link : ℕ) (run before after mid rest : List Mark) (xid : ℕ) (outcome : Outcome) (moment : Moment) (payload : List ℕ) (place : ℕ) (reply : List ℕ) → IsTyped run → MatchedSoFar opened link run
-    → run ≡ before ++ marks.Done link xid outcome ∷ (mid ++ marks.Execute link xid moment payload place reply ∷ rest) → ⊥
-not_after opened link run before after mid rest xid outcome moment payload place reply typed far is =
-    by d.said.said
+-- A call whose outcome was received isn't executed after that.
+pub not_after_outcome : (opened : LinkParameters) (link : ℕ) (run before mid rest : List Mark) (xid : ℕ) (outcome : Outcome) (moment : Moment) (payload : List ℕ) (place : ℕ) (reply : List ℕ) → IsTyped run → MatchedSoFar opened link run
+    → IsTyped before → MatchedSoFar opened link before → OutcomeSaid opened link before (record { xid = xid; outcome = outcome })
+    → run ≡ before ++ (mid ++ marks.Execute link xid moment payload place reply ∷ rest) → ⊥
+not_after_outcome opened link run before mid rest xid outcome moment payload place reply typed far first_typed first_far d is =
+    by d.said
   where
-    done : Mark
-    done = marks.Done link xid outcome
-
     execute : Mark
     execute = marks.Execute link xid moment payload place reply
 
-    d : DoneAt opened link before xid outcome
-    d = done_at opened link run before (mid ++ execute ∷ rest) xid outcome typed far is
+    own_xid : xid ≡ word_at 0 d.given.message
+    own_xid = verdict_xid (client_by opened d.given.earlier).state d.given.frame.end d.given.message xid (Some outcome) d.given.given
 
-    own_xid : xid ≡ word_at 0 d.said.given.message
-    own_xid = verdict_xid (client_by opened d.said.given.earlier).state d.said.given.frame.end d.said.given.message xid (Some outcome) d.said.given.given
-
-    whole : run ≡ (before ++ done ∷ mid) ++ execute ∷ rest
-    whole = is ∙ sym (append_assoc before (done ∷ mid) (execute ∷ rest))
+    whole : run ≡ (before ++ mid) ++ execute ∷ rest
+    whole = is ∙ sym (append_assoc before mid (execute ∷ rest))
 
     again : (es : List RunEvent) (e : ExecutedCall) → AnsweredBy opened link before e es → e.xid ≡ xid → ⊥
     again es e a same =
         let m = a.mark in
-        let all : run ≡ (m.earlier ++ execute_mark link e ∷ (m.later ++ done ∷ mid)) ++ execute ∷ rest =
-        whole ∙ ap (λ (b : List Mark). (b ++ done ∷ mid) ++ execute ∷ rest) m.is ∙ ap (λ (b : List Mark). b ++ execute ∷ rest) (append_assoc m.earlier (execute_mark link e ∷ m.later) (done ∷ mid)) in
-        no_xid_twice opened link run m.earlier (m.later ++ done ∷ mid) e.xid xid e.moment moment e.payload payload e.place place e.reply reply typed far (record { after = rest; is = all }) same
+        let all : run ≡ (m.earlier ++ execute_mark link e ∷ (m.later ++ mid)) ++ execute ∷ rest =
+        whole ∙ ap (λ (b : List Mark). (b ++ mid) ++ execute ∷ rest) m.is ∙ ap (λ (b : List Mark). b ++ execute ∷ rest) (append_assoc m.earlier (execute_mark link e ∷ m.later) mid) in
+        no_xid_twice opened link run m.earlier (m.later ++ mid) e.xid xid e.moment moment e.payload payload e.place place e.reply reply typed far (record { after = rest; is = all }) same
 
-    by : Said opened (events link Responder before) d.said.before d.said.given.message → ⊥
+    by : Said opened (events link Responder before) d.before d.given.message → ⊥
     by (IsAnswer s) =
-        let a = answered_by_lem opened link before d.typed d.far s.earlier s.call s.later s.is in
+        let a = answered_by_lem opened link before first_typed first_far s.earlier s.call s.later s.is in
         let f = a.fits in
         again s.earlier s.call a (sym (answer_xid s.call.xid (credit_word (server_by opened s.earlier)) (offer_of (server_by opened s.earlier) s.call.xid) s.answer (omega (arith, f)))
         ∙ ap (λ (x : List ℕ). word_at 0 x) (sym s.message) ∙ sym own_xid)
     by (IsNoAnswer s) =
-        let a = answered_by_lem opened link before d.typed d.far s.earlier s.call s.later s.is in
+        let a = answered_by_lem opened link before first_typed first_far s.earlier s.call s.later s.is in
         let f = a.fits in
         again s.earlier s.call a (sym (chunk_error_xid s.call.xid (credit_word (server_by opened s.earlier)) (omega (arith, f))) ∙ ap (λ (x : List ℕ). word_at 0 x) (sym s.message) ∙ sym own_xid)
     by (IsRefusal s) =
-        let r = refused_submit opened link before d.typed d.far.asked d.far.matched d.said.given.message s in
-        let x = executed_at_lem opened link run (before ++ done ∷ mid) rest xid moment payload place reply typed far whole in
-        let more = events_more link Responder before (done ∷ mid) in
-        let all : events link Responder (before ++ done ∷ mid) ≡ s.earlier ++ FrameReceived s.frame ∷ (s.later ++ more.0) =
+        let r = refused_submit opened link before first_typed first_far.asked first_far.matched d.given.message s in
+        let x = executed_at_lem opened link run (before ++ mid) rest xid moment payload place reply typed far whole in
+        let more = events_more link Responder before mid in
+        let all : events link Responder (before ++ mid) ≡ s.earlier ++ FrameReceived s.frame ∷ (s.later ++ more.0) =
         more.1 ∙ ap (λ (es : List RunEvent). es ++ more.0) s.is ∙ append_assoc s.earlier (FrameReceived s.frame ∷ s.later) more.0 in
         let w = r.submitted in
         let y = x.submit.submitted in
-        let first : run ≡ w.earlier ++ marks.Submit link w.call w.form (submissions.Accepted w.xid) ∷ ((w.later ++ done ∷ mid) ++ execute ∷ rest) =
-        whole ∙ ap (λ (b : List Mark). (b ++ done ∷ mid) ++ execute ∷ rest) w.is
-        ∙ ap (λ (b : List Mark). b ++ execute ∷ rest) (append_assoc w.earlier (marks.Submit link w.call w.form (submissions.Accepted w.xid) ∷ w.later) (done ∷ mid))
-        ∙ append_assoc w.earlier (marks.Submit link w.call w.form (submissions.Accepted w.xid) ∷ (w.later ++ done ∷ mid)) (execute ∷ rest) in
+        let first : run ≡ w.earlier ++ marks.Submit link w.call w.form (submissions.Accepted w.xid) ∷ ((w.later ++ mid) ++ execute ∷ rest) =
+        whole ∙ ap (λ (b : List Mark). (b ++ mid) ++ execute ∷ rest) w.is
+        ∙ ap (λ (b : List Mark). b ++ execute ∷ rest) (append_assoc w.earlier (marks.Submit link w.call w.form (submissions.Accepted w.xid) ∷ w.later) mid)
+        ∙ append_assoc w.earlier (marks.Submit link w.call w.form (submissions.Accepted w.xid) ∷ (w.later ++ mid)) (execute ∷ rest) in
         let second : run ≡ y.earlier ++ marks.Submit link y.call y.form (submissions.Accepted y.xid) ∷ (y.later ++ execute ∷ rest) =
         whole ∙ ap (λ (b : List Mark). b ++ execute ∷ rest) y.is ∙ append_assoc y.earlier (marks.Submit link y.call y.form (submissions.Accepted y.xid) ∷ y.later) (execute ∷ rest) in
         let u = r.xid in
         let v = x.submit.own_xid in
-        let place : w.earlier ≡ y.earlier = one_submit opened link run w.earlier y.earlier ((w.later ++ done ∷ mid) ++ execute ∷ rest) (y.later ++ execute ∷ rest) w.call y.call w.form y.form w.xid y.xid far (omega (arith, u, v, own_xid)) first second in
+        let place : w.earlier ≡ y.earlier = one_submit opened link run w.earlier y.earlier ((w.later ++ mid) ++ execute ∷ rest) (y.later ++ execute ∷ rest) w.call y.call w.form y.form w.xid y.xid far (omega (arith, u, v, own_xid)) first second in
         let sends = ap (λ (b : List Mark). (client opened link b).state.sends) place in
         let m = w.counted in
         let n = x.submit.number in
         let equal : x.executed.call.number ≡ r.index + 1 = omega (arith, m, n, sends) in
-        refused_never opened link (before ++ done ∷ mid) s.earlier (s.later ++ more.0) s.frame s.segment (r.index + 1) all s.behind s.is_segment r.refuses xid payload x.executed equal
+        refused_never opened link (before ++ mid) s.earlier (s.later ++ more.0) s.frame s.segment (r.index + 1) all s.behind s.is_segment r.refuses xid payload x.executed equal
+
+-- So one whose outcome was handed over isn't.
+not_after : (opened : LinkParameters) (link : ℕ) (run before mid rest : List Mark) (xid : ℕ) (outcome : Outcome) (moment : Moment) (payload : List ℕ) (place : ℕ) (reply : List ℕ) → IsTyped run → MatchedSoFar opened link run
+    → run ≡ before ++ marks.Done link xid outcome ∷ (mid ++ marks.Execute link xid moment payload place reply ∷ rest) → ⊥
+not_after opened link run before mid rest xid outcome moment payload place reply typed far is =
+    let d = done_at opened link run before (mid ++ marks.Execute link xid moment payload place reply ∷ rest) xid outcome typed far is in
+    not_after_outcome opened link run before (marks.Done link xid outcome ∷ mid) rest xid outcome moment payload place reply typed far d.typed d.far d.said is
 
 pub executed_before : (opened : LinkParameters) (link : ℕ) (run before after first last : List Mark) (xid : ℕ) (outcome : Outcome) (moment : Moment) (payload : List ℕ) (place : ℕ) (reply : List ℕ) → IsTyped run → MatchedSoFar opened link run
     → run ≡ before ++ marks.Done link xid outcome ∷ after → run ≡ first ++ marks.Execute link xid moment payload place reply ∷ last
@@ -137,7 +139,7 @@ executed_before opened link run before after first last xid outcome moment paylo
     by (order before (marks.Done link xid outcome) after first (marks.Execute link xid moment payload place reply) last (sym here ∙ there))
   where
     by : Order before (marks.Done link xid outcome) after first (marks.Execute link xid moment payload place reply) last → (mid : List Mark) × (before ≡ first ++ marks.Execute link xid moment payload place reply ∷ mid)
-    by (Behind between is then) = absurd (not_after opened link run before after between last xid outcome moment payload place reply typed far (here ∙ ap (λ (t : List Mark). before ++ marks.Done link xid outcome ∷ t) then))
+    by (Behind between is then) = absurd (not_after opened link run before between last xid outcome moment payload place reply typed far (here ∙ ap (λ (t : List Mark). before ++ marks.Done link xid outcome ∷ t) then))
     by (Here same wrong) = absurd (let e = wrong in cc)
     by (Before between is then) = (between, is)
 

@@ -18,6 +18,7 @@ mod OutstandingSubmits
 mod ResumedCalls
 mod EarlierLinks
 mod JournalPlaces
+mod CompletedChanges
 pub mod EntriesApart
 pub mod WaitingCalls
 pub mod ServerOutputs
