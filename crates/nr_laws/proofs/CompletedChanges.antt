@@ -3,6 +3,7 @@
 use Rattle.std.proofs.Common.{◌≡◌, ◌≢◌, ℕ, ◌+◌, ◌<◌, Bool, true, false, cond, ◌&&◌, eqb, eq-eqb, List, [], ◌∷◌, ◌++◌, length, map, Option, None, Some, refl, sym, ap, subst, ◌∙◌, arith, append_assoc, append-nil, ◌⊎◌, inl, inr, length-append}
 use Rattle.std.specs.Prelude.{slice_get, Contains}
 use Rattle.std.proofs.lemmas.Bool.{ne_eqb}
+use Rattle.nr_xdr.specs.Item.{IsBytes}
 use Rattle.nr_outside.specs.declared.moment.Moment.{Moment}
 use Rattle.nr_rpc.specs.Reading.{call_of, xid_of_call}
 use Rattle.nr_wire.specs.declared.hello.Side.TheVariants.{Initiator, Responder}
@@ -44,6 +45,7 @@ use Rattle.nr_laws.proofs.JournalPlaces.{get_left, get_last, same_front, journal
 use Rattle.nr_laws.proofs.LaterMarks.{mark_later}
 use Rattle.nr_laws.proofs.OnceByXid.{at_mark}
 use Rattle.nr_laws.proofs.Outcomes.{outcome_said}
+use Rattle.nr_laws.proofs.OwnExecutes.{conveyed_bytes}
 use Rattle.nr_laws.proofs.OwnPayloads.{payloads_are_own}
 use Rattle.nr_laws.proofs.OwnReplies.{executed_replies_are_handed_over}
 use Rattle.nr_laws.proofs.RepliedPlans.{replies_have_plans}
@@ -140,6 +142,7 @@ record Handed (link : ℕ) (run before : List Mark) (xid : ℕ) (call : Call) (f
   within : before ≡ first ++ marks.Execute link xid moment payload place reply ∷ mid
   is : run ≡ first ++ marks.Execute link xid moment payload place reply ∷ after
   head : xid_of_call (call_of payload) ≡ Some xid
+  bytes : IsBytes payload
   earlier : List Mark
   later : List Mark
   submitted : run ≡ earlier ++ marks.Submit link call form (submissions.Accepted xid) ∷ later
@@ -194,6 +197,7 @@ module _ (reply_to : List Entry → Moment → List ℕ → Option (List ℕ)) (
         within = r_at.is ∙ ap (λ (q : List ℕ). r.before ++ marks.Execute link xid r.moment q r.place reply ∷ r_at.after) own;
         is = there.is ∙ ap (λ (q : List ℕ). r.before ++ marks.Execute link xid r.moment q r.place reply ∷ there.after) own;
         head = ap (λ (q : List ℕ). xid_of_call (call_of q)) (sym own) ∙ ap xid_of_call head.1.0 ∙ ap (λ (n : ℕ). Some n) head.1.1;
+        bytes = conveyed_bytes form (call_payload xid call) payload (subst (λ (c : Call). IsBytes (call_payload xid c)) same.0 (at_mark TypedMark run h.before submit at.after at.is typed).0) conveyed;
         earlier = h.before;
         later = at.after;
         submitted = at.is ∙ (λ i. h.before ++ marks.Submit link (same.0 i) (same.1 i) (submissions.Accepted xid) ∷ at.after);
@@ -288,7 +292,7 @@ module _ (reply_to : List Entry → Moment → List ℕ → Option (List ℕ)) (
       let parts = added_parts reply_to adds number run h.first h.after link xid h.moment payload h.place reply e h.is new one.1 in
       let journal_is : T ≡ J ++ own ∷ parts.0 = sym journaled.is ∙ parts.1 ∙ ap (λ (x : TaggedEntry). J ++ x ∷ parts.0) (numbered (number link) xid e heard) in
       let moment_is : e.moment ≡ h.moment = keeps.moment h.moment payload reply e one.1 in
-      let called : reply_to (entries_alone J) h.moment (call_of_entry xid e) ≡ Some reply = keeps.own (entries_alone J) h.moment payload reply xid e law.1 one.1 h.head in
+      let called : reply_to (entries_alone J) h.moment (call_of_entry xid e) ≡ Some reply = keeps.own (entries_alone J) h.moment payload reply xid e h.bytes law.1 one.1 h.head in
       record {
         place = length J;
         own = own;
@@ -345,7 +349,7 @@ module _ (reply_to : List Entry → Moment → List ℕ → Option (List ℕ)) (
       (at_mark (NumberedMark (server_with reply_to adds) number) run a.before earliest (a.after ++ execute ∷ h.after) in_run journaled.each) in
       let replied : reply_to (entries_alone B) a.moment payload ≡ Some a.reply = ap (λ (q : List ℕ). reply_to (entries_alone B) a.moment q) (sym same) ∙ executed.1 in
       let adds_it : adds a.moment payload a.reply ≡ a.entry ∷ [] = ap (λ (q : List ℕ). adds a.moment q a.reply) (sym same) ∙ a.adds_it in
-      let called : reply_to (entries_alone B) a.moment (call_of_entry xid a.entry) ≡ Some a.reply = keeps.own (entries_alone B) a.moment payload a.reply xid a.entry replied adds_it h.head in
+      let called : reply_to (entries_alone B) a.moment (call_of_entry xid a.entry) ≡ Some a.reply = keeps.own (entries_alone B) a.moment payload a.reply xid a.entry h.bytes replied adds_it h.head in
       let at_moment : a.entry.moment ≡ a.moment = keeps.moment a.moment payload a.reply a.entry adds_it in
       let k = law.1 in
       let parts = added_parts reply_to adds number h.first a.before a.after a.link a.xid a.moment a.payload a.at a.reply a.entry a.is a.new a.adds_it in

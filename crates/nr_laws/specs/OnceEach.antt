@@ -1,6 +1,7 @@
 -- Each change once: over any number of links of a numbered client, whatever was dropped and begun again, its calls take effect at most once, and
 -- exactly once if they complete with a reply that adds an entry.
 use Rattle.std.specs.Prelude.{◌≡◌, ◌≢◌, ℕ, ◌<◌, List, [], ◌∷◌, ◌++◌, length, slice_get, Option, Some, ◌⊎◌}
+use Rattle.nr_xdr.specs.Item.{IsBytes}
 use Rattle.nr_outside.specs.declared.moment.Moment.{Moment}
 use Rattle.nr_rpc.specs.Reading.{call_of, xid_of_call}
 use Rattle.nr_wire.specs.declared.hello.Side.TheVariants.{Initiator, Responder}
@@ -74,12 +75,12 @@ abbrev pub AddsOneAtMost : (Moment → List ℕ → List ℕ → List Entry) →
 AddsOneAtMost adds = (moment : Moment) (payload reply : List ℕ) → length (adds moment payload reply) < 2
 
 -- Whether a call adds an entry doesn't depend on its moment. The entry keeps that moment, and so much of the call that the call which is made of it
--- has the same reply.
+-- has the same reply. A call that is executed is always of bytes.
 pub record KeepsCalls (reply_to : List Entry → Moment → List ℕ → Option (List ℕ)) (adds : Moment → List ℕ → List ℕ → List Entry) : Type 0 where
   pub one : AddsOneAtMost adds
   pub alike : (m n : Moment) (payload reply : List ℕ) → adds m payload reply ≢ [] → adds n payload reply ≢ []
   pub moment : (m : Moment) (payload reply : List ℕ) (e : Entry) → adds m payload reply ≡ e ∷ [] → e.moment ≡ m
-  pub own : (J : List Entry) (m : Moment) (payload reply : List ℕ) (xid : ℕ) (e : Entry) → reply_to J m payload ≡ Some reply → adds m payload reply ≡ e ∷ [] →
+  pub own : (J : List Entry) (m : Moment) (payload reply : List ℕ) (xid : ℕ) (e : Entry) → IsBytes payload → reply_to J m payload ≡ Some reply → adds m payload reply ≡ e ∷ [] →
       xid_of_call (call_of payload) ≡ Some xid → reply_to J m (call_of_entry xid e) ≡ Some reply
 
 -- ---- The theorem
