@@ -43,6 +43,7 @@ use Rattle.nr_laws.proofs.ExecutedPayloads.{executes_have_plans}
 use Rattle.nr_laws.proofs.Following.{events_more, not_after_outcome}
 use Rattle.nr_laws.proofs.JournalPlaces.{get_left, get_last, same_front, journal_from, journal_parts, journal_more, AddedBy, added_by_mark, kept_entry}
 use Rattle.nr_laws.proofs.LaterMarks.{mark_later}
+use Rattle.nr_laws.proofs.NumbersHeard.{replied_number}
 use Rattle.nr_laws.proofs.OnceByXid.{at_mark}
 use Rattle.nr_laws.proofs.Outcomes.{outcome_said}
 use Rattle.nr_laws.proofs.OwnExecutes.{conveyed_bytes}
@@ -401,5 +402,7 @@ module _ (reply_to : List Entry → Moment → List ℕ → Option (List ℕ)) (
       by New is law = new_entry before xid call form payload reply moment h some is law
 
 pub completed_changes_have_entries : CompletedChangesHaveEntries
-completed_changes_have_entries reply_to adds opened link T run before xid call form moment payload reply typed journaled keeps clients opens matched heard asked done conveyed some =
-    completed_has reply_to adds opened link T run typed journaled keeps clients opens matched heard before xid call form moment payload reply asked done conveyed some
+completed_changes_have_entries reply_to adds opened link T run before xid call form moment payload reply typed journaled keeps clients opens matched numbered fits asked done conveyed some =
+    let heard : number_heard run link ≡ (opened link).client.number = replied_number (opened link) link run before xid reply typed (matched link (record { began = []; links = []; goes_on = refl })) fits done in
+    subst (λ (number : ℕ). HasEntry (server_with reply_to adds) T number xid payload reply) heard
+    (completed_has reply_to adds opened link T run typed journaled keeps clients opens matched (λ e. numbered (sym heard ∙ e)) before xid call form moment payload reply asked done conveyed some)

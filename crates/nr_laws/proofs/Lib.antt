@@ -70,6 +70,7 @@ pub mod CompletedFrames
 pub mod DistinctKeys
 pub mod OwnXids
 pub mod NothingLeft
+pub mod NumbersHeard
 pub mod OutputFrames
 pub mod PendingFrames
 pub mod PendingExecuted

@@ -1,6 +1,6 @@
 -- Each change once: over any number of links of a numbered client, whatever was dropped and begun again, its calls take effect at most once, and
 -- exactly once if they complete with a reply that adds an entry.
-use Rattle.std.specs.Prelude.{◌≡◌, ◌≢◌, ℕ, ◌<◌, List, [], ◌∷◌, ◌++◌, length, slice_get, Option, Some, ◌⊎◌}
+use Rattle.std.specs.Prelude.{◌≡◌, ◌≢◌, ℕ, ◌^◌, ◌<◌, List, [], ◌∷◌, ◌++◌, length, slice_get, Option, Some, ◌⊎◌}
 use Rattle.nr_xdr.specs.Item.{IsBytes}
 use Rattle.nr_outside.specs.declared.moment.Moment.{Moment}
 use Rattle.nr_rpc.specs.Reading.{call_of, xid_of_call}
@@ -110,12 +110,18 @@ pub record IsAskedFor (opened : ℕ → LinkParameters) (link : ℕ) (run : List
   pub before : List Mark
   pub at : MarkAt run before (marks.Submit first call form (submissions.Accepted xid))
 
--- On matched links a reply that is handed over, and that adds an entry, has its one entry.
+-- On a matched link a server that executed a call heard the number of its client.
+abbrev pub NumbersAreHeard : Type 0
+NumbersAreHeard = (opened : LinkParameters) (link : ℕ) (run before : List Mark) (xid : ℕ) (moment : Moment) (payload : List ℕ) (place : ℕ) (reply : List ℕ) →
+    IsTyped run → MatchedSoFar opened link run → opened.client.number < 2 ^ 64 → MarkAt run before (marks.Execute link xid moment payload place reply) →
+    number_heard run link ≡ opened.client.number
+
+-- On matched links of a client with a number, a reply that is handed over, and that adds an entry, has its one entry.
 abbrev pub CompletedChangesHaveEntries : Type 0
 CompletedChangesHaveEntries = (reply_to : List Entry → Moment → List ℕ → Option (List ℕ)) (adds : Moment → List ℕ → List ℕ → List Entry)
     (opened : ℕ → LinkParameters) (link : ℕ) (T : List TaggedEntry) (run before : List Mark) (xid : ℕ) (call : Call) (form : Form) (moment : Moment) (payload reply : List ℕ) →
     IsTyped run → JournaledByNumber (server_with reply_to adds) (number_heard run) T run → KeepsCalls reply_to adds →
-    OneClientEach opened run → OpenedWithEarlier opened run link → MatchedWithEarlier opened run link → number_heard run link ≢ 0 →
+    OneClientEach opened run → OpenedWithEarlier opened run link → MatchedWithEarlier opened run link → (opened link).client.number ≢ 0 → (opened link).client.number < 2 ^ 64 →
     IsAskedFor opened link run xid call form →
     MarkAt run before (marks.Done link xid (outcomes.Reply reply)) → form_conveyed form (call_payload xid call) ≡ Some payload → adds moment payload reply ≢ [] →
-    HasEntry (server_with reply_to adds) T (number_heard run link) xid payload reply
+    HasEntry (server_with reply_to adds) T (opened link).client.number xid payload reply

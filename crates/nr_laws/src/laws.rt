@@ -6,7 +6,7 @@ ghost use Rattle.nr_laws.specs.Agreed.{SidesAgree, ClientGoesByAgreement, Server
 ghost use Rattle.nr_laws.specs.Bounds.{ClientOffersFewSegments, ClientOwesFewResponses, ServerReadsFew, ServerUsesItsReceives};
 ghost use Rattle.nr_laws.specs.Places.{PlacesFollow};
 ghost use Rattle.nr_laws.specs.Once.{NoSendTwice, NoCallTwice, NoXidTwice};
-ghost use Rattle.nr_laws.specs.OnceEach.{NoEntryTwice, CompletedChangesHaveEntries};
+ghost use Rattle.nr_laws.specs.OnceEach.{NoEntryTwice, NumbersAreHeard, CompletedChangesHaveEntries};
 ghost use Rattle.nr_laws.specs.ChunkOutcomes.{ChunkHasCause, OthersHaveNoCause, CausedCallsComplete, NoOtherVersion, OffersArePlanned, NoOwnPlanIsRefused, AutoHasReplies, ChangesAreAnswered, ChunkAddsNothing};
 
 /// No Send is executed twice, whatever a client sends, and no accepted call completes twice. On a matched link no xid is executed
@@ -22,6 +22,7 @@ pub fn once()
 /// with a reply that adds an entry, it has one: what its form conveys of its own call adds just that entry, and the reply is the one of that entry.
 pub fn once_each()
     ensures entries { NoEntryTwice }
+    ensures heard { NumbersAreHeard }
     ensures completed { CompletedChangesHaveEntries }
 {}
 
