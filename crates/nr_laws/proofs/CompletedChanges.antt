@@ -23,9 +23,9 @@ use Rattle.nr_reduce.specs.Events.{RunEvent, events, events_at, if_own}
 use Rattle.nr_reduce.specs.Events.RunEvent.{CallExecuted}
 use Rattle.nr_reduce.specs.EndRules.{EndState, end_state_after}
 use Rattle.nr_reduce.specs.Client.{client_rules, initial_client}
-use Rattle.nr_reduce.specs.History.{CompletedCall, ExecutedCall}
+use Rattle.nr_reduce.specs.History.{CompletedCall}
 use Rattle.nr_reduce.specs.Matched.{MatchedMark, IsPrefixOf}
-use Rattle.nr_reduce.specs.NumberedJournal.{Standing, standing_for, tagged, tagged_by, added_by, tagged_journal, number_heard, entries_alone, call_of_entry, IsExecutedBy, IsReplyOf, NumberedMark, JournaledByNumber}
+use Rattle.nr_reduce.specs.NumberedJournal.{Standing, standing_for, tagged, tagged_by, added_by, tagged_journal, number_heard, entries_alone, call_of_entry, IsExecutedBy, NumberedMark, JournaledByNumber}
 use Rattle.nr_reduce.specs.NumberedJournal.Standing.{Old, Kept, New}
 use Rattle.nr_reduce.specs.Run.{client}
 use Rattle.nr_reduce.specs.Served.{ServedMark, IsExecuted}
@@ -165,11 +165,13 @@ module _ (reply_to : List Entry → Moment → List ℕ → Option (List ℕ)) (
   earlier_call first e before rest call form xid is =
       let last : BegunLink = record { link = link; began = e.began } in
       let own : LinkKeeps opened run last = record { opens = opens link itself; asked = far.asked } in
-      same_call opened run first before rest call form xid is last e.links
-      (own, each_earlier opened run first last e.links (LinkKeeps opened run) e.goes_on
-      (λ earlier part h.
-      (let there : IsEarlier opened run earlier.link link = record { began = e.began; links = part; goes_on = h } in
-      record { opens = opens earlier.link there; asked = (matched earlier.link there).asked })))
+      same_call opened run first before rest call form xid is last e.links (
+        own,
+        each_earlier opened run first last e.links (LinkKeeps opened run) e.goes_on
+            (λ earlier part h.
+            (let there : IsEarlier opened run earlier.link link = record { began = e.began; links = part; goes_on = h } in
+            record { opens = opens earlier.link there; asked = (matched earlier.link there).asked })),
+      )
       e.goes_on
 
   handed : (before : List Mark) (xid : ℕ) (call : Call) (form : Form) (payload reply : List ℕ) → IsAskedFor opened link run xid call form → MarkAt run before (marks.Done link xid (outcomes.Reply reply)) → form_conveyed form (call_payload xid call) ≡ Some payload → Handed link run before xid call form payload reply

@@ -1,8 +1,8 @@
 -- A call that a client sends again, on whatever later link, is the one that it submitted under that xid.
-use Rattle.std.proofs.Common.{◌≡◌, ℕ, ◌<◌, ◌≤◌, List, [], ◌∷◌, ◌++◌, length, refl, sym, ap, subst, ◌∙◌, arith, eq-eqb, eqb, Bool, true, ◌&&◌, append_assoc, append-nil, ◌⊎◌, inl, inr, length-append}
+use Rattle.std.proofs.Common.{◌≡◌, ℕ, ◌<◌, ◌≤◌, List, [], ◌∷◌, ◌++◌, length, refl, sym, ap, subst, ◌∙◌, arith, eq-eqb, Bool, true, ◌&&◌, append_assoc, append-nil, ◌⊎◌, inl, inr, length-append}
 use Rattle.std.specs.List.{AllByRecursion}
 use Rattle.nr_wire.specs.declared.hello.Side.{Side}
-use Rattle.nr_wire.specs.declared.hello.Side.TheVariants.{Initiator, Responder}
+use Rattle.nr_wire.specs.declared.hello.Side.TheVariants.{Initiator}
 use Rattle.nr_reduce.specs.declared.call.Call.{Call}
 use Rattle.nr_reduce.specs.declared.call.Form.{Form}
 use Rattle.nr_reduce.specs.declared.call.Submission.TheVariants as submissions
@@ -13,14 +13,13 @@ use Rattle.nr_reduce.specs.declared.mark.ResumedCall.{ResumedCall}
 use Rattle.nr_reduce.specs.Asked.{AskedMark, AskedSoFar, IsAccepted}
 use Rattle.nr_reduce.specs.Matched.{IsPrefixOf}
 use Rattle.nr_reduce.specs.Opening.{IsOpened}
-use Rattle.nr_reduce.specs.Reopening.{calls_kept, reopened, IsReopened}
+use Rattle.nr_reduce.specs.Reopening.{calls_kept, reopened}
 use Rattle.nr_reduce.specs.Events.{RunEvent, events, events_at, if_own}
 use Rattle.nr_reduce.specs.Events.RunEvent.{CallSubmitted}
 use Rattle.nr_reduce.specs.History.{bytes_received}
 use Rattle.nr_reduce.specs.Run.{client}
 use Rattle.nr_reduce.proofs.Placing.{xids_differ}
 use Rattle.nr_reduce.proofs.Steps.{events_one, AtEachMark_first}
-use Rattle.nr_laws.specs.MarkAt.{MarkAt}
 use Rattle.nr_laws.specs.OnceEach.{BegunLink, IsNextLink, GoesOn}
 use Rattle.nr_laws.proofs.Basics.{first_is_lem, rest_is_lem}
 use Rattle.nr_laws.proofs.OnceByXid.{at_mark}
@@ -167,9 +166,10 @@ same_next opened run xid call form link old keeps n below earlier = record {
         let place = found.at in
         let formed : run ≡ found.before ++ marks.Submit old.link a.call a.form (submissions.Accepted xid) ∷ (place.after ++ n.reopened.after) =
         n.reopened.is_cut ∙ ap (λ (r : List Mark). r ++ n.reopened.after) place.is ∙ append_assoc found.before (marks.Submit old.link a.call a.form (submissions.Accepted a.xid) ∷ place.after) n.reopened.after
-        ∙ ap (λ (x : ℕ). found.before ++ marks.Submit old.link a.call a.form (submissions.Accepted x) ∷ (place.after ++ n.reopened.after)) h.xid_is in
-        ((earlier.submitted own.before (at.after ++ n.reopened.after) other own.form there).0,
-         sym h.form_is ∙ (earlier.submitted found.before (place.after ++ n.reopened.after) a.call a.form formed).1)
+        ∙ ap (λ (x : ℕ). found.before ++ marks.Submit old.link a.call a.form (submissions.Accepted x) ∷ (place.after ++ n.reopened.after)) h.xid_is in (
+          (earlier.submitted own.before (at.after ++ n.reopened.after) other own.form there).0,
+          sym h.form_is ∙ (earlier.submitted found.before (place.after ++ n.reopened.after) a.call a.form formed).1,
+        )
 
     again : (other : Call) (way : Form) → IsOneOf (opened link.link).resumed xid other way → (other ≡ call) × (way ≡ form)
     again other way one =

@@ -94,9 +94,10 @@ again_revoked up xid (w ∷ ws) h = (by (eqb w.xid xid), again_revoked up xid ws
 again_first : (opened : LinkParameters) (first stag : ℕ) (rs : List ResumedCall) (next : ℕ) → AreResumed (lengths_before opened.agreed) first rs next → AllFitAgain (lengths_before opened.agreed).up (waiting_from stag rs)
 again_first opened first stag [] next h = tt
 again_first opened first stag (r ∷ rs) next h =
-    let own = h.1.0 in
-    (few_in_plan (lengths_before opened.agreed).up r.plan (let most = planned_size r.xid r.call r.form r.plan own.planned in let up = own.up in omega (arith, most, up)),
-     again_first opened (r.xid + 1) (stag + regions_needed r.plan) rs next h.1.1)
+    let own = h.1.0 in (
+      few_in_plan (lengths_before opened.agreed).up r.plan (let most = planned_size r.xid r.call r.form r.plan own.planned in let up = own.up in omega (arith, most, up)),
+      again_first opened (r.xid + 1) (stag + regions_needed r.plan) rs next h.1.1,
+    )
 
 fit_message : (up : ℕ) (k : ClientState) (place : ℕ) (o : Option (List ℕ)) → AllFit up k.outstanding → AllFit up (with_message k place o).outstanding
 fit_message up k place None h = h

@@ -1,5 +1,5 @@
 -- Each entry of the one journal was added by an Execute of a new call, at the journal's end.
-use Rattle.std.proofs.Common.{◌≡◌, ◌≢◌, ℕ, zero, suc, ◌+◌, ◌<◌, Bool, true, false, cond, ◌&&◌, eqb, eqb-true, leb, List, [], ◌∷◌, ◌++◌, length, map, Option, None, Some, refl, sym, ap, subst, ◌∙◌, arith, append_assoc, append-nil, ◌⊎◌, inl, inr, length-append}
+use Rattle.std.proofs.Common.{◌≡◌, ℕ, zero, suc, ◌+◌, ◌<◌, Bool, true, false, cond, ◌&&◌, eqb, eqb-true, leb, List, [], ◌∷◌, ◌++◌, length, map, Option, None, Some, refl, sym, ap, subst, ◌∙◌, arith, append_assoc, append-nil, ◌⊎◌, inl, inr}
 use Rattle.std.specs.Prelude.{slice_get}
 use Rattle.std.proofs.lemmas.Bool.{and_parts}
 use Rattle.nr_outside.specs.declared.moment.Moment.{Moment}
@@ -8,7 +8,7 @@ use Rattle.nr_reduce.specs.declared.mark.Mark.{Mark}
 use Rattle.nr_reduce.specs.declared.mark.Mark.TheVariants as marks
 use Rattle.nr_reduce.specs.declared.mark.TaggedEntry.{TaggedEntry}
 use Rattle.nr_reduce.specs.Limits.{window}
-use Rattle.nr_reduce.specs.NumberedJournal.{Standing, standing, standing_for, top_of, place_from, place_of_entry, kept_or_new, tagged, added_by, tagged_by, tagged_from, tagged_journal}
+use Rattle.nr_reduce.specs.NumberedJournal.{Standing, standing, standing_for, top_of, place_from, place_of_entry, kept_or_new, tagged, added_by, tagged_by, tagged_from}
 use Rattle.nr_reduce.specs.NumberedJournal.Standing.{Old, Kept, New}
 use Rattle.nr_laws.specs.OnceEach.{AddsOneAtMost}
 use Rattle.nr_laws.specs.PlainLinks.{server_with}

@@ -26,7 +26,6 @@ use Rattle.nr_reduce.specs.SubmitAnswer.{first_xid_or, next_sent_xid}
 use Rattle.nr_reduce.specs.Run.{client}
 use Rattle.nr_reduce.proofs.OwnStags.{kept_after}
 use Rattle.nr_reduce.proofs.Placing.{segment_next, sent_after_submit, sent_rises, later_of}
-use Rattle.nr_laws.specs.MarkAt.{MarkAt}
 use Rattle.nr_laws.proofs.Basics.{each_all}
 use Rattle.nr_laws.proofs.OnceByXid.{at_mark}
 use Rattle.nr_laws.proofs.OutstandingSubmits.{HasSubmit, IsSubmitted, outstanding_submitted, accepted_submitted, found_each}

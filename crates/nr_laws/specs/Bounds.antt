@@ -37,8 +37,8 @@ abbrev pub segments_in : Plan → ℕ
 segments_in p = length p.read + (chunk_segments p.write + chunk_segments p.reply)
 
 -- If a client keeps its law, on a link that was opened in range, the lists of each call that it has outstanding have together at most the segments
--- for which a Send of the length that it has agreed on has room: its header has HEADER_LEN_MIN bytes that are no segments, and 16 or more for each segment (RFC 8166 section 4.3). In
--- 1024 bytes that is 62, in 16384 it is 1022.
+-- for which a Send of the length that it has agreed on has room: its header has HEADER_LEN_MIN bytes that are no segments, and 16 or more for each
+-- segment (RFC 8166 section 4.3). In 1024 bytes that is 62, in 16384 it is 1022.
 abbrev pub ClientOffersFewSegments : Type 0
 ClientOffersFewSegments = (opened : LinkParameters) (link : ℕ) (run : List Mark) → IsOpened opened → IsTyped run → AskedSoFar opened link run →
     AllByRecursion (λ (o : OutstandingCall). HEADER_LEN_MIN + 16 * segments_in o.plan ≤ (client opened link run).state.up_max) (client opened link run).state.outstanding

@@ -18,8 +18,9 @@ pub fn once()
 {}
 
 /// Over any number of links, whatever was sent on them, no two entries of the one journal are of one call of a client with a number: its xid is
-/// executed anew only if it has no entry, and isn't old. If a call of such a client completes on a link that is matched, as its earlier links are,
-/// with a reply that adds an entry, it has one: what its form conveys of its own call adds just that entry, and the reply is the one of that entry.
+/// executed anew only if it has no entry, and isn't old. On a matched link a server that executed a call heard its client's number. If a call of
+/// such a client completes on a link that is matched, as its earlier links are, with a reply that adds an entry, it has one: what its form conveys
+/// of its own call adds just that entry, and the reply is the one of that entry.
 pub fn once_each()
     ensures entries { NoEntryTwice }
     ensures heard { NumbersAreHeard }
