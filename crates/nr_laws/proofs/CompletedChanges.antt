@@ -1,8 +1,7 @@
 -- On matched links a reply that is handed over, and that adds an entry, has its one entry: its call was executed as a new one, or it was one before
 -- that, on this link or an earlier one, and has kept its entry.
-use Rattle.std.proofs.Common.{◌≡◌, ◌≢◌, ℕ, ◌<◌, Bool, true, false, cond, ◌&&◌, eqb, eq-eqb, List, [], ◌∷◌, ◌++◌, length, map, Option, None, Some, refl, sym, ap, subst, ◌∙◌, arith, append_assoc, append-nil, ◌⊎◌, inl, inr, length-append}
+use Rattle.std.proofs.Common.{◌≡◌, ◌≢◌, ℕ, Bool, true, ◌&&◌, eq-eqb, List, [], ◌∷◌, ◌++◌, length, Option, Some, refl, sym, ap, subst, ◌∙◌, arith, append_assoc, append-nil, ◌⊎◌, inl, inr, length-append}
 use Rattle.std.specs.Prelude.{slice_get, Contains}
-use Rattle.std.proofs.lemmas.Bool.{ne_eqb}
 use Rattle.nr_xdr.specs.Item.{IsBytes}
 use Rattle.nr_outside.specs.declared.moment.Moment.{Moment}
 use Rattle.nr_rpc.specs.Reading.{call_of, xid_of_call}
@@ -25,7 +24,7 @@ use Rattle.nr_reduce.specs.EndRules.{EndState, end_state_after}
 use Rattle.nr_reduce.specs.Client.{client_rules, initial_client}
 use Rattle.nr_reduce.specs.History.{CompletedCall}
 use Rattle.nr_reduce.specs.Matched.{MatchedMark, IsPrefixOf}
-use Rattle.nr_reduce.specs.NumberedJournal.{Standing, standing_for, tagged, tagged_by, added_by, tagged_journal, number_heard, entries_alone, call_of_entry, IsExecutedBy, NumberedMark, JournaledByNumber}
+use Rattle.nr_reduce.specs.NumberedJournal.{Standing, standing_for, tagged_journal, number_heard, entries_alone, call_of_entry, IsExecutedBy, NumberedMark, JournaledByNumber}
 use Rattle.nr_reduce.specs.NumberedJournal.Standing.{Old, Kept, New}
 use Rattle.nr_reduce.specs.Run.{client}
 use Rattle.nr_reduce.specs.Served.{ServedMark, IsExecuted}
@@ -41,7 +40,8 @@ use Rattle.nr_laws.proofs.Basics.{some_is_lem}
 use Rattle.nr_laws.proofs.EarlierLinks.{InFirst, AfterFirst, mark_in_first, event_at_mark, LinkKeeps, SameCall, same_call, each_earlier, LeftBy, left_by}
 use Rattle.nr_laws.proofs.ExecutedPayloads.{executes_have_plans}
 use Rattle.nr_laws.proofs.Following.{events_more, not_after_outcome}
-use Rattle.nr_laws.proofs.JournalPlaces.{get_left, get_last, same_front, journal_from, journal_parts, journal_more, AddedBy, added_by_mark, kept_entry}
+use Rattle.nr_laws.proofs.JournalPlaces.{get_left, get_last, journal_from, journal_parts, journal_more}
+use Rattle.nr_laws.proofs.KeptEntries.{entry_of, numbered, added_parts, adds_one, HaveSamePayload, kept_is}
 use Rattle.nr_laws.proofs.LaterMarks.{mark_later}
 use Rattle.nr_laws.proofs.NumbersHeard.{replied_number}
 use Rattle.nr_laws.proofs.OnceByXid.{at_mark}
@@ -51,51 +51,7 @@ use Rattle.nr_laws.proofs.OwnPayloads.{payloads_are_own}
 use Rattle.nr_laws.proofs.OwnReplies.{executed_replies_are_handed_over}
 use Rattle.nr_laws.proofs.RepliedPlans.{replies_have_plans}
 
--- ---- The entry that an Execute adds
-
-abbrev unnumbered : Entry → TaggedEntry
-unnumbered e = record { entry = e; client = 0; xid = 0 }
-
-abbrev entry_of : (client xid : ℕ) → Entry → TaggedEntry
-entry_of client xid e = record { entry = e; client = client; xid = xid }
-
-numbered : (client xid : ℕ) (e : Entry) → client ≢ 0 → tagged client xid e ≡ record { entry = e; client = client; xid = xid }
-numbered client xid e some = ap (λ (b : Bool). cond b (unnumbered e) (entry_of client xid e)) (ne_eqb client 0 some)
-
--- an entry with a number is of a client with that number
-record IsTagOf (client xid : ℕ) (e : Entry) (t : TaggedEntry) : Type 0 where
-  client_is : client ≡ t.client
-  xid_is : xid ≡ t.xid
-  entry_is : e ≡ t.entry
-
-tag_of : (client xid : ℕ) (e : Entry) (t : TaggedEntry) → t ≡ tagged client xid e → t.client ≢ 0 → IsTagOf client xid e t
-tag_of client xid e t own some = by (eqb client 0) own
-  where
-    by : (b : Bool) → t ≡ cond b (unnumbered e) (entry_of client xid e) → IsTagOf client xid e t
-    by true is = absurd (some (ap (λ (x : TaggedEntry). x.client) is))
-    by false is = record { client_is = ap (λ (x : TaggedEntry). x.client) (sym is); xid_is = ap (λ (x : TaggedEntry). x.xid) (sym is); entry_is = ap (λ (x : TaggedEntry). x.entry) (sym is) }
-
-added_parts : (reply_to : List Entry → Moment → List ℕ → Option (List ℕ)) (adds : Moment → List ℕ → List ℕ → List Entry) (number : ℕ → ℕ) (run before after : List Mark) (link xid : ℕ) (moment : Moment) (payload : List ℕ) (at : ℕ) (reply : List ℕ) (e : Entry)
-    → run ≡ before ++ marks.Execute link xid moment payload at reply ∷ after → standing_for (journal_from reply_to adds number [] before) (number link) xid ≡ New → adds moment payload reply ≡ e ∷ []
-    → (rest : List TaggedEntry) × (journal_from reply_to adds number [] run ≡ journal_from reply_to adds number [] before ++ tagged (number link) xid e ∷ rest)
-added_parts reply_to adds number run before after link xid moment payload at reply e is new adds_it =
-    let mark : Mark = marks.Execute link xid moment payload at reply in
-    let J : List TaggedEntry = journal_from reply_to adds number [] before in
-    let own : tagged_by (server_with reply_to adds) number J mark ≡ tagged (number link) xid e ∷ [] =
-    ap (λ (s : Standing). added_by s (map (tagged (number link) xid) (adds moment payload reply))) new ∙ ap (λ (es : List Entry). map (tagged (number link) xid) es) adds_it in
-    let more = journal_more reply_to adds number (J ++ tagged_by (server_with reply_to adds) number J mark) after in (
-      more.0,
-      ap (λ (r : List Mark). journal_from reply_to adds number [] r) is ∙ journal_parts reply_to adds number [] before (mark ∷ after) ∙ more.1
-          ∙ ap (λ (xs : List TaggedEntry). (J ++ xs) ++ more.0) own ∙ append_assoc J (tagged (number link) xid e ∷ []) more.0,
-    )
-
-adds_one : (reply_to : List Entry → Moment → List ℕ → Option (List ℕ)) (adds : Moment → List ℕ → List ℕ → List Entry) → KeepsCalls reply_to adds → (m : Moment) (payload reply : List ℕ) → adds m payload reply ≢ [] → (e : Entry) × (adds m payload reply ≡ e ∷ [])
-adds_one reply_to adds keeps m payload reply some = by (adds m payload reply) refl (keeps.one m payload reply)
-  where
-    by : (es : List Entry) → adds m payload reply ≡ es → length es < 2 → (e : Entry) × (adds m payload reply ≡ e ∷ [])
-    by [] is lt = absurd (some is)
-    by (e ∷ []) is lt = (e, is)
-    by (e ∷ f ∷ es) is lt = absurd (omega (arith, lt))
+-- ---- Events, and first parts of a run
 
 execute_event : (link : ℕ) (before : List Mark) (xid : ℕ) (moment : Moment) (payload : List ℕ) (at : ℕ) (reply : List ℕ)
     → events_at link Responder before (marks.Execute link xid moment payload at reply) ≡ CallExecuted (record { xid = xid; moment = moment; payload = payload; place = at; reply = reply }) ∷ []
@@ -316,17 +272,19 @@ module _ (reply_to : List Entry → Moment → List ℕ → Option (List ℕ)) (
 
   -- ---- A kept call
 
-  abbrev no_entries : List TaggedEntry
-  no_entries = []
-
-  is_added : (marks_of : List Mark) (place : ℕ) (t : TaggedEntry) → (slice_get no_entries place ≡ Some t) ⊎ AddedBy reply_to adds number [] marks_of place t → AddedBy reply_to adds number [] marks_of place t
-  is_added marks_of place t (inl none) = absurd (let wrong : None ≡ Some t = none in cc)
-  is_added marks_of place t (inr h) = h
-
   earlier_of : (before : List Mark) (xid : ℕ) (call : Call) (form : Form) (payload reply : List ℕ) → MarkAt run before (marks.Done link xid (outcomes.Reply reply)) → (other : ℕ) → IsEarlier opened run link other ⊎ IsEarlier opened run other link
       → (front mid : List Mark) (moment : Moment) (bytes : List ℕ) (place : ℕ) (answer : List ℕ) → (h : Handed link run before xid call form payload reply) → h.first ≡ front ++ marks.Execute other xid moment bytes place answer ∷ mid → IsEarlier opened run other link
   earlier_of before xid call form payload reply done other (inl later) front mid moment bytes place answer h there = not_later before xid call form payload reply done other later front mid moment bytes place answer h there
   earlier_of before xid call form payload reply done other (inr earlier) front mid moment bytes place answer h there = earlier
+
+  same_payloads : (before : List Mark) (xid : ℕ) (call : Call) (form : Form) (payload reply : List ℕ) → MarkAt run before (marks.Done link xid (outcomes.Reply reply)) → form_conveyed form (call_payload xid call) ≡ Some payload → (h : Handed link run before xid call form payload reply)
+      → HaveSamePayload number h.first (number link) xid payload
+  same_payloads before xid call form payload reply done conveyed h other same front mid moment bytes place answer there =
+      let earliest : Mark = marks.Execute other xid moment bytes place answer in
+      let execute : Mark = marks.Execute link xid h.moment payload h.place reply in
+      let earlier = earlier_of before xid call form payload reply done other (clients link other heard (sym same)) front mid moment bytes place answer h there in
+      let in_run : run ≡ front ++ earliest ∷ (mid ++ execute ∷ h.after) = h.is ∙ ap (λ (r : List Mark). r ++ execute ∷ h.after) there ∙ append_assoc front (earliest ∷ mid) (execute ∷ h.after) in
+      earlier_payload before xid call form payload reply h conveyed other earlier front (mid ++ execute ∷ h.after) moment bytes place answer in_run
 
   kept_has : (before : List Mark) (xid : ℕ) (call : Call) (form : Form) (payload reply : List ℕ) (at : ℕ) → MarkAt run before (marks.Done link xid (outcomes.Reply reply)) → form_conveyed form (call_payload xid call) ≡ Some payload → (h : Handed link run before xid call form payload reply)
       → standing_for (tagged_journal (server_with reply_to adds) number h.first) (number link) xid ≡ Kept at → IsExecutedBy (server_with reply_to adds) (tagged_journal (server_with reply_to adds) number h.first) (Kept at) h.moment payload h.place reply
@@ -335,36 +293,9 @@ module _ (reply_to : List Entry → Moment → List ℕ → Option (List ℕ)) (
   kept_has before xid call form payload reply at done conveyed h kept law =
       let J : List TaggedEntry = journal_from reply_to adds number [] h.first in
       let execute : Mark = marks.Execute link xid h.moment payload h.place reply in
-      let entry = kept_entry J (number link) xid at kept in
-      let a = is_added h.first at entry.own (added_by_mark reply_to adds number [] h.first at entry.own keeps.one entry.there) in
-      let B : List TaggedEntry = journal_from reply_to adds number [] a.before in
-      let tag = tag_of (number a.link) a.xid a.entry entry.own a.own (λ e. heard (sym entry.client_is ∙ e)) in
-      let same_client : number a.link ≡ number link = tag.client_is ∙ entry.client_is in
-      let same_xid : a.xid ≡ xid = tag.xid_is ∙ entry.xid_is in
-      let earliest : Mark = marks.Execute a.link xid a.moment a.payload a.at a.reply in
-      let there : h.first ≡ a.before ++ earliest ∷ a.after = a.is ∙ ap (λ (x : ℕ). a.before ++ marks.Execute a.link x a.moment a.payload a.at a.reply ∷ a.after) same_xid in
-      let earlier = earlier_of before xid call form payload reply done a.link (clients link a.link heard (sym same_client)) a.before a.after a.moment a.payload a.at a.reply h there in
-      let in_run : run ≡ a.before ++ earliest ∷ (a.after ++ execute ∷ h.after) = h.is ∙ ap (λ (r : List Mark). r ++ execute ∷ h.after) there ∙ append_assoc a.before (earliest ∷ a.after) (execute ∷ h.after) in
-      let same : a.payload ≡ payload = earlier_payload before xid call form payload reply h conveyed a.link earlier a.before (a.after ++ execute ∷ h.after) a.moment a.payload a.at a.reply in_run in
-      let new : standing_for B (number a.link) xid ≡ New = ap (λ (x : ℕ). standing_for B (number a.link) x) (sym same_xid) ∙ a.new in
-      let executed : IsExecutedBy (server_with reply_to adds) B New a.moment a.payload a.at a.reply =
-      subst (λ (s : Standing). IsExecutedBy (server_with reply_to adds) B s a.moment a.payload a.at a.reply) new
-      (at_mark (NumberedMark (server_with reply_to adds) number) run a.before earliest (a.after ++ execute ∷ h.after) in_run journaled.each) in
-      let replied : reply_to (entries_alone B) a.moment payload ≡ Some a.reply = ap (λ (q : List ℕ). reply_to (entries_alone B) a.moment q) (sym same) ∙ executed.1 in
-      let adds_it : adds a.moment payload a.reply ≡ a.entry ∷ [] = ap (λ (q : List ℕ). adds a.moment q a.reply) (sym same) ∙ a.adds_it in
-      let called : reply_to (entries_alone B) a.moment (call_of_entry xid a.entry) ≡ Some a.reply = keeps.own (entries_alone B) a.moment payload a.reply xid a.entry h.bytes replied adds_it h.head in
-      let at_moment : a.entry.moment ≡ a.moment = keeps.moment a.moment payload a.reply a.entry adds_it in
+      let each = AtEachMark_first (NumberedMark (server_with reply_to adds) number) [] h.first (execute ∷ h.after) (subst (AtEachMark (NumberedMark (server_with reply_to adds) number) []) h.is journaled.each) in
+      let e = kept_is reply_to adds number h.first keeps (number link) xid at h.moment payload h.place reply heard each (same_payloads before xid call form payload reply done conveyed h) h.bytes h.head kept law in
       let k = law.1 in
-      let parts = added_parts reply_to adds number h.first a.before a.after a.link a.xid a.moment a.payload a.at a.reply a.entry a.is a.new a.adds_it in
-      let fronts = same_front k.earlier k.own k.later B (tagged (number a.link) a.xid a.entry) parts.0 (sym k.is_cut ∙ parts.1) (sym k.is_place ∙ law.0 ∙ a.place_is) in
-      let own_is : k.own ≡ entry.own = fronts.1 ∙ sym a.own in
-      let own_entry : k.own.entry ≡ a.entry = ap (λ (t : TaggedEntry). t.entry) own_is ∙ sym tag.entry_is in
-      let own_xid : k.own.xid ≡ xid = ap (λ (t : TaggedEntry). t.xid) own_is ∙ entry.xid_is in
-      let own_moment : k.own.entry.moment ≡ a.moment = ap (λ (e : Entry). e.moment) own_entry ∙ at_moment in
-      let then : h.moment ≡ a.moment = k.moment_is ∙ own_moment in
-      let kept_reply : reply_to (entries_alone B) a.moment (call_of_entry xid a.entry) ≡ Some reply =
-      sym (λ i. reply_to (entries_alone (fronts.0 i)) (then i) (call_of_entry (own_xid i) (own_entry i))) ∙ k.replied in
-      let reply_is : a.reply ≡ reply = some_is_lem a.reply reply (sym called ∙ kept_reply) in
       let more = journal_more reply_to adds number J (execute ∷ h.after) in
       let journal_is : T ≡ J ++ more.0 = sym journaled.is ∙ ap (λ (r : List Mark). journal_from reply_to adds number [] r) h.is ∙ journal_parts reply_to adds number [] h.first (execute ∷ h.after) ∙ more.1 in
       let here : slice_get J h.place ≡ Some k.own =
@@ -373,9 +304,9 @@ module _ (reply_to : List Entry → Moment → List ℕ → Option (List ℕ)) (
         place = h.place;
         own = k.own;
         there = subst (λ (U : List TaggedEntry). slice_get U h.place ≡ Some k.own) (sym journal_is) (get_left J more.0 h.place k.own here);
-        client_is = ap (λ (t : TaggedEntry). t.client) own_is ∙ entry.client_is;
-        xid_is = own_xid;
-        adds = (λ i. adds (own_moment i) payload (sym reply_is i)) ∙ adds_it ∙ ap (λ (e : Entry). e ∷ []) (sym own_entry);
+        client_is = e.client_is;
+        xid_is = e.xid_is;
+        adds = ap (λ (m : Moment). adds m payload reply) (sym k.moment_is) ∙ e.adds_is;
         reply_of = record {
           earlier = k.earlier;
           own = k.own;

@@ -71,6 +71,7 @@ pub mod DistinctKeys
 pub mod OwnXids
 pub mod NothingLeft
 pub mod NumbersHeard
+pub mod KeptEntries
 pub mod OutputFrames
 pub mod PendingFrames
 pub mod PendingExecuted
