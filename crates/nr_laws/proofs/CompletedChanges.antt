@@ -37,13 +37,14 @@ use Rattle.nr_laws.specs.Payloads.{HasPlan, form_conveyed}
 use Rattle.nr_laws.specs.PlainLinks.{server_with}
 use Rattle.nr_laws.specs.Typed.{TypedMark, IsTyped}
 use Rattle.nr_laws.proofs.Basics.{some_is_lem}
-use Rattle.nr_laws.proofs.EarlierLinks.{InFirst, AfterFirst, mark_in_first, event_at_mark, LinkKeeps, SameCall, same_call, each_earlier, LeftBy, left_by}
+use Rattle.nr_laws.proofs.EarlierLinks.{InFirst, AfterFirst, mark_in_first, event_at_mark, SameCall, LeftBy, left_by}
 use Rattle.nr_laws.proofs.ExecutedPayloads.{executes_have_plans}
 use Rattle.nr_laws.proofs.Following.{events_more, not_after_outcome}
 use Rattle.nr_laws.proofs.JournalPlaces.{get_left, get_last, journal_from, journal_parts, journal_more}
 use Rattle.nr_laws.proofs.KeptEntries.{entry_of, numbered, added_parts, adds_one, HaveSamePayload, kept_is}
 use Rattle.nr_laws.proofs.LaterMarks.{mark_later}
 use Rattle.nr_laws.proofs.NumbersHeard.{replied_number}
+use Rattle.nr_laws.proofs.NumberedPlaces.{same_earlier}
 use Rattle.nr_laws.proofs.OnceByXid.{at_mark}
 use Rattle.nr_laws.proofs.Outcomes.{outcome_said}
 use Rattle.nr_laws.proofs.OwnExecutes.{conveyed_bytes}
@@ -118,17 +119,7 @@ module _ (reply_to : List Entry → Moment → List ℕ → Option (List ℕ)) (
 
   -- what an earlier link submitted
   earlier_call : (first : ℕ) → IsEarlier opened run first link → (before rest : List Mark) (call : Call) (form : Form) (xid : ℕ) → run ≡ before ++ marks.Submit first call form (submissions.Accepted xid) ∷ rest → SameCall opened run link xid call form
-  earlier_call first e before rest call form xid is =
-      let last : BegunLink = record { link = link; began = e.began } in
-      let own : LinkKeeps opened run last = record { opens = opens link itself; asked = far.asked } in
-      same_call opened run first before rest call form xid is last e.links (
-        own,
-        each_earlier opened run first last e.links (LinkKeeps opened run) e.goes_on
-            (λ earlier part h.
-            (let there : IsEarlier opened run earlier.link link = record { began = e.began; links = part; goes_on = h } in
-            record { opens = opens earlier.link there; asked = (matched earlier.link there).asked })),
-      )
-      e.goes_on
+  earlier_call first e before rest call form xid is = same_earlier opened run first link e opens matched before rest call form xid is
 
   handed : (before : List Mark) (xid : ℕ) (call : Call) (form : Form) (payload reply : List ℕ) → IsAskedFor opened link run xid call form → MarkAt run before (marks.Done link xid (outcomes.Reply reply)) → form_conveyed form (call_payload xid call) ≡ Some payload → Handed link run before xid call form payload reply
   handed before xid call form payload reply asked done conveyed =

@@ -72,6 +72,7 @@ pub mod OwnXids
 pub mod NothingLeft
 pub mod NumbersHeard
 pub mod KeptEntries
+pub mod NumberedPlaces
 pub mod OutputFrames
 pub mod PendingFrames
 pub mod PendingExecuted

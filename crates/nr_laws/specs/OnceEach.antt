@@ -18,12 +18,12 @@ use Rattle.nr_reduce.specs.ClientState.{call_payload}
 use Rattle.nr_reduce.specs.Events.{events}
 use Rattle.nr_reduce.specs.Opening.{IsOpened}
 use Rattle.nr_reduce.specs.declared.mark.TaggedEntry.{TaggedEntry}
-use Rattle.nr_reduce.specs.NumberedJournal.{tagged_journal, number_heard, call_of_entry, JournaledByNumber, IsReplyOf}
+use Rattle.nr_reduce.specs.NumberedJournal.{tagged_journal, number_heard, entries_alone, call_of_entry, JournaledByNumber, IsReplyOf}
 use Rattle.nr_reduce.specs.Reopening.{IsReopened}
 use Rattle.nr_laws.specs.MarkAt.{MarkAt}
 use Rattle.nr_laws.specs.MatchedSoFar.{MatchedSoFar}
 use Rattle.nr_laws.specs.Payloads.{form_conveyed}
-use Rattle.nr_laws.specs.PlainLinks.{server_with}
+use Rattle.nr_laws.specs.PlainLinks.{server_with, AtPlacesOn}
 use Rattle.nr_laws.specs.Typed.{IsTyped}
 
 -- ---- The links of one client
@@ -62,6 +62,10 @@ MatchedWithEarlier opened run link = (earlier : ℕ) → IsEarlier opened run ea
 -- each of them was opened in range
 abbrev pub OpenedWithEarlier : (ℕ → LinkParameters) → List Mark → ℕ → Type 0
 OpenedWithEarlier opened run link = (earlier : ℕ) → IsEarlier opened run earlier link → IsOpened (opened earlier)
+
+-- each link whose server heard this number was opened in range and is matched, and so is each that it goes on from
+abbrev pub ClientIsMatched : (ℕ → LinkParameters) → List Mark → (number : ℕ) → Type 0
+ClientIsMatched opened run number = (link : ℕ) → number_heard run link ≡ number → OpenedWithEarlier opened run link × MatchedWithEarlier opened run link
 
 -- One number names one client: of two links whose servers heard the same number, one goes on from the other.
 abbrev pub OneClientEach : (ℕ → LinkParameters) → List Mark → Type 0
@@ -125,3 +129,11 @@ CompletedChangesHaveEntries = (reply_to : List Entry → Moment → List ℕ →
     IsAskedFor opened link run xid call form →
     MarkAt run before (marks.Done link xid (outcomes.Reply reply)) → form_conveyed form (call_payload xid call) ≡ Some payload → adds moment payload reply ≢ [] →
     HasEntry (server_with reply_to adds) T (opened link).client.number xid payload reply
+
+-- If the links of a client are matched, each call on them, new or sent again, has the plain server's reply at its place in the one journal, and
+-- what it adds stands there. Of a link without a number nothing is asked.
+abbrev pub NumberedLinksAreAtPlaces : Type 0
+NumberedLinksAreAtPlaces = (reply_to : List Entry → Moment → List ℕ → Option (List ℕ)) (adds : Moment → List ℕ → List ℕ → List Entry)
+    (opened : ℕ → LinkParameters) (link : ℕ) (T : List TaggedEntry) (run : List Mark) →
+    IsTyped run → JournaledByNumber (server_with reply_to adds) (number_heard run) T run → KeepsCalls reply_to adds → OneClientEach opened run →
+    (number_heard run link ≢ 0 → ClientIsMatched opened run (number_heard run link)) → AtPlacesOn (server_with reply_to adds) (entries_alone T) link run

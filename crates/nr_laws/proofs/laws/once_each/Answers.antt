@@ -1,5 +1,6 @@
 use Rattle.nr_laws.proofs.CompletedChanges.{completed_changes_have_entries}
 use Rattle.nr_laws.proofs.EntriesApart.{no_entry_twice}
+use Rattle.nr_laws.proofs.NumberedPlaces.{numbered_links_are_at_places}
 use Rattle.nr_laws.proofs.NumbersHeard.{numbers_are_heard}
 use Rattle.nr_laws.proofs.laws.once_each.Goals as goal
 
@@ -11,3 +12,6 @@ returns-clause-heard c = numbers_are_heard
 
 pub returns-clause-completed : goal.returns-clause-completed
 returns-clause-completed c = completed_changes_have_entries
+
+pub returns-clause-plain : goal.returns-clause-plain
+returns-clause-plain c = numbered_links_are_at_places
