@@ -15,7 +15,10 @@ use Rattle.nr_reduce.specs.ChunkBytes.{IsNotGiven}
 use Rattle.nr_reduce.specs.Matched.{IsPrefixOf}
 use Rattle.nr_reduce.specs.ClientState.{ClientState, WaitingCall, call_payload, plan_for, plan_unless, stag_for, first_of as first_of_waiting}
 use Rattle.nr_reduce.specs.SubmitAnswer.{first_xid_or}
-use Rattle.nr_reduce.specs.Opening.{IsOpened, lengths_before}
+use Rattle.nr_reduce.specs.Opening.{lengths_before}
+use Rattle.nr_reduce.specs.KeepsReplyLimits.{KeepsReplyLimits}
+use Rattle.nr_reduce.specs.declared.mark.Entry.{Entry}
+use Rattle.nr_outside.specs.declared.moment.Moment.{Moment}
 use Rattle.nr_reduce.specs.declared.call.Call.{Call}
 use Rattle.nr_reduce.specs.declared.call.Form.{Form}
 use Rattle.nr_reduce.proofs.OwnLimits.{ClientLimits, client_limits_of}
@@ -30,13 +33,13 @@ use Rattle.nr_laws.specs.Typed.{TypedMark, IsTyped}
 use Rattle.nr_laws.specs.MatchedSoFar.{MatchedSoFar}
 use Rattle.nr_laws.specs.MarkAt.{MarkAt}
 use Rattle.nr_laws.specs.Payloads.{HasPlan}
-use Rattle.nr_laws.specs.PlainLinks.{server_with, PlainReplyMark}
+use Rattle.nr_laws.specs.PlainLinks.{server_with, HasPlainReplies, PlainReplyMark}
 use Rattle.nr_laws.specs.RefusedMessages.{HasRefusedMessage}
 use Rattle.nr_laws.specs.ChunkOutcomes.{AutoHasReplies}
 use Rattle.nr_laws.proofs.OnceByXid.{at_mark, before_mark}
 use Rattle.nr_laws.proofs.Following.{far_before}
 use Rattle.nr_laws.proofs.Completed.{version_never}
-use Rattle.nr_laws.proofs.WaitingCalls.{IsPlannedBefore, planned_before}
+use Rattle.nr_laws.proofs.WaitingCalls.{IsPlannedBefore, planned_then}
 use Rattle.nr_laws.proofs.AgreedSizes.{matched_down}
 use Rattle.nr_laws.proofs.SizesAgain.{lengths_again}
 use Rattle.nr_laws.proofs.MatchedSizes.{client_within, client_again, executing_sized}
@@ -63,10 +66,14 @@ record IsPlannedWithin (opened : LinkParameters) (xid : ℕ) (call : Call) (form
   planned : IsPlannedAs xid call form plan
   down : planned.down ≤ matched_down opened
 
-accepted_within : (opened : LinkParameters) (link : ℕ) (before : List Mark) (call : Call) (form : Form) (xid : ℕ) (plan : Plan) → IsOpened opened → IsTyped before → MatchedSoFar opened link before → IsAccepted opened link before call form xid
+-- the calls that a client has yet to send again are planned for lengths that an earlier hello agreed on
+abbrev pub ArePlannedBefore : LinkParameters → ℕ → List Mark → Type 0
+ArePlannedBefore opened link run = AllByRecursion (IsPlannedBefore (lengths_before opened.agreed)) (client opened link run).state.waiting
+
+accepted_within : (opened : LinkParameters) (link : ℕ) (before : List Mark) (call : Call) (form : Form) (xid : ℕ) (plan : Plan) → ArePlannedBefore opened link before → IsTyped before → MatchedSoFar opened link before → IsAccepted opened link before call form xid
     → plan_for (client opened link before).state xid call form ≡ Ok plan → IsPlannedWithin opened xid call form plan
 unfolding plan_for
-accepted_within opened link before call form xid plan o typed far a planned = by k.waiting a.next a.resent planned (planned_before opened link before o)
+accepted_within opened link before call form xid plan lengths typed far a planned = by k.waiting a.next a.resent planned lengths
   where
     k : ClientState
     k = (client opened link before).state
@@ -93,8 +100,13 @@ accepted_within opened link before call form xid plan o typed far a planned = by
             }
         waits false e is = absurd cc
 
-pub auto_has_replies : AutoHasReplies
-auto_has_replies reply_to adds opened link run earlier before call xid outcome opens plain plain_replies typed far at done = by outcome done
+-- on any link, if that is so as the call is accepted
+pub auto_replies : (reply_to : List Entry → Moment → List ℕ → Option (List ℕ)) (adds : Moment → List ℕ → List ℕ → List Entry)
+    (opened : LinkParameters) (link : ℕ) (run earlier before : List Mark) (call : Call) (xid : ℕ) (outcome : Outcome) →
+    ArePlannedBefore opened link earlier → KeepsReplyLimits (server_with reply_to adds) → HasPlainReplies (server_with reply_to adds) link run → IsTyped run → MatchedSoFar opened link run →
+    MarkAt run earlier (marks.Submit link call forms.Auto (submissions.Accepted xid)) →
+    MarkAt run before (marks.Done link xid outcome) → (reply : List ℕ) × (outcome ≡ outcomes.Reply reply)
+auto_replies reply_to adds opened link run earlier before call xid outcome waits plain plain_replies typed far at done = by outcome done
   where
     submit : Mark
     submit = marks.Submit link call forms.Auto (submissions.Accepted xid)
@@ -109,7 +121,7 @@ auto_has_replies reply_to adds opened link run earlier before call xid outcome o
     plan = accepted.plan
 
     within : IsPlannedWithin opened xid call forms.Auto plan
-    within = accepted_within opened link earlier call forms.Auto xid plan opens (before_mark TypedMark run earlier submit at.after at.is typed) (far_before opened link run earlier submit at.after at.is far) accepted accepted.planned
+    within = accepted_within opened link earlier call forms.Auto xid plan waits (before_mark TypedMark run earlier submit at.after at.is typed) (far_before opened link run earlier submit at.after at.is far) accepted accepted.planned
 
     formed : IsPlannedAs xid call forms.Auto plan
     formed = within.planned
@@ -151,3 +163,6 @@ auto_has_replies reply_to adds opened link run earlier before call xid outcome o
     by (outcomes.Reply reply) there = (reply, refl)
     by outcomes.Chunk there = absurd (no_cause there (chunk_caused opened link run before there.after xid typed far there.is))
     by (outcomes.Version low high) there = absurd (version_never opened link run before there.after xid low high typed far there.is)
+
+pub auto_has_replies : AutoHasReplies
+auto_has_replies reply_to adds opened link run earlier before call xid outcome resumes = auto_replies reply_to adds opened link run earlier before call xid outcome (planned_then opened link earlier resumes)

@@ -1,6 +1,6 @@
 -- On matched links a reply that is handed over, and that adds an entry, has its one entry: its call was executed as a new one, or it was one before
 -- that, on this link or an earlier one, and has kept its entry.
-use Rattle.std.proofs.Common.{◌≡◌, ◌≢◌, ℕ, Bool, true, ◌&&◌, eq-eqb, List, [], ◌∷◌, ◌++◌, length, Option, Some, refl, sym, ap, subst, ◌∙◌, arith, append_assoc, append-nil, ◌⊎◌, inl, inr, length-append}
+use Rattle.std.proofs.Common.{◌≡◌, ◌≢◌, ℕ, List, [], ◌∷◌, ◌++◌, length, Option, Some, refl, sym, ap, subst, ◌∙◌, arith, append_assoc, append-nil, ◌⊎◌, inl, inr, length-append}
 use Rattle.std.specs.Prelude.{slice_get, Contains}
 use Rattle.nr_xdr.specs.Item.{IsBytes}
 use Rattle.nr_outside.specs.declared.moment.Moment.{Moment}
@@ -18,7 +18,7 @@ use Rattle.nr_reduce.specs.declared.mark.TaggedEntry.{TaggedEntry}
 use Rattle.nr_reduce.specs.AtEachMark.{AtEachMark}
 use Rattle.nr_reduce.specs.Asked.{AskedMark, IsCompleted}
 use Rattle.nr_reduce.specs.ClientState.{ClientState, call_payload}
-use Rattle.nr_reduce.specs.Events.{RunEvent, events, events_at, if_own}
+use Rattle.nr_reduce.specs.Events.{RunEvent, events}
 use Rattle.nr_reduce.specs.Events.RunEvent.{CallExecuted}
 use Rattle.nr_reduce.specs.EndRules.{EndState, end_state_after}
 use Rattle.nr_reduce.specs.Client.{client_rules, initial_client}
@@ -37,7 +37,7 @@ use Rattle.nr_laws.specs.Payloads.{HasPlan, form_conveyed}
 use Rattle.nr_laws.specs.PlainLinks.{server_with}
 use Rattle.nr_laws.specs.Typed.{TypedMark, IsTyped}
 use Rattle.nr_laws.proofs.Basics.{some_is_lem}
-use Rattle.nr_laws.proofs.EarlierLinks.{InFirst, AfterFirst, mark_in_first, event_at_mark, SameCall, LeftBy, left_by}
+use Rattle.nr_laws.proofs.EarlierLinks.{InFirst, AfterFirst, mark_in_first, event_at_mark, execute_event, none_is, SameCall, LeftBy, left_by}
 use Rattle.nr_laws.proofs.ExecutedPayloads.{executes_have_plans}
 use Rattle.nr_laws.proofs.Following.{events_more, not_after_outcome}
 use Rattle.nr_laws.proofs.JournalPlaces.{get_left, get_last, journal_from, journal_parts, journal_more}
@@ -53,14 +53,6 @@ use Rattle.nr_laws.proofs.OwnReplies.{executed_replies_are_handed_over}
 use Rattle.nr_laws.proofs.RepliedPlans.{replies_have_plans}
 
 -- ---- Events, and first parts of a run
-
-execute_event : (link : ℕ) (before : List Mark) (xid : ℕ) (moment : Moment) (payload : List ℕ) (at : ℕ) (reply : List ℕ)
-    → events_at link Responder before (marks.Execute link xid moment payload at reply) ≡ CallExecuted (record { xid = xid; moment = moment; payload = payload; place = at; reply = reply }) ∷ []
-execute_event link before xid moment payload at reply =
-    ap (λ (b : Bool). if_own (b && true) (CallExecuted (record { xid = xid; moment = moment; payload = payload; place = at; reply = reply }) ∷ [])) (eq-eqb link link refl)
-
-none_is : {X : Type 0} (xs : List X) (x : X) (ys : List X) → xs ++ x ∷ ys ≡ [] → ⊥
-none_is xs x ys e = (let n = ap (λ (zs : List _). length zs) e in let m = length-append xs (x ∷ ys) in omega (arith, n, m))
 
 no_rest : {X : Type 0} (xs ys : List X) → xs ++ ys ≡ xs → ys ≡ []
 no_rest xs [] e = refl

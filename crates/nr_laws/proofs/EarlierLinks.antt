@@ -1,8 +1,9 @@
 -- A call that a client sends again, on whatever later link, is the one that it submitted under that xid.
 use Rattle.std.proofs.Common.{◌≡◌, ℕ, ◌<◌, ◌≤◌, List, [], ◌∷◌, ◌++◌, length, refl, sym, ap, subst, ◌∙◌, arith, eq-eqb, Bool, true, ◌&&◌, append_assoc, append-nil, ◌⊎◌, inl, inr, length-append}
 use Rattle.std.specs.List.{AllByRecursion}
+use Rattle.nr_outside.specs.declared.moment.Moment.{Moment}
 use Rattle.nr_wire.specs.declared.hello.Side.{Side}
-use Rattle.nr_wire.specs.declared.hello.Side.TheVariants.{Initiator}
+use Rattle.nr_wire.specs.declared.hello.Side.TheVariants.{Initiator, Responder}
 use Rattle.nr_reduce.specs.declared.call.Call.{Call}
 use Rattle.nr_reduce.specs.declared.call.Form.{Form}
 use Rattle.nr_reduce.specs.declared.call.Submission.TheVariants as submissions
@@ -15,7 +16,7 @@ use Rattle.nr_reduce.specs.Matched.{IsPrefixOf}
 use Rattle.nr_reduce.specs.Opening.{IsOpened}
 use Rattle.nr_reduce.specs.Reopening.{calls_kept, reopened}
 use Rattle.nr_reduce.specs.Events.{RunEvent, events, events_at, if_own}
-use Rattle.nr_reduce.specs.Events.RunEvent.{CallSubmitted}
+use Rattle.nr_reduce.specs.Events.RunEvent.{CallSubmitted, CallExecuted}
 use Rattle.nr_reduce.specs.History.{bytes_received}
 use Rattle.nr_reduce.specs.Run.{client}
 use Rattle.nr_reduce.proofs.Placing.{xids_differ}
@@ -69,12 +70,20 @@ event_at_mark link side before mark e after own =
           ∙ append_assoc (events link side before) (e ∷ []) more.0,
     )
 
-submit_event : (link : ℕ) (before : List Mark) (call : Call) (form : Form) (xid : ℕ)
+pub submit_event : (link : ℕ) (before : List Mark) (call : Call) (form : Form) (xid : ℕ)
     → events_at link Initiator before (marks.Submit link call form (submissions.Accepted xid)) ≡ CallSubmitted (length (bytes_received link Initiator before)) (record { xid = xid; call = call; form = form }) ∷ []
 submit_event link before call form xid = ap (λ (b : Bool). if_own (b && true) (CallSubmitted (length (bytes_received link Initiator before)) (record { xid = xid; call = call; form = form }) ∷ [])) (eq-eqb link link refl)
 
+pub execute_event : (link : ℕ) (before : List Mark) (xid : ℕ) (moment : Moment) (payload : List ℕ) (at : ℕ) (reply : List ℕ)
+    → events_at link Responder before (marks.Execute link xid moment payload at reply) ≡ CallExecuted (record { xid = xid; moment = moment; payload = payload; place = at; reply = reply }) ∷ []
+execute_event link before xid moment payload at reply =
+    ap (λ (b : Bool). if_own (b && true) (CallExecuted (record { xid = xid; moment = moment; payload = payload; place = at; reply = reply }) ∷ [])) (eq-eqb link link refl)
+
+pub none_is : {X : Type 0} (xs : List X) (x : X) (ys : List X) → xs ++ x ∷ ys ≡ [] → ⊥
+none_is xs x ys e = (let n = ap (λ (zs : List _). length zs) e in let m = length-append xs (x ∷ ys) in omega (arith, n, m))
+
 -- A client that has no events after some marks of a run submitted all its calls before.
-submitted_in_time : (link : ℕ) (run cut rest before after : List Mark) (call : Call) (form : Form) (xid : ℕ) → run ≡ cut ++ rest → events link Initiator run ≡ events link Initiator cut
+pub submitted_in_time : (link : ℕ) (run cut rest before after : List Mark) (call : Call) (form : Form) (xid : ℕ) → run ≡ cut ++ rest → events link Initiator run ≡ events link Initiator cut
     → run ≡ before ++ marks.Submit link call form (submissions.Accepted xid) ∷ after → InFirst cut before (marks.Submit link call form (submissions.Accepted xid))
 submitted_in_time link run cut rest before after call form xid first left is = by (mark_in_first run cut rest before submit after first is)
   where
@@ -111,7 +120,7 @@ unfolding reopened
 next_opening opened run old link n = (ap (λ (o : LinkParameters). o.first_xid) n.reopened.next, ap (λ (o : LinkParameters). o.resumed) n.reopened.next)
 
 -- an xid of an earlier link is below the first new one
-xid_below : (opened : ℕ → LinkParameters) (run : List Mark) (first : ℕ) (before rest : List Mark) (call : Call) (form : Form) (xid : ℕ) → run ≡ before ++ marks.Submit first call form (submissions.Accepted xid) ∷ rest
+pub xid_below : (opened : ℕ → LinkParameters) (run : List Mark) (first : ℕ) (before rest : List Mark) (call : Call) (form : Form) (xid : ℕ) → run ≡ before ++ marks.Submit first call form (submissions.Accepted xid) ∷ rest
     → (link old : BegunLink) (links : List BegunLink) → AllByRecursion (LinkKeeps opened run) (old ∷ links) → GoesOn opened run first link (old ∷ links) → xid < (opened link.link).first_xid
 xid_below opened run first before rest call form xid is link old [] (keeps, none) (n, e) =
     let cut = n.reopened in

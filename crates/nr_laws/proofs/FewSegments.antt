@@ -19,7 +19,7 @@ use Rattle.nr_reduce.specs.History.{AcceptedCall}
 use Rattle.nr_reduce.specs.Limits.{send_unit}
 use Rattle.nr_reduce.specs.Plans.{TooLarge, plan_of, plan_size, regions_needed, reply_size, write_size}
 use Rattle.nr_reduce.specs.declared.mark.ResumedCall.{ResumedCall}
-use Rattle.nr_reduce.specs.Opening.{AreResumed, lengths_before}
+use Rattle.nr_reduce.specs.Opening.{IsResumed, lengths_before}
 use Rattle.nr_reduce.specs.SubmitAnswer.{first_xid_or, next_sent_xid}
 use Rattle.nr_reduce.specs.Asked.{IsResent}
 use Rattle.nr_reduce.proofs.Placing.{segment_waiting}
@@ -91,12 +91,12 @@ again_revoked up xid (w ∷ ws) h = (by (eqb w.xid xid), again_revoked up xid ws
     by true = h.0
     by false = h.0
 
-again_first : (opened : LinkParameters) (first stag : ℕ) (rs : List ResumedCall) (next : ℕ) → AreResumed (lengths_before opened.agreed) first rs next → AllFitAgain (lengths_before opened.agreed).up (waiting_from stag rs)
-again_first opened first stag [] next h = tt
-again_first opened first stag (r ∷ rs) next h =
-    let own = h.1.0 in (
+again_first : (opened : LinkParameters) (stag : ℕ) (rs : List ResumedCall) → AllByRecursion (IsResumed (lengths_before opened.agreed)) rs → AllFitAgain (lengths_before opened.agreed).up (waiting_from stag rs)
+again_first opened stag [] h = tt
+again_first opened stag (r ∷ rs) h =
+    let own = h.0 in (
       few_in_plan (lengths_before opened.agreed).up r.plan (let most = planned_size r.xid r.call r.form r.plan own.planned in let up = own.up in omega (arith, most, up)),
-      again_first opened (r.xid + 1) (stag + regions_needed r.plan) rs next h.1.1,
+      again_first opened (stag + regions_needed r.plan) rs h.1,
     )
 
 fit_message : (up : ℕ) (k : ClientState) (place : ℕ) (o : Option (List ℕ)) → AllFit up k.outstanding → AllFit up (with_message k place o).outstanding
@@ -203,7 +203,7 @@ few_step opened place k (Some end) (ServerTold what) next good h = h
 
 pub client_offers_few_segments : ClientOffersFewSegments
 unfolding client
-client_offers_few_segments opened link run opens typed asked =
+client_offers_few_segments opened link run resumes typed asked =
     (along (client_rules opened) (λ k e. []) (λ end. []) (ClientGood opened) (λ es place r outs. FewAt opened place r.state)
     (λ es place r outs e next good h. few_step opened place r.state r.ended e next good h)
-    [] 0 (initial_client opened) [] (events link Initiator run) (client_goes opened link run typed asked).goes (record { least = omega arith; first = λ e. refl; fit = tt; resends = again_first opened 1 opened.first_stag opened.resumed opened.first_xid opens.resumed; again = λ e. absurd cc; opening = (refl, refl) })).fit
+    [] 0 (initial_client opened) [] (events link Initiator run) (client_goes opened link run typed asked).goes (record { least = omega arith; first = λ e. refl; fit = tt; resends = again_first opened opened.first_stag opened.resumed resumes; again = λ e. absurd cc; opening = (refl, refl) })).fit

@@ -9,10 +9,10 @@ use Rattle.nr_reduce.specs.declared.mark.Entry.{Entry}
 use Rattle.nr_reduce.specs.declared.mark.Mark.{Mark}
 use Rattle.nr_reduce.specs.declared.mark.Mark.TheVariants as marks
 use Rattle.nr_reduce.specs.declared.mark.TaggedEntry.{TaggedEntry}
-use Rattle.nr_reduce.specs.NumberedJournal.{Standing, standing_for, tagged, tagged_by, added_by, tagged_journal, entries_alone, call_of_entry, IsExecutedBy, NumberedMark}
+use Rattle.nr_reduce.specs.NumberedJournal.{Standing, standing, standing_for, tagged, tagged_by, added_by, tagged_journal, entries_alone, call_of_entry, IsExecutedBy, NumberedMark}
 use Rattle.nr_reduce.specs.NumberedJournal.Standing.{Kept, New}
 use Rattle.nr_reduce.specs.AtEachMark.{AtEachMark}
-use Rattle.nr_laws.specs.OnceEach.{KeepsCalls}
+use Rattle.nr_laws.specs.OnceEach.{AddsOneAtMost, KeepsCalls}
 use Rattle.nr_laws.specs.PlainLinks.{server_with}
 use Rattle.nr_laws.proofs.Basics.{some_is_lem}
 use Rattle.nr_laws.proofs.JournalPlaces.{same_front, journal_from, journal_parts, journal_more, AddedBy, added_by_mark, kept_entry}
@@ -73,19 +73,30 @@ pub record KeptEntry (reply_to : List Entry → Moment → List ℕ → Option (
   pub adds_is : adds moment payload reply ≡ own.entry ∷ []
   pub replied : reply_to (entries_alone earlier) moment payload ≡ Some reply
 
+pub kept_numbered : (T : List TaggedEntry) (client xid at : ℕ) → standing_for T client xid ≡ Kept at → client ≢ 0
+kept_numbered T client xid at kept none = by (eqb client 0) (ap (λ (n : ℕ). eqb n 0) none) kept
+  where
+    by : (b : Bool) → b ≡ true → cond b New (standing T client xid) ≡ Kept at → ⊥
+    by true is e = absurd cc
+    by false is e = absurd cc
+
+pub entry_added : (reply_to : List Entry → Moment → List ℕ → Option (List ℕ)) (adds : Moment → List ℕ → List ℕ → List Entry) (number : ℕ → ℕ) (run : List Mark) (place : ℕ) (t : TaggedEntry) → AddsOneAtMost adds
+    → slice_get (journal_from reply_to adds number [] run) place ≡ Some t → AddedBy reply_to adds number [] run place t
+entry_added reply_to adds number run place t few there = by (added_by_mark reply_to adds number [] run place t few there)
+  where
+    none : List TaggedEntry
+    none = []
+
+    by : (slice_get none place ≡ Some t) ⊎ AddedBy reply_to adds number [] run place t → AddedBy reply_to adds number [] run place t
+    by (inl wrong) = absurd (let e : None ≡ Some t = wrong in cc)
+    by (inr h) = h
+
 -- every Execute of this xid among these marks, on a link with this number, has this payload
 abbrev pub HaveSamePayload : (number : ℕ → ℕ) → List Mark → (client xid : ℕ) → List ℕ → Type 0
 HaveSamePayload number run client xid payload =
     (link : ℕ) → number link ≡ client → (before after : List Mark) (moment : Moment) (bytes : List ℕ) (place : ℕ) (reply : List ℕ) → run ≡ before ++ marks.Execute link xid moment bytes place reply ∷ after → bytes ≡ payload
 
 module _ (reply_to : List Entry → Moment → List ℕ → Option (List ℕ)) (adds : Moment → List ℕ → List ℕ → List Entry) (number : ℕ → ℕ) (run : List Mark) (keeps : KeepsCalls reply_to adds) where
-  abbrev no_entries : List TaggedEntry
-  no_entries = []
-
-  is_added : (place : ℕ) (t : TaggedEntry) → (slice_get no_entries place ≡ Some t) ⊎ AddedBy reply_to adds number [] run place t → AddedBy reply_to adds number [] run place t
-  is_added place t (inl none) = absurd (let wrong : None ≡ Some t = none in cc)
-  is_added place t (inr h) = h
-
   pub kept_is : (client xid at : ℕ) (moment : Moment) (payload : List ℕ) (place : ℕ) (reply : List ℕ) → client ≢ 0 → AtEachMark (NumberedMark (server_with reply_to adds) number) [] run → HaveSamePayload number run client xid payload → IsBytes payload → xid_of_call (call_of payload) ≡ Some xid
       → standing_for (tagged_journal (server_with reply_to adds) number run) client xid ≡ Kept at → (law : IsExecutedBy (server_with reply_to adds) (tagged_journal (server_with reply_to adds) number run) (Kept at) moment payload place reply)
       → KeptEntry reply_to adds client xid moment payload reply (law.1).earlier (law.1).own
@@ -93,7 +104,7 @@ module _ (reply_to : List Entry → Moment → List ℕ → Option (List ℕ)) (
   kept_is client xid at moment payload place reply some each same_payload bytes head kept law =
       let J : List TaggedEntry = journal_from reply_to adds number [] run in
       let entry = kept_entry J client xid at kept in
-      let a = is_added at entry.own (added_by_mark reply_to adds number [] run at entry.own keeps.one entry.there) in
+      let a = entry_added reply_to adds number run at entry.own keeps.one entry.there in
       let B : List TaggedEntry = journal_from reply_to adds number [] a.before in
       let tag = tag_of (number a.link) a.xid a.entry entry.own a.own (λ e. some (sym entry.client_is ∙ e)) in
       let same_client : number a.link ≡ client = tag.client_is ∙ entry.client_is in

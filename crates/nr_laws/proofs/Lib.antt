@@ -73,6 +73,8 @@ pub mod NothingLeft
 pub mod NumbersHeard
 pub mod KeptEntries
 pub mod NumberedPlaces
+pub mod NoOldCalls
+pub mod PlacesByNumber
 pub mod OutputFrames
 pub mod PendingFrames
 pub mod PendingExecuted

@@ -15,7 +15,7 @@ use Rattle.nr_reduce.specs.declared.mark.TaggedEntry.{TaggedEntry}
 use Rattle.nr_reduce.specs.ClientState.{call_payload}
 use Rattle.nr_reduce.specs.Journal.{AtPlace}
 use Rattle.nr_reduce.specs.Matched.{IsPrefixOf}
-use Rattle.nr_reduce.specs.NumberedJournal.{Standing, standing, standing_for, tagged, tagged_by, added_by, tagged_journal, number_heard, entries_alone, IsExecutedBy, NumberedMark, JournaledByNumber}
+use Rattle.nr_reduce.specs.NumberedJournal.{Standing, standing_for, tagged, tagged_by, added_by, tagged_journal, number_heard, entries_alone, IsExecutedBy, NumberedMark, JournaledByNumber}
 use Rattle.nr_reduce.specs.NumberedJournal.Standing.{Old, Kept, New}
 use Rattle.nr_reduce.specs.PlainJournal.{PlainServer}
 use Rattle.nr_reduce.specs.Served.{ServedMark, IsExecuted}
@@ -30,7 +30,7 @@ use Rattle.nr_laws.proofs.Basics.{some_is_lem}
 use Rattle.nr_laws.proofs.EarlierLinks.{LinkKeeps, SameCall, same_call, each_earlier}
 use Rattle.nr_laws.proofs.ExecutedPayloads.{executes_have_plans}
 use Rattle.nr_laws.proofs.JournalPlaces.{journal_from, journal_parts, journal_more}
-use Rattle.nr_laws.proofs.KeptEntries.{HaveSamePayload, kept_is}
+use Rattle.nr_laws.proofs.KeptEntries.{HaveSamePayload, kept_numbered, kept_is}
 use Rattle.nr_laws.proofs.LaterMarks.{mark_later}
 use Rattle.nr_laws.proofs.OnceByXid.{at_mark, before_mark}
 use Rattle.nr_laws.proofs.OwnExecutes.{conveyed_bytes}
@@ -175,20 +175,10 @@ module _ (reply_to : List Entry → Moment → List ℕ → Option (List ℕ)) (
         by x y mine its (inl later) = sym (same_payload opened run link other xid payload bytes later its.0 its.1 y x)
         by x y mine its (inr earlier) = same_payload opened run other link xid bytes payload earlier mine.0 mine.1 x y
 
-    has_number : (at : ℕ) → standing_for (tagged_journal plain number before) (number link) xid ≡ Kept at → number link ≢ 0
-    has_number at kept none = by (eqb (number link) 0) (eqb-is none) kept
-      where
-        eqb-is : number link ≡ 0 → eqb (number link) 0 ≡ true
-        eqb-is e = ap (λ (n : ℕ). eqb n 0) e
-
-        by : (b : Bool) → b ≡ true → cond b New (standing (tagged_journal plain number before) (number link) xid) ≡ Kept at → ⊥
-        by true is e = absurd cc
-        by false is e = absurd cc
-
     kept_placed : (at : ℕ) → standing_for (tagged_journal plain number before) (number link) xid ≡ Kept at → IsExecutedBy plain (tagged_journal plain number before) (Kept at) moment payload place reply → AtPlace plain (entries_alone T) moment payload place reply
     unfolding tagged_journal
     kept_placed at kept law =
-        let some = has_number at kept in
+        let some = kept_numbered (tagged_journal plain number before) (number link) xid at kept in
         let mine = matched some link refl in
         let y = executed_of (opened link) link run before after xid moment payload place reply typed (mine.1 link (record { began = []; links = []; goes_on = refl })) is in
         let each = before_mark (NumberedMark plain number) run before execute after is journaled.each in

@@ -1,5 +1,5 @@
 -- The number that a server heard on a matched link is the one that its client was opened with: it says that in its hello.
-use Rattle.std.proofs.Common.{◌≡◌, ◌≢◌, ℕ, ◌+◌, ◌-◌, ◌^◌, ◌<◌, ◌≤◌, min, Bool, true, false, not, cond, ◌&&◌, eqb, List, [], ◌∷◌, ◌++◌, length, drop, refl, sym, ap, subst, ◌∙◌, arith, append_assoc, append-nil}
+use Rattle.std.proofs.Common.{◌≡◌, ◌≢◌, ℕ, ◌+◌, ◌-◌, ◌^◌, ◌<◌, ◌≤◌, min, Bool, true, false, not, cond, ◌&&◌, eqb, List, [], ◌∷◌, ◌++◌, length, drop, refl, sym, ap, subst, ◌∙◌, arith, append_assoc, ◌⊎◌, inl, inr, append-nil}
 use Rattle.std.proofs.lemmas.Bool.{eqb-true}
 use Rattle.std.proofs.Math.Nat.{min-eq_left, min-le_right}
 use Rattle.nr_wire.specs.Constants.{HELLO_LEN, UNITS_MAX}
@@ -98,6 +98,16 @@ pub heard_number : (opened : LinkParameters) (link : ℕ) (run : List Mark) → 
 unfolding number_heard frames_of
 heard_number opened link run typed far fits some =
     stream_number opened (events link Responder run) (split (HelloFrom Initiator) (bytes_received link Responder run)).frames (server_hears opened link run typed far) (frames_are link run) some fits
+
+-- or it heard none
+pub heard_or_none : (opened : LinkParameters) (link : ℕ) (run : List Mark) → IsTyped run → MatchedSoFar opened link run → opened.client.number < 2 ^ 64 → (number_heard run link ≡ 0) ⊎ (number_heard run link ≡ opened.client.number)
+unfolding number_heard frames_of
+heard_or_none opened link run typed far fits = by (split (HelloFrom Initiator) (bytes_received link Responder run)).frames (frames_are link run)
+  where
+    by : (frames : List (List ℕ)) → frames_in (events link Responder run) ≡ frames_from 0 frames → (number_in_frames (frames_from 0 frames) ≡ 0) ⊎ (number_in_frames (frames_from 0 frames) ≡ opened.client.number)
+    by [] is = inl refl
+    by (bytes ∷ frames) is =
+        inr (stream_number opened (events link Responder run) (bytes ∷ frames) (server_hears opened link run typed far) is (λ none. (let wrong = sym none ∙ is in absurd cc)) fits)
 
 -- ---- A server that executed a call received frames
 

@@ -18,7 +18,7 @@ use Rattle.nr_reduce.specs.ClientState.{WaitingCall, ClientState, first_of, othe
 use Rattle.nr_reduce.specs.Client.{client_rules, client_state_after, initial_client, client_segment, with_segment, with_hello, outstanding_of, revoked_waiting, with_message, with_request, due_with_response, plan_or}
 use Rattle.nr_reduce.specs.Run.{client}
 use Rattle.nr_reduce.specs.Asked.{IsAccepted, IsPlannedAs}
-use Rattle.nr_reduce.specs.Opening.{IsOpened, AreResumed, lengths_before}
+use Rattle.nr_reduce.specs.Opening.{IsOpened, IsResumed, AreResumed, lengths_before}
 use Rattle.nr_link.specs.declared.agreement.Agreement.{Agreement}
 use Rattle.nr_reduce.proofs.OwnLimits.{client_limits_of, planned_as}
 use Rattle.nr_reduce.proofs.OwnStags.{kept_after}
@@ -26,6 +26,7 @@ use Rattle.nr_reduce.proofs.Placing.{segment_waiting}
 use Rattle.nr_wire.specs.Segment.{Segment}
 use Rattle.nr_link.specs.ReceiveState.{ReadRequest, message_completed, read_request_of}
 use Rattle.nr_reduce.specs.History.{AcceptedCall}
+use Rattle.nr_laws.specs.Resuming.{ResumesArePlanned}
 
 abbrev StagsFit : (stag : ℕ) → List WaitingCall → Type 0
 StagsFit stag ws = AllByRecursion (λ (w : WaitingCall). w.stag + regions_needed w.plan ≤ stag) ws
@@ -189,13 +190,26 @@ pub record IsPlannedBefore (agreed : Agreement) (w : WaitingCall) : Type 0 where
   pub up : planned.up ≤ agreed.up
   pub down : planned.down ≤ agreed.down
 
-before_first : (agreed : Agreement) (first stag : ℕ) (rs : List ResumedCall) (next : ℕ) → AreResumed agreed first rs next → AllByRecursion (IsPlannedBefore agreed) (waiting_from stag rs)
-before_first agreed first stag [] next h = tt
-before_first agreed first stag (r ∷ rs) next h =
-    let own = h.1.0 in
-    (record { planned = own.planned; up = own.up; down = own.down }, before_first agreed (r.xid + 1) (stag + regions_needed r.plan) rs next h.1.1)
+before_first : (agreed : Agreement) (stag : ℕ) (rs : List ResumedCall) → AllByRecursion (IsResumed agreed) rs → AllByRecursion (IsPlannedBefore agreed) (waiting_from stag rs)
+before_first agreed stag [] h = tt
+before_first agreed stag (r ∷ rs) h =
+    let own = h.0 in
+    (record { planned = own.planned; up = own.up; down = own.down }, before_first agreed (stag + regions_needed r.plan) rs h.1)
+
+pub planned_then : (opened : LinkParameters) (link : ℕ) (run : List Mark) → ResumesArePlanned opened → AllByRecursion (IsPlannedBefore (lengths_before opened.agreed)) (client opened link run).state.waiting
+planned_then opened link run h =
+    waits_on (IsPlannedBefore (lengths_before opened.agreed)) opened (λ w h. record { planned = h.planned; up = h.up; down = h.down }) (before_first (lengths_before opened.agreed) opened.first_stag opened.resumed h) link run
+
+-- so it is of a link that was opened in range, and of one that wasn't reopened
+each_resumed : (agreed : Agreement) (first : ℕ) (rs : List ResumedCall) (next : ℕ) → AreResumed agreed first rs next → AllByRecursion (IsResumed agreed) rs
+each_resumed agreed first [] next h = tt
+each_resumed agreed first (r ∷ rs) next h = (h.1.0, each_resumed agreed (r.xid + 1) rs next h.1.1)
+
+pub resumes_planned : (opened : LinkParameters) → IsOpened opened → ResumesArePlanned opened
+resumes_planned opened o = each_resumed (lengths_before opened.agreed) 1 opened.resumed opened.first_xid o.resumed
+
+pub none_resumed : (opened : LinkParameters) → opened.resumed ≡ [] → ResumesArePlanned opened
+none_resumed opened none = subst (AllByRecursion (IsResumed (lengths_before opened.agreed))) (sym none) tt
 
 pub planned_before : (opened : LinkParameters) (link : ℕ) (run : List Mark) → IsOpened opened → AllByRecursion (IsPlannedBefore (lengths_before opened.agreed)) (client opened link run).state.waiting
-planned_before opened link run o =
-    waits_on (IsPlannedBefore (lengths_before opened.agreed)) opened (λ w h. record { planned = h.planned; up = h.up; down = h.down })
-    (before_first (lengths_before opened.agreed) 1 opened.first_stag opened.resumed opened.first_xid o.resumed) link run
+planned_before opened link run o = planned_then opened link run (resumes_planned opened o)

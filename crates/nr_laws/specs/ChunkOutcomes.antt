@@ -31,10 +31,10 @@ use Rattle.nr_laws.specs.MatchedSoFar.{MatchedSoFar}
 use Rattle.nr_laws.specs.Typed.{IsTyped}
 use Rattle.nr_laws.specs.Completion.{IsQuiescent, IsAwaitedStill}
 use Rattle.nr_laws.specs.Payloads.{HasPlan}
+use Rattle.nr_laws.specs.Resuming.{ResumesArePlanned}
 use Rattle.nr_laws.specs.RefusedMessages.{HasRefusedMessage}
 use Rattle.nr_laws.specs.PlainLinks.{server_with, HasPlainReplies}
 use Rattle.nr_reduce.specs.ClientState.{stag_for}
-use Rattle.nr_reduce.specs.Opening.{IsOpened}
 
 -- ---- The two causes
 
@@ -93,12 +93,12 @@ NoOwnPlanIsRefused = (opened : LinkParameters) (link : ℕ) (run : List Mark) (x
 
 -- ---- When a plain server replies
 
--- On a matched link that was opened in range, and whose calls are answered as a plain server answers, a call in form Auto that completes has a
--- reply.
+-- On a matched link whose calls are answered as a plain server answers, and whose client sends no calls again but such as were planned, a call in
+-- form Auto that completes has a reply.
 abbrev pub AutoHasReplies : Type 0
 AutoHasReplies = (reply_to : List Entry → Moment → List ℕ → Option (List ℕ)) (adds : Moment → List ℕ → List ℕ → List Entry)
     (opened : LinkParameters) (link : ℕ) (run earlier before : List Mark) (call : Call) (xid : ℕ) (outcome : Outcome) →
-    IsOpened opened → KeepsReplyLimits (server_with reply_to adds) → HasPlainReplies (server_with reply_to adds) link run → IsTyped run → MatchedSoFar opened link run →
+    ResumesArePlanned opened → KeepsReplyLimits (server_with reply_to adds) → HasPlainReplies (server_with reply_to adds) link run → IsTyped run → MatchedSoFar opened link run →
     MarkAt run earlier (marks.Submit link call forms.Auto (submissions.Accepted xid)) →
     MarkAt run before (marks.Done link xid outcome) → (reply : List ℕ) × (outcome ≡ outcomes.Reply reply)
 

@@ -16,6 +16,7 @@ pub mod PlacedBytes
 pub mod RefusedMessages
 pub mod PlainLinks
 pub mod OnceEach
+pub mod Resuming
 pub mod ServerRegions
 pub mod ClientRegions
 pub mod HandedBack

@@ -1,12 +1,13 @@
 -- Each change once: over any number of links of a numbered client, whatever was dropped and begun again, its calls take effect at most once, and
 -- exactly once if they complete with a reply that adds an entry.
-use Rattle.std.specs.Prelude.{◌≡◌, ◌≢◌, ℕ, ◌^◌, ◌<◌, List, [], ◌∷◌, ◌++◌, length, slice_get, Option, Some, ◌⊎◌}
+use Rattle.std.specs.Prelude.{◌≡◌, ◌≢◌, ℕ, ◌^◌, ◌<◌, ◌≤◌, List, [], ◌∷◌, ◌++◌, length, slice_get, Option, Some, ◌⊎◌}
 use Rattle.nr_xdr.specs.Item.{IsBytes}
 use Rattle.nr_outside.specs.declared.moment.Moment.{Moment}
 use Rattle.nr_rpc.specs.Reading.{call_of, xid_of_call}
 use Rattle.nr_wire.specs.declared.hello.Side.TheVariants.{Initiator, Responder}
 use Rattle.nr_reduce.specs.declared.call.Call.{Call}
 use Rattle.nr_reduce.specs.declared.call.Form.{Form}
+use Rattle.nr_reduce.specs.declared.call.Outcome.{Outcome}
 use Rattle.nr_reduce.specs.declared.call.Outcome.TheVariants as outcomes
 use Rattle.nr_reduce.specs.declared.call.Submission.TheVariants as submissions
 use Rattle.nr_reduce.specs.declared.mark.Entry.{Entry}
@@ -71,6 +72,10 @@ ClientIsMatched opened run number = (link : ℕ) → number_heard run link ≡ n
 abbrev pub OneClientEach : (ℕ → LinkParameters) → List Mark → Type 0
 OneClientEach opened run = (link other : ℕ) → number_heard run link ≢ 0 → number_heard run link ≡ number_heard run other →
     IsEarlier opened run link other ⊎ IsEarlier opened run other link
+
+-- a link goes on from one link only
+abbrev pub OneLinkBefore : (ℕ → LinkParameters) → List Mark → Type 0
+OneLinkBefore opened run = (old other next again : BegunLink) → IsNextLink opened run old next → IsNextLink opened run other again → next.link ≡ again.link → old.link ≡ other.link
 
 -- ---- The entries of a plain server
 
@@ -137,3 +142,17 @@ NumberedLinksAreAtPlaces = (reply_to : List Entry → Moment → List ℕ → Op
     (opened : ℕ → LinkParameters) (link : ℕ) (T : List TaggedEntry) (run : List Mark) →
     IsTyped run → JournaledByNumber (server_with reply_to adds) (number_heard run) T run → KeepsCalls reply_to adds → OneClientEach opened run →
     (number_heard run link ≢ 0 → ClientIsMatched opened run (number_heard run link)) → AtPlacesOn (server_with reply_to adds) (entries_alone T) link run
+
+-- On matched links a call is submitted for the first time after the outcome of another was handed over. If both are executed, the call on whichever
+-- later link of its client, its place isn't smaller.
+abbrev pub PlacesFollowByNumber : Type 0
+PlacesFollowByNumber = (reply_to : List Entry → Moment → List ℕ → Option (List ℕ)) (adds : Moment → List ℕ → List ℕ → List Entry)
+    (opened : ℕ → LinkParameters) (link other executing : ℕ) (T : List TaggedEntry) (run before between before_first before_second : List Mark)
+    (call : Call) (form : Form) (xid other_xid : ℕ) (outcome : Outcome)
+    (moment other_moment : Moment) (payload other_payload : List ℕ) (place other_place : ℕ) (reply other_reply : List ℕ) →
+    IsTyped run → JournaledByNumber (server_with reply_to adds) (number_heard run) T run → AddsOneAtMost adds → OneClientEach opened run → OneLinkBefore opened run →
+    MatchedSoFar (opened link) link run → IsEarlier opened run other executing → OpenedWithEarlier opened run executing → MatchedWithEarlier opened run executing →
+    (opened other).first_xid ≤ other_xid →
+    MarkAt run (before ++ marks.Done link xid outcome ∷ between) (marks.Submit other call form (submissions.Accepted other_xid)) →
+    MarkAt run before_first (marks.Execute link xid moment payload place reply) →
+    MarkAt run before_second (marks.Execute executing other_xid other_moment other_payload other_place other_reply) → place ≤ other_place
