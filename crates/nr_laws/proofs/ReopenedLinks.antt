@@ -1,7 +1,6 @@
 -- What is known of a link that goes on from another one.
-use Rattle.std.proofs.Common.{◌≡◌, ℕ, ◌+◌, ◌<◌, Bool, true, false, cond, not, ◌||◌, ◌&&◌, eqb, eqb-true, eq-eqb, List, [], ◌∷◌, ◌++◌, length, map, Option, Some, refl, sym, ap, subst, ◌∙◌, arith}
+use Rattle.std.proofs.Common.{◌≡◌, ℕ, Bool, true, false, cond, not, ◌||◌, ◌&&◌, eqb, eqb-true, eq-eqb, List, [], ◌∷◌, ◌++◌, map, Option, Some, refl, sym, ap, subst, ◌∙◌}
 use Rattle.std.specs.List.{AllByRecursion, list_any, filter, find, flat_map}
-use Rattle.std.proofs.lemmas.List.Elements.{All-contains, All-from_recursion}
 use Rattle.nr_link.specs.declared.agreement.Agreement.{Agreement}
 use Rattle.nr_reduce.specs.declared.mark.LinkParameters.{LinkParameters}
 use Rattle.nr_reduce.specs.declared.mark.Mark.{Mark}
@@ -10,15 +9,12 @@ use Rattle.nr_reduce.specs.AtEachMark.{AtEachMark}
 use Rattle.nr_reduce.specs.Client.{has_same_sizes}
 use Rattle.nr_reduce.specs.ClientState.{OutstandingCall, WaitingCall, ClientState}
 use Rattle.nr_reduce.specs.History.{AcceptedCall, accepted_calls, is_abandoned}
-use Rattle.nr_reduce.specs.OfferedRegions.{Region}
 use Rattle.nr_reduce.specs.Reopening.{resumed_as, resumed_of, resumed_again, calls_kept, reopened}
 use Rattle.nr_reduce.specs.Run.{client}
-use Rattle.nr_reduce.specs.StandingLaws.{StagsFrom}
-use Rattle.nr_reduce.proofs.OwnStags.{client_known}
 use Rattle.nr_reduce.proofs.Steps.{AtEachMark_first}
 use Rattle.nr_laws.specs.EndCauses.{AgreesAgain}
 use Rattle.nr_laws.specs.MatchedSoFar.{MatchedSoFar}
-use Rattle.nr_laws.specs.Reopened.{ReopenedStagsAreNew, ReopenedLinksAgree, ReopenedCallsGoOn}
+use Rattle.nr_laws.specs.Reopened.{ReopenedLinksAgree, NoCallIsLeftOver}
 use Rattle.nr_laws.specs.Typed.{TypedMark, IsTyped}
 use Rattle.nr_laws.proofs.AccountedCalls.{IsAccounted, is_outstanding, has_outcome}
 use Rattle.nr_laws.proofs.AccountedRuns.{gone_in, accounts}
@@ -26,26 +22,6 @@ use Rattle.nr_laws.proofs.AgreedSizes.{matched_agreement, matched_up, matched_do
 use Rattle.nr_laws.proofs.CompletedChanges.{far_first}
 use Rattle.nr_laws.proofs.DistinctKeys.{any_append, or_left_lem, or_right_lem}
 use Rattle.nr_laws.proofs.MatchedSizes.{client_sized, client_opening}
-
--- ---- New STags
-
-stags_below : (n : ℕ) (regions : List Region) → StagsFrom n regions → AllByRecursion (λ (r : Region). r.stag < n + length regions) regions
-stags_below n [] h = tt
-stags_below n (r ∷ regions) h = ((let own = h.0 in omega (arith, own)), later (n + 1) (n + length (r ∷ regions)) regions (omega arith) (stags_below (n + 1) regions h.1))
-  where
-    later : (m end : ℕ) (rs : List Region) → m + length rs ≡ end → AllByRecursion (λ (x : Region). x.stag < m + length rs) rs → AllByRecursion (λ (x : Region). x.stag < end) rs
-    later m end rs same below = subst (λ (e : ℕ). AllByRecursion (λ (x : Region). x.stag < e) rs) same below
-
-pub reopened_stags_are_new : ReopenedStagsAreNew
-unfolding reopened
-reopened_stags_are_new opened link run r there =
-    let k : ClientState = (client opened link run).state in
-    let known = client_known opened link run in
-    let below : r.stag < opened.first_stag + length k.regions =
-    All-contains (λ (x : Region). x.stag < opened.first_stag + length k.regions) k.regions r
-    (All-from_recursion (λ (x : Region). x.stag < opened.first_stag + length k.regions) k.regions (stags_below opened.first_stag k.regions known.regions)) there in
-    let next = known.next in
-    omega (arith, below, next)
 
 -- ---- The same lengths again
 
@@ -126,9 +102,9 @@ waits_again (w ∷ ws) xid e = by (eqb w.xid xid) e (waits_again ws xid)
     by true e later = refl
     by false e later = later e
 
-pub reopened_calls_go_on : ReopenedCallsGoOn
+pub no_call_is_left_over : NoCallIsLeftOver
 unfolding reopened calls_kept
-reopened_calls_go_on opened link run xid stays kept has = by (list_any (λ (a : AcceptedCall). eqb a.xid xid) (accepted_calls link run)) refl has
+no_call_is_left_over opened link run xid stays kept has = by (list_any (λ (a : AcceptedCall). eqb a.xid xid) (accepted_calls link run)) refl has
   where
     k : ClientState
     k = (client opened link run).state

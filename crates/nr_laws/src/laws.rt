@@ -7,7 +7,7 @@ ghost use Rattle.nr_laws.specs.Bounds.{ClientOffersFewSegments, ClientOwesFewRes
 ghost use Rattle.nr_laws.specs.Places.{PlacesFollow};
 ghost use Rattle.nr_laws.specs.Once.{NoSendTwice, NoCallTwice, NoXidTwice};
 ghost use Rattle.nr_laws.specs.OnceEach.{NoEntryTwice, NumbersAreHeard, CompletedChangesHaveEntries, NumberedLinksAreAtPlaces, PlacesFollowByNumber};
-ghost use Rattle.nr_laws.specs.Reopened.{ReopenedStagsAreNew, ReopenedLinksAgree, ReopenedCallsGoOn};
+ghost use Rattle.nr_laws.specs.Reopened.{ReopenedLinksAgree, NoCallIsLeftOver};
 ghost use Rattle.nr_laws.specs.ChunkOutcomes.{ChunkHasCause, OthersHaveNoCause, CausedCallsComplete, NoOtherVersion, OffersArePlanned, NoOwnPlanIsRefused, AutoHasReplies, ChangesAreAnswered, ChunkAddsNothing};
 
 /// No Send is executed twice, whatever a client sends, and no accepted call completes twice. On a matched link no xid is executed
@@ -31,12 +31,11 @@ pub fn once_each()
     ensures places { PlacesFollowByNumber }
 {}
 
-/// A client leaves its link, and the next one goes on from it: its client offers under new STags; if the hellos of the old link agree on what an
-/// earlier hello did, those of the next link do; and of each call that wasn't given up an outcome came, or the next link sends it again.
+/// A client leaves its link, and the next one goes on from it: if the hellos of the old link agree on what an earlier hello did, those of the next
+/// link do; and of each call that wasn't given up an outcome came, or the next link sends it again.
 pub fn reopening()
-    ensures stags { ReopenedStagsAreNew }
     ensures agree { ReopenedLinksAgree }
-    ensures calls { ReopenedCallsGoOn }
+    ensures calls { NoCallIsLeftOver }
 {}
 
 /// On matched links a call that is submitted after another's outcome was handed over has a place that isn't smaller.
