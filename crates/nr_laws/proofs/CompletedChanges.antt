@@ -75,7 +75,7 @@ client_as_then opened link run cut mid rest is left =
     front_none [] ys e = refl
     front_none (x ∷ xs) ys e = absurd cc
 
-far_first : (opened : LinkParameters) (link : ℕ) (run cut rest : List Mark) → run ≡ cut ++ rest → MatchedSoFar opened link run → MatchedSoFar opened link cut
+pub far_first : (opened : LinkParameters) (link : ℕ) (run cut rest : List Mark) → run ≡ cut ++ rest → MatchedSoFar opened link run → MatchedSoFar opened link cut
 far_first opened link run cut rest is far = record {
   asked = AtEachMark_first (AskedMark IsPrefixOf opened link) [] cut rest (subst (AtEachMark (AskedMark IsPrefixOf opened link) []) is far.asked);
   served = AtEachMark_first (ServedMark IsPrefixOf opened link) [] cut rest (subst (AtEachMark (ServedMark IsPrefixOf opened link) []) is far.served);

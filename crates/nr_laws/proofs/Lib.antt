@@ -74,6 +74,7 @@ pub mod NumbersHeard
 pub mod KeptEntries
 pub mod NumberedPlaces
 pub mod NoOldCalls
+pub mod ReopenedLinks
 pub mod PlacesByNumber
 pub mod OutputFrames
 pub mod PendingFrames

@@ -159,7 +159,7 @@ client_hears opened link run typed far =
 
 -- ---- A client
 
-abbrev ClientSized : LinkParameters → ClientState → Type 0
+abbrev pub ClientSized : LinkParameters → ClientState → Type 0
 ClientSized opened k = (k.up_max ≡ matched_up opened) × (k.down_max ≡ matched_down opened) × (k.invalidates ≡ matched_invalidates opened)
 
 record ClientMatched (opened : LinkParameters) (place : ℕ) (r : EndState ClientState) : Type 0 where
@@ -168,6 +168,7 @@ record ClientMatched (opened : LinkParameters) (place : ℕ) (r : EndState Clien
   within : (r.state.up_max ≤ matched_up opened) × (r.state.down_max ≤ matched_down opened)
   opening : HasOpening opened r.state
   again : r.state.has_hello ≡ true → AgreesAgain opened
+  greeted : r.state.has_hello ≡ true → ClientSized opened r.state
 
 client_later : (opened : LinkParameters) (place end : ℕ) (r t : EndState ClientState) → 0 < place → 0 < end → t.state.up_max ≡ r.state.up_max → t.state.down_max ≡ r.state.down_max → t.state.invalidates ≡ r.state.invalidates → t.state.has_hello ≡ r.state.has_hello → HasOpening opened t.state → ClientMatched opened place r → ClientMatched opened end t
 client_later opened place end r t some later up down names hello opening h = record {
@@ -176,6 +177,7 @@ client_later opened place end r t some later up down names hello opening h = rec
   within = (omega (arith, up, h.within.0), omega (arith, down, h.within.1));
   opening = opening;
   again = λ e. h.again (sym hello ∙ e);
+  greeted = λ e. (let s = h.greeted (sym hello ∙ e) in (up ∙ s.0, down ∙ s.1, names ∙ s.2));
 }
 
 client_quiet : (opened : LinkParameters) (place : ℕ) (r t : EndState ClientState) → t.ended ≡ r.ended → t.state.up_max ≡ r.state.up_max → t.state.down_max ≡ r.state.down_max → t.state.invalidates ≡ r.state.invalidates → t.state.has_hello ≡ r.state.has_hello → HasOpening opened t.state → ClientMatched opened place r → ClientMatched opened place t
@@ -185,6 +187,7 @@ client_quiet opened place r t ended up down names hello opening h = record {
   within = (omega (arith, up, h.within.0), omega (arith, down, h.within.1));
   opening = opening;
   again = λ e. h.again (sym hello ∙ e);
+  greeted = λ e. (let s = h.greeted (sym hello ∙ e) in (up ∙ s.0, down ∙ s.1, names ∙ s.2));
 }
 
 client_frame : (opened : LinkParameters) (place : ℕ) (k : ClientState) (f : Frame) → IsNext place (FrameReceived f) → (is_hello f ≡ true → f.bytes ≡ first_hello opened Responder) → ClientMatched opened place (record { state = k; ended = None })
@@ -199,6 +202,7 @@ client_frame opened place k f next hears h (Some end) stops = by (is_hello f) re
       within = h.within;
       opening = h.opening;
       again = h.again;
+      greeted = h.greeted;
     }
     by false is = client_later opened place f.end (record { state = k; ended = None }) (record { state = k; ended = Some end })
         (let some = above_zero f.at is in let at = next.0 in omega (arith, some, at)) (let l = next.1 in omega (arith, l)) refl refl refl refl h.opening h
@@ -210,7 +214,7 @@ client_frame opened place k f next hears h None stays = by (is_hello f) refl
         let up : (client_agreement opened f).up ≡ matched_up opened = ap (λ (a : Agreement). a.up) agreed in
         let down : (client_agreement opened f).down ≡ matched_down opened = ap (λ (a : Agreement). a.down) agreed in
         let names : (client_agreement opened f).invalidates ≡ matched_invalidates opened = ap (λ (a : Agreement). a.invalidates) agreed in
-        record { first = λ e. absurd (let l = next.1 in omega (arith, e, l)); sized = λ e same. (up, down, names); within = (omega (arith, up), omega (arith, down)); opening = h.opening; again = λ e. hello_agrees opened k f h.opening is (hears is) stays }
+        record { first = λ e. absurd (let l = next.1 in omega (arith, e, l)); sized = λ e same. (up, down, names); within = (omega (arith, up), omega (arith, down)); opening = h.opening; again = λ e. hello_agrees opened k f h.opening is (hears is) stays; greeted = λ e. (up, down, names) }
     by false is =
         let same = segment_sizes k f (client_segment k f) in
         client_later opened place f.end (record { state = k; ended = None }) (record { state = with_segment k f (client_segment k f); ended = None })
@@ -242,7 +246,7 @@ client_matched opened link run typed far =
     along rules (λ k e. []) (λ end. []) (λ r e. ClientGood opened r e × HearsHello bytes e) (λ es place r outs. ClientMatched opened place r)
     (λ es place r outs e next good h. client_step opened place r.state r.ended e next good h)
     [] 0 (initial_client opened) [] es (heard_along rules (ClientGood opened) bytes 0 (initial_client opened) es (client_goes opened link run typed far.asked).goes (client_hears opened link run typed far))
-    (record { first = λ e. refl; sized = λ e same. absurd (omega (arith, e)); within = ((up_limited opened).0, (down_limited opened).0); opening = (refl, refl); again = λ e. absurd cc })
+    (record { first = λ e. refl; sized = λ e same. absurd (omega (arith, e)); within = ((up_limited opened).0, (down_limited opened).0); opening = (refl, refl); again = λ e. absurd cc; greeted = λ e. absurd cc })
 
 pub client_within : (opened : LinkParameters) (link : ℕ) (run : List Mark) → IsTyped run → MatchedSoFar opened link run
     → ((client opened link run).state.up_max ≤ matched_up opened) × ((client opened link run).state.down_max ≤ matched_down opened)
@@ -250,6 +254,13 @@ client_within opened link run typed far = (client_matched opened link run typed 
 
 pub client_again : (opened : LinkParameters) (link : ℕ) (run : List Mark) → IsTyped run → MatchedSoFar opened link run → (client opened link run).state.has_hello ≡ true → AgreesAgain opened
 client_again opened link run typed far hello = (client_matched opened link run typed far).again hello
+
+pub client_sized : (opened : LinkParameters) (link : ℕ) (run : List Mark) → IsTyped run → MatchedSoFar opened link run → (client opened link run).state.has_hello ≡ true → ClientSized opened (client opened link run).state
+client_sized opened link run typed far hello = (client_matched opened link run typed far).greeted hello
+
+-- and what it was opened with stays
+pub client_opening : (opened : LinkParameters) (link : ℕ) (run : List Mark) → IsTyped run → MatchedSoFar opened link run → HasOpening opened (client opened link run).state
+client_opening opened link run typed far = (client_matched opened link run typed far).opening
 
 -- a server that has a call to execute received a hello
 pub executing_sized : (opened : LinkParameters) (link : ℕ) (run : List Mark) (call : ReadyCall) (others : List ReadyCall) → IsTyped run → MatchedSoFar opened link run → (server opened link run).state.ready ≡ call ∷ others

@@ -17,6 +17,7 @@ pub mod RefusedMessages
 pub mod PlainLinks
 pub mod OnceEach
 pub mod Resuming
+pub mod Reopened
 pub mod ServerRegions
 pub mod ClientRegions
 pub mod HandedBack

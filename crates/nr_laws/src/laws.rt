@@ -7,6 +7,7 @@ ghost use Rattle.nr_laws.specs.Bounds.{ClientOffersFewSegments, ClientOwesFewRes
 ghost use Rattle.nr_laws.specs.Places.{PlacesFollow};
 ghost use Rattle.nr_laws.specs.Once.{NoSendTwice, NoCallTwice, NoXidTwice};
 ghost use Rattle.nr_laws.specs.OnceEach.{NoEntryTwice, NumbersAreHeard, CompletedChangesHaveEntries, NumberedLinksAreAtPlaces, PlacesFollowByNumber};
+ghost use Rattle.nr_laws.specs.Reopened.{ReopenedLinksAgree, NoCallIsLeftOver};
 ghost use Rattle.nr_laws.specs.ChunkOutcomes.{ChunkHasCause, OthersHaveNoCause, CausedCallsComplete, NoOtherVersion, OffersArePlanned, NoOwnPlanIsRefused, AutoHasReplies, ChangesAreAnswered, ChunkAddsNothing};
 
 /// No Send is executed twice, whatever a client sends, and no accepted call completes twice. On a matched link no xid is executed
@@ -28,6 +29,13 @@ pub fn once_each()
     ensures completed { CompletedChangesHaveEntries }
     ensures plain { NumberedLinksAreAtPlaces }
     ensures places { PlacesFollowByNumber }
+{}
+
+/// A client leaves its link, and the next one goes on from it: if the hellos of the old link agree on what an earlier hello did, those of the next
+/// link do; and of each call that wasn't given up an outcome came, or the next link sends it again.
+pub fn reopening()
+    ensures agree { ReopenedLinksAgree }
+    ensures calls { NoCallIsLeftOver }
 {}
 
 /// On matched links a call that is submitted after another's outcome was handed over has a place that isn't smaller.
