@@ -30,6 +30,7 @@ use Rattle.nr_laws.proofs.PlainReplies.{replies_are_plain}
 use Rattle.nr_laws.proofs.ChunkCauses.{chunk_has_cause}
 use Rattle.nr_laws.proofs.Completed.{no_other_version}
 use Rattle.nr_laws.proofs.AutoReplies.{auto_has_replies}
+use Rattle.nr_laws.proofs.WaitingCalls.{resumes_planned}
 use Rattle.nr_laws.proofs.Following.{places_follow}
 use Rattle.nr_laws.proofs.NeitherEnds.{links_stay, matched_calls_complete}
 use Rattle.nr_script.specs.Script.{ScriptLines, IsScript}
@@ -114,7 +115,7 @@ follows_promises server script run is none plain typed follows =
         chunk = λ before xid outcome at. chunk_has_cause o link run before xid outcome typed (sofar link within matched) at;
         version = λ before xid low high at. no_other_version o link run before xid low high typed (sofar link within matched) at;
         auto = λ earlier before call xid outcome submitted at.
-            auto_has_replies server.reply_to server.adds o link run earlier before call xid outcome (opened_by_script script is link) plain (replied_on server link run told.1) typed (sofar link within matched) submitted at;
+            auto_has_replies server.reply_to server.adds o link run earlier before call xid outcome (resumes_planned o (opened_by_script script is link)) plain (replied_on server link run told.1) typed (sofar link within matched) submitted at;
       });
       places = λ link other_link within other_within matched other_matched before between before_first before_second call form xid other_xid outcome moment other_moment payload other_payload place other_place reply other_reply done new first second.
           places_follow server.adds J (parameters_of script.opening link) (parameters_of script.opening other_link) link other_link run before between before_first before_second call form xid other_xid outcome

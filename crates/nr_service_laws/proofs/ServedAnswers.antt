@@ -26,6 +26,7 @@ use Rattle.nr_laws.proofs.Basics.{some_is_lem}
 use Rattle.nr_laws.proofs.LaterMarks.{mark_later}
 use Rattle.nr_laws.proofs.OnceByXid.{at_mark}
 use Rattle.nr_laws.proofs.OwnReplies.{executed_replies_are_handed_over}
+use Rattle.nr_laws.proofs.WaitingCalls.{resumes_planned}
 use Rattle.nr_tree.specs.Sane.{IsSane}
 use Rattle.nr_plain.specs.Added.{entries_of_call}
 use Rattle.nr_plain.specs.ReplyLaws.{plain_server}
@@ -144,7 +145,7 @@ module _ (setup : Setup) (sane : IsSane setup.tree) (opened : LinkParameters) (l
       let done = marks.Done link xid outcome in
       let at_submit : MarkAt both p.before submit = record { after = p.between ++ done ∷ p.after; is = p.is } in
       let at_done : MarkAt both (p.before ++ submit ∷ p.between) done = record { after = p.after; is = p.is ∙ sym (append_assoc p.before (submit ∷ p.between) (done ∷ p.after)) } in
-      let reply = auto_has_replies replies_to entries_of_call opened link both p.before (p.before ++ submit ∷ p.between) call xid outcome fine (server_is_plain setup sane) served.plain served.typed served.matched at_submit at_done in
+      let reply = auto_has_replies replies_to entries_of_call opened link both p.before (p.before ++ submit ∷ p.between) call xid outcome (resumes_planned opened fine) (server_is_plain setup sane) served.plain served.typed served.matched at_submit at_done in
       subst (λ (o : Outcome). IsServedReply setup call o) (sym reply.1)
       (one_reply call xid reply.0 (subst (λ (o : Outcome). Precede both (submit_of link call xid) (marks.Done link xid o)) reply.1 p))
 
