@@ -300,7 +300,7 @@ lawful_answer s link call (Some g) d next h =
 -- an old call is one of a client with a number, and ends the link
 old_numbered : (s : Setting) (link : ℕ) (call : ReadyCall) (d : Drill) (top : ℕ) → standing_of s link d call ≡ Old top → number_heard d.marks link ≢ 0
 unfolding standing_of
-old_numbered s link call d top e zero = absurd (let new : New ≡ Old top = sym (ap (λ (n : ℕ). standing_for (journal_of s d.marks) n call.xid) zero) ∙ e in cc)
+old_numbered s link call d top e none = absurd (let new : New ≡ Old top = sym (ap (λ (n : ℕ). standing_for (journal_of s d.marks) n call.xid) none) ∙ e in cc)
 
 lawful_call : (s : Setting) (link : ℕ) (call : ReadyCall) (is : Standing) (answer : Option GivenReply) (d : Drill) → standing_of s link d call ≡ is → next_call (s.opened link) link d.marks ≡ Some call → Keeps s link d →
     Keeps s link (after_call s link call is answer d)
