@@ -22,16 +22,15 @@ use Rattle.nr_reduce.specs.OfferedMemory.{region_at, HoldsRegions, held_if_open,
 use Rattle.nr_reduce.specs.EndRules.{EndState, live}
 use Rattle.nr_reduce.specs.ClientState.{OutstandingCall, ClientState, call_payload, plan_for, client_memory_at, WaitingCall, plan_unless, first_of}
 use Rattle.nr_reduce.specs.Client.{initial_client}
-use Rattle.nr_reduce.specs.SubmitAnswer.{unless_spent, by_plan, answer_by, submit_answer, calls_counted, unless_far, unless_far_from, least_xid}
+use Rattle.nr_reduce.specs.SubmitAnswer.{unless_spent, by_plan, answer_by, submit_answer, calls_counted, unless_far_by, least_xid}
 use Rattle.nr_reduce.specs.KeptCalls.{KeptCall, AreKept}
-use Rattle.nr_reduce.specs.KeptClient.{KeptClient, ClientKeeps, CallsKeep, MemoryKeeps, bytes_under, opened_client, IsUnresumed}
-use Rattle.nr_reduce.specs.StandingLaws.{KeptJudges, KeptResponds, KeptAnswers, KeptCounts, kept_answer_by_plan, kept_answer_if}
+use Rattle.nr_reduce.specs.KeptClient.{KeptClient, ClientKeeps, CallsKeep, MemoryKeeps, bytes_under, opened_client}
+use Rattle.nr_reduce.specs.StandingLaws.{KeptJudges, KeptResponds, KeptAnswers, KeptCounts, least_kept, kept_answer_by_plan, kept_answer_if}
 use Rattle.nr_reduce.proofs.MemorySteps.{holds_later}
 use Rattle.nr_reduce.proofs.Conveying.{message_alike}
 use Rattle.nr_regions.proofs.Holding.{live_parts}
 use Rattle.std.specs.Prelude.{unwrap_or}
 use Rattle.nr_reduce.specs.Opening.{IsFirstLink}
-use Rattle.std.proofs.lemmas.Bool.{eq-eqb}
 
 -- ---- As it is opened
 
@@ -54,8 +53,8 @@ next_begins first_stag = refl
 abbrev unresumed : LinkParameters → LinkParameters
 unresumed any = record any { resumed = []; agreed = None }
 
-begins_unresumed : (any : LinkParameters) → any.client.number ≡ 0 → ClientKeeps (unresumed any) (opened_client (unresumed any)) (initial_client (unresumed any)) 0
-begins_unresumed any number = record {
+begins_unresumed : (any : LinkParameters) → ClientKeeps (unresumed any) (opened_client (unresumed any)) (initial_client (unresumed any)) 0
+begins_unresumed any = record {
   ended = refl;
   xid = refl;
   sends = refl;
@@ -63,7 +62,7 @@ begins_unresumed any number = record {
   up = refl;
   down = refl;
   invalidates = refl;
-  first = (refl, (refl, number));
+  first = (refl, (refl, refl));
   outstanding = refl;
   calls = λ lives. record { kept = tt; rising = tt; owned = λ stag r e is. absurd cc; opens = tt };
   memory = λ lives. record { next = next_begins any.first_stag; offered = tt; holds = memory_begins any.first_stag; none_dead = none_begins any.first_stag; below = λ stag r e. absurd cc };
@@ -74,10 +73,10 @@ begins_unresumed any number = record {
   holds = tt;
 }
 
-pub keeps_begins : (opened : LinkParameters) → IsFirstLink opened → opened.client.number ≡ 0 → ClientKeeps opened (opened_client opened) (initial_client opened) 0
-keeps_begins opened first number =
+pub keeps_begins : (opened : LinkParameters) → IsFirstLink opened → ClientKeeps opened (opened_client opened) (initial_client opened) 0
+keeps_begins opened first =
     let same : unresumed opened ≡ opened = (λ i. record opened { resumed = sym first.resumed i; agreed = sym first.agreed i }) in
-    subst (λ (p : LinkParameters). ClientKeeps p (opened_client p) (initial_client p) 0) same (begins_unresumed opened number)
+    subst (λ (p : LinkParameters). ClientKeeps p (opened_client p) (initial_client p) 0) same (begins_unresumed opened)
 
 -- ---- Messages
 
@@ -131,31 +130,36 @@ kept_count k (c ∷ cs) [] is = absurd is
 kept_count k (c ∷ cs) (o ∷ os) is = (let rest = kept_count k cs os is.1 in omega (arith, rest))
 
 -- the parts of an answer, one by one
-answer_parts : Result Plan TooLarge → (grant count xid stag : ℕ) → Submission
-answer_parts (Err large) grant count xid stag = submissions.Refused (refusals.TooLarge large.need large.room)
-answer_parts (Ok plan) grant count xid stag =
+answer_parts : Result Plan TooLarge → (grant count number : ℕ) → (least : Option ℕ) → (xid stag : ℕ) → Submission
+answer_parts (Err large) grant count number least xid stag = submissions.Refused (refusals.TooLarge large.need large.room)
+answer_parts (Ok plan) grant count number least xid stag =
     cond (leb grant count) (submissions.Refused (refusals.NoCredit count grant))
-    (unless_spent (numbers_end - xid) 1 (unless_spent (numbers_end - stag) (regions_needed plan) (submissions.Accepted xid)))
+    (unless_far_by number xid least (unless_spent (numbers_end - xid) 1 (unless_spent (numbers_end - stag) (regions_needed plan) (submissions.Accepted xid))))
 
-own_parts : (kept : KeptClient) (p : Result Plan TooLarge) → kept_answer_by_plan kept p ≡ answer_parts p kept.grant (length kept.calls) kept.next_xid kept.memory.next
+own_parts : (kept : KeptClient) (p : Result Plan TooLarge) → kept_answer_by_plan kept p ≡ answer_parts p kept.grant (length kept.calls) kept.number (least_kept kept.calls) kept.next_xid kept.memory.next
 unfolding answer_parts
 own_parts kept (Ok plan) = refl
 own_parts kept (Err large) = refl
 
--- a client without a number counts no call that waits, and its xids have no window
-client_parts : (k : ClientState) (p : Result Plan TooLarge) → IsUnresumed k → by_plan k p ≡ answer_parts p k.grant (length k.outstanding) k.next_xid k.stag
+-- the least xid of the calls that are kept is that of the outstanding ones
+least_same : (k : ClientState) (cs : List KeptCall) (os : List OutstandingCall) → AreKept k cs os → least_kept cs ≡ least_xid os []
+least_same k [] [] is = refl
+least_same k [] (o ∷ os) is = absurd is
+least_same k (c ∷ cs) [] is = absurd is
+least_same k (c ∷ cs) (o ∷ os) is = ap (λ (xid : ℕ). Some xid) is.0.xid
+
+-- a client to which no call waits counts none
+client_parts : (k : ClientState) (p : Result Plan TooLarge) → k.waiting ≡ [] → by_plan k p ≡ answer_parts p k.grant (length k.outstanding) k.terms.number (least_xid k.outstanding []) k.next_xid k.stag
 unfolding answer_parts
-client_parts k (Ok plan) first = λ i. cond (leb k.grant (count i)) (submissions.Refused (refusals.NoCredit (count i) k.grant)) (near i)
+client_parts k (Ok plan) none =
+    λ i. cond (leb k.grant (count i)) (submissions.Refused (refusals.NoCredit (count i) k.grant)) (unless_far_by k.terms.number k.next_xid (least_xid k.outstanding (none i)) answer)
   where
     answer : Submission
     answer = unless_spent (numbers_end - k.next_xid) 1 (unless_spent (numbers_end - k.stag) (regions_needed plan) (submissions.Accepted k.next_xid))
 
     count : calls_counted k ≡ length k.outstanding
-    count = (let none = ap (λ (ws : List WaitingCall). length ws) first.0 in omega (arith, none))
-
-    near : unless_far k answer ≡ answer
-    near = ap (λ (b : Bool). cond b answer (unless_far_from k.next_xid (least_xid k.outstanding k.waiting) answer)) (eq-eqb k.terms.number 0 first.1.1)
-client_parts k (Err large) first = refl
+    count = (let waiting = ap (λ (ws : List WaitingCall). length ws) none in omega (arith, waiting))
+client_parts k (Err large) none = refl
 
 plan_same : (k : ClientState) (xid : ℕ) (call : Call) (form : Form) → k.waiting ≡ [] → plan_of (call_payload xid call) form k.up_max k.down_max ≡ plan_for k xid call form
 unfolding plan_for
@@ -167,8 +171,9 @@ answer_live opened kept k count call form keeps =
     let memory : MemoryKeeps kept.memory k count = keeps.memory refl in
     let calls : CallsKeep kept.calls kept.next_xid k = keeps.calls refl in
     own_parts kept (plan_of (call_payload kept.next_xid call) form kept.up_max kept.down_max)
-    ∙ (λ i. answer_parts (plan_of (call_payload (keeps.xid i) call) form (keeps.up i) (keeps.down i)) (keeps.grant i) (kept_count k kept.calls k.outstanding calls.kept i) (keeps.xid i) (memory.next i))
-    ∙ sym (client_parts k (plan_of (call_payload k.next_xid call) form k.up_max k.down_max) keeps.first)
+    ∙ (λ i. answer_parts (plan_of (call_payload (keeps.xid i) call) form (keeps.up i) (keeps.down i)) (keeps.grant i) (kept_count k kept.calls k.outstanding calls.kept i) (keeps.first.1.1 i)
+        (least_same k kept.calls k.outstanding calls.kept i) (keeps.xid i) (memory.next i))
+    ∙ sym (client_parts k (plan_of (call_payload k.next_xid call) form k.up_max k.down_max) keeps.first.0)
     ∙ ap (by_plan k) (plan_same k k.next_xid call form keeps.first.0)
 
 answer_if : (opened : LinkParameters) (kept : KeptClient) (e : EndState ClientState) (count : ℕ) (call : Call) (form : Form) → ClientKeeps opened kept e count → (x : Option End) → e.ended ≡ x →

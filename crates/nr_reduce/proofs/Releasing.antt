@@ -303,7 +303,7 @@ waits_revoked xid os (c ∷ cs) h = (by (eqb c.xid xid), waits_revoked xid os cs
     by false = h.0
 
 -- of a client that hasn't ended the memory of its calls is that of its open regions
-pub keeps_live : (opened : LinkParameters) (kept : KeptClient) (k : ClientState) (count : ℕ) → kept.ended ≡ None → kept.next_xid ≡ k.next_xid → kept.sends ≡ k.sends → kept.grant ≡ k.grant → kept.up_max ≡ k.up_max → kept.down_max ≡ k.down_max → kept.invalidates ≡ k.invalidates → IsUnresumed k → kept.outstanding ≡ length k.outstanding →
+pub keeps_live : (opened : LinkParameters) (kept : KeptClient) (k : ClientState) (count : ℕ) → kept.ended ≡ None → kept.next_xid ≡ k.next_xid → kept.sends ≡ k.sends → kept.grant ≡ k.grant → kept.up_max ≡ k.up_max → kept.down_max ≡ k.down_max → kept.invalidates ≡ k.invalidates → IsUnresumed kept.number k → kept.outstanding ≡ length k.outstanding →
     AreReceived count k.accesses_received → MemoryKeeps kept.memory k count → CallsKeep kept.calls kept.next_xid k → ClientKeeps opened kept (live k) count
 keeps_live opened kept k count ended xid sends grant up down invalidates first outstanding accesses memory calls = record {
   ended = ended;

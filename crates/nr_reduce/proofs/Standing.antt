@@ -266,10 +266,10 @@ pub server_stays_out_lem : ServerStaysOut
 server_stays_out_lem opened link ended queue left run mark out queued =
     (out.0, stays_out IsState (server_rules opened) link Responder (server opened link) (output_due opened link Responder) run mark queue left (output_due_down_one opened link run mark) out.1 queued)
 
-pub client_begins_lem : (opened : LinkParameters) (link : ℕ) → IsFirstLink opened → opened.client.number ≡ 0 → ClientRepresents opened link (opened_client opened) (initial_input Responder) (client_hello opened) []
+pub client_begins_lem : (opened : LinkParameters) (link : ℕ) → IsFirstLink opened → ClientRepresents opened link (opened_client opened) (initial_input Responder) (client_hello opened) []
 unfolding client events bytes_received bytes_sent output_due
-client_begins_lem opened link first number = record {
-  keeps = keeps_begins opened first number;
+client_begins_lem opened link first = record {
+  keeps = keeps_begins opened first;
   received = λ lives. sym (input_of_none Responder);
   output = sym (append-nil (client_hello opened));
 }

@@ -27,7 +27,7 @@ use Rattle.nr_reduce.specs.KeptCalls.{KeptCall, AreKept, stags_unless}
 
 -- Why the client ended, once it has; the xid that it gives next; how many Sends have a number; the credits that are granted; how many calls are outstanding; the calls
 -- among them that weren't handed back, in the order of their Submits; its registered memory; the maximum length of a Send in bytes,
--- towards the server and from it; whether a reply may be a Send with Invalidate.
+-- towards the server and from it; whether a reply may be a Send with Invalidate; the number of the client, or 0 if it has none.
 pub record KeptClient : Type 0 where
   pub ended : Option End
   pub next_xid : ℕ
@@ -39,6 +39,7 @@ pub record KeptClient : Type 0 where
   pub up_max : ℕ
   pub down_max : ℕ
   pub invalidates : Bool
+  pub number : ℕ
 
 -- the bytes under an STag
 abbrev pub bytes_under : RegisteredMemory → ℕ → List ℕ
@@ -108,9 +109,9 @@ HasRegionsOf c (Some o) = HasRegions c o
 abbrev pub IsWaiting : List OutstandingCall → KeptCall → Type 0
 IsWaiting outstanding c = HasRegionsOf c (find (λ o. o.xid == c.xid) outstanding)
 
--- no call waits to be sent again, no earlier hello agreed on anything, and the client has no number
-abbrev pub IsUnresumed : ClientState → Type 0
-IsUnresumed k = (k.waiting ≡ []) × ((k.agreed ≡ None) × (k.terms.number ≡ 0))
+-- no call waits to be sent again, no earlier hello agreed on anything, and the client has this number
+abbrev pub IsUnresumed : (number : ℕ) → ClientState → Type 0
+IsUnresumed number k = (k.waiting ≡ []) × ((k.agreed ≡ None) × (number ≡ k.terms.number))
 
 -- It is kept of a client in this state, after `count` bytes were received. Of a client that has ended its calls are some of those that
 -- were outstanding, and the memory counts by what it holds for them.
@@ -122,7 +123,7 @@ pub record ClientKeeps (opened : LinkParameters) (kept : KeptClient) (e : EndSta
   pub up : kept.up_max ≡ e.state.up_max
   pub down : kept.down_max ≡ e.state.down_max
   pub invalidates : kept.invalidates ≡ e.state.invalidates
-  pub first : IsUnresumed e.state
+  pub first : IsUnresumed kept.number e.state
   pub outstanding : kept.outstanding ≡ length e.state.outstanding
   pub calls : e.ended ≡ None → CallsKeep kept.calls kept.next_xid e.state
   pub memory : e.ended ≡ None → MemoryKeeps kept.memory e.state count
@@ -145,6 +146,7 @@ opened_client opened = record {
   up_max = send_unit;
   down_max = send_unit;
   invalidates = false;
+  number = opened.client.number;
 }
 
 -- ---- What it keeps once regions are released

@@ -41,17 +41,17 @@ use Rattle.nr_reduce.specs.ClientMessages.{message_verdict}
 use Rattle.nr_reduce.specs.ServerState.{ServerState}
 use Rattle.nr_reduce.specs.Server.{server_rules, initial_server}
 use Rattle.nr_reduce.specs.Run.{client, server, output_due}
-use Rattle.nr_reduce.specs.SubmitAnswer.{unless_spent, submit_answer}
+use Rattle.nr_reduce.specs.SubmitAnswer.{unless_spent, unless_far_by, submit_answer}
 use Rattle.nr_reduce.specs.Matched.{IsPrefixOf}
 use Rattle.nr_reduce.specs.Asked.{IsAll, AskedSoFar}
 use Rattle.nr_reduce.specs.Served.{ServedSoFar}
-use Rattle.nr_reduce.specs.KeptCalls.{kept_message_verdict}
+use Rattle.nr_reduce.specs.KeptCalls.{KeptCall, kept_message_verdict}
 use Rattle.nr_reduce.specs.KeptClient.{KeptClient, ClientKeeps, bytes_under, opened_client, kept_revoked, kept_handed_back, kept_completed, kept_placed, kept_received, kept_sent, kept_submitted, kept_greeted}
 use Rattle.nr_reduce.specs.Standing.{input_events, ClientRepresents, ClientRunsOut, ServerRepresents, ServerRunsOut}
 
--- An end stands for no marks as it is opened: a client's queue has its hello. Its link was not reopened, and it has no number.
+-- An end stands for no marks as it is opened: a client's queue has its hello. Its link was not reopened.
 abbrev pub ClientBegins : Type 0
-ClientBegins = (opened : LinkParameters) (link : ℕ) → IsFirstLink opened → opened.client.number ≡ 0 → ClientRepresents opened link (opened_client opened) (initial_input Responder) (client_hello opened) []
+ClientBegins = (opened : LinkParameters) (link : ℕ) → IsFirstLink opened → ClientRepresents opened link (opened_client opened) (initial_input Responder) (client_hello opened) []
 
 abbrev pub ServerBegins : Type 0
 ServerBegins = (opened : LinkParameters) (link : ℕ) → ServerRepresents opened link (initial_server opened) (initial_input Initiator) [] []
@@ -160,13 +160,20 @@ KeptResponds = (opened : LinkParameters) (kept : KeptClient) (k : ClientState) (
     denial kept.memory (record { right = Fetch; stag = r.stag; to = r.to; len = r.size }) ≡ None →
     response_output k place (Some r) ≡ read_response r.sink r.sink_to (take r.size (drop r.to (bytes_under kept.memory r.stag)))
 
--- What it answers to a call: refused as ended, too large, without credit, or without numbers, in this order; else accepted.
+-- the least xid of the calls that are kept: they are in the order of their xids
+abbrev pub least_kept : List KeptCall → Option ℕ
+least_kept [] = None
+least_kept (c ∷ calls) = Some c.xid
+
+-- What it answers to a call: refused as ended, too large, without credit, above the window of a client with a number, or without numbers, in this
+-- order; else accepted.
 abbrev pub kept_answer_by_plan : KeptClient → Result Plan TooLarge → Submission
 kept_answer_by_plan kept (Err large) = submissions.Refused (refusals.TooLarge large.need large.room)
 kept_answer_by_plan kept (Ok plan) =
     if nat_le kept.grant (length kept.calls) then submissions.Refused (refusals.NoCredit (length kept.calls) kept.grant)
-    else unless_spent (numbers_end - kept.next_xid) 1
-    (unless_spent (numbers_end - kept.memory.next) (regions_needed plan) (submissions.Accepted kept.next_xid))
+    else unless_far_by kept.number kept.next_xid (least_kept kept.calls)
+    (unless_spent (numbers_end - kept.next_xid) 1
+    (unless_spent (numbers_end - kept.memory.next) (regions_needed plan) (submissions.Accepted kept.next_xid)))
 
 abbrev pub kept_answer_if : KeptClient → Call → Form → Option End → Submission
 kept_answer_if kept call form (Some end) = submissions.Refused (refusals.Ended end)

@@ -1,5 +1,5 @@
 -- A call is accepted: a requester stands for the marks with that Submit; and what it answers to a call is what its client answers.
-use Rattle.std.proofs.Common.{◌≡◌, ℕ, ◌+◌, ◌-◌, ◌≤◌, cond, leb, List, [], ◌∷◌, ◌++◌, length, Option, None, Some, Result, Ok, Err, refl, sym, ap, subst, ◌∙◌, arith, append-nil}
+use Rattle.std.proofs.Common.{◌≡◌, ℕ, ◌+◌, ◌-◌, ◌≤◌, cond, leb, List, [], ◌∷◌, ◌++◌, length, map, Option, None, Some, Result, Ok, Err, refl, sym, ap, subst, ◌∙◌, arith, append-nil}
 use Rattle.std.proofs.lemmas.List.{length-map}
 use Rattle.nr_wire.specs.declared.hello.Side.TheVariants.{Initiator, Responder}
 use Rattle.nr_link.specs.declared.end.End.{End}
@@ -27,14 +27,15 @@ use Rattle.nr_reduce.specs.ClientState.{ClientState, call_payload, plan_for}
 use Rattle.nr_reduce.specs.Client.{client_rules, client_end, client_output}
 use Rattle.nr_reduce.specs.Run.{client}
 use Rattle.nr_reduce.specs.Credits.{calls_outstanding, credits_granted}
-use Rattle.nr_reduce.specs.SubmitAnswer.{unless_spent}
+use Rattle.nr_reduce.specs.SubmitAnswer.{unless_spent, unless_far_by}
 use Rattle.nr_reduce.specs.KeptClient.{KeptClient, ClientKeeps, kept_submitted}
 use Rattle.nr_reduce.specs.Standing.{input_events}
-use Rattle.nr_reduce.specs.StandingLaws.{GoesOn, kept_answer_by_plan, kept_answer_if}
+use Rattle.nr_reduce.specs.StandingLaws.{GoesOn, least_kept, kept_answer_by_plan, kept_answer_if}
 use Rattle.nr_reduce.proofs.Standing.{client_stands}
 use Rattle.nr_reduce.proofs.Submits.{kept_submits}
 use Rattle.nr_reduce.proofs.Keeping.{kept_answers, kept_counts}
-use Rattle.nr_requester.specs.RequesterState.{RequesterState, RequesterSide, kept_call, queue_of, kept_client, input_kept}
+use Rattle.nr_requester.specs.RequesterState.{RequesterState, RequesterSide, StoredCall, kept_call, kept_calls, queue_of, kept_client, input_kept}
+use Rattle.nr_requester.specs.Sending.{least_stored}
 use Rattle.nr_requester.specs.Standing.{LinkKeeps, KeepsClient}
 use Rattle.nr_requester.specs.AfterCalls.{submitted, after_submit}
 use Rattle.nr_requester.specs.Answers.{plan_under, answer_by_plan, answer_if, answer_of}
@@ -142,14 +143,22 @@ module _ (opened : LinkParameters) (link : ℕ) (h : RequesterSide) (run : List 
 
 -- ---- What is answered to a call
 
+least_same : (sent : ℕ) (calls : List StoredCall) → least_stored calls ≡ least_kept (map (kept_call sent) calls)
+least_same sent [] = refl
+least_same sent (c ∷ calls) = refl
+
 answer_same : (r : RequesterState) (p : Result Plan TooLarge) → answer_by_plan r p ≡ kept_answer_by_plan (kept_client r) p
 answer_same r (Err large) = refl
-answer_same r (Ok plan) = ap (λ (n : ℕ). cond (leb r.grant n) (submissions.Refused (refusals.NoCredit n r.grant)) (accepting plan)) (sym (length-map r.outstanding (kept_call r.sent)))
+answer_same r (Ok plan) =
+    λ i. cond (leb r.grant (count i)) (submissions.Refused (refusals.NoCredit (count i) r.grant)) (unless_far_by r.side.terms.number r.next_xid (least_same r.sent r.outstanding i) answer)
   where
-    accepting : Plan → Submission
-    accepting plan =
+    answer : Submission
+    answer =
         unless_spent (numbers_end - r.next_xid) 1
         (unless_spent (numbers_end - r.side.memory.next) (regions_needed plan) (submissions.Accepted r.next_xid))
+
+    count : length r.outstanding ≡ length (kept_calls r)
+    count = sym (length-map r.outstanding (kept_call r.sent))
 
 answer_kept : (r : RequesterState) (call : Call) (form : Form) (x : Option End) → answer_if r call form x ≡ kept_answer_if (kept_client r) call form x
 answer_kept r call form (Some end) = refl

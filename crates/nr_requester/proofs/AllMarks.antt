@@ -46,8 +46,8 @@ no_frames_if false es h = tt
 
 pub begins : Begins
 unfolding opened_as events completed_calls accepted_calls marks_of
-begins opened link staging first number = record {
-  keeps = begins_client opened link staging first number;
+begins opened link staging first = record {
+  keeps = begins_client opened link staging first;
   answers = record { outcomes = refl; hands_back = tt; holds = tt; calls = tt; awaited = tt; submitted = tt; tickets = tt; to_come = λ xid le. refl; regions = record { before = tt; calls = tt } };
   counted = refl;
 }

@@ -283,13 +283,13 @@ queue_opened : (opened : LinkParameters) (staging : List ℕ) → client_hello o
 unfolding opened_as client_hello
 queue_opened opened staging = sym (append-nil (hello_with Initiator (initiator_private opened.client)))
 
-pub begins_client : (opened : LinkParameters) (link : ℕ) (staging : List ℕ) → IsFirstLink opened → opened.client.number ≡ 0 → KeepsClient opened link (opened_as opened.first_xid opened.first_stag opened.wished opened.client staging) []
+pub begins_client : (opened : LinkParameters) (link : ℕ) (staging : List ℕ) → IsFirstLink opened → KeepsClient opened link (opened_as opened.first_xid opened.first_stag opened.wished opened.client staging) []
 unfolding opened_as
-begins_client opened link staging first number = record {
+begins_client opened link staging first = record {
   wished = refl;
   first = first;
   kept = subst (λ (k : KeptClient). ClientRepresents opened link k (initial_input Responder) (queue_of (opened_as opened.first_xid opened.first_stag opened.wished opened.client staging).state) []) (kept_opened opened staging)
-      (subst (λ (q : List ℕ). ClientRepresents opened link (opened_client opened) (initial_input Responder) q []) (queue_opened opened staging) (client_begins_lem opened link first number));
+      (subst (λ (q : List ℕ). ClientRepresents opened link (opened_client opened) (initial_input Responder) q []) (queue_opened opened staging) (client_begins_lem opened link first));
   sent = λ none. refl;
   side = λ none. link_opened opened link staging;
 }

@@ -38,7 +38,7 @@ use Rattle.nr_requester.specs.Buffers.{bytes_of_buffers}
 use Rattle.nr_requester.specs.OpenCalls.{open_call, remaining_call, found_answer, buffers_of}
 
 abbrev pub Begins : Type 0
-Begins = (opened : LinkParameters) (link : ℕ) (staging : List ℕ) → IsFirstLink opened → opened.client.number ≡ 0 → RequesterRepresents opened link (opened_as opened.first_xid opened.first_stag opened.wished opened.client staging) []
+Begins = (opened : LinkParameters) (link : ℕ) (staging : List ℕ) → IsFirstLink opened → RequesterRepresents opened link (opened_as opened.first_xid opened.first_stag opened.wished opened.client staging) []
 
 -- It answers a call as its client does.
 abbrev pub AnswersAsClient : Type 0

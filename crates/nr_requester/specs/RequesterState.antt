@@ -100,6 +100,7 @@ kept_client r = record {
   up_max = r.side.agreed.up;
   down_max = r.side.agreed.down;
   invalidates = r.side.agreed.invalidates;
+  number = r.side.terms.number;
 }
 
 abbrev pub input_kept : RequesterSide → InputState
