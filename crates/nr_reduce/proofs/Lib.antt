@@ -17,6 +17,8 @@ pub mod OutcomesStay
 pub mod XidsFollow
 pub mod Unresumed
 pub mod RisingXids
+pub mod WaitingFit
+pub mod Resending
 pub mod ToldCredits
 pub mod Unconcerned
 pub mod OutputItems
