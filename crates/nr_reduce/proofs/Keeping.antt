@@ -1,5 +1,5 @@
 -- What a client keeps is enough to judge a message, to answer a Read Request, and to answer a call.
-use Rattle.std.proofs.Common.{◌≡◌, ℕ, ◌-◌, Bool, false, cond, leb, List, [], ◌∷◌, length, take, drop, Option, None, Some, Result, Ok, Err, refl, sym, ap, subst, ◌∙◌, arith}
+use Rattle.std.proofs.Common.{◌≡◌, ℕ, ◌-◌, Bool, false, cond, leb, List, [], ◌∷◌, ◌++◌, length, take, drop, Option, None, Some, Result, Ok, Err, refl, sym, ap, subst, ◌∙◌, arith}
 use Rattle.std.specs.Ordering.{nat_cmp}
 use Rattle.std.specs.FinMap.{get-empty}
 use Rattle.nr_regions.specs.declared.denied.Denied.TheVariants as denied
@@ -23,14 +23,16 @@ use Rattle.nr_reduce.specs.EndRules.{EndState, live}
 use Rattle.nr_reduce.specs.ClientState.{OutstandingCall, ClientState, call_payload, plan_for, client_memory_at, WaitingCall, plan_unless, first_of}
 use Rattle.nr_reduce.specs.Client.{initial_client}
 use Rattle.nr_reduce.specs.SubmitAnswer.{unless_spent, by_plan, answer_by, submit_answer, calls_counted, unless_far_by, least_xid}
-use Rattle.nr_reduce.specs.KeptCalls.{KeptCall, AreKept}
-use Rattle.nr_reduce.specs.KeptClient.{KeptClient, ClientKeeps, CallsKeep, MemoryKeeps, bytes_under, opened_client}
+use Rattle.nr_reduce.specs.KeptCalls.{KeptCall, AreKept, numbered_from, numbered_calls}
+use Rattle.nr_reduce.specs.KeptClient.{KeptClient, ClientKeeps, CallsKeep, MemoryKeeps, AreRising, bytes_under, opened_client}
 use Rattle.nr_reduce.specs.StandingLaws.{KeptJudges, KeptResponds, KeptAnswers, KeptCounts, least_kept, kept_answer_by_plan, kept_answer_if}
 use Rattle.nr_reduce.proofs.MemorySteps.{holds_later}
 use Rattle.nr_reduce.proofs.Conveying.{message_alike}
 use Rattle.nr_regions.proofs.Holding.{live_parts}
 use Rattle.std.specs.Prelude.{unwrap_or}
 use Rattle.nr_reduce.specs.Opening.{IsFirstLink}
+use Rattle.std.proofs.lemmas.Bool.{ne_eqb}
+use Rattle.nr_reduce.proofs.Numbered.{numbered_length}
 
 -- ---- As it is opened
 
@@ -62,7 +64,7 @@ begins_unresumed any = record {
   up = refl;
   down = refl;
   invalidates = refl;
-  first = (refl, (refl, refl));
+  opening = (refl, refl);
   outstanding = refl;
   calls = λ lives. record { kept = tt; rising = tt; owned = λ stag r e is. absurd cc; opens = tt };
   memory = λ lives. record { next = next_begins any.first_stag; offered = tt; holds = memory_begins any.first_stag; none_dead = none_begins any.first_stag; below = λ stag r e. absurd cc };
@@ -81,10 +83,10 @@ keeps_begins opened first =
 -- ---- Messages
 
 pub kept_judges : KeptJudges
-kept_judges opened kept k count place named message keeps later =
+kept_judges opened kept k count place named message keeps later few =
     let calls : CallsKeep kept.calls kept.next_xid k = keeps.calls refl in
     let memory : MemoryKeeps kept.memory k count = keeps.memory refl in
-    message_alike k place kept.memory kept.calls named message calls.kept
+    message_alike k place kept.memory kept.calls named message calls.kept few
     (holds_later k.regions k.accesses_received count place kept.memory later keeps.accesses memory.holds) keeps.opens
 
 -- ---- Read Requests
@@ -141,40 +143,45 @@ unfolding answer_parts
 own_parts kept (Ok plan) = refl
 own_parts kept (Err large) = refl
 
--- the least xid of the calls that are kept is that of the outstanding ones
-least_same : (k : ClientState) (cs : List KeptCall) (os : List OutstandingCall) → AreKept k cs os → least_kept cs ≡ least_xid os []
-least_same k [] [] is = refl
-least_same k [] (o ∷ os) is = absurd is
-least_same k (c ∷ cs) [] is = absurd is
-least_same k (c ∷ cs) (o ∷ os) is = ap (λ (xid : ℕ). Some xid) is.0.xid
+-- the least xid of the calls that are kept is that of the outstanding ones, or of those that wait
+least_same : (k : ClientState) (n : ℕ) (cs : List KeptCall) (os : List OutstandingCall) (ws : List WaitingCall) → AreKept k cs (os ++ numbered_from n ws) → least_kept cs ≡ least_xid os ws
+least_same k n [] [] [] is = refl
+least_same k n [] [] (w ∷ ws) is = absurd is
+least_same k n [] (o ∷ os) ws is = absurd is
+least_same k n (c ∷ cs) [] [] is = absurd is
+least_same k n (c ∷ cs) [] (w ∷ ws) is = ap (λ (xid : ℕ). Some xid) is.0.xid
+least_same k n (c ∷ cs) (o ∷ os) ws is = ap (λ (xid : ℕ). Some xid) is.0.xid
 
--- a client to which no call waits counts none
-client_parts : (k : ClientState) (p : Result Plan TooLarge) → k.waiting ≡ [] → by_plan k p ≡ answer_parts p k.grant (length k.outstanding) k.terms.number (least_xid k.outstanding []) k.next_xid k.stag
+client_parts : (k : ClientState) (p : Result Plan TooLarge) → by_plan k p ≡ answer_parts p k.grant (calls_counted k) k.terms.number (least_xid k.outstanding k.waiting) k.next_xid k.stag
 unfolding answer_parts
-client_parts k (Ok plan) none =
-    λ i. cond (leb k.grant (count i)) (submissions.Refused (refusals.NoCredit (count i) k.grant)) (unless_far_by k.terms.number k.next_xid (least_xid k.outstanding (none i)) answer)
-  where
-    answer : Submission
-    answer = unless_spent (numbers_end - k.next_xid) 1 (unless_spent (numbers_end - k.stag) (regions_needed plan) (submissions.Accepted k.next_xid))
+client_parts k (Ok plan) = refl
+client_parts k (Err large) = refl
 
-    count : calls_counted k ≡ length k.outstanding
-    count = (let waiting = ap (λ (ws : List WaitingCall). length ws) none in omega (arith, waiting))
-client_parts k (Err large) none = refl
+-- a new call has the plan for the lengths of the state: its xid is that of none that waits
+waits_below : (k : ClientState) (n next : ℕ) (cs : List KeptCall) (os : List OutstandingCall) (ws : List WaitingCall) → AreRising cs next → AreKept k cs (os ++ numbered_from n ws) → first_of ws next ≡ None
+waits_below k n next cs os [] rising is = refl
+waits_below k n next [] [] (w ∷ ws) rising is = absurd is
+waits_below k n next (c ∷ cs) [] (w ∷ ws) rising is =
+    ap (λ (b : Bool). cond b (Some w) None) (ne_eqb w.xid next (λ e. (let lt = rising.0 in let own = is.0.xid in omega (arith, lt, own, e))))
+waits_below k n next [] (o ∷ os) (w ∷ ws) rising is = absurd is
+waits_below k n next (c ∷ cs) (o ∷ os) (w ∷ ws) rising is = waits_below k n next cs os (w ∷ ws) rising.1.1 is.1
 
-plan_same : (k : ClientState) (xid : ℕ) (call : Call) (form : Form) → k.waiting ≡ [] → plan_of (call_payload xid call) form k.up_max k.down_max ≡ plan_for k xid call form
+plan_same : (k : ClientState) (xid : ℕ) (call : Call) (form : Form) → first_of k.waiting xid ≡ None → plan_of (call_payload xid call) form k.up_max k.down_max ≡ plan_for k xid call form
 unfolding plan_for
-plan_same k xid call form none = sym (ap (λ (ws : List WaitingCall). plan_unless (first_of ws xid) (plan_of (call_payload xid call) form k.up_max k.down_max)) none)
+plan_same k xid call form none = sym (ap (λ (o : Option WaitingCall). plan_unless o (plan_of (call_payload xid call) form k.up_max k.down_max)) none)
 
 answer_live : (opened : LinkParameters) (kept : KeptClient) (k : ClientState) (count : ℕ) (call : Call) (form : Form) → ClientKeeps opened kept (live k) count →
     kept_answer_by_plan kept (plan_of (call_payload kept.next_xid call) form kept.up_max kept.down_max) ≡ by_plan k (plan_for k k.next_xid call form)
 answer_live opened kept k count call form keeps =
     let memory : MemoryKeeps kept.memory k count = keeps.memory refl in
     let calls : CallsKeep kept.calls kept.next_xid k = keeps.calls refl in
+    let counted : length kept.calls ≡ calls_counted k = kept_count k kept.calls (numbered_calls k) calls.kept ∙ numbered_length k in
+    let below : first_of k.waiting k.next_xid ≡ None = waits_below k k.sends k.next_xid kept.calls k.outstanding k.waiting (subst (λ (n : ℕ). AreRising kept.calls n) keeps.xid calls.rising) calls.kept in
     own_parts kept (plan_of (call_payload kept.next_xid call) form kept.up_max kept.down_max)
-    ∙ (λ i. answer_parts (plan_of (call_payload (keeps.xid i) call) form (keeps.up i) (keeps.down i)) (keeps.grant i) (kept_count k kept.calls k.outstanding calls.kept i) (keeps.first.1.1 i)
-        (least_same k kept.calls k.outstanding calls.kept i) (keeps.xid i) (memory.next i))
-    ∙ sym (client_parts k (plan_of (call_payload k.next_xid call) form k.up_max k.down_max) keeps.first.0)
-    ∙ ap (by_plan k) (plan_same k k.next_xid call form keeps.first.0)
+    ∙ (λ i. answer_parts (plan_of (call_payload (keeps.xid i) call) form (keeps.up i) (keeps.down i)) (keeps.grant i) (counted i) (keeps.opening.0 i)
+        (least_same k k.sends kept.calls k.outstanding k.waiting calls.kept i) (keeps.xid i) (memory.next i))
+    ∙ sym (client_parts k (plan_of (call_payload k.next_xid call) form k.up_max k.down_max))
+    ∙ ap (by_plan k) (plan_same k k.next_xid call form below)
 
 answer_if : (opened : LinkParameters) (kept : KeptClient) (e : EndState ClientState) (count : ℕ) (call : Call) (form : Form) → ClientKeeps opened kept e count → (x : Option End) → e.ended ≡ x →
     kept_answer_if kept call form x ≡ answer_by e.state call form x
@@ -189,6 +196,6 @@ kept_answers opened kept e count call form keeps =
 
 pub kept_counts : KeptCounts
 kept_counts opened kept e count keeps = (
-  keeps.outstanding,
-  (keeps.grant, λ lives. (let calls : CallsKeep kept.calls kept.next_xid e.state = keeps.calls lives in kept_count e.state kept.calls e.state.outstanding calls.kept ∙ sym keeps.outstanding)),
+  keeps.outstanding ∙ numbered_length e.state,
+  (keeps.grant, λ lives. (let calls : CallsKeep kept.calls kept.next_xid e.state = keeps.calls lives in kept_count e.state kept.calls (numbered_calls e.state) calls.kept ∙ sym keeps.outstanding)),
 )

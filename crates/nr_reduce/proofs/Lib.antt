@@ -1,4 +1,5 @@
 pub mod KeptMarks
+pub mod Numbered
 pub mod Registering
 pub mod Submits
 pub mod Taking

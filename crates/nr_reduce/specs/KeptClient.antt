@@ -23,11 +23,12 @@ use Rattle.nr_reduce.specs.EndRules.{EndState}
 use Rattle.nr_reduce.specs.ClientState.{OutstandingCall, ClientState, client_memory_at}
 use Rattle.nr_reduce.specs.Client.{credits_of_word}
 use Rattle.nr_xdr.specs.Fields.{word_at}
-use Rattle.nr_reduce.specs.KeptCalls.{KeptCall, AreKept, stags_unless}
+use Rattle.nr_reduce.specs.KeptCalls.{KeptCall, AreKept, numbered_calls, stags_unless}
 
--- Why the client ended, once it has; the xid that it gives next; how many Sends have a number; the credits that are granted; how many calls are outstanding; the calls
--- among them that weren't handed back, in the order of their Submits; its registered memory; the maximum length of a Send in bytes,
--- towards the server and from it; whether a reply may be a Send with Invalidate; the number of the client, or 0 if it has none.
+-- Why the client ended, once it has; the xid that it gives next; how many Sends have a number; the credits that are granted; how many calls are
+-- outstanding or wait to be sent again; the calls among them that weren't handed back, in the order of their xids; its registered memory; the maximum length of a Send in bytes,
+-- towards the server and from it; whether a reply may be a Send with Invalidate; the number of the client, or 0 if it has none; what
+-- the last hello to it on an earlier link agreed on.
 pub record KeptClient : Type 0 where
   pub ended : Option End
   pub next_xid : ℕ
@@ -40,6 +41,7 @@ pub record KeptClient : Type 0 where
   pub down_max : ℕ
   pub invalidates : Bool
   pub number : ℕ
+  pub agreed : Option Agreement
 
 -- the bytes under an STag
 abbrev pub bytes_under : RegisteredMemory → ℕ → List ℕ
@@ -77,9 +79,9 @@ AreRising (c ∷ cs) below = (c.xid < below) × (AllByRecursion (λ d. c.xid < d
 abbrev pub OpensFor : List Region → KeptCall → Type 0
 OpensFor regions c = AllByRecursion (λ stag. IsRegionOpen regions c.xid stag) c.stags
 
--- each kept call is an outstanding one, and the open regions are those of the kept calls
+-- each kept call is an outstanding one, or one that waits, and the open regions are those of the kept calls
 pub record CallsKeep (calls : List KeptCall) (next : ℕ) (k : ClientState) : Type 0 where
-  pub kept : AreKept k calls k.outstanding
+  pub kept : AreKept k calls (numbered_calls k)
   pub rising : AreRising calls next
   pub owned : (stag : ℕ) (r : Region) → region_at k.regions stag ≡ Some r → r.until ≡ None → IsOwned calls r.call stag
   pub opens : AllByRecursion (OpensFor k.regions) calls
@@ -109,9 +111,9 @@ HasRegionsOf c (Some o) = HasRegions c o
 abbrev pub IsWaiting : List OutstandingCall → KeptCall → Type 0
 IsWaiting outstanding c = HasRegionsOf c (find (λ o. o.xid == c.xid) outstanding)
 
--- no call waits to be sent again, no earlier hello agreed on anything, and the client has this number
-abbrev pub IsUnresumed : (number : ℕ) → ClientState → Type 0
-IsUnresumed number k = (k.waiting ≡ []) × ((k.agreed ≡ None) × (number ≡ k.terms.number))
+-- what a client was opened with: its number, and what an earlier hello agreed on
+abbrev pub IsOpenedWith : (number : ℕ) → Option Agreement → ClientState → Type 0
+IsOpenedWith number agreed k = (number ≡ k.terms.number) × (agreed ≡ k.agreed)
 
 -- It is kept of a client in this state, after `count` bytes were received. Of a client that has ended its calls are some of those that
 -- were outstanding, and the memory counts by what it holds for them.
@@ -123,11 +125,11 @@ pub record ClientKeeps (opened : LinkParameters) (kept : KeptClient) (e : EndSta
   pub up : kept.up_max ≡ e.state.up_max
   pub down : kept.down_max ≡ e.state.down_max
   pub invalidates : kept.invalidates ≡ e.state.invalidates
-  pub first : IsUnresumed kept.number e.state
-  pub outstanding : kept.outstanding ≡ length e.state.outstanding
+  pub opening : IsOpenedWith kept.number kept.agreed e.state
+  pub outstanding : kept.outstanding ≡ length (numbered_calls e.state)
   pub calls : e.ended ≡ None → CallsKeep kept.calls kept.next_xid e.state
   pub memory : e.ended ≡ None → MemoryKeeps kept.memory e.state count
-  pub waits : AllByRecursion (IsWaiting e.state.outstanding) kept.calls
+  pub waits : AllByRecursion (IsWaiting (numbered_calls e.state)) kept.calls
   pub rising : AreRising kept.calls kept.next_xid
   pub opens : AllByRecursion (OpensFor e.state.regions) kept.calls
   pub accesses : AreReceived count e.state.accesses_received
@@ -147,6 +149,7 @@ opened_client opened = record {
   down_max = send_unit;
   invalidates = false;
   number = opened.client.number;
+  agreed = opened.agreed;
 }
 
 -- ---- What it keeps once regions are released
@@ -246,6 +249,18 @@ kept_submitted kept call plan = record kept {
   calls = kept.calls ++ kept_of kept.next_xid kept.sends call plan kept.memory.next ∷ [];
   memory = registered_all kept.memory (buffers kept.memory.next plan);
 }
+
+-- the first call that waits is sent again: its Send has the next number
+unfoldable pub kept_resent : KeptClient → KeptClient
+kept_resent kept = record kept { sends = kept.sends + 1 }
+
+-- A message that ends a call of this xid ends one that was sent: none that waits.
+abbrev pub IsOfSent : KeptClient → ℕ → Type 0
+IsOfSent kept xid = AllByRecursion (λ c. c.xid ≡ xid → c.send < kept.sends) kept.calls
+
+abbrev pub EndsSent : KeptClient → Option (List ℕ) → Type 0
+EndsSent kept None = Unit {0}
+EndsSent kept (Some message) = IsOfSent kept (word_at 0 message)
 
 -- with the server's hello: what is agreed
 unfoldable pub kept_greeted : KeptClient → Agreement → KeptClient
