@@ -1,5 +1,5 @@
 -- The calls of a client, with the numbers of their Sends: those that are outstanding, and those that wait to be sent again.
-use Rattle.std.proofs.Common.{◌≡◌, ℕ, suc, ◌+◌, ◌<◌, ◌≤◌, Bool, true, false, not, cond, ◌&&◌, eqb, List, [], ◌∷◌, ◌++◌, length, map, None, Some, refl, ap, ◌∙◌, arith, length-append, append_assoc}
+use Rattle.std.proofs.Common.{◌≡◌, ◌≢◌, ℕ, suc, ◌+◌, ◌≤◌, Bool, true, false, not, cond, ◌&&◌, eqb, List, [], ◌∷◌, ◌++◌, length, map, None, Some, refl, sym, ap, subst, ◌∙◌, arith, length-append, append-nil, append_assoc}
 use Rattle.std.specs.List.{AllByRecursion, filter, find}
 use Rattle.std.proofs.lemmas.Bool.{le-ltb, ne_eqb}
 use Rattle.std.proofs.lemmas.List.{map-append}
@@ -7,7 +7,9 @@ use Rattle.nr_reduce.specs.Written.{ends_written}
 use Rattle.nr_reduce.specs.ClientState.{OutstandingCall, WaitingCall, ClientState, is_sent}
 use Rattle.nr_reduce.specs.Client.{revoked_call, revoked_waiting}
 use Rattle.nr_reduce.specs.SubmitAnswer.{calls_counted}
-use Rattle.nr_reduce.specs.KeptCalls.{KeptCall, AreKept, numbered_from, numbered_calls}
+use Rattle.nr_reduce.specs.KeptClient.{NoneWaitsFor}
+use Rattle.nr_xdr.specs.Fields.{word_at}
+use Rattle.nr_reduce.specs.KeptCalls.{numbered_from, numbered_calls}
 
 -- ---- How many they are
 
@@ -38,25 +40,17 @@ numbered_revoked xid k =
 
 -- ---- A message ends no call that waits
 
-abbrev Sent : ℕ → ℕ → KeptCall → Type 0
-Sent xid sends c = c.xid ≡ xid → c.send < sends
-
-from_stays : (k : ClientState) (xid sends n : ℕ) (cs : List KeptCall) (ws : List WaitingCall) → sends ≤ n → AreKept k cs (numbered_from n ws) → AllByRecursion (Sent xid sends) cs → filter (λ o. not (eqb o.xid xid)) (numbered_from n ws) ≡ numbered_from n ws
-from_stays k xid sends n [] [] le is sent = refl
-from_stays k xid sends n [] (w ∷ ws) le is sent = absurd is
-from_stays k xid sends n (c ∷ cs) [] le is sent = refl
-from_stays k xid sends n (c ∷ cs) (w ∷ ws) le is sent =
-    let other : eqb w.xid xid ≡ false = ne_eqb w.xid xid (λ e. (let number = is.0.send in let lt = sent.0 (is.0.xid ∙ e) in omega (arith, number, lt, le))) in
+from_stays : (xid n : ℕ) (ws : List WaitingCall) → AllByRecursion (λ w. w.xid ≢ xid) ws → filter (λ o. not (eqb o.xid xid)) (numbered_from n ws) ≡ numbered_from n ws
+from_stays xid n [] others = refl
+from_stays xid n (w ∷ ws) others =
     let own : OutstandingCall = record { xid = w.xid; send = n; call = w.call; plan = w.plan; stag = w.stag; is_revoked = w.is_revoked } in
     let rest : List OutstandingCall = filter (λ o. not (eqb o.xid xid)) (numbered_from (n + 1) ws) in
-    ap (λ (b : Bool). cond (not b) (own ∷ rest) rest) other
-    ∙ ap (λ (os : List OutstandingCall). own ∷ os) (from_stays k xid sends (n + 1) cs ws (omega (arith, le)) is.1 sent.1)
+    ap (λ (b : Bool). cond (not b) (own ∷ rest) rest) (ne_eqb w.xid xid others.0) ∙ ap (λ (os : List OutstandingCall). own ∷ os) (from_stays xid (n + 1) ws others.1)
 
-pub numbered_without : (k : ClientState) (xid sends n : ℕ) (cs : List KeptCall) (os : List OutstandingCall) (ws : List WaitingCall) → sends ≤ n → AreKept k cs (os ++ numbered_from n ws) → AllByRecursion (Sent xid sends) cs →
+pub numbered_without : (xid n : ℕ) (os : List OutstandingCall) (ws : List WaitingCall) → AllByRecursion (λ w. w.xid ≢ xid) ws →
     filter (λ o. not (eqb o.xid xid)) (os ++ numbered_from n ws) ≡ filter (λ o. not (eqb o.xid xid)) os ++ numbered_from n ws
-numbered_without k xid sends n cs [] ws le is sent = from_stays k xid sends n cs ws le is sent
-numbered_without k xid sends n [] (o ∷ os) ws le is sent = absurd is
-numbered_without k xid sends n (c ∷ cs) (o ∷ os) ws le is sent = by (eqb o.xid xid) (numbered_without k xid sends n cs os ws le is.1 sent.1)
+numbered_without xid n [] ws others = from_stays xid n ws others
+numbered_without xid n (o ∷ os) ws others = by (eqb o.xid xid) (numbered_without xid n os ws others)
   where
     by : (b : Bool) → filter (λ x. not (eqb x.xid xid)) (os ++ numbered_from n ws) ≡ filter (λ x. not (eqb x.xid xid)) os ++ numbered_from n ws →
         cond (not b) (o ∷ filter (λ x. not (eqb x.xid xid)) (os ++ numbered_from n ws)) (filter (λ x. not (eqb x.xid xid)) (os ++ numbered_from n ws))
@@ -97,3 +91,12 @@ found_among k xid le = found_left k xid k.sends k.outstanding k.waiting le
 pub numbered_sent : (os : List OutstandingCall) (n : ℕ) (w : WaitingCall) (ws : List WaitingCall) (o : OutstandingCall) → o ≡ record { xid = w.xid; send = n; call = w.call; plan = w.plan; stag = w.stag; is_revoked = w.is_revoked } →
     (os ++ o ∷ []) ++ numbered_from (n + 1) ws ≡ os ++ numbered_from n (w ∷ ws)
 numbered_sent os n w ws o is = append_assoc os (o ∷ []) (numbered_from (n + 1) ws) ∙ ap (λ (x : OutstandingCall). os ++ x ∷ numbered_from (n + 1) ws) is
+
+-- ---- While none waits
+
+pub numbered_unwaited : (k : ClientState) → k.waiting ≡ [] → numbered_calls k ≡ k.outstanding
+numbered_unwaited k none = ap (λ (ws : List WaitingCall). k.outstanding ++ numbered_from k.sends ws) none ∙ append-nil k.outstanding
+
+pub waits_for_none : (k : ClientState) (message : Option (List ℕ)) → k.waiting ≡ [] → NoneWaitsFor k message
+waits_for_none k None none = tt
+waits_for_none k (Some message) none = subst (λ (ws : List WaitingCall). AllByRecursion (λ (w : WaitingCall). w.xid ≢ word_at 0 message) ws) (sym none) tt

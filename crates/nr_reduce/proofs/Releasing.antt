@@ -402,12 +402,12 @@ kept_hands_back opened kept e end count xid ended keeps = record {
 
 pub kept_completes : KeptCompletes
 unfolding kept_completed
-kept_completes opened kept k count place message keeps le sent =
+kept_completes opened kept k count place message keeps le others =
     let calls : CallsKeep kept.calls kept.next_xid k = keeps.calls refl in
     let after : ClientState = with_message k place (Some message) in
     let closed : CallsKeep (without (word_at 0 message) kept.calls) kept.next_xid after =
     calls_closed kept.calls kept.next_xid (word_at 0 message) place k after (record { written = refl; ends = refl }) calls
-    (sym (numbered_without k (word_at 0 message) kept.sends k.sends kept.calls k.outstanding k.waiting (let same = keeps.sends in omega (arith, same)) calls.kept sent)) refl in
+    (sym (numbered_without (word_at 0 message) k.sends k.outstanding k.waiting others)) refl in
     keeps_live opened (kept_completed kept message) after place keeps.ended keeps.xid keeps.sends refl keeps.up keeps.down keeps.invalidates keeps.opening (kept_count after (without (word_at 0 message) kept.calls) (numbered_calls after) closed.kept) (received_later count place k.accesses_received le keeps.accesses)
     (memory_closed (word_at 0 message) count place kept.calls kept.next_xid k after kept.memory le calls keeps.accesses (keeps.memory refl) refl refl refl)
     closed

@@ -1,6 +1,6 @@
 -- What a client keeps, and the state that it is enough for: of regions, accesses and outcomes of the past it keeps nothing but what its
 -- registered memory holds.
-use Rattle.std.specs.Prelude.{◌≡◌, ℕ, ◌+◌, ◌<◌, ◌⊎◌, ◌==◌, nat_lt, Bool, true, false, not, List, [], ◌∷◌, ◌++◌, length, map, Option, None, Some, IfSome, is_none}
+use Rattle.std.specs.Prelude.{◌≡◌, ◌≢◌, ℕ, ◌+◌, ◌<◌, ◌⊎◌, ◌==◌, nat_lt, Bool, true, false, not, List, [], ◌∷◌, ◌++◌, length, map, Option, None, Some, IfSome, is_none}
 use Rattle.std.specs.List.{AllByRecursion, filter, find}
 use Rattle.nr_regions.specs.RegisteredMemory.{RegisteredMemory, initial_memory, held_region, NoneIsDead, after_register, after_release, bytes_in}
 use Rattle.nr_regions.specs.Access.{TaggedSegment}
@@ -254,13 +254,13 @@ kept_submitted kept call plan = record kept {
 unfoldable pub kept_resent : KeptClient → KeptClient
 kept_resent kept = record kept { sends = kept.sends + 1 }
 
--- A message that ends a call of this xid ends one that was sent: none that waits.
-abbrev pub IsOfSent : KeptClient → ℕ → Type 0
-IsOfSent kept xid = AllByRecursion (λ c. c.xid ≡ xid → c.send < kept.sends) kept.calls
+-- no call of this xid waits to be sent again, and none of that of a message
+abbrev pub NoneWaits : ClientState → ℕ → Type 0
+NoneWaits k xid = AllByRecursion (λ w. w.xid ≢ xid) k.waiting
 
-abbrev pub EndsSent : KeptClient → Option (List ℕ) → Type 0
-EndsSent kept None = Unit {0}
-EndsSent kept (Some message) = IsOfSent kept (word_at 0 message)
+abbrev pub NoneWaitsFor : ClientState → Option (List ℕ) → Type 0
+NoneWaitsFor k None = Unit {0}
+NoneWaitsFor k (Some message) = NoneWaits k (word_at 0 message)
 
 -- with the server's hello: what is agreed
 unfoldable pub kept_greeted : KeptClient → Agreement → KeptClient
