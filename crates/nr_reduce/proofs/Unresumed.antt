@@ -1,6 +1,6 @@
 -- What a client is opened with stays: its terms, and what an earlier hello agreed on. A client of a link that was not reopened has no call that
 -- waits to be sent again.
-use Rattle.std.proofs.Common.{◌≡◌, ℕ, ◌-◌, Bool, true, false, cond, ◌&&◌, List, [], ◌∷◌, ◌++◌, length, map, take, Option, None, Some, is_none, Result, Ok, Err, refl, ap, ◌∙◌}
+use Rattle.std.proofs.Common.{◌≡◌, ℕ, zero, suc, ◌-◌, Bool, true, false, cond, ◌&&◌, List, [], ◌∷◌, ◌++◌, length, map, take, Option, None, Some, is_none, Result, Ok, Err, refl, ap, ◌∙◌}
 use Rattle.nr_wire.specs.declared.hello.Side.TheVariants.{Initiator, Responder}
 use Rattle.nr_wire.specs.Segment.{Segment}
 use Rattle.nr_link.specs.Frames.{Frame, is_hello}
@@ -92,7 +92,8 @@ unfolding calls_to_resend
 none_to_resend r none = ap (λ (ws : List WaitingCall). cond (is_none r.ended && r.state.has_hello) (take (r.state.grant - length r.state.outstanding) ws) []) none ∙ by (is_none r.ended && r.state.has_hello) (r.state.grant - length r.state.outstanding)
   where
     take_none : (n : ℕ) → take n (let none : List WaitingCall = [] in none) ≡ []
-    take_none n = refl
+    take_none zero = refl
+    take_none (suc n) = refl
 
     by : (b : Bool) (n : ℕ) → cond b (take n (let none : List WaitingCall = [] in none)) [] ≡ []
     by true n = take_none n

@@ -101,6 +101,7 @@ kept_client r = record {
   down_max = r.side.agreed.down;
   invalidates = r.side.agreed.invalidates;
   number = r.side.terms.number;
+  agreed = None;
 }
 
 abbrev pub input_kept : RequesterSide → InputState
