@@ -255,12 +255,12 @@ unfoldable pub kept_resent : KeptClient → KeptClient
 kept_resent kept = record kept { sends = kept.sends + 1 }
 
 -- no call of this xid waits to be sent again, and none of that of a message
-abbrev pub NoneWaits : ClientState → ℕ → Type 0
-NoneWaits k xid = AllByRecursion (λ w. w.xid ≢ xid) k.waiting
+abbrev pub NoneWaitsOf : ClientState → ℕ → Type 0
+NoneWaitsOf k xid = AllByRecursion (λ w. w.xid ≢ xid) k.waiting
 
 abbrev pub NoneWaitsFor : ClientState → Option (List ℕ) → Type 0
 NoneWaitsFor k None = Unit {0}
-NoneWaitsFor k (Some message) = NoneWaits k (word_at 0 message)
+NoneWaitsFor k (Some message) = NoneWaitsOf k (word_at 0 message)
 
 -- with the server's hello: what is agreed
 unfoldable pub kept_greeted : KeptClient → Agreement → KeptClient

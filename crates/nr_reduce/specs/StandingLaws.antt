@@ -47,7 +47,7 @@ use Rattle.nr_reduce.specs.Matched.{IsPrefixOf}
 use Rattle.nr_reduce.specs.Asked.{IsAll, AskedSoFar}
 use Rattle.nr_reduce.specs.Served.{ServedSoFar}
 use Rattle.nr_reduce.specs.KeptCalls.{KeptCall, kept_message_verdict}
-use Rattle.nr_reduce.specs.KeptClient.{KeptClient, ClientKeeps, bytes_under, opened_client, kept_revoked, kept_handed_back, kept_completed, kept_placed, kept_received, kept_sent, kept_submitted, kept_resent, kept_greeted, NoneWaits, NoneWaitsFor}
+use Rattle.nr_reduce.specs.KeptClient.{KeptClient, ClientKeeps, bytes_under, opened_client, kept_revoked, kept_handed_back, kept_completed, kept_placed, kept_received, kept_sent, kept_submitted, kept_resent, kept_greeted, NoneWaitsOf, NoneWaitsFor}
 use Rattle.nr_reduce.specs.Standing.{input_events, ClientRepresents, ClientRunsOut, ServerRepresents, ServerRunsOut}
 
 -- An end stands for no marks as it is opened: a client's queue has its hello. Its link was not reopened.
@@ -209,7 +209,7 @@ KeptHandsBack = (opened : LinkParameters) (kept : KeptClient) (e : EndState Clie
 
 -- and after a message that doesn't end the client.
 abbrev pub KeptCompletes : Type 0
-KeptCompletes = (opened : LinkParameters) (kept : KeptClient) (k : ClientState) (count place : ℕ) (message : List ℕ) → ClientKeeps opened kept (live k) count → count ≤ place → NoneWaits k (word_at 0 message) →
+KeptCompletes = (opened : LinkParameters) (kept : KeptClient) (k : ClientState) (count place : ℕ) (message : List ℕ) → ClientKeeps opened kept (live k) count → count ≤ place → NoneWaitsOf k (word_at 0 message) →
     ClientKeeps opened (kept_completed kept message) (live (with_message k place (Some message))) place
 
 -- It keeps as much after an access of its peer that comes later,

@@ -98,7 +98,7 @@ module _ (opened : LinkParameters) (link : ℕ) (h : RequesterSide) (run : List 
   kept_next =
       subst (λ (x : KeptClient). ClientKeeps opened x (next_end_state (client_rules opened) (client opened link run) event) count) (kept_accepted h call plan sent_few)
       (subst (λ (e : EndState ClientState). ClientKeeps opened (kept_submitted (kept_client h.state) call plan) (next_end_state (client_rules opened) e event) count) (sym (lives_as (client opened link run) stays))
-      (kept_submits opened (kept_client h.state) k count a plan (subst (λ (e : EndState ClientState). ClientKeeps opened (kept_client h.state) e count) (lives_as (client opened link run) stays) s.kept.keeps) refl is (omega (arith, due)) left_few))
+      (kept_submits opened (kept_client h.state) k count a plan (subst (λ (e : EndState ClientState). ClientKeeps opened (kept_client h.state) e count) (lives_as (client opened link run) stays) s.kept.keeps) unwaited refl is (omega (arith, due)) left_few))
 
   side_is : (after_submit h call plan).state.side ≡ submitted h.state.side (call_message a.xid opened.wished k.stag plan) (buffers k.stag plan)
   side_is = λ i. submitted h.state.side (call_message a.xid (s.wished i) (stag i) plan) (buffers (stag i) plan)
@@ -176,7 +176,10 @@ answers_as_client opened link h run call form s =
 pub counts_as_client : CountsAsClient
 unfolding calls_outstanding credits_granted
 counts_as_client opened link h run s =
-    (let c = kept_counts opened (kept_client h.state) (client opened link run) (length (bytes_received link Initiator run)) s.keeps.kept.keeps in (c.0, c.1.0))
+    (let c = kept_counts opened (kept_client h.state) (client opened link run) (length (bytes_received link Initiator run)) s.keeps.kept.keeps in
+    let none = ap (λ (ws : List WaitingCall). length ws) (none_waits opened link run s.keeps.first.resumed) in
+    let counted = c.0 in
+    ((omega (arith, counted, none)), c.1.0))
 
 pub agrees_as_client : AgreesAsClient
 agrees_as_client opened link h run s = (s.keeps.kept.keeps.up, (s.keeps.kept.keeps.down, s.keeps.kept.keeps.invalidates))

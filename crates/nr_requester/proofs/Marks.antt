@@ -247,9 +247,9 @@ others_leave_client opened link h run mark s no_events no_write no_feed =
 
 -- ---- As it is opened
 
-kept_opened : (opened : LinkParameters) (staging : List ℕ) → opened_client opened ≡ kept_client (opened_as opened.first_xid opened.first_stag opened.wished opened.client staging).state
+kept_opened : (opened : LinkParameters) (staging : List ℕ) → IsFirstLink opened → opened_client opened ≡ kept_client (opened_as opened.first_xid opened.first_stag opened.wished opened.client staging).state
 unfolding opened_as
-kept_opened opened staging = refl
+kept_opened opened staging first = λ i. record (opened_client opened) { agreed = first.agreed i }
 
 some_units : (terms : SideTerms) → send_unit ≤ receive_length_for terms
 some_units terms = omega arith
@@ -288,7 +288,7 @@ unfolding opened_as
 begins_client opened link staging first = record {
   wished = refl;
   first = first;
-  kept = subst (λ (k : KeptClient). ClientRepresents opened link k (initial_input Responder) (queue_of (opened_as opened.first_xid opened.first_stag opened.wished opened.client staging).state) []) (kept_opened opened staging)
+  kept = subst (λ (k : KeptClient). ClientRepresents opened link k (initial_input Responder) (queue_of (opened_as opened.first_xid opened.first_stag opened.wished opened.client staging).state) []) (kept_opened opened staging first)
       (subst (λ (q : List ℕ). ClientRepresents opened link (opened_client opened) (initial_input Responder) q []) (queue_opened opened staging) (client_begins_lem opened link first));
   sent = λ none. refl;
   side = λ none. link_opened opened link staging;
