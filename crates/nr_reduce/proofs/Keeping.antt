@@ -1,10 +1,8 @@
 -- What a client keeps is enough to judge a message, to answer a Read Request, and to answer a call.
-use Rattle.std.proofs.Common.{◌≡◌, ℕ, ◌-◌, Bool, false, cond, leb, List, [], ◌∷◌, ◌++◌, length, take, drop, Option, None, Some, Result, Ok, Err, refl, sym, ap, subst, ◌∙◌, arith}
-use Rattle.std.specs.Ordering.{nat_cmp}
-use Rattle.std.specs.FinMap.{get-empty}
+use Rattle.std.proofs.Common.{◌≡◌, ℕ, ◌-◌, Bool, cond, leb, List, [], ◌∷◌, ◌++◌, length, take, drop, Option, None, Some, Result, Ok, Err, refl, sym, ap, subst, ◌∙◌, arith}
 use Rattle.nr_regions.specs.declared.denied.Denied.TheVariants as denied
 use Rattle.nr_regions.specs.declared.right.Right.TheVariants.{Fetch}
-use Rattle.nr_regions.specs.RegisteredMemory.{Region as HeldRegion, RegisteredMemory, Access, NoneIsDead, initial_memory, live_region, held_region, denial, denial_in, region_offer, bytes_in}
+use Rattle.nr_regions.specs.RegisteredMemory.{Region as HeldRegion, RegisteredMemory, Access, live_region, denial, denial_in, region_offer, bytes_in}
 use Rattle.nr_regions.specs.Access.{contents}
 use Rattle.nr_link.specs.declared.end.End.{End}
 use Rattle.nr_link.specs.Output.{read_response}
@@ -21,64 +19,15 @@ use Rattle.nr_reduce.specs.OfferedRegions.{Region, region_grants, region_bytes, 
 use Rattle.nr_reduce.specs.OfferedMemory.{region_at, HoldsRegions, held_if_open, registered_region}
 use Rattle.nr_reduce.specs.EndRules.{EndState, live}
 use Rattle.nr_reduce.specs.ClientState.{OutstandingCall, ClientState, call_payload, plan_for, client_memory_at, WaitingCall, plan_unless, first_of}
-use Rattle.nr_reduce.specs.Client.{initial_client}
 use Rattle.nr_reduce.specs.SubmitAnswer.{unless_spent, by_plan, answer_by, submit_answer, calls_counted, unless_far_by, least_xid}
 use Rattle.nr_reduce.specs.KeptCalls.{KeptCall, AreKept, numbered_from, numbered_calls}
-use Rattle.nr_reduce.specs.KeptClient.{KeptClient, ClientKeeps, CallsKeep, MemoryKeeps, AreRising, bytes_under, opened_client}
+use Rattle.nr_reduce.specs.KeptClient.{KeptClient, ClientKeeps, CallsKeep, MemoryKeeps, AreRising, bytes_under}
 use Rattle.nr_reduce.specs.StandingLaws.{KeptJudges, KeptResponds, KeptAnswers, KeptCounts, least_kept, kept_answer_by_plan, kept_answer_if}
 use Rattle.nr_reduce.proofs.MemorySteps.{holds_later}
 use Rattle.nr_reduce.proofs.Conveying.{message_alike}
 use Rattle.nr_regions.proofs.Holding.{live_parts}
-use Rattle.std.specs.Prelude.{unwrap_or}
-use Rattle.nr_reduce.specs.Opening.{IsFirstLink}
 use Rattle.std.proofs.lemmas.Bool.{ne_eqb}
 use Rattle.nr_reduce.proofs.Numbered.{numbered_length}
-
--- ---- As it is opened
-
-memory_begins : (first_stag : ℕ) → HoldsRegions [] [] 0 (initial_memory first_stag)
-unfolding live_region held_region initial_memory
-memory_begins first_stag stag =
-    let flag = get-empty {X = Bool} nat_cmp stag in
-    let region = get-empty {X = HeldRegion} nat_cmp stag in
-    λ i. cond (unwrap_or (flag i) false) None (region i)
-
-none_begins : (first_stag : ℕ) → NoneIsDead (initial_memory first_stag)
-unfolding initial_memory
-none_begins first_stag stag = ap (λ (o : Option Bool). unwrap_or o false) (get-empty nat_cmp stag)
-
-next_begins : (first_stag : ℕ) → (initial_memory first_stag).next ≡ first_stag
-unfolding initial_memory
-next_begins first_stag = refl
-
--- a link that was not reopened
-abbrev unresumed : LinkParameters → LinkParameters
-unresumed any = record any { resumed = []; agreed = None }
-
-begins_unresumed : (any : LinkParameters) → ClientKeeps (unresumed any) (opened_client (unresumed any)) (initial_client (unresumed any)) 0
-begins_unresumed any = record {
-  ended = refl;
-  xid = refl;
-  sends = refl;
-  grant = refl;
-  up = refl;
-  down = refl;
-  invalidates = refl;
-  opening = (refl, refl);
-  outstanding = refl;
-  calls = λ lives. record { kept = tt; rising = tt; owned = λ stag r e is. absurd cc; opens = tt };
-  memory = λ lives. record { next = next_begins any.first_stag; offered = tt; holds = memory_begins any.first_stag; none_dead = none_begins any.first_stag; below = λ stag r e. absurd cc };
-  waits = tt;
-  rising = tt;
-  opens = tt;
-  accesses = tt;
-  holds = tt;
-}
-
-pub keeps_begins : (opened : LinkParameters) → IsFirstLink opened → ClientKeeps opened (opened_client opened) (initial_client opened) 0
-keeps_begins opened first =
-    let same : unresumed opened ≡ opened = (λ i. record opened { resumed = sym first.resumed i; agreed = sym first.agreed i }) in
-    subst (λ (p : LinkParameters). ClientKeeps p (opened_client p) (initial_client p) 0) same (begins_unresumed opened)
 
 -- ---- Messages
 

@@ -1,4 +1,5 @@
 pub mod KeptMarks
+pub mod OpenedClients
 pub mod Numbered
 pub mod Registering
 pub mod Submits

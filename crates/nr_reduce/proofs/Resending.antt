@@ -71,7 +71,7 @@ no_stags k w others there =
     ∙ ap (λ (b : Bool). stags_unless_waiting (cond b (Some w) None) w.plan) (itself w.xid)
 
 module _ (opened : LinkParameters) (link : ℕ) (run : List Mark) (numbers : IsOpened opened) (asked : AskedSoFar opened link run) (w : WaitingCall) (rest : List WaitingCall) (is : calls_to_resend (client opened link run) ≡ w ∷ rest) where
-  r : EndState ClientState
+  abbrev r : EndState ClientState
   r = client opened link run
 
   first : IsFirstOf (is_none r.ended && r.state.has_hello) (r.state.grant - length r.state.outstanding) r.state.waiting w rest

@@ -47,15 +47,17 @@ fit_first agreed from stag (r ∷ rs) next h = (
     planned = h.1.0.planned;
     writable = h.1.0.writable;
   },
-  (let head = resumed_head agreed (r.xid + 1) (stag + regions_needed r.plan) rs next h.1.1 in omega (arith, head)),
-  fit_first agreed (r.xid + 1) (stag + regions_needed r.plan) rs next h.1.1,
+  (
+    (let head = resumed_head agreed (r.xid + 1) (stag + regions_needed r.plan) rs next h.1.1 in omega (arith, head)),
+    fit_first agreed (r.xid + 1) (stag + regions_needed r.plan) rs next h.1.1,
+  ),
 )
 
 -- ---- After an event
 
 fit_later : (first n m : ℕ) (ws : List WaitingCall) → n ≤ m → AreFit first n ws → AreFit first m ws
 fit_later first n m [] le h = tt
-fit_later first n m (w ∷ ws) le h = (h.0, (let lt = h.1.0 in by ws lt), fit_later first n m ws le h.1.1)
+fit_later first n m (w ∷ ws) le h = (h.0, (by ws h.1.0, fit_later first n m ws le h.1.1))
   where
     by : (vs : List WaitingCall) → w.xid < first_xid_or n vs → w.xid < first_xid_or m vs
     by [] lt = omega (arith, lt, le)
@@ -77,8 +79,8 @@ fit_revoked first next xid (w ∷ ws) h = by (eqb w.xid xid) (fit_revoked first 
     rises = (let same = revoked_first xid next ws in let lt = h.1.0 in omega (arith, same, lt))
 
     by : (b : Bool) → AreFit first next (map (revoked_waiting xid) ws) → AreFit first next (cond b (record w { is_revoked = true }) w ∷ map (revoked_waiting xid) ws)
-    by true rest = (record { below = h.0.below; planned = h.0.planned; writable = h.0.writable }, rises, rest)
-    by false rest = (h.0, rises, rest)
+    by true rest = (record { below = h.0.below; planned = h.0.planned; writable = h.0.writable }, (rises, rest))
+    by false rest = (h.0, (rises, rest))
 
 abbrev Fit : ℕ → ClientState → Type 0
 Fit first k = AreFit first k.next_xid k.waiting

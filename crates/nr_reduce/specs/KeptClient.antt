@@ -14,7 +14,8 @@ use Rattle.nr_link.specs.ReceiveState.{ReceiveState, message_completed}
 use Rattle.nr_wire.specs.Segment.{Segment}
 use Rattle.nr_reduce.specs.declared.call.Call.{Call}
 use Rattle.nr_reduce.specs.declared.outline.Plan.{Plan}
-use Rattle.nr_reduce.specs.Plans.{Buffer, buffers, lists_of}
+use Rattle.nr_reduce.specs.Plans.{Buffer, buffers, lists_of, regions_needed}
+use Rattle.nr_reduce.specs.declared.mark.ResumedCall.{ResumedCall}
 use Rattle.nr_reduce.specs.declared.mark.LinkParameters.{LinkParameters}
 use Rattle.nr_reduce.specs.Limits.{send_unit}
 use Rattle.nr_reduce.specs.OfferedRegions.{Region}
@@ -135,23 +136,6 @@ pub record ClientKeeps (opened : LinkParameters) (kept : KeptClient) (e : EndSta
   pub accesses : AreReceived count e.state.accesses_received
   pub holds : AllByRecursion (HoldsFor kept.memory e.state count) kept.calls
 
--- a client as it is opened
-abbrev pub opened_client : LinkParameters → KeptClient
-opened_client opened = record {
-  ended = None;
-  next_xid = opened.first_xid;
-  sends = 0;
-  grant = 1;
-  outstanding = 0;
-  calls = [];
-  memory = initial_memory opened.first_stag;
-  up_max = send_unit;
-  down_max = send_unit;
-  invalidates = false;
-  number = opened.client.number;
-  agreed = opened.agreed;
-}
-
 -- ---- What it keeps once regions are released
 
 abbrev pub released_all : RegisteredMemory → List ℕ → RegisteredMemory
@@ -265,3 +249,34 @@ NoneWaitsFor k (Some message) = NoneWaitsOf k (word_at 0 message)
 -- with the server's hello: what is agreed
 unfoldable pub kept_greeted : KeptClient → Agreement → KeptClient
 kept_greeted kept a = record kept { up_max = a.up; down_max = a.down; invalidates = a.invalidates }
+
+-- ---- A client as it is opened: it keeps the calls that it sends again, with the numbers that their Sends will have, and their regions.
+
+abbrev pub resumed_kept : (send stag : ℕ) → List ResumedCall → List KeptCall
+resumed_kept send stag [] = []
+resumed_kept send stag (r ∷ calls) = kept_of r.xid send r.call r.plan stag ∷ resumed_kept (send + 1) (stag + regions_needed r.plan) calls
+
+abbrev pub resumed_memory : RegisteredMemory → List ResumedCall → RegisteredMemory
+resumed_memory m [] = m
+resumed_memory m (r ∷ calls) = resumed_memory (registered_all m (buffers m.next r.plan)) calls
+
+abbrev pub opened_client : LinkParameters → KeptClient
+opened_client opened = record {
+  ended = None;
+  next_xid = opened.first_xid;
+  sends = 0;
+  grant = 1;
+  outstanding = length opened.resumed;
+  calls = resumed_kept 0 opened.first_stag opened.resumed;
+  memory = resumed_memory (initial_memory opened.first_stag) opened.resumed;
+  up_max = send_unit;
+  down_max = send_unit;
+  invalidates = false;
+  number = opened.client.number;
+  agreed = opened.agreed;
+}
+
+-- the xids of these calls rise, and are below this
+abbrev pub RiseBelow : List ResumedCall → ℕ → Type 0
+RiseBelow [] next = Unit {0}
+RiseBelow (r ∷ calls) next = (r.xid < next) × (AllByRecursion (λ c. r.xid < c.xid) calls × RiseBelow calls next)
