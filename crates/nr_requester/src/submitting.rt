@@ -176,7 +176,7 @@ impl Requester {
     fn oldest(&self) -> Option<u32>
         ensures { result ≡ least_stored self.now.state.outstanding }
     {
-        match self.outstanding.first() {
+        match self.outstanding.as_slice().first() {
             Some(call) => Some(call.xid),
             None => None,
         }
