@@ -26,7 +26,7 @@ use Rattle.nr_reduce.specs.Written as reduce
 use Rattle.nr_reduce.specs.ClientState.{WaitingCall, ClientState, first_of, call_payload, plan_unless, plan_for}
 use Rattle.nr_reduce.specs.Client.{client_rules, client_end, client_output}
 use Rattle.nr_reduce.specs.Run.{client}
-use Rattle.nr_reduce.specs.Credits.{calls_outstanding, credits_granted}
+use Rattle.nr_reduce.specs.Credits.{credits_granted}
 use Rattle.nr_reduce.specs.SubmitAnswer.{unless_spent, unless_far_by}
 use Rattle.nr_reduce.specs.KeptClient.{KeptClient, ClientKeeps, kept_submitted}
 use Rattle.nr_reduce.specs.Standing.{input_events}
@@ -174,12 +174,9 @@ answers_as_client opened link h run call form s =
     answer_kept h.state call form h.state.side.ended ∙ kept_answers opened (kept_client h.state) (client opened link run) (length (bytes_received link Initiator run)) call form s.keeps.kept.keeps
 
 pub counts_as_client : CountsAsClient
-unfolding calls_outstanding credits_granted
+unfolding credits_granted
 counts_as_client opened link h run s =
-    (let c = kept_counts opened (kept_client h.state) (client opened link run) (length (bytes_received link Initiator run)) s.keeps.kept.keeps in
-    let none = ap (λ (ws : List WaitingCall). length ws) (none_waits opened link run s.keeps.first.resumed) in
-    let counted = c.0 in
-    ((omega (arith, counted, none)), c.1.0))
+    (let c = kept_counts opened (kept_client h.state) (client opened link run) (length (bytes_received link Initiator run)) s.keeps.kept.keeps in (c.0, c.1.0))
 
 pub agrees_as_client : AgreesAsClient
 agrees_as_client opened link h run s = (s.keeps.kept.keeps.up, (s.keeps.kept.keeps.down, s.keeps.kept.keeps.invalidates))

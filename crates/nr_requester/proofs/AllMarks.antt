@@ -170,7 +170,7 @@ drain_is_a_mark h n le fits = (
 -- what it keeps of its client, but for why it ended
 kept_out : (before after : RequesterFeeding) → before.state.side.ended ≡ None → RanOut before after → kept_client before.state ≡ record (kept_client after.state) { ended = None }
 kept_out before after lives out =
-    (λ i. record (kept_client before.state) { ended = lives i; memory = sym out.memory i; up_max = (sym out.agreed i).up; down_max = (sym out.agreed i).down; invalidates = (sym out.agreed i).invalidates })
+    (λ i. record (kept_client before.state) { ended = lives i; memory = sym out.memory i; up_max = (sym out.agreed i).up; down_max = (sym out.agreed i).down; invalidates = (sym out.agreed i).invalidates; number = (sym out.terms i).number })
     ∙ (λ i. record (kept_client (sym out.same i)) { ended = None; memory = after.state.side.memory })
 
 same_answers : (opened : LinkParameters) (es : List RunEvent) (due : ℕ → Bool) (asked : List AcceptedCall) (r r2 : RequesterState) → KeepsAnswers opened es due asked r → r2.answered ≡ r.answered → r2.outstanding ≡ r.outstanding → r2.next_xid ≡ r.next_xid → KeepsAnswers opened es due asked r2

@@ -201,7 +201,7 @@ module _ (opened : LinkParameters) (r after : RequesterState) (k : ClientState) 
 
       held_now : is_some d.call ≡ true → buffers_in (buffers_under r.side.memory d.claims) ≡ region_contents k f.end d.xid
       held_now has =
-          buffers_held opened r k (client_by opened past).state.next_xid count f.end xid d keeps.client le (subst (λ (x : ClientState). AllByRecursion (OffersPlan (client_by opened past).state.next_xid x.regions) x.outstanding) (sym state_is) h.regions.calls) of.found has
+          buffers_held opened r k (client_by opened past).state.next_xid count f.end xid d keeps.client le (subst (λ (x : ClientState). AllByRecursion (OffersPlan (client_by opened past).state.next_xid x.regions) (numbered_calls x)) (sym state_is) h.regions.calls) of.found has
           ∙ (λ i. region_contents k f.end (sym (found_xid xid d r.outstanding of.found) i))
 
       below : d.xid < k.next_xid

@@ -324,9 +324,9 @@ without_alike sent xid (c ∷ cs) = by (eqb c.xid xid) (without_alike sent xid c
     by true rest = rest
     by false rest = ap (λ (xs : List KeptCall). kept_call sent c ∷ xs) rest
 
-pub completed_is : (r : RequesterState) (message : List ℕ) (xid : ℕ) (outcome : Option Outcome) (s : LinkState) → s.ended ≡ r.side.ended → released_all s.memory (stags_for (word_at 0 message) r.outstanding) ≡ released_all r.side.memory (stags_for (word_at 0 message) r.outstanding) → s.agreed ≡ r.side.agreed → kept_completed (kept_client r) message ≡ kept_client (judged r s message (GivesOutcome xid outcome))
+pub completed_is : (r : RequesterState) (message : List ℕ) (xid : ℕ) (outcome : Option Outcome) (s : LinkState) → s.ended ≡ r.side.ended → released_all s.memory (stags_for (word_at 0 message) r.outstanding) ≡ released_all r.side.memory (stags_for (word_at 0 message) r.outstanding) → s.agreed ≡ r.side.agreed → s.terms ≡ r.side.terms → kept_completed (kept_client r) message ≡ kept_client (judged r s message (GivesOutcome xid outcome))
 unfolding kept_completed
-completed_is r message xid outcome s ended memory agreed =
+completed_is r message xid outcome s ended memory agreed terms =
     let x : ℕ = word_at 0 message in
     let calls = without_alike r.sent x r.outstanding in
     let count : length (without x (kept_calls r)) ≡ length (without_call x r.outstanding) = ap (λ (xs : List KeptCall). length xs) calls ∙ length-map (without_call x r.outstanding) (kept_call r.sent) in
@@ -342,4 +342,6 @@ completed_is r message xid outcome s ended memory agreed =
       up_max = (sym agreed i).up;
       down_max = (sym agreed i).down;
       invalidates = (sym agreed i).invalidates;
+      number = (sym terms i).number;
+      agreed = None;
     }

@@ -178,7 +178,7 @@ module _ (opened : LinkParameters) (r : RequesterState) (k : ClientState) (count
           let after : RequesterState = judged r s2 message (GivesOutcome xid outcome) in
           let stays : client_end k (FrameReceived f) ≡ None = end_is ∙ ap (end_of_verdict f) is in
           let kept : kept_received (kept_client r) k.received f segment ≡ kept_client after =
-          ap (λ (m : Option (List ℕ)). kept_by_message (kept_client r) m) whole ∙ completed_is r message xid outcome s2 refl gone refl in
+          ap (λ (m : Option (List ℕ)). kept_by_message (kept_client r) m) whole ∙ completed_is r message xid outcome s2 refl gone refl refl in
           taken_live opened r k count f after keeps stays (client_next segment after said stays kept)
           (subst (λ (x : ClientState). LinkKeeps opened after.side x) (sym said.state)
           (link_message opened r.side k f last opcode w queue msn offset payload message (released_all dead (stags_for (word_at 0 message) r.outstanding)) keeps.side later (omega (arith, lt)) whole at))
