@@ -226,7 +226,7 @@ sent_mark Relates opened link before (marks.Revoke l xid bytes) asked = sent_one
 sent_mark Relates opened link before (marks.Drop l) asked = omega arith
 sent_mark Relates opened link before (marks.Told l what) asked = sent_one opened (client opened link before) (ServerTold what) _ (λ own. tt)
 
-sent_rises : (Relates : List ℕ → List ℕ → Type 0) (opened : LinkParameters) (link : ℕ) (run more : List Mark) → AtEachMark (AskedMark Relates opened link) run more → next_sent_at opened link run ≤ next_sent_at opened link (run ++ more)
+pub sent_rises : (Relates : List ℕ → List ℕ → Type 0) (opened : LinkParameters) (link : ℕ) (run more : List Mark) → AtEachMark (AskedMark Relates opened link) run more → next_sent_at opened link run ≤ next_sent_at opened link (run ++ more)
 sent_rises Relates opened link run [] asked = (let e = ap (λ (r : List Mark). next_sent_at opened link r) (append-nil run) in omega (arith, e))
 sent_rises Relates opened link run (mark ∷ more) asked =
     let one = ap (λ (r : EndState ClientState). next_sent_xid r.state) (client_one opened link run mark) in
@@ -242,7 +242,7 @@ submits_one opened k None place a e = refl
 submits_one opened k (Some end) place a e = absurd cc
 
 -- after an accepted call it is larger
-sent_after_submit : (opened : LinkParameters) (link : ℕ) (run : List Mark) (call : Call) (form : Form) (xid : ℕ) → IsAccepted opened link run call form xid →
+pub sent_after_submit : (opened : LinkParameters) (link : ℕ) (run : List Mark) (call : Call) (form : Form) (xid : ℕ) → IsAccepted opened link run call form xid →
     xid < next_sent_at opened link (run ++ marks.Submit link call form (submissions.Accepted xid) ∷ [])
 sent_after_submit opened link run call form xid h =
     let a : AcceptedCall = record { xid = xid; call = call; form = form } in
@@ -259,7 +259,7 @@ part_of : (P : List Mark → Mark → Type 0) (before between after : List Mark)
 part_of P before [] after h = tt
 part_of P before (mark ∷ between) after h = (h.0, part_of P (before ++ mark ∷ []) between after h.1)
 
-later_of : (P : List Mark → Mark → Type 0) (start before more : List Mark) → AtEachMark P start (before ++ more) → AtEachMark P (start ++ before) more
+pub later_of : (P : List Mark → Mark → Type 0) (start before more : List Mark) → AtEachMark P start (before ++ more) → AtEachMark P (start ++ before) more
 later_of P start [] more h = subst (λ (r : List Mark). AtEachMark P r more) (sym (append-nil start)) h
 later_of P start (mark ∷ before) more h = subst (λ (r : List Mark). AtEachMark P r more) (append_assoc start (mark ∷ []) before) (later_of P (start ++ mark ∷ []) before more h.1)
 

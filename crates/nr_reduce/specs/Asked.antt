@@ -116,9 +116,11 @@ AskedMark Relates opened link before (marks.Revoke l xid bytes) = l ≡ link →
 AskedMark Relates opened link before (marks.Drop l) = Unit {0}
 AskedMark Relates opened link before (marks.Told l what) = Unit {0}
 
--- a call that can be sent again is sent before the client writes next
+-- A call that can be sent again is sent at once: before the client writes, is fed more, or hands over an outcome.
 abbrev pub ResentMark : LinkParameters → ℕ → List Mark → Mark → Type 0
 ResentMark opened link before (marks.Wrote l Initiator bytes) = l ≡ link → calls_to_resend (client opened link before) ≡ []
+ResentMark opened link before (marks.Fed l Initiator bytes) = l ≡ link → calls_to_resend (client opened link before) ≡ []
+ResentMark opened link before (marks.Done l xid outcome) = l ≡ link → calls_to_resend (client opened link before) ≡ []
 ResentMark opened link before mark = Unit {0}
 
 -- In full: each Wrote writes all output that is due by then, and in the end all is written. Calls are sent again as soon as the grant allows.
