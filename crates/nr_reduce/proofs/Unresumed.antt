@@ -5,6 +5,7 @@ use Rattle.nr_wire.specs.declared.hello.Side.TheVariants.{Initiator, Responder}
 use Rattle.nr_wire.specs.Segment.{Segment}
 use Rattle.nr_link.specs.Frames.{Frame, is_hello}
 use Rattle.nr_link.specs.ReceiveState.{ReadRequest, message_completed, read_request_of}
+use Rattle.nr_reduce.specs.declared.call.Submission.TheVariants as submissions
 use Rattle.nr_reduce.specs.declared.mark.Mark.{Mark}
 use Rattle.nr_reduce.specs.declared.mark.Mark.TheVariants as marks
 use Rattle.nr_reduce.specs.declared.mark.LinkParameters.{LinkParameters}
@@ -109,14 +110,16 @@ resent_from opened link before (mark ∷ run) none = (by mark, resent_from opene
     by : (mark : Mark) → ResentMark opened link before mark
     by (marks.Wrote l Initiator bytes) = λ own. none_resent opened link before none
     by (marks.Wrote l Responder bytes) = tt
-    by (marks.Submit l call form answer) = tt
+    by (marks.Submit l call form (submissions.Accepted xid)) = tt
+    by (marks.Submit l call form (submissions.Refused why)) = λ own. none_resent opened link before none
+    by (marks.Submit l call form submissions.Dropped) = tt
     by (marks.Fed l Initiator bytes) = λ own. none_resent opened link before none
     by (marks.Fed l Responder bytes) = tt
     by (marks.Execute l xid moment payload place reply) = tt
     by (marks.Done l xid outcome) = λ own. none_resent opened link before none
     by (marks.Lost l xid) = tt
-    by (marks.Forget l xid) = tt
-    by (marks.Revoke l xid bytes) = tt
+    by (marks.Forget l xid) = λ own. none_resent opened link before none
+    by (marks.Revoke l xid bytes) = λ own. none_resent opened link before none
     by (marks.Drop l) = tt
     by (marks.Told l what) = tt
 

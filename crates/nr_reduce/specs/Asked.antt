@@ -116,11 +116,17 @@ AskedMark Relates opened link before (marks.Revoke l xid bytes) = l ≡ link →
 AskedMark Relates opened link before (marks.Drop l) = Unit {0}
 AskedMark Relates opened link before (marks.Told l what) = Unit {0}
 
--- A call that can be sent again is sent at once: before the client writes, is fed more, or hands over an outcome.
+-- A call that can be sent again is sent at once: before the client writes, is fed more, is asked for anything, or hands over an outcome.
+abbrev pub NoneToResend : LinkParameters → (link : ℕ) → List Mark → (l : ℕ) → Type 0
+NoneToResend opened link before l = l ≡ link → calls_to_resend (client opened link before) ≡ []
+
 abbrev pub ResentMark : LinkParameters → ℕ → List Mark → Mark → Type 0
-ResentMark opened link before (marks.Wrote l Initiator bytes) = l ≡ link → calls_to_resend (client opened link before) ≡ []
-ResentMark opened link before (marks.Fed l Initiator bytes) = l ≡ link → calls_to_resend (client opened link before) ≡ []
-ResentMark opened link before (marks.Done l xid outcome) = l ≡ link → calls_to_resend (client opened link before) ≡ []
+ResentMark opened link before (marks.Submit l call form (submissions.Refused why)) = NoneToResend opened link before l
+ResentMark opened link before (marks.Wrote l Initiator bytes) = NoneToResend opened link before l
+ResentMark opened link before (marks.Fed l Initiator bytes) = NoneToResend opened link before l
+ResentMark opened link before (marks.Done l xid outcome) = NoneToResend opened link before l
+ResentMark opened link before (marks.Forget l xid) = NoneToResend opened link before l
+ResentMark opened link before (marks.Revoke l xid bytes) = NoneToResend opened link before l
 ResentMark opened link before mark = Unit {0}
 
 -- In full: each Wrote writes all output that is due by then, and in the end all is written. Calls are sent again as soon as the grant allows.

@@ -1,5 +1,5 @@
 -- The law of a link's server: which calls it executes, what it may be told, and what it writes.
-use Rattle.std.specs.Prelude.{◌≡◌, ℕ, ◌≤◌, List, [], ◌∷◌, ◌++◌, Option, None, Some, slice_get}
+use Rattle.std.specs.Prelude.{◌≡◌, ◌≢◌, ℕ, ◌≤◌, List, [], ◌∷◌, ◌++◌, Option, None, Some, slice_get}
 use Rattle.nr_wire.specs.declared.hello.Side.TheVariants.{Initiator, Responder}
 use Rattle.nr_link.specs.declared.end.End.{End}
 use Rattle.nr_reduce.specs.declared.mark.Mark.{Mark}
@@ -12,6 +12,7 @@ use Rattle.nr_reduce.specs.History.{bytes_sent, bytes_received}
 use Rattle.nr_reduce.specs.ServerState.{ReadyCall}
 use Rattle.nr_reduce.specs.Run.{server, output_due, HasWritten}
 use Rattle.nr_reduce.specs.Matched.{IsPrefixOf}
+use Rattle.nr_reduce.specs.NumberedJournal.{number_heard}
 use Rattle.nr_reduce.specs.Asked.{IsAll}
 use Rattle.nr_reduce.specs.AtEachMark.{AtEachMark}
 
@@ -43,11 +44,12 @@ last_at (f ∷ g ∷ frames) = last_at (g ∷ frames)
 unfoldable pub last_frame_at : ℕ → List Mark → ℕ
 last_frame_at link run = last_at (frames_of Initiator (bytes_received link Responder run))
 
--- the next call has this xid, and is refused; `at` is where the last frame began that was received by then
+-- The next call has this xid, its client has a number, and it is refused; `at` is where the last frame began that was received by then.
 pub record IsRefusedAsOld (opened : LinkParameters) (link : ℕ) (before : List Mark) (xid at : ℕ) : Type 0 where
   pub call : ReadyCall
   pub is_next : next_call opened link before ≡ Some call
   pub own : xid ≡ call.xid
+  pub numbered : number_heard before link ≢ 0
   pub last : at ≡ last_frame_at link before
 
 -- Its owner sets credits up to those that the link was opened with: it has a receive for each of these.
