@@ -53,6 +53,9 @@ pub mod Touches
 pub mod Sizes
 pub mod Segments
 pub mod OwnStags
+pub mod NewStags
+pub mod FoundCalls
+pub mod GoingOn
 pub mod OwnLimits
 pub mod StagsLeft
 pub mod ReadChunks

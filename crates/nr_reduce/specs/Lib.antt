@@ -49,6 +49,7 @@ pub mod KeptClient
 pub mod Standing
 pub mod StandingLaws
 pub mod RunLaws
+pub mod ReopenedLinks
 pub mod DueItems
 pub mod OutputLaws
 pub mod MemoryLaws
