@@ -1,0 +1,42 @@
+-- For the code: a call that was executed by the state alone, and what the cache has of a call.
+use Rattle.std.specs.Prelude.{◌≡◌, ◌≤◌, ⊤, ℕ, List, length, Option, None, Some, Result, Err}
+use Rattle.nr_outside.specs.declared.moment.Moment.{Moment}
+use Rattle.nr_rpc.specs.declared.head.CallHead.{CallHead}
+use Rattle.nr_cache.specs.Entries.{Finding}
+use Rattle.nr_cache.specs.Entries.Finding.{KeptCall, OldCall, NewCall}
+use Rattle.nr_plain.specs.Replies.{Answer, plain_answer}
+use Rattle.nr_plain.specs.ReplySizes.{reply_max}
+use Rattle.nr_plain.specs.Stands.{PlainServerState, state_after_answer, state_kept}
+use Rattle.nr_plain.specs.declared.numbered.NumberedFault.{NumberedFault}
+use Rattle.nr_plain.specs.declared.numbered.NumberedFault.TheVariants as faults
+use Rattle.nr_plain.specs.declared.server.Reply.{Reply}
+
+-- the reply is that of the plain server over the state, and the server is then as the answer leaves it
+pub record ExecutedNow (before : PlainServerState) (m : Moment) (payload reply : List ℕ) (place : ℕ) (after : PlainServerState) : Type 0 where
+  pub answer : Answer
+  pub is : plain_answer before.parameters (state_kept before) m payload ≡ Some answer
+  pub replied : reply ≡ answer.reply
+  pub kept : after ≡ state_after_answer before answer.entries
+  pub place_is : place ≡ before.count
+
+-- why the execution of a call fails
+abbrev pub IsPlainCause : NumberedFault → Result CallHead ℕ → Type 0
+IsPlainCause (faults.NotCall at) read = read ≡ Err at
+IsPlainCause faults.Memory read = ⊤
+IsPlainCause (faults.Old top) read = ⊥
+
+-- what is given of a call that is kept, and that nothing is given of a new one
+abbrev pub IsFound : Option Reply → Finding → Type 0
+IsFound None found = found ≡ NewCall
+IsFound (Some r) found = found ≡ KeptCall r.place r.payload
+
+-- a reply that is given is short
+abbrev pub IsShort : Option Reply → Type 0
+IsShort None = ⊤
+IsShort (Some r) = length r.payload ≤ reply_max
+
+-- only an old call is refused
+abbrev pub IsRefusedBy : NumberedFault → Finding → Type 0
+IsRefusedBy (faults.NotCall at) found = ⊥
+IsRefusedBy faults.Memory found = ⊤
+IsRefusedBy (faults.Old top) found = found ≡ OldCall top
