@@ -1,7 +1,7 @@
 -- The answers of a server to calls of clients with a number.
 use Rattle.std.proofs.Common.{◌≡◌, ◌≢◌, ℕ, ◌+◌, ◌<◌, List, ◌++◌, ◌∷◌, [], length, Option, Some, sym, subst, ap, ◌∙◌, refl, arith}
 use Rattle.std.specs.Prelude.{IsOk, Result, Err}
-use Rattle.std.proofs.lemmas.List.{length-append, length-map}
+use Rattle.std.proofs.lemmas.List.{append-nil, length-append, length-map}
 use Rattle.nr_outside.specs.declared.moment.Moment.{Moment}
 use Rattle.nr_rpc.specs.Reading.{call_of}
 use Rattle.nr_rpc.specs.declared.head.CallHead.{CallHead}
@@ -15,8 +15,8 @@ use Rattle.nr_plain.specs.Replies.{Answer}
 use Rattle.nr_plain.specs.Added.{entries_of_call}
 use Rattle.nr_plain.specs.History.{AddsNone, AddsOne, entries_added, entries_alone, xid_in}
 use Rattle.nr_plain.specs.Stands.{PlainServerState, RepresentsJournal, ExecutesCall}
-use Rattle.nr_plain.specs.Numbered.{AnswersBy, AnswersFor, ExecutesTagged, IsNumberedCause, IsSameButRoom, LeavesServer, RepresentsTagged, answer_of_entry, finding, kept_replies, may_change}
-use Rattle.nr_plain.specs.private.Executing.{ExecutedNow, IsPlainCause}
+use Rattle.nr_plain.specs.Numbered.{AnswersFor, IsAnswerBy, IsNumberedCause, IsSameButRoom, LeavesServer, RepresentsTagged, added_if, answer_of_entry, finding, kept_replies, may_change}
+use Rattle.nr_plain.specs.private.Executing.{ExecutedNow, ExecutesTagged, IsPlainCause}
 use Rattle.nr_plain.specs.ReplySizes.{reply_max}
 use Rattle.nr_plain.specs.declared.history_entry.TaggedEntry.{TaggedEntry}
 use Rattle.nr_plain.specs.declared.numbered.NumberedFault.{NumberedFault}
@@ -132,13 +132,25 @@ module _ (m : Moment) (payload reply : List ℕ) (place : ℕ) (before mid : Pla
 -- ===== answers
 
 module _ (s : Setup) (T : List TaggedEntry) (client : ℕ) (m : Moment) (payload reply : List ℕ) (place : ℕ) (before after : PlainServerState) where
+  -- the server stands for what was added
+  stands_by : (f : Finding) → finding s T client (xid_in payload) ≡ f → RepresentsTagged s (T ++ added_if f (entries_added client m payload reply)) after
+      → RepresentsTagged s (T ++ added_if (finding s T client (xid_in payload)) (entries_added client m payload reply)) after
+  stands_by f is = subst (λ (g : Finding). RepresentsTagged s (T ++ added_if g (entries_added client m payload reply)) after) (sym is)
+
   -- of a new call
   pub new_answers : finding s T client (xid_in payload) ≡ NewCall → ExecutesTagged s T client m payload reply place after → AnswersFor s T client m payload reply place before after
-  new_answers new executes = subst (AnswersBy s T client m payload reply place before after) (sym new) executes
+  new_answers new executes = record {
+    answer = subst (IsAnswerBy s T m payload reply place before after) (sym new) (executes.replied, executes.place_is);
+    stands = stands_by NewCall new executes.stands;
+  }
 
   -- of a kept call
-  pub kept_answers : finding s T client (xid_in payload) ≡ KeptCall place reply → after ≡ before → AnswersFor s T client m payload reply place before after
-  kept_answers kept same = subst (AnswersBy s T client m payload reply place before after) (sym kept) (refl, (refl, same))
+  pub kept_answers : finding s T client (xid_in payload) ≡ KeptCall place reply → after ≡ before → RepresentsTagged s T before → AnswersFor s T client m payload reply place before after
+  kept_answers kept same is = record {
+    answer = subst (IsAnswerBy s T m payload reply place before after) (sym kept) (refl, (refl, same));
+    stands = stands_by (KeptCall place reply) kept
+        (subst (λ (U : List TaggedEntry). RepresentsTagged s U after) (sym (append-nil T)) (subst (RepresentsTagged s T) (sym same) is));
+  }
 
 -- a client without a number has new calls alone
 pub unnumbered_new : (s : Setup) (T : List TaggedEntry) (client xid : ℕ) → client ≡ 0 → finding s T client xid ≡ NewCall

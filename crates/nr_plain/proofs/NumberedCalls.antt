@@ -20,7 +20,8 @@ use Rattle.nr_plain.specs.Replies.{Answer, answer_by, answer_to, call_by_cred, c
 use Rattle.nr_plain.specs.History.{entries_added, entries_alone, tagged, xid_in}
 use Rattle.nr_plain.specs.Added.{entries_by_call, entries_by_cred, entries_by_procedure, entries_of_call, has_succeeded}
 use Rattle.nr_plain.specs.Stands.{PlainServerState, RepresentsJournal, ExecutesCall}
-use Rattle.nr_plain.specs.Numbered.{ExecutesTagged, answer_of_entry, is_changing, kept_entry, kept_from, kept_replies, may_change}
+use Rattle.nr_plain.specs.Numbered.{answer_of_entry, is_changing, kept_entry, kept_from, kept_replies, may_change}
+use Rattle.nr_plain.specs.private.Executing.{ExecutesTagged}
 use Rattle.nr_plain.specs.declared.history_entry.TaggedEntry.{TaggedEntry}
 use Rattle.nr_plain.proofs.ReplyHeads.{same_answer}
 use Rattle.nr_plain.proofs.Serving.{mount_none}

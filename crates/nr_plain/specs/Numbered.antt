@@ -56,20 +56,33 @@ pub record IsSameButRoom (before after : PlainServerState) : Type 0 where
   pub rest : record after { cache = before.cache } ≡ before
   pub replies : (E : List KeptEntry) → RemembersAll E before.cache → RemembersAll E after.cache
 
--- A new call was executed after the entries T, at the end of the journal, which has the entry of the call then, if it has one.
-pub record ExecutesTagged (s : Setup) (T : List TaggedEntry) (client : ℕ) (m : Moment) (payload reply : List ℕ) (place : ℕ) (after : PlainServerState) : Type 0 where
-  pub replied : plain_reply s (entries_alone T) place m payload ≡ Some reply
-  pub place_is : place ≡ length T
-  pub stands : RepresentsTagged s (T ++ entries_added client m payload reply) after
+-- a call that a server answered
+pub record NumberedCall : Type 0 where
+  pub client : ℕ
+  pub moment : Moment
+  pub payload : List ℕ
+  pub reply : List ℕ
 
--- A call was answered after the entries T: a new one is executed; a kept one has the reply and the place of its entry, and changes nothing.
-abbrev pub AnswersBy : Setup → List TaggedEntry → (client : ℕ) → Moment → (payload reply : List ℕ) → (place : ℕ) → (before after : PlainServerState) → Finding → Type 0
-AnswersBy s T client m payload reply place before after (OldCall top) = ⊥
-AnswersBy s T client m payload reply place before after (KeptCall at given) = (place ≡ at) × (reply ≡ given) × (after ≡ before)
-AnswersBy s T client m payload reply place before after NewCall = ExecutesTagged s T client m payload reply place after
+-- what a call adds to the journal: its entry, if it is new and has one
+abbrev pub added_if : Finding → List TaggedEntry → List TaggedEntry
+added_if (OldCall top) entries = []
+added_if (KeptCall place reply) entries = []
+added_if NewCall entries = entries
 
-abbrev pub AnswersFor : Setup → List TaggedEntry → (client : ℕ) → Moment → (payload reply : List ℕ) → (place : ℕ) → (before after : PlainServerState) → Type 0
-AnswersFor s T client m payload reply place before after = AnswersBy s T client m payload reply place before after (finding s T client (xid_in payload))
+abbrev pub added_for : Setup → List TaggedEntry → NumberedCall → List TaggedEntry
+added_for s T c = added_if (finding s T c.client (xid_in c.payload)) (entries_added c.client c.moment c.payload c.reply)
+
+-- The answer to a call after the entries T. A new call has the reply of the plain server at the end of the journal. A kept one has the place and the
+-- reply of its entry, and the server is as before. An old one has no reply.
+abbrev pub IsAnswerBy : Setup → List TaggedEntry → Moment → (payload reply : List ℕ) → (place : ℕ) → (before after : PlainServerState) → Finding → Type 0
+IsAnswerBy s T m payload reply place before after (OldCall top) = ⊥
+IsAnswerBy s T m payload reply place before after (KeptCall at given) = (place ≡ at) × (reply ≡ given) × (after ≡ before)
+IsAnswerBy s T m payload reply place before after NewCall = (plain_reply s (entries_alone T) place m payload ≡ Some reply) × (place ≡ length T)
+
+-- a call was answered after the entries T, and then the server stands for the journal with what the call added
+pub record AnswersFor (s : Setup) (T : List TaggedEntry) (client : ℕ) (m : Moment) (payload reply : List ℕ) (place : ℕ) (before after : PlainServerState) : Type 0 where
+  pub answer : IsAnswerBy s T m payload reply place before after (finding s T client (xid_in payload))
+  pub stands : RepresentsTagged s (T ++ added_for s T (record { client = client; moment = m; payload = payload; reply = reply })) after
 
 -- Why a call gets no reply: it has no call head, or it is old, by the largest xid of its client; out of memory has no cause.
 abbrev pub IsNumberedCause : Setup → List TaggedEntry → (client : ℕ) → (payload : List ℕ) → NumberedFault → Type 0
@@ -100,22 +113,6 @@ may_change (Err at) = false
 
 -- ---- Each change once
 
--- calls that a server answered one after the other
-pub record NumberedCall : Type 0 where
-  pub client : ℕ
-  pub moment : Moment
-  pub payload : List ℕ
-  pub reply : List ℕ
-
--- what a call adds to the journal: its entry, if it is new
-abbrev pub added_if : Finding → List TaggedEntry → List TaggedEntry
-added_if (OldCall top) entries = []
-added_if (KeptCall place reply) entries = []
-added_if NewCall entries = entries
-
-abbrev pub added_for : Setup → List TaggedEntry → NumberedCall → List TaggedEntry
-added_for s T c = added_if (finding s T c.client (xid_in c.payload)) (entries_added c.client c.moment c.payload c.reply)
-
 -- the journal after some calls
 abbrev pub journal_after : Setup → List TaggedEntry → List NumberedCall → List TaggedEntry
 journal_after s T [] = T
@@ -129,6 +126,6 @@ abbrev pub NoEntryTwice : List TaggedEntry → Type 0
 NoEntryTwice [] = ⊤
 NoEntryTwice (t ∷ T) = (t.client ≢ 0 → All (IsOther t) T) × NoEntryTwice T
 
--- Over every list of calls, whatever they are and whatever their replies say.
+-- Over every list of calls, whatever they are and whatever their replies say: so over those that a server answered, one after the other.
 abbrev pub ChangesOnce : Type 0
 ChangesOnce = (s : Setup) (calls : List NumberedCall) → NoEntryTwice (journal_after s [] calls)

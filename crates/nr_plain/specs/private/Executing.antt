@@ -1,12 +1,16 @@
 -- For the code: a call that was executed by the state alone, and what the cache has of a call.
-use Rattle.std.specs.Prelude.{◌≡◌, ◌≤◌, ⊤, ℕ, List, length, Option, None, Some, Result, Err}
+use Rattle.std.specs.Prelude.{◌≡◌, ◌≤◌, ⊤, ℕ, List, ◌++◌, length, Option, None, Some, Result, Err}
 use Rattle.nr_outside.specs.declared.moment.Moment.{Moment}
 use Rattle.nr_rpc.specs.declared.head.CallHead.{CallHead}
 use Rattle.nr_cache.specs.Entries.{Finding}
 use Rattle.nr_cache.specs.Entries.Finding.{KeptCall, OldCall, NewCall}
-use Rattle.nr_plain.specs.Replies.{Answer, plain_answer}
+use Rattle.nr_plain.specs.Setup.{Setup}
+use Rattle.nr_plain.specs.History.{entries_added, entries_alone}
+use Rattle.nr_plain.specs.Numbered.{RepresentsTagged}
+use Rattle.nr_plain.specs.Replies.{Answer, plain_answer, plain_reply}
 use Rattle.nr_plain.specs.ReplySizes.{reply_max}
 use Rattle.nr_plain.specs.Stands.{PlainServerState, state_after_answer, state_kept}
+use Rattle.nr_plain.specs.declared.history_entry.TaggedEntry.{TaggedEntry}
 use Rattle.nr_plain.specs.declared.numbered.NumberedFault.{NumberedFault}
 use Rattle.nr_plain.specs.declared.numbered.NumberedFault.TheVariants as faults
 use Rattle.nr_plain.specs.declared.server.Reply.{Reply}
@@ -18,6 +22,12 @@ pub record ExecutedNow (before : PlainServerState) (m : Moment) (payload reply :
   pub replied : reply ≡ answer.reply
   pub kept : after ≡ state_after_answer before answer.entries
   pub place_is : place ≡ before.count
+
+-- the call of a client was executed after the entries T, at the end of the journal, which has the entry of the call then, if it has one
+pub record ExecutesTagged (s : Setup) (T : List TaggedEntry) (client : ℕ) (m : Moment) (payload reply : List ℕ) (place : ℕ) (after : PlainServerState) : Type 0 where
+  pub replied : plain_reply s (entries_alone T) place m payload ≡ Some reply
+  pub place_is : place ≡ length T
+  pub stands : RepresentsTagged s (T ++ entries_added client m payload reply) after
 
 -- why the execution of a call fails
 abbrev pub IsPlainCause : NumberedFault → Result CallHead ℕ → Type 0
