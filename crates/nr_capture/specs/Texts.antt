@@ -86,8 +86,12 @@ outcome_text (outcomes.Reply payload) = codes " reply " ++ bytes_text payload
 outcome_text outcomes.Chunk = codes " chunk"
 outcome_text (outcomes.Version low high) = codes " version " ++ two_numbers_text low high
 
+-- a call that was submitted
+abbrev pub submit_text : (link xid : ℕ) → Form → Call → List ℕ
+submit_text link xid form call = codes "submit " ++ two_numbers_text link xid ++ codes " " ++ form_text form ++ codes " " ++ call_text call
+
 unfoldable pub mark_text : CapturedMark → List ℕ
-mark_text (marks.Submit link xid form call) = codes "submit " ++ two_numbers_text link xid ++ codes " " ++ form_text form ++ codes " " ++ call_text call
+mark_text (marks.Submit link xid form call) = submit_text link xid form call
 mark_text (marks.Out link side bytes) = codes "out " ++ decimal link ++ side_text side ++ bytes_text bytes
 mark_text (marks.In link side bytes) = codes "in " ++ decimal link ++ side_text side ++ bytes_text bytes
 mark_text (marks.Exec link xid seconds) = codes "exec " ++ two_numbers_text link xid ++ codes " " ++ decimal seconds

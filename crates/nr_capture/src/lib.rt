@@ -2,7 +2,8 @@
 //!
 //! It stands on `nr_texts`, which reads the words of such a text, and on `nr_reduce`, which has calls, forms and outcomes.
 //! What a capture leaves out of a mark (the payload, the place and the reply of an execution, the bytes of a revoked call)
-//! follows from the marks before it. Grants, calls that are sent again and kept replies have no lines yet.
+//! follows from the marks before it. Calls that are sent again over a new connection and kept replies
+//! have no lines yet.
 #![tactic(auto)]
 
 mod capture;

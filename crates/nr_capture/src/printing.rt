@@ -5,7 +5,7 @@ ghost use Rattle.std.specs.Fmt.{decimal};
 ghost use Rattle.std.specs.List.{flat_map};
 ghost use Rattle.std.specs.String.{string_bytes};
 ghost use Rattle.nr_capture.specs.Capture.{capture_of};
-ghost use Rattle.nr_capture.specs.Texts.{bytes_text, call_text, capacity_text, capture_text, cred_text, form_text, invalidate_text, lengths_after, lengths_text, line_text, mark_text, offer_text, opening_text, outcome_text, part_text, read_text, semicolon_after, semicolon_if, side_text, sizes_text, two_numbers_text};
+ghost use Rattle.nr_capture.specs.Texts.{bytes_text, call_text, capacity_text, capture_text, cred_text, form_text, invalidate_text, lengths_after, lengths_text, line_text, mark_text, offer_text, opening_text, outcome_text, part_text, read_text, semicolon_after, semicolon_if, side_text, sizes_text, submit_text, two_numbers_text};
 ghost use Rattle.nr_rpc.specs.declared.cred.Cred.TheVariants as creds;
 ghost use Rattle.nr_reduce.specs.declared.call.Form.TheVariants as forms;
 
@@ -255,7 +255,7 @@ pub(crate) fn push_submit(
     form: &Form,
     call: &Call,
 ) -> Result<(), Memory>
-    ensures { OnOk result (string_bytes text.new ≡ string_bytes text.old ++ (codes "submit " ++ two_numbers_text link xid ++ codes " " ++ form_text form.now ++ codes " " ++ call_text call.now)) }
+    ensures { OnOk result (string_bytes text.new ≡ string_bytes text.old ++ submit_text link xid form.now call.now) }
 {
     push_form_line(text, link, xid, form)?;
     let procedure = (call.prog, call.vers, call.proc);
@@ -270,7 +270,7 @@ pub(crate) fn push_plain_submit(
     procedure: (u32, u32, u32),
     args: &[u8],
 ) -> Result<(), Memory>
-    ensures { OnOk result (string_bytes text.new ≡ string_bytes text.old ++ (codes "submit " ++ two_numbers_text at.0 at.1 ++ codes " " ++ form_text forms.Auto ++ codes " " ++ call_text (record { prog = procedure.0; vers = procedure.1; proc = procedure.2; cred = creds.None; args = args.now }))) }
+    ensures { OnOk result (string_bytes text.new ≡ string_bytes text.old ++ submit_text at.0 at.1 forms.Auto (record { prog = procedure.0; vers = procedure.1; proc = procedure.2; cred = creds.None; args = args.now })) }
 {
     let (link, xid) = at;
     push_form_line(text, link, xid, &Form::Auto)?;

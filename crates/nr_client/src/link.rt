@@ -1,17 +1,15 @@
 //! A link over which calls are made.
 
-ghost use Rattle.std.specs.Prelude.{◌≡◌, ◌≢◌, ◌≤◌, ℕ, true, is_some, nat_lt, length, [], Some, IfOk, IfErr, OnOk, OnErr};
+ghost use Rattle.std.specs.Prelude.{◌≡◌, ◌≢◌, ◌≤◌, true, is_some, nat_lt, length, Some, IfOk, IfErr, OnOk, OnErr};
 ghost use Rattle.nr_rpc.specs.Credential.{CanWriteCred};
 ghost use Rattle.nr_link.specs.declared.end.End.TheVariants as ends;
 ghost use Rattle.nr_link.specs.Agreement.{terms_with};
-ghost use Rattle.nr_reduce.specs.Opening.{ClientOpened};
-ghost use Rattle.nr_reduce.specs.declared.mark.LinkParameters.{LinkParameters};
-ghost use Rattle.nr_requester.specs.Standing.{RequesterRepresents};
 ghost use Rattle.nr_requester.specs.AfterCalls.{opened_as};
 ghost use Rattle.nr_requester.specs.Fed.{fed_bytes};
 ghost use Rattle.nr_requester.specs.OpenCalls.{ClosesTicket, KeepsTickets, OpensTicket, open_call};
 ghost use Rattle.nr_client.specs.Calls.{Answers, Completes, Forgets, ForgetsCall, GivesUp, RefusesToSubmit, Submits};
 ghost use Rattle.nr_client.specs.Ending.{IsCause, LinkCause, SinkCount, SourceCount};
+ghost use Rattle.nr_client.specs.LinkParts.{RepresentsNewLink};
 ghost use Rattle.nr_client.specs.Transfers.{link_bytes};
 ghost use Rattle.nr_links.specs.Limits.{read_max};
 
@@ -71,7 +69,7 @@ impl<I: Source, O: Sink> Link<I, O> {
         invalidates: bool,
     ) -> Result<Link<I, O>, (I, O)>
         ensures state { IfOk result (λ c. c ≡ record { requester = opened_as 1 1 credits (terms_with units invalidates) c.requester.staging; source = source; sink = sink; read = 0 }) }
-        ensures stands { IfOk result (λ c. (opened : LinkParameters) (link : ℕ) → opened.first_xid ≡ 1 → opened.first_stag ≡ 1 → ClientOpened opened credits (terms_with units invalidates) → RequesterRepresents opened link c.requester []) }
+        ensures stands { IfOk result (λ c. RepresentsNewLink c.requester credits (terms_with units invalidates)) }
         ensures returned { IfErr result (λ link. (link.0 ≡ source) × (link.1 ≡ sink)) }
     {
         let Ok(buf) = vec![in alloc; 0u8; PIECE_MAX] else {

@@ -1,21 +1,19 @@
 //! A session of a client: requests of a user over one link.
 
-ghost use Rattle.std.specs.Prelude.{◌≡◌, ◌<◌, ◌≤◌, ℕ, [], OnOk, IfOk, IfErr, IfSome};
+ghost use Rattle.std.specs.Prelude.{◌≡◌, ◌<◌, ◌≤◌, OnOk, IfOk, IfErr, IfSome};
 ghost use Rattle.nr_outside.specs.Streams.{sink_at, source_at};
 ghost use Rattle.nr_nfs_base.specs.declared.attributes.Attributes.{Attributes};
 ghost use Rattle.nr_links.specs.Asked.{Asks as AsksFor};
 ghost use Rattle.nr_links.specs.Links.{CountsLost, EndsLink, HasOpenLink, IsNewLink, IsTold, MakesLink, ended_link};
 ghost use Rattle.nr_link.specs.Agreement.{terms_with};
-ghost use Rattle.nr_reduce.specs.Opening.{ClientOpened};
-ghost use Rattle.nr_reduce.specs.declared.mark.LinkParameters.{LinkParameters};
 ghost use Rattle.nr_requester.specs.AfterCalls.{opened_as};
-ghost use Rattle.nr_requester.specs.Standing.{RequesterRepresents};
 ghost use Rattle.nr_client.specs.Following.{Follows};
 ghost use Rattle.nr_client.specs.Jobs.{ReadsFileByJobs, jobs_max, link_at};
 ghost use Rattle.nr_client.specs.Listing.{list_next};
 ghost use Rattle.nr_client.specs.Dialing.{OpenFails, dialer_at, session_credits};
 ghost use Rattle.nr_client.specs.Requests.{Asks, SinkFaults, SourceFaults, create_result, getattr_call, getattr_result, lookup_call, lookup_result, mkdir_call, mnt_call, mnt_result, readlink_call, readlink_result, remove_call, remove_result, symlink_call};
 ghost use Rattle.nr_client.specs.Reading.{InputFaults, OutputFaults, ReadsFile};
+ghost use Rattle.nr_client.specs.LinkParts.{RepresentsNewLink};
 ghost use Rattle.nr_client.specs.Transfers.{link_bytes};
 ghost use Rattle.nr_client.specs.Writing.{StopsAtFault, WritesFile};
 ghost use Rattle.nr_client.specs.Walking.{parent_next, walk_next};
@@ -84,7 +82,7 @@ impl<P: LinkSource, Q: LinkSink, N: LinkNumber> Session<NumberedSource<P, N>, Nu
         ensures fresh { IfOk result (λ s. IsNewLink (P.given s.link.source.source) (Q.taken s.link.sink.sink) (P.faults s.link.source.source) (Q.faults s.link.sink.sink)) }
         ensures told { IfOk result (λ s. IsTold (D.ended dialer.new) (P.given s.link.source.source) (P.left s.link.source.source) (Q.taken s.link.sink.sink)) }
         ensures state { IfOk result (λ s. (s.link.requester ≡ opened_as 1 1 session_credits (terms_with units invalidates) s.link.requester.staging) × ((s.link.read ≡ 0) × ((s.uid ≡ uid) × (s.gid ≡ gid)))) }
-        ensures stands { IfOk result (λ s. (opened : LinkParameters) (link : ℕ) → opened.first_xid ≡ 1 → opened.first_stag ≡ 1 → ClientOpened opened session_credits (terms_with units invalidates) → RequesterRepresents opened link s.link.requester []) }
+        ensures stands { IfOk result (λ s. RepresentsNewLink s.link.requester session_credits (terms_with units invalidates)) }
         ensures err { IfErr result (λ end. OpenFails end addr.now (dialer_at (D.asked dialer.old) (D.ended dialer.old) (D.lost dialer.old) (D.faults dialer.old))
             (dialer_at (D.asked dialer.new) (D.ended dialer.new) (D.lost dialer.new) (D.faults dialer.new))) }
         ensures counted { OnOk result (D.faults dialer.new ≡ D.faults dialer.old) }

@@ -1,14 +1,11 @@
 -- A command of a client, from its words to its end.
-use Rattle.std.specs.Prelude.{◌≡◌, ℕ, List, [], IfSome, Result, Ok, Err}
+use Rattle.std.specs.Prelude.{◌≡◌, ℕ, List, IfSome, Result, Ok, Err}
 use Rattle.nr_outside.specs.Streams.{SinkAt, SourceAt, Writes, WritesSome}
 use Rattle.nr_links.specs.Asked.{Asks as AsksFor}
 use Rattle.nr_links.specs.Links.{CountsLost, EndsLink, IsNewLink, IsTold, MakesLink, ended_link}
 use Rattle.nr_link.specs.Agreement.{terms_with}
 use Rattle.nr_link.specs.declared.agreement.SideTerms.{SideTerms}
-use Rattle.nr_reduce.specs.Opening.{ClientOpened}
-use Rattle.nr_reduce.specs.declared.mark.LinkParameters.{LinkParameters}
 use Rattle.nr_requester.specs.AfterCalls.{opened_as}
-use Rattle.nr_requester.specs.Standing.{RequesterRepresents}
 use Rattle.nr_words.specs.Lines.{Text}
 use Rattle.nr_words.specs.declared.commands.Action.{Action}
 use Rattle.nr_words.specs.declared.commands.Action.TheVariants as actions
@@ -16,6 +13,7 @@ use Rattle.nr_words.specs.declared.commands.Client.{Client}
 use Rattle.nr_client.specs.declared.client_end.ClientEnd.{ClientEnd}
 use Rattle.nr_client.specs.declared.client_end.ClientEnd.TheVariants as client
 use Rattle.nr_client.specs.Dialing.{DialerAt, OpenFails, session_credits}
+use Rattle.nr_client.specs.LinkParts.{RepresentsNewLink}
 use Rattle.nr_commands.specs.Commands.{Gets, Lists, MakesDirectory, MakesSymlink, MountsAndPrints, Puts, ReadsLink, Removes, Stats}
 use Rattle.nr_commands.specs.Sessions.{Part, SessionAt, sink_of, source_of}
 
@@ -33,7 +31,7 @@ pub record Opens (addr : List ℕ) (terms : SideTerms) (before after : DialerAt)
   pub fresh : IsNewLink s.bytes.given s.bytes.taken s.source_faults s.sink_faults
   pub nothing_read : s.bytes.read ≡ 0
   pub requester : s.requester ≡ opened_as 1 1 session_credits terms s.requester.staging
-  pub stands : (opened : LinkParameters) (link : ℕ) → opened.first_xid ≡ 1 → opened.first_stag ≡ 1 → ClientOpened opened session_credits terms → RequesterRepresents opened link s.requester []
+  pub stands : RepresentsNewLink s.requester session_credits terms
   pub none_lost : after.lost ≡ before.lost
   pub unfailing : after.faults ≡ before.faults
 

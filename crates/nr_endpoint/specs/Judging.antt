@@ -97,6 +97,10 @@ abbrev pub with_segment_by : Frame → Segment → Option End → LinkState → 
 with_segment_by f segment (Some end) s = with_end_of end s
 with_segment_by f segment None s = after_frame f (with_effect segment s)
 
+-- after the next frame, if it holds this segment
+abbrev pub with_next_segment : LinkState → (bytes : List ℕ) → Segment → LinkState
+with_next_segment s bytes segment = with_segment_by (next_frame s bytes) segment (segment_end s (next_frame s bytes) segment) s
+
 unfoldable pub with_fpdu : Frame → Result Segment ℕ → LinkState → LinkState
 with_fpdu f (Ok segment) s = with_segment_by f segment (segment_end s f segment) s
 with_fpdu f (Err reason) s = with_end_of (ends.Bad f.at reason) s

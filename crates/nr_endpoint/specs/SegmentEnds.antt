@@ -13,7 +13,7 @@ use Rattle.nr_link.specs.ReceiveState.{begun_bytes, read_request_in}
 use Rattle.nr_link.specs.SegmentFaults.{next_msn, next_offset, is_begun, is_malformed, is_expected}
 use Rattle.nr_link.specs.Ending.{kind_of}
 use Rattle.nr_endpoint.specs.LinkState.{LinkState}
-use Rattle.nr_endpoint.specs.Judging.{expected_response, fetch_access}
+use Rattle.nr_endpoint.specs.Judging.{expected_response, fetch_access, next_frame, with_segment_by}
 use Rattle.nr_xdr.specs.Fields.{word_at}
 
 -- the segment belongs to a message of a queue
@@ -42,6 +42,11 @@ unfoldable pub tagged_end : LinkState → Bool → (opcode stag to : ℕ) → Li
 tagged_end s last opcode stag to payload =
     denied_if stag to (denial s.memory (record { right = right_for (kind_of opcode); stag = stag; to = to; len = length payload }))
     (bad_if s.place REASON_RESPONSE (opcode == OPCODE_READ_RESPONSE && not (is_expected (expected_response s.reads) last stag to (length payload))) None)
+
+-- after the next frame, if it holds this tagged segment
+abbrev pub with_next_tagged : LinkState → (bytes : List ℕ) → Bool → (opcode stag to : ℕ) → List ℕ → LinkState
+with_next_tagged s bytes last opcode stag to payload =
+    with_segment_by (next_frame s bytes) (Tagged last opcode stag to payload) (tagged_end s last opcode stag to payload) s
 
 unfoldable pub message_end : LinkState → (queue msn offset : ℕ) → Option End
 message_end s queue msn offset =

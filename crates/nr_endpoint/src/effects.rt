@@ -5,8 +5,8 @@ ghost use Rattle.nr_wire.specs.Segment.{IsSupported, payload_in};
 ghost use Rattle.nr_wire.specs.Segment.Segment.{Tagged, Untagged};
 ghost use Rattle.nr_wire.specs.View.{segment as plain};
 ghost use Rattle.nr_link.specs.SegmentFaults.{is_expected};
-ghost use Rattle.nr_endpoint.specs.Judging.{expected_response, segment_end, with_effect, with_read_response, with_segment_by, next_frame, after_frame};
-ghost use Rattle.nr_endpoint.specs.SegmentEnds.{IsUntagged, tagged_end, RequestIsFine, SendIsFine};
+ghost use Rattle.nr_endpoint.specs.Judging.{expected_response, segment_end, with_effect, with_read_response, next_frame, after_frame};
+ghost use Rattle.nr_endpoint.specs.SegmentEnds.{IsUntagged, with_next_tagged, RequestIsFine, SendIsFine};
 ghost use Rattle.nr_endpoint.specs.ReceiveQueue.{send_segment};
 ghost use Rattle.nr_endpoint.specs.SendQueue.{output_len};
 
@@ -63,9 +63,9 @@ impl LinkSide {
     ) -> Result<(), Memory>
         requires some { 0 < length frame.now }
         requires within { self.old.state.place + length frame.now ≤ 2 ^ 62 }
-        ensures ok { OnOk result (self.new ≡ record self.old { state = with_segment_by (next_frame self.old.state frame.now) (Tagged last opcode stag to payload.now) (tagged_end self.old.state last opcode stag to payload.now) self.old.state }) }
+        ensures ok { OnOk result (self.new ≡ record self.old { state = with_next_tagged self.old.state frame.now last opcode stag to payload.now }) }
         ensures err { OnErr result (self.new ≡ self.old) }
-        ensures queued { OnErr result (output_len self.old.state.send_queue < output_len (with_segment_by (next_frame self.old.state frame.now) (Tagged last opcode stag to payload.now) (tagged_end self.old.state last opcode stag to payload.now) self.old.state).send_queue) }
+        ensures queued { OnErr result (output_len self.old.state.send_queue < output_len (with_next_tagged self.old.state frame.now last opcode stag to payload.now).send_queue) }
     {
         let len = payload.len() as u64;
         if opcode == OPCODE_READ_RESPONSE && !is_expected(&self.reads, last, stag, to, len) {

@@ -11,7 +11,7 @@ ghost use Rattle.nr_link.specs.declared.end.End.TheVariants as ends;
 ghost use Rattle.nr_endpoint.specs.LinkState.{initial_state};
 ghost use Rattle.nr_endpoint.specs.SendQueue.{output_len};
 ghost use Rattle.nr_endpoint.specs.SegmentEnds.{IsUntagged};
-ghost use Rattle.nr_endpoint.specs.Judging.{segment_end, with_end_of, with_segment_by, with_fpdu, with_peer_hello, with_agreement, with_frame, after_frame, next_frame, next_segment};
+ghost use Rattle.nr_endpoint.specs.Judging.{with_end_of, with_next_segment, with_fpdu, with_peer_hello, with_agreement, with_frame, after_frame, next_frame, next_segment};
 ghost use Rattle.nr_endpoint.specs.Hellos.{own_private};
 
 use crate::frames::{hello_in_frame, segment_in_frame};
@@ -206,9 +206,9 @@ impl LinkSide {
         requires payload { length (payload_in (plain segment.now)) < 2 ^ 16 }
         requires size { length (payload_in (plain segment.now)) + 1 ≤ length frame.now }
         requires within { self.old.state.place + length frame.now ≤ 2 ^ 62 }
-        ensures ok { OnOk result (self.new ≡ record self.old { state = with_segment_by (next_frame self.old.state frame.now) (plain segment.now) (segment_end self.old.state (next_frame self.old.state frame.now) (plain segment.now)) self.old.state }) }
+        ensures ok { OnOk result (self.new ≡ record self.old { state = with_next_segment self.old.state frame.now (plain segment.now) }) }
         ensures err { OnErr result (self.new ≡ self.old) }
-        ensures queued { OnErr result (output_len self.old.state.send_queue < output_len (with_segment_by (next_frame self.old.state frame.now) (plain segment.now) (segment_end self.old.state (next_frame self.old.state frame.now) (plain segment.now)) self.old.state).send_queue) }
+        ensures queued { OnErr result (output_len self.old.state.send_queue < output_len (with_next_segment self.old.state frame.now (plain segment.now)).send_queue) }
     {
         match *segment {
             Segment::Tagged {
@@ -229,9 +229,9 @@ impl LinkSide {
         requires payload { length (payload_in (plain segment.now)) < 2 ^ 16 }
         requires size { length (payload_in (plain segment.now)) + 1 ≤ length frame.now }
         requires within { self.old.state.place + length frame.now ≤ 2 ^ 62 }
-        ensures ok { OnOk result (self.new ≡ record self.old { state = with_segment_by (next_frame self.old.state frame.now) (plain segment.now) (segment_end self.old.state (next_frame self.old.state frame.now) (plain segment.now)) self.old.state }) }
+        ensures ok { OnOk result (self.new ≡ record self.old { state = with_next_segment self.old.state frame.now (plain segment.now) }) }
         ensures err { OnErr result (self.new ≡ self.old) }
-        ensures queued { OnErr result (output_len self.old.state.send_queue < output_len (with_segment_by (next_frame self.old.state frame.now) (plain segment.now) (segment_end self.old.state (next_frame self.old.state frame.now) (plain segment.now)) self.old.state).send_queue) }
+        ensures queued { OnErr result (output_len self.old.state.send_queue < output_len (with_next_segment self.old.state frame.now (plain segment.now)).send_queue) }
     {
         match self.fault(segment) {
             Some(end) => self.end_with(end),

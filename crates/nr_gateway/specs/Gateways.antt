@@ -4,9 +4,6 @@ use Rattle.std.specs.Fmt.{decimal}
 use Rattle.nr_links.specs.Asked.{Asks}
 use Rattle.nr_links.specs.Links.{MakesLink}
 use Rattle.nr_link.specs.Agreement.{default_terms}
-use Rattle.nr_reduce.specs.Opening.{ClientOpened}
-use Rattle.nr_reduce.specs.declared.mark.LinkParameters.{LinkParameters}
-use Rattle.nr_requester.specs.Standing.{RequesterRepresents}
 use Rattle.nr_turnstile.specs.Passes.{mine_of, seen_by}
 use Rattle.nr_turnstile.specs.declared.turnstile.Pass.{Pass}
 use Rattle.nr_words.specs.declared.gate_settings.GateSettings.{GateSettings}
@@ -20,6 +17,7 @@ use Rattle.nr_accept.specs.Accepting as accept
 use Rattle.nr_gate.specs.GateLinks.{GatesLinks}
 use Rattle.nr_gate.specs.declared.gate_end.GateEnd.{GateEnd}
 use Rattle.nr_client.specs.Dialing.{DialerAt}
+use Rattle.nr_client.specs.LinkParts.{RepresentsNewLink}
 use Rattle.nr_serve.specs.Serving.{AcceptorAt, SpawnerAt}
 
 -- how many credits the requester of a gateway wishes for
@@ -48,7 +46,7 @@ pub record OpensRemote (history : List Entry) (mine : List ℕ) : Type 0 where
   pub initial : InitialState
   pub history_is : history ≡ entries.Initial initial ∷ []
   pub own : mine ≡ []
-  pub stands : (opened : LinkParameters) (link : ℕ) → opened.first_xid ≡ 1 → opened.first_stag ≡ 1 → ClientOpened opened gate_credits default_terms → RequesterRepresents opened link initial.requester []
+  pub stands : RepresentsNewLink initial.requester gate_credits default_terms
   pub nothing_taken : IfSome initial.taken (λ bytes. bytes ≡ [])
   pub no_fault : initial.faults ≡ 0
 

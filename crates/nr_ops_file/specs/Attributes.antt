@@ -1,6 +1,6 @@
 -- GETATTR, SETATTR and ACCESS (RFC 1813 sections 3.3.1, 3.3.2 and 3.3.4): the refusals in their order, the tree after, the reply.
-use Rattle.std.specs.Prelude.{ℕ, ◌+◌, ◌%◌, ◌==◌, Bool, true, false, not, ◌&&◌, ◌||◌, if◌then◌else◌, List, [], ◌∷◌, Option, is_some, unwrap_or}
-use Rattle.std.specs.Option.{option_map_or}
+use Rattle.std.specs.Prelude.{◌≡◌, ℕ, ◌+◌, ◌≤◌, ◌%◌, ◌==◌, Bool, true, false, not, ◌&&◌, ◌||◌, if◌then◌else◌, List, [], ◌∷◌, Option, Some, IfSome, is_some, unwrap_or}
+use Rattle.std.specs.Option.{option_map, option_map_or}
 use Rattle.std.specs.Int.Bits.{bit_and}
 use Rattle.nr_nfs_base.specs.declared.attributes.Attributes.{Attributes}
 use Rattle.nr_nfs_base.specs.declared.caller.Caller.{Caller}
@@ -20,6 +20,8 @@ use Rattle.nr_nfs_res.specs.declared.attributes.AccessOk.{AccessOk}
 use Rattle.nr_tree.specs.Changes.{tree_with_size, tree_with_metadata}
 use Rattle.nr_tree.specs.Replies.{attributes_at, wcc_data}
 use Rattle.nr_tree.specs.Rules.{first, ◌⇒◌, on, after, answer, handle_rule, node_of_handle, number_of_handle, may, space_rule, time_rule, size_rule, differs_if_given, mode_count, time_after}
+use Rattle.nr_tree.specs.Sane.{file_size_max}
+use Rattle.nr_tree.specs.Steps.{is_regular_at}
 use Rattle.nr_tree.specs.Tree.{Tree, is_dir, is_regular}
 use Rattle.nr_tree.specs.declared.node.Node.{Node}
 use Rattle.nr_tree.specs.declared.node.Metadata.{Metadata}
@@ -100,6 +102,17 @@ setattr_rules t c space a =
     handle_rule t a.object ∷
     first (on (node_of_handle t a.object) (setattr_of c a)) ∷
     space_rule space ∷ []
+
+-- a size may be given to what is a regular file, or isn't: it is one, and the size is at most the maximum of a file
+abbrev pub MayHaveSize : (is_file : Bool) → (size : ℕ) → Type 0
+MayHaveSize is_file size = (is_file ≡ true) × (size ≤ file_size_max)
+
+-- the node that a call names, by its number and its metadata; and it may have the size that the call gives it, if any
+abbrev pub IsNodeToSet : Tree → SetattrArgs → (number : ℕ) → Metadata → Type 0
+IsNodeToSet t a number metadata =
+    (number ≡ number_of_handle a.object)
+    × (option_map (λ (n : Node). n.metadata) (node_of_handle t a.object) ≡ Some metadata)
+    × IfSome a.attributes.size (MayHaveSize (is_regular_at t number))
 
 abbrev pub mode_after : Option ℕ → ℕ → ℕ
 mode_after asked present = option_map_or (λ mode. mode % mode_count) asked present

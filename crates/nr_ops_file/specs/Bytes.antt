@@ -1,5 +1,5 @@
 -- READ, WRITE and COMMIT (RFC 1813 sections 3.3.6, 3.3.7 and 3.3.21): the refusals in their order, the tree after, the reply.
-use Rattle.std.specs.Prelude.{ℕ, ◌+◌, ◌==◌, nat_lt, nat_le, min, not, List, [], ◌∷◌, length, take, drop, Option}
+use Rattle.std.specs.Prelude.{◌≡◌, ℕ, ◌+◌, ◌≤◌, ◌==◌, true, nat_lt, nat_le, min, not, List, [], ◌∷◌, length, take, drop, Option}
 use Rattle.std.specs.Option.{option_map_or}
 use Rattle.nr_nfs_base.specs.declared.attributes.Attributes.{Attributes}
 use Rattle.nr_nfs_base.specs.declared.caller.Caller.{Caller}
@@ -20,6 +20,7 @@ use Rattle.nr_tree.specs.Changes.{tree_with_bytes}
 use Rattle.nr_tree.specs.Replies.{attributes_at, wcc_data}
 use Rattle.nr_tree.specs.Rules.{first, ◌⇒◌, on, after, answer, handle_rule, node_of_handle, number_of_handle, may, space_rule}
 use Rattle.nr_tree.specs.Sane.{file_size_max}
+use Rattle.nr_tree.specs.Steps.{is_regular_at}
 use Rattle.nr_tree.specs.Tree.{Tree, is_dir, is_regular, bytes_of}
 use Rattle.nr_tree.specs.declared.node.Node.{Node}
 use Rattle.nr_tree.specs.declared.rules.Right.TheVariants.{Read, Write}
@@ -88,6 +89,11 @@ write_rules t c space a =
     handle_rule t a.file ∷
     first (on (node_of_handle t a.file) (write_of c a)) ∷
     space_rule space ∷ []
+
+-- the number of a file that a call may write: its handle names a regular file, and its piece ends within the maximum of one
+abbrev pub IsFileToWrite : Tree → WriteArgs → (number : ℕ) → Type 0
+IsFileToWrite t a number =
+    (number ≡ number_of_handle a.file) × (is_regular_at t number ≡ true) × (a.offset + length (piece_written a) ≤ file_size_max)
 
 abbrev pub write_tree : Tree → Caller → Space → Time → WriteArgs → Tree
 write_tree t c space now a =

@@ -1,14 +1,11 @@
 //! GETATTR, SETATTR and ACCESS.
 
-ghost use Rattle.std.specs.Prelude.{◌≡◌, ◌≤◌, true, None, Some, IsSome, IfSome, MatchResult};
-ghost use Rattle.std.specs.Option.{option_map};
-ghost use Rattle.nr_ops_file.specs.Attributes.{getattr_rules, getattr_reply, same_time as same_times, guard_differs, changes_owner as changes_owner_of, needs_owner as needs_owner_for, sets_server_time as sets_the_server_time, is_owner as is_owner_of, permission_rules, value_rules, setattr_of, setattr_rules, mode_after as mode_set, mtime_of_size as mtime_of, metadata_after as metadata_set, tree_with_size_given, tree_with_attributes, setattr_tree, setattr_reply, bit_if as bit_where, access_granted, access_reply};
+ghost use Rattle.std.specs.Prelude.{◌≡◌, ◌≤◌, None, Some, IsSome, IfSome, MatchResult};
+ghost use Rattle.nr_ops_file.specs.Attributes.{getattr_rules, getattr_reply, same_time as same_times, guard_differs, changes_owner as changes_owner_of, needs_owner as needs_owner_for, sets_server_time as sets_the_server_time, is_owner as is_owner_of, permission_rules, value_rules, setattr_of, setattr_rules, MayHaveSize, IsNodeToSet, mode_after as mode_set, mtime_of_size as mtime_of, metadata_after as metadata_set, tree_with_size_given, tree_with_attributes, setattr_tree, setattr_reply, bit_if as bit_where, access_granted, access_reply};
 ghost use Rattle.nr_tree.specs.Replies.{attributes_at as attributes_of_handle};
-ghost use Rattle.nr_tree.specs.Rules.{first, node_of_handle, number_of_handle, IsWithinCapacity};
-ghost use Rattle.nr_tree.specs.Sane.{file_size_max};
+ghost use Rattle.nr_tree.specs.Rules.{first, IsWithinCapacity};
 ghost use Rattle.nr_tree.specs.Steps.{is_regular_at, links_at};
 ghost use Rattle.nr_tree.specs.Tree.{is_regular};
-ghost use Rattle.nr_tree.specs.declared.node.Node.{Node};
 
 use nr_nfs_args::{AccessArgs, GetattrArgs, SetattrArgs};
 use nr_nfs_base::{Caller, SetAttributes, SetTime, Status, StatusUnion, Time};
@@ -115,8 +112,7 @@ fn node_to_set(
     args: &SetattrArgs,
 ) -> Result<(u64, Metadata), Status>
     requires { IsWithinCapacity space.now }
-    ensures { MatchResult result (λ x. (first (setattr_rules tree.now caller.now space.now args.now) ≡ None) × (x.0 ≡ number_of_handle args.now.object) × (option_map (λ (n : Node). n.metadata) (node_of_handle tree.now args.now.object) ≡ Some x.1)
-        × IfSome args.now.attributes.size (λ size. (is_regular_at tree.now x.0 ≡ true) × (size ≤ file_size_max)))
+    ensures { MatchResult result (λ x. (first (setattr_rules tree.now caller.now space.now args.now) ≡ None) × IsNodeToSet tree.now args.now x.0 x.1)
         (λ s. first (setattr_rules tree.now caller.now space.now args.now) ≡ Some s) }
 {
     let (number, node) = live_node(tree, args.object.as_slice())?;
@@ -127,7 +123,7 @@ fn node_to_set(
 
 /// Whether the call may set its attributes of this node.
 fn check_attributes(caller: &Caller, args: &SetattrArgs, node: &Node) -> Result<(), Status>
-    ensures { MatchResult result (λ _. (first (setattr_of caller.now args.now node.now) ≡ None) × IfSome args.now.attributes.size (λ size. (is_regular node.now ≡ true) × (size ≤ file_size_max)))
+    ensures { MatchResult result (λ _. (first (setattr_of caller.now args.now node.now) ≡ None) × IfSome args.now.attributes.size (MayHaveSize (is_regular node.now)))
         (λ s. first (setattr_of caller.now args.now node.now) ≡ Some s) }
 {
     if differs(args.guard, node) {
@@ -205,7 +201,7 @@ fn check_permission(caller: &Caller, attributes: SetAttributes, node: &Node) -> 
 
 /// Whether the node can have these attributes.
 fn check_values(attributes: SetAttributes, node: &Node) -> Result<(), Status>
-    ensures { MatchResult result (λ _. (first (value_rules attributes node.now) ≡ None) × IfSome attributes.size (λ size. (is_regular node.now ≡ true) × (size ≤ file_size_max)))
+    ensures { MatchResult result (λ _. (first (value_rules attributes node.now) ≡ None) × IfSome attributes.size (MayHaveSize (is_regular node.now)))
         (λ s. first (value_rules attributes node.now) ≡ Some s) }
 {
     if attributes.size.is_some() && node.is_dir() {
@@ -227,7 +223,7 @@ fn set_attributes(
     metadata: Metadata,
 )
     requires links { metadata.links ≡ links_at tree.old number }
-    requires size { IfSome attributes.size (λ size. (is_regular_at tree.old number ≡ true) × (size ≤ file_size_max)) }
+    requires size { IfSome attributes.size (MayHaveSize (is_regular_at tree.old number)) }
     ensures { tree.new ≡ tree_with_attributes tree.old now number attributes metadata }
 {
     set_size(tree, now, number, attributes.size);
@@ -236,7 +232,7 @@ fn set_attributes(
 
 /// Cuts a regular file or adds zeros, if a size is given. Takes no memory.
 fn set_size(tree: &mut Tree, now: Time, number: u64, size: Option<u64>)
-    requires size { IfSome size (λ size. (is_regular_at tree.old number ≡ true) × (size ≤ file_size_max)) }
+    requires size { IfSome size (MayHaveSize (is_regular_at tree.old number)) }
     ensures tree { tree.new ≡ tree_with_size_given tree.old now number size }
     ensures links { links_at tree.new number ≡ links_at tree.old number }
 {

@@ -1,11 +1,10 @@
 //! READ, WRITE and COMMIT.
 
 ghost use Rattle.std.specs.Prelude.{◌≡◌, ◌+◌, ◌≤◌, take, true, None, Some, length, IfOk, OnOk, OnErr, MatchResult};
-ghost use Rattle.nr_ops_file.specs.Bytes.{regular_rules, read_rules, piece_read, read_ok, read_reply, piece_rules, piece_written, write_rules, write_tree, write_reply, commit_rules, commit_reply};
+ghost use Rattle.nr_ops_file.specs.Bytes.{regular_rules, read_rules, piece_read, read_ok, read_reply, piece_rules, piece_written, write_rules, IsFileToWrite, write_tree, write_reply, commit_rules, commit_reply};
 ghost use Rattle.nr_nfs_base.specs.Limits.{transfer_max};
-ghost use Rattle.nr_tree.specs.Rules.{first, node_of_handle, number_of_handle, IsWithinCapacity};
+ghost use Rattle.nr_tree.specs.Rules.{first, node_of_handle, IsWithinCapacity};
 ghost use Rattle.nr_tree.specs.Sane.{file_size_max};
-ghost use Rattle.nr_tree.specs.Steps.{is_regular_at};
 ghost use Rattle.nr_nfs_base.specs.declared.stable.StableHow.TheVariants.{FileSync};
 ghost use Rattle.nr_tree.specs.Tree.{is_regular, bytes_of};
 
@@ -142,7 +141,7 @@ fn file_to_write(
     args: &WriteArgsRef<'_>,
 ) -> Result<u64, Status>
     requires { IsWithinCapacity space.now }
-    ensures { MatchResult result (λ n. (first (write_rules tree.now caller.now space.now args.now) ≡ None) × (n ≡ number_of_handle args.now.file) × (is_regular_at tree.now n ≡ true) × (args.now.offset + length (piece_written args.now) ≤ file_size_max))
+    ensures { MatchResult result (λ n. (first (write_rules tree.now caller.now space.now args.now) ≡ None) × IsFileToWrite tree.now args.now n)
         (λ s. first (write_rules tree.now caller.now space.now args.now) ≡ Some s) }
 {
     let (number, node) = live_node(tree, args.file())?;

@@ -1,5 +1,6 @@
 -- How many bytes replies have.
 use Rattle.std.specs.Prelude.{ℕ, ◌+◌, ◌≤◌, List, length, Option, Some, None}
+use Rattle.nr_header.specs.Constants.{PAYLOAD_MAX}
 use Rattle.nr_nfs_base.specs.Limits.{handle_max}
 use Rattle.nr_nfs_base.specs.declared.status.Status.{Status}
 use Rattle.nr_nfs_base.specs.declared.status_union.StatusUnion.{StatusUnion}
@@ -10,7 +11,7 @@ use Rattle.nr_nfs_res.specs.declared.create.CreateOk.{CreateOk}
 -- The maximum length of any reply, in bytes: the longest are those of READ, READDIR and READDIRPLUS, whose limits are
 -- below this (nr_reduce, `largest_reply`).
 abbrev pub any_reply_max : ℕ
-any_reply_max = 1056768
+any_reply_max = PAYLOAD_MAX
 
 -- the bytes of the head of a reply to a call that was accepted (RFC 5531 section 9)
 abbrev pub head_size : ℕ

@@ -8,9 +8,9 @@ ghost use Rattle.nr_rpc.specs.Reading.{call_of};
 ghost use Rattle.nr_tree.specs.Rules.{IsWithinCapacity, entry_cost as cost_of_entry};
 ghost use Rattle.nr_tree.specs.Steps.{IsBelow, IsBounded};
 ghost use Rattle.nr_plain.specs.Setup.{Setup, caller_of, space_of, time_of};
-ghost use Rattle.nr_plain.specs.private.Code.{IsHeadWithin, changes_from, entry_of, reply_from, tree_from};
+ghost use Rattle.nr_plain.specs.private.Code.{IsHeadWithin, changes_from, entry_of, reply_from, tree_from, version2_answer};
 ghost use Rattle.nr_plain.specs.Journal.{nfs_procedure_of, cost_of};
-ghost use Rattle.nr_plain.specs.Replies.{nfs_by_procedure, nfs_call, mount_call, program_call, call_by_cred, cred_refusal, answer_to};
+ghost use Rattle.nr_plain.specs.Replies.{nfs_by_procedure, nfs_call, mount_call, program_call, cred_refusal, answer_to};
 ghost use Rattle.nr_plain.specs.Stands.{RepresentsJournal, ExecutesCall, IsCause, cache_kept, state_kept, state_after_answer};
 ghost use Rattle.nr_plain.specs.ReplySizes.{any_reply_max, reply_max};
 ghost use Rattle.nr_plain.specs.Numbered.{IsSameButRoom};
@@ -365,8 +365,8 @@ impl Server {
         prog: u32,
         vers: u32,
     ) -> Result<Octets, Memory>
-        ensures reply { IfOk result (λ o. o ≡ (call_by_cred (cred_refusal request.now.cred.now) request.now.xid (program_call self.old.parameters (state_kept self.old) request.now.xid prog vers (entry_of request.now))).reply) }
-        ensures kept { OnOk result (self.new ≡ state_after_answer self.old (call_by_cred (cred_refusal request.now.cred.now) request.now.xid (program_call self.old.parameters (state_kept self.old) request.now.xid prog vers (entry_of request.now))).entries) }
+        ensures reply { IfOk result (λ o. o ≡ (version2_answer self.old request.now prog vers).reply) }
+        ensures kept { OnOk result (self.new ≡ state_after_answer self.old (version2_answer self.old request.now prog vers).entries) }
         ensures err { OnErr result (self.new ≡ self.old) }
     {
         match cred_status(request.cred) {

@@ -4,7 +4,8 @@ use Rattle.std.specs.List.{filter, find}
 use Rattle.nr_wire.specs.declared.hello.Side.TheVariants.{Initiator, Responder}
 use Rattle.nr_wire.specs.declared.stream.Awaited.TheVariants.{Hello as HelloFrom}
 use Rattle.nr_link.specs.declared.agreement.SideTerms.{SideTerms}
-use Rattle.nr_endpoint.specs.LinkState.{LinkState, has_ended, initial_state}
+use Rattle.nr_endpoint.specs.LinkState.{LinkState, LinkSide, has_ended, initial_state}
+use Rattle.nr_endpoint.specs.Calls.{with_state}
 use Rattle.nr_regions.specs.RegisteredMemory.{RegisteredMemory, live_region}
 use Rattle.nr_endpoint.specs.SendQueue.{written, with_send}
 use Rattle.nr_endpoint.specs.declared.offering.Claims.{Claims}
@@ -30,6 +31,11 @@ opened_as first_xid first_stag wished terms staging = record {
 -- the side once the regions of a plan were registered and its message was queued
 abbrev pub submitted : LinkState → (message : List ℕ) → List Buffer → LinkState
 submitted s message bs = record s { memory = registered_all s.memory bs; send_queue = with_send message s.send_queue }
+
+-- the link once a call went out by a plan, under this xid and with this credit word
+abbrev pub with_submitted : (xid credit : ℕ) → Plan → LinkSide → LinkSide
+with_submitted xid credit plan link =
+    with_state (submitted link.state (call_message xid credit link.state.memory.next plan) (buffers link.state.memory.next plan)) link
 
 -- what is stored of a call that is accepted under an xid, whose Send has this number, by a plan whose regions are registered in this memory
 abbrev pub stored_call : (xid send : ℕ) → Call → Plan → RegisteredMemory → StoredCall

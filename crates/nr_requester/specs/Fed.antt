@@ -12,7 +12,7 @@ use Rattle.nr_reduce.specs.declared.call.Outcome.{Outcome}
 use Rattle.nr_reduce.specs.ClientMessages.{ReplyVerdict}
 use Rattle.nr_reduce.specs.ClientMessages.ReplyVerdict.{EndsLink, GivesOutcome}
 use Rattle.nr_reduce.specs.Client.{credits_of_word}
-use Rattle.nr_reduce.specs.KeptCalls.{kept_message_verdict}
+use Rattle.nr_reduce.specs.KeptCalls.{kept_message_verdict, kept_named}
 use Rattle.nr_reduce.specs.KeptClient.{bytes_under, released_all}
 use Rattle.nr_xdr.specs.Fields.{word_at}
 use Rattle.nr_regions.specs.RegisteredMemory.{RegisteredMemory, AreHeldFrom}
@@ -28,7 +28,8 @@ use Rattle.nr_requester.specs.RequesterState.{RequesterFeeding, RequesterSide, f
 use Rattle.nr_requester.specs.HeldClaims.{all_claims, OffersOwn}
 use Rattle.nr_requester.specs.AfterPiece.{dead_memory, without_call, answer_to, call_of, with_deliveries, requester_ended, after_frame, after_piece, RanOut}
 use Rattle.nr_requester.specs.CountedMarks.{has_bytes, marks_if, with_releases}
-use Rattle.nr_requester.specs.Views.{HasRoom, AreRising, IsAnswered, stored_view}
+use Rattle.nr_requester.specs.Judged.{kept_views}
+use Rattle.nr_requester.specs.Views.{HasRoom, AreRising, IsAnswered, requester_view, stored_view}
 
 -- the answer of a call, if its owner awaits it and a message gave an outcome
 abbrev pub answer_with : ℕ → Option Call → Buffers → Option Outcome → List AnsweredCall
@@ -83,6 +84,12 @@ JudgesTo (GivesOutcome xid outcome) own message link link2 calls calls2 answers 
     × ((answers2 ≡ answers ++ answer_to (dead_memory own link.state.memory) (call_of (word_at 0 message) (map stored_view calls)) outcome)
     × ((grant2 ≡ credits_of_word (word_at 8 message)) × (releases2 ≡ with_releases (live_count (dead_memory own link.state.memory) (stags_for (word_at 0 message) (map stored_view calls))) releases))))
 
+-- what a delivered message, which names an STag or none, makes of a requester of whose Sends this many have left
+abbrev pub TakesMessage : (sent : ℕ) → (named : Option ℕ) → List ℕ → (link link2 : LinkSide) → (calls calls2 : List OutstandingCall) → (answers answers2 : List AnsweredCall) → (grant grant2 releases releases2 : ℕ) → Type 0
+TakesMessage sent named message link link2 calls calls2 answers answers2 grant grant2 releases releases2 =
+    JudgesTo (kept_message_verdict (kept_views sent calls) (bytes_under link.state.memory) named message) (kept_named (kept_views sent calls) named message) message
+    link link2 calls calls2 answers answers2 grant grant2 releases releases2
+
 -- what is made of the event that waits
 abbrev pub with_deliveries_side : RequesterFeeding → RequesterFeeding
 with_deliveries_side h = record { awaited = h.awaited; rest = h.rest; state = with_deliveries h.state h.state.side h.state.side.receive_queue.deliveries }
@@ -104,6 +111,11 @@ pub record StoppedOut (before after : RequesterFeeding) : Type 0 where
 
 abbrev pub TakesDeliveries : (before after : RequesterFeeding) → Type 0
 TakesDeliveries before after = (after ≡ with_deliveries_side before) ⊎ StoppedOut before after
+
+-- the same of the parts of a requester; what it wishes, the Sends that it queued and its next xid stay
+abbrev pub TakesEvent : (sent wished sends next_xid : ℕ) → (link link2 : LinkSide) → (calls calls2 : List OutstandingCall) → (answers answers2 : List AnsweredCall) → (grant grant2 releases releases2 : ℕ) → Type 0
+TakesEvent sent wished sends next_xid link link2 calls calls2 answers answers2 grant grant2 releases releases2 =
+    TakesDeliveries (requester_view link sent wished sends next_xid grant calls answers releases) (requester_view link2 sent wished sends next_xid grant2 calls2 answers2 releases2)
 
 -- ---- A step
 

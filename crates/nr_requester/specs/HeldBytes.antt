@@ -1,5 +1,5 @@
 -- The bytes of the vectors that a requester keeps, and their bounds. The bounds are own.
-use Rattle.std.specs.Prelude.{◌≡◌, ◌≢◌, ℕ, ◌+◌, ◌*◌, ◌<◌, ◌≤◌, nat_lt, Bool, true, false, not, List, [], ◌∷◌, length, Option, None, Some}
+use Rattle.std.specs.Prelude.{◌≡◌, ◌≢◌, ℕ, ◌+◌, ◌-◌, ◌*◌, ◌/◌, ◌<◌, ◌≤◌, nat_lt, Bool, true, false, not, List, [], ◌∷◌, length, Option, None, Some}
 use Rattle.std.specs.List.{AllByRecursion, filter, sum_by}
 use Rattle.nr_header.specs.declared.header.ChunkLists.{ChunkLists}
 use Rattle.nr_header.specs.declared.header.RdmaSegment.{RdmaSegment}
@@ -135,11 +135,11 @@ abbrev pub call_max : ℕ
 call_max = 1060864
 
 abbrev pub offer_max : ℕ
-offer_max = 2113536
+offer_max = given_max + given_max
 
 -- the maximum of what a call offers for its reply
 abbrev pub back_max : ℕ
-back_max = 1056768
+back_max = given_max
 
 -- the maximum of the payload of a reply
 abbrev pub held_reply_max : ℕ
@@ -238,9 +238,9 @@ abbrev pub claims_len : Claims → ℕ
 claims_len c = claims_size in_bytes c
 
 -- The maximum number of segments of a call: a header of HEADER_LEN_MIN bytes with 16 or more for each segment (RFC 8166 section 4.3) has at most
--- receive_max bytes, and (16,384 - 32) / 16 is this.
+-- receive_max bytes.
 abbrev pub offered_segments_max : ℕ
-offered_segments_max = 1022
+offered_segments_max = (receive_max - 32) / 16
 
 abbrev pub OffersFew : OutstandingCall → Type 0
 OffersFew c = segments_offered c.offered ≤ offered_segments_max

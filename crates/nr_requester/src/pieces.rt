@@ -9,8 +9,7 @@ ghost use Rattle.nr_link.specs.declared.end.End.TheVariants as ends;
 ghost use Rattle.nr_endpoint.specs.Calls.{IsStopReason};
 ghost use Rattle.nr_reduce.specs.Client.{credits_of_word};
 ghost use Rattle.nr_reduce.specs.Limits.{credits_max};
-ghost use Rattle.nr_reduce.specs.KeptCalls.{kept_named, kept_message_verdict};
-ghost use Rattle.nr_reduce.specs.KeptClient.{released_all, bytes_under};
+ghost use Rattle.nr_reduce.specs.KeptClient.{released_all};
 ghost use Rattle.nr_reduce.specs.declared.mark.LinkParameters.{LinkParameters};
 ghost use Rattle.nr_reduce.specs.declared.mark.Mark.{Mark};
 ghost use Rattle.nr_reduce.specs.declared.mark.Mark.TheVariants as marks;
@@ -21,12 +20,12 @@ ghost use Rattle.nr_requester.specs.AfterCalls.{live_count};
 ghost use Rattle.nr_requester.specs.AfterPiece.{dead_memory, answered_as, after_fed};
 ghost use Rattle.nr_requester.specs.CountedMarks.{with_releases};
 ghost use Rattle.nr_requester.specs.Buffers.{with_memory};
-ghost use Rattle.nr_requester.specs.Judged.{outcome_by, LiesWithin, kept_views};
-ghost use Rattle.nr_requester.specs.Fed.{answer_with, CallsSound, IsReady, StopsDead, JudgesTo, TakesDeliveries, IsStep, TakesFrames, RequesterRanOutAt, fed_bytes, taken_by, late_marks};
+ghost use Rattle.nr_requester.specs.Judged.{outcome_by, LiesWithin};
+ghost use Rattle.nr_requester.specs.Fed.{answer_with, CallsSound, IsReady, StopsDead, TakesMessage, TakesEvent, IsStep, TakesFrames, RequesterRanOutAt, fed_bytes, taken_by, late_marks};
 ghost use Rattle.nr_requester.specs.HeldBytes.{NothingOutside, IsBounded};
 ghost use Rattle.nr_requester.specs.OpenCalls.{KeepsTickets};
 ghost use Rattle.nr_requester.specs.Standing.{StandsOn, RequesterRepresents, RequesterRunsOut};
-ghost use Rattle.nr_requester.specs.Views.{requester_view, stored_view};
+ghost use Rattle.nr_requester.specs.Views.{stored_view};
 
 use crate::answer::{AnsweredCall, Buffers};
 use crate::judging::verdict;
@@ -193,7 +192,7 @@ fn take_message(
     requires buf { length buf ≡ endpoint.old.link.state.receive_queue.receive_length }
     requires len { (16 ≤ len) × (len ≤ length buf) }
     requires calls { (next : ℕ) × CallsSound endpoint.old.link.state.receive_queue.receive_length endpoint.old.link.state.memory next outstanding.old.items answered.old.items (vec_capacity answered.old) }
-    ensures judged { JudgesTo (kept_message_verdict (kept_views sent outstanding.old.items) (bytes_under endpoint.old.link.state.memory) named (take len buf)) (kept_named (kept_views sent outstanding.old.items) named (take len buf)) (take len buf) endpoint.old.link endpoint.new.link
+    ensures judged { TakesMessage sent named (take len buf) endpoint.old.link endpoint.new.link
         outstanding.old.items outstanding.new.items answered.old.items answered.new.items grant.old grant.new releases.old releases.new }
     ensures sound { (most next : ℕ) → CallsSound most endpoint.old.link.state.memory next outstanding.old.items answered.old.items (vec_capacity answered.old) →
         CallsSound most endpoint.new.link.state.memory next outstanding.new.items answered.new.items (vec_capacity answered.new) }
@@ -226,7 +225,7 @@ fn take_event(
     sent: u64,
 )
     requires ready { IsReady endpoint.old.link outstanding.old.items answered.old.items (vec_capacity answered.old) }
-    ensures deliveries { (wished sends next : ℕ) → TakesDeliveries (requester_view endpoint.old.link sent wished sends next grant.old outstanding.old.items answered.old.items releases.old) (requester_view endpoint.new.link sent wished sends next grant.new outstanding.new.items answered.new.items releases.new) }
+    ensures deliveries { (wished sends next : ℕ) → TakesEvent sent wished sends next endpoint.old.link endpoint.new.link outstanding.old.items outstanding.new.items answered.old.items answered.new.items grant.old grant.new releases.old releases.new }
     ensures sound { (most next : ℕ) → CallsSound most endpoint.old.link.state.memory next outstanding.old.items answered.old.items (vec_capacity answered.old) →
         CallsSound most endpoint.new.link.state.memory next outstanding.new.items answered.new.items (vec_capacity answered.new) }
     ensures granted { (1 ≤ grant.old) × (grant.old ≤ credits_max) → (1 ≤ grant.new) × (grant.new ≤ credits_max) }

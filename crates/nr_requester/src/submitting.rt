@@ -2,14 +2,13 @@
 
 ghost use Rattle.std.specs.Prelude.{◌≡◌, ◌≢◌, ◌+◌, ◌^◌, ◌<◌, ◌≤◌, [], length, ◌++◌, None, Ok, IfOk, IfErr, OnOk, OnErr, MatchOption, vec_len, vec_capacity};
 ghost use Rattle.nr_rpc.specs.Credential.{CanWriteCred};
-ghost use Rattle.nr_endpoint.specs.Calls.{with_state};
 ghost use Rattle.nr_endpoint.specs.Offering.{claims_of};
-ghost use Rattle.nr_reduce.specs.Plans.{buffers, regions_needed, call_message, lists_of, total};
+ghost use Rattle.nr_reduce.specs.Plans.{regions_needed, lists_of, total};
 ghost use Rattle.nr_reduce.specs.CallOutlines.{outline_plan, OutlineAnswers};
 ghost use Rattle.nr_reduce.specs.declared.call.Refused.TheVariants as refusals;
 ghost use Rattle.nr_reduce.specs.declared.call.Submission.TheVariants as submissions;
 ghost use Rattle.nr_reduce.specs.declared.mark.Mark.TheVariants as marks;
-ghost use Rattle.nr_requester.specs.AfterCalls.{submitted, after_submit};
+ghost use Rattle.nr_requester.specs.AfterCalls.{with_submitted, after_submit};
 ghost use Rattle.nr_requester.specs.Answers.{answer_of, plan_under, WasSent};
 ghost use Rattle.nr_requester.specs.Sending.{IsPlan, HasNumbers, answer_for, offered_of, xid_word, target_under, head_under, call_plan};
 ghost use Rattle.nr_requester.specs.HeldClaims.{SentHeld, IsOfferOf};
@@ -64,7 +63,7 @@ fn offer_plan(
     requires planned { IsPlan (call_plan plan) }
     requires stags { endpoint.old.link.state.memory.next + regions_needed (call_plan plan) ≤ 2 ^ 32 }
     requires lists { lists.now ≡ lists_of endpoint.old.link.state.memory.next (call_plan plan) }
-    ensures link { OnOk result (endpoint.new.link ≡ with_state (submitted endpoint.old.link.state (call_message xid credit endpoint.old.link.state.memory.next (call_plan plan.entry)) (buffers endpoint.old.link.state.memory.next (call_plan plan.entry))) endpoint.old.link) }
+    ensures link { OnOk result (endpoint.new.link ≡ with_submitted xid credit (call_plan plan.entry) endpoint.old.link) }
     ensures claims { IfOk result (λ claims. claims ≡ claims_of endpoint.old.link.state.memory (offered_of (call_plan plan.entry))) }
     ensures held { IfOk result (λ claims. SentHeld endpoint.old.link.state.memory endpoint.new.link.state.memory claims) }
     ensures staging { endpoint.new.staging ≡ endpoint.old.staging }
@@ -94,7 +93,7 @@ fn send_plan(
     requires live { endpoint.old.link.state.ended ≡ None }
     requires planned { IsPlan (call_plan plan) }
     requires stags { endpoint.old.link.state.memory.next + regions_needed (call_plan plan) ≤ 2 ^ 32 }
-    ensures link { OnOk result (endpoint.new.link ≡ with_state (submitted endpoint.old.link.state (call_message xid credit endpoint.old.link.state.memory.next (call_plan plan.entry)) (buffers endpoint.old.link.state.memory.next (call_plan plan.entry))) endpoint.old.link) }
+    ensures link { OnOk result (endpoint.new.link ≡ with_submitted xid credit (call_plan plan.entry) endpoint.old.link) }
     ensures lists { IfOk result (λ s. s.lists ≡ lists_of endpoint.old.link.state.memory.next (call_plan plan.entry)) }
     ensures claims { IfOk result (λ s. s.claims ≡ claims_of endpoint.old.link.state.memory (offered_of (call_plan plan.entry))) }
     ensures held { IfOk result (λ s. SentHeld endpoint.old.link.state.memory endpoint.new.link.state.memory s.claims) }
@@ -128,7 +127,7 @@ fn send_with_room(
     requires live { endpoint.old.link.state.ended ≡ None }
     requires planned { IsPlan (call_plan plan) }
     requires stags { endpoint.old.link.state.memory.next + regions_needed (call_plan plan) ≤ 2 ^ 32 }
-    ensures link { OnOk result (endpoint.new.link ≡ with_state (submitted endpoint.old.link.state (call_message xid credit endpoint.old.link.state.memory.next (call_plan plan.entry)) (buffers endpoint.old.link.state.memory.next (call_plan plan.entry))) endpoint.old.link) }
+    ensures link { OnOk result (endpoint.new.link ≡ with_submitted xid credit (call_plan plan.entry) endpoint.old.link) }
     ensures lists { IfOk result (λ s. s.sent.lists ≡ lists_of endpoint.old.link.state.memory.next (call_plan plan.entry)) }
     ensures claims { IfOk result (λ s. s.sent.claims ≡ claims_of endpoint.old.link.state.memory (offered_of (call_plan plan.entry))) }
     ensures held { IfOk result (λ s. SentHeld endpoint.old.link.state.memory endpoint.new.link.state.memory s.sent.claims) }

@@ -1,12 +1,12 @@
 -- Bounds of what a responder keeps. They are own.
-use Rattle.std.specs.Prelude.{◌≡◌, ℕ, ◌+◌, ◌*◌, ◌≤◌, ◌==◌, true, if◌then◌else◌, List, [], ◌∷◌, length, drop, None}
+use Rattle.std.specs.Prelude.{◌≡◌, ℕ, ◌+◌, ◌*◌, ◌/◌, ◌≤◌, ◌==◌, true, if◌then◌else◌, List, [], ◌∷◌, length, drop, None}
 use Rattle.std.specs.List.{AllByRecursion, list_any}
 use Rattle.nr_regions.specs.RegisteredMemory.{RegisteredMemory}
 use Rattle.nr_regions.specs.Table.{IsTotal, region_len}
-use Rattle.nr_header.specs.Constants.{PAYLOAD_MAX, READ_SEGMENTS_MAX}
+use Rattle.nr_header.specs.Constants.{PAYLOAD_MAX, READ_SEGMENTS_MAX, REPLY_SEGMENTS_MAX, WRITE_SEGMENTS_MAX}
 use Rattle.nr_wire.specs.Constants.{FPDU_MAX, HELLO_LEN}
 use Rattle.nr_link.specs.Agreement.{IsSendLimit}
-use Rattle.nr_link.specs.Limits.{open_reads_max}
+use Rattle.nr_link.specs.Limits.{open_reads_max, segment_max}
 use Rattle.nr_endpoint.specs.ReceiveQueue.{ReceiveQueue}
 use Rattle.nr_endpoint.specs.SendQueue.{SendQueue}
 use Rattle.nr_endpoint.specs.OutputSizes.{frame_max, send_frames_max, request_max, hello_max, QueueWithin}
@@ -76,15 +76,15 @@ pub record SinksFit (v : ResponderSide) : Type 0 where
 
 -- the maximum of a reply in bytes
 abbrev pub sent_reply_max : ℕ
-sent_reply_max = 1056768
+sent_reply_max = PAYLOAD_MAX
 
--- The maximum of the Read Requests of a call, of the RDMA Writes of an answer, and of both with its Send. A reply of the maximum length has 258 frames of
--- segment_max bytes, and each segment of a write chunk and of a reply chunk, at most 32, may add one.
+-- The maximum of the Read Requests of a call, of the RDMA Writes of an answer, and of both with its Send. A reply of the maximum length has frames of
+-- segment_max bytes, and each segment of a write chunk and of a reply chunk may add one.
 abbrev pub requests_max : ℕ
-requests_max = 16 * request_max
+requests_max = READ_SEGMENTS_MAX * request_max
 
 abbrev pub writes_max : ℕ
-writes_max = 290 * frame_max
+writes_max = (sent_reply_max / segment_max + (WRITE_SEGMENTS_MAX + REPLY_SEGMENTS_MAX)) * frame_max
 
 abbrev pub answer_max : ℕ
 answer_max = writes_max + send_frames_max + requests_max

@@ -1,5 +1,5 @@
 -- The marks that a responder stands for.
-use Rattle.std.specs.Prelude.{◌≡◌, ℕ, List, ◌++◌, map, None, ◌⊎◌}
+use Rattle.std.specs.Prelude.{◌≡◌, ℕ, List, ◌++◌, length, map, None, ◌⊎◌}
 use Rattle.nr_wire.specs.declared.hello.Side.TheVariants.{Responder}
 use Rattle.nr_link.specs.Input.{InputState}
 use Rattle.nr_reduce.specs.declared.mark.Mark.{Mark}
@@ -38,6 +38,10 @@ pub record ResponderRunsOut (opened : LinkParameters) (link : ℕ) (run : List M
 
 abbrev pub ResponderRepresents : (opened : LinkParameters) (link : ℕ) (run : List Mark) (v : ResponderSide) → Type 0
 ResponderRepresents opened link run v = RepresentsServer opened link run v ⊎ ResponderRunsOut opened link run v
+
+-- n calls are pending by the marks that it stands for
+abbrev pub CountsCalls : ResponderSide → (n : ℕ) → Type 0
+CountsCalls v n = (opened : LinkParameters) (link : ℕ) (run : List Mark) → ResponderRepresents opened link run v → n ≡ length (server opened link run).state.calls
 
 -- It stands for some marks.
 abbrev pub RepresentsSome : ResponderSide → Type 0

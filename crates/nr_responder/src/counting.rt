@@ -15,7 +15,7 @@ ghost use Rattle.nr_responder.specs.HeldBytes.{held_unit, IsBounded, ListsFit};
 ghost use Rattle.nr_responder.specs.ResponderState.{bytes_held_by, end_of, lists_held, unsent};
 ghost use Rattle.nr_responder.specs.Rooms.{payload_room};
 ghost use Rattle.nr_responder.specs.Sound.{payload_len, room_len, state_of, with_staging, ServerEndInvariant};
-ghost use Rattle.nr_responder.specs.Standing.{RepresentsSome, ResponderRepresents};
+ghost use Rattle.nr_responder.specs.Standing.{CountsCalls, RepresentsSome, ResponderRepresents};
 
 use crate::call::{OpenSink, Pending, ReadEntry, Ready};
 use crate::room::{Payload, Room};
@@ -128,7 +128,7 @@ impl ServerEnd {
     /// How many calls are pending.
     pub fn unanswered(&self) -> usize
         ensures exact { result ≡ length self.now.calls.items }
-        ensures of_run { end_of (state_of self.now) ≢ Some ends.Memory → (opened : LinkParameters) (link : ℕ) (run : List Mark) → ResponderRepresents opened link run (state_of self.now) → result ≡ length (server opened link run).state.calls }
+        ensures of_run { end_of (state_of self.now) ≢ Some ends.Memory → CountsCalls (state_of self.now) result }
     {
         self.calls.len()
     }

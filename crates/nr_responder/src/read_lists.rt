@@ -8,7 +8,7 @@ ghost use Rattle.nr_header.specs.Constants.{PAYLOAD_MAX};
 ghost use Rattle.nr_header.specs.WithinLimits.{read_total};
 ghost use Rattle.nr_reduce.specs.Chunks.{total_at};
 ghost use Rattle.nr_reduce.specs.ServerReads.{regions_from, reads_from, sink_of};
-ghost use Rattle.nr_responder.specs.private.CallsRead.{chunk_here, chunk_positions, read_here, sink_buffer};
+ghost use Rattle.nr_responder.specs.private.CallsRead.{AddsRead, chunk_here, chunk_positions, sink_buffer};
 ghost use Rattle.nr_responder.specs.Views.{read_view};
 
 use crate::call::ReadEntry;
@@ -77,7 +77,7 @@ fn push_read(
     requires at { at < length read.now }
     requires stags { next + length chunks.now ≤ 2 ^ 32 }
     requires total { read_total read.now ≤ PAYLOAD_MAX }
-    ensures ok { OnOk result ((d : ReadSegment) (lists : ChunkLists) → map read_view entries.new.items ≡ map read_view entries.old.items ++ read_here (regions_from number 0 next lists chunks.now) number (take at read.now) (get_or read.now at d)) }
+    ensures ok { OnOk result ((d : ReadSegment) (lists : ChunkLists) → AddsRead (regions_from number 0 next lists chunks.now) number (take at read.now) (get_or read.now at d) entries.old.items entries.new.items) }
     ensures front { take (length entries.old.items) entries.new.items ≡ entries.old.items }
     ensures more { length entries.old.items ≤ length entries.new.items }
 {

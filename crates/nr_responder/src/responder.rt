@@ -31,7 +31,7 @@ ghost use Rattle.nr_responder.specs.HeldBytes.{held_unit, sent_reply_max, ListsF
 ghost use Rattle.nr_responder.specs.ResponderState.{bytes_held_by, end_of, granting, may_write, opened_side, unsent, KeepsStaging};
 ghost use Rattle.nr_responder.specs.Rooms.{payload_room};
 ghost use Rattle.nr_responder.specs.Sound.{IsNext};
-ghost use Rattle.nr_responder.specs.Standing.{ResponderRepresents};
+ghost use Rattle.nr_responder.specs.Standing.{CountsCalls, ResponderRepresents};
 ghost use Rattle.nr_responder.specs.Steps.{Fed, taken_of};
 
 use crate::call::{CallId, Sent};
@@ -279,7 +279,7 @@ impl Responder {
     /// Takes no memory.
     pub fn unanswered(&self) -> usize
         ensures exact { result ≡ length self.now.side.calls }
-        ensures of_run { end_of self.now.side ≢ Some ends.Memory → (opened : LinkParameters) (link : ℕ) (run : List Mark) → ResponderRepresents opened link run self.now.side → result ≡ length (server opened link run).state.calls }
+        ensures of_run { end_of self.now.side ≢ Some ends.Memory → CountsCalls self.now.side result }
     {
         self.end.unanswered()
     }

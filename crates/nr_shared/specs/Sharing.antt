@@ -5,7 +5,6 @@ use Rattle.nr_reduce.specs.declared.call.Form.{Form}
 use Rattle.nr_reduce.specs.declared.mark.LinkParameters.{LinkParameters}
 use Rattle.nr_reduce.specs.declared.mark.Mark.{Mark}
 use Rattle.nr_reduce.specs.Credits.{calls_outstanding, credits_granted}
-use Rattle.nr_requester.specs.Buffers.{bytes_of_buffers}
 use Rattle.nr_turnstile.specs.Passes.{Rests, Misses, home_of, id_of, seen_by}
 use Rattle.nr_shared.specs.declared.entry.Entry.{Entry}
 use Rattle.nr_shared.specs.declared.entry.Entry.TheVariants as entries
@@ -21,9 +20,9 @@ use Rattle.nr_shared.specs.declared.shared.TryRevoke.{TryRevoke}
 use Rattle.nr_shared.specs.declared.shared.TryRevoke.TheVariants as revokes
 use Rattle.nr_shared.specs.Histories.{FitsHistory, run_of, stop_of}
 use Rattle.nr_shared.specs.Adding.{Adds}
-use Rattle.nr_shared.specs.Callers.{HasOpenCall, IsCaller, KeepsLaw, KeepsOpen, KeepsOthers}
+use Rattle.nr_shared.specs.Callers.{HasOpenCall, IsCaller, KeepsLaw, KeepsOpen}
 use Rattle.nr_shared.specs.Ending.{IsRefused}
-use Rattle.nr_shared.specs.Waiting.{AtCall, IsTakeTurn, OpensCall}
+use Rattle.nr_shared.specs.Waiting.{IsTakeTurn, OpensCall, RevokesCall}
 
 -- whether a credit is left, by the run of a history at which memory didn't run out
 abbrev pub SaysCredit : Bool → List Entry → Type 0
@@ -58,8 +57,7 @@ module _ {I O C : Type 0} where
   TryTakes p q xid (tries.Taken take) = IsTakeTurn p.main q.main xid take
   TryTakes p q xid (tries.Busy ticket) = Misses p.main q.main × (ticket ≡ xid)
 
-  -- the same of a revoke: the Revoke closes the place of the call, which comes back
+  -- the same of a revoke
   abbrev pub TryRevokes : Pass I O C → Pass I O C → (xid : ℕ) → TryRevoke → Type 0
-  TryRevokes p q xid (revokes.Revoked call buffers) =
-      AtCall p.main xid (λ k asked. (call ≡ asked) × (Adds p.main q.main (entries.Revoke xid (bytes_of_buffers buffers) k ∷ []) × KeepsOthers k p.main q.main))
+  TryRevokes p q xid (revokes.Revoked call buffers) = RevokesCall p.main q.main xid call buffers
   TryRevokes p q xid (revokes.Busy ticket) = Misses p.main q.main × (ticket ≡ xid)

@@ -5,6 +5,7 @@ use lib.ListN.{get_elem?}
 use Rattle.nr_reduce.specs.declared.call.Call.{Call}
 use Rattle.nr_reduce.specs.declared.call.Form.{Form}
 use Rattle.nr_link.specs.declared.end.End.{End}
+use Rattle.nr_requester.specs.Buffers.{bytes_of_buffers}
 use Rattle.nr_requester.specs.declared.answer.Buffers.{Buffers}
 use Rattle.nr_requester.specs.declared.taking.Done.{Done}
 use Rattle.nr_requester.specs.declared.taking.Take.{Take}
@@ -67,6 +68,10 @@ module _ {O C : Type 0} where
 
   abbrev pub GivesUp : Pass (RequesterWithSink O C) Entry → Pass (RequesterWithSink O C) Entry → ℕ → CallEnd → Type 0
   GivesUp p q xid end = AtCall p xid (λ k call. GivesUpAt p q xid k end)
+
+  -- the memory of the call is revoked: the Revoke, with what its buffers hold, closes the place of the call, which comes back
+  abbrev pub RevokesCall : Pass (RequesterWithSink O C) Entry → Pass (RequesterWithSink O C) Entry → ℕ → Call → Buffers → Type 0
+  RevokesCall p q xid call buffers = AtCall p xid (λ k asked. (call ≡ asked) × (Adds p q (entries.Revoke xid (bytes_of_buffers buffers) k ∷ []) × KeepsOthers k p q))
 
   -- the call that stands at this place comes back with its buffers, since the requester had ended so by the history before
   pub record LosesAt (p q : Pass (RequesterWithSink O C) Entry) (xid k : ℕ) (call c : Call) (buffers : Buffers) (end : End) : Type 0 where

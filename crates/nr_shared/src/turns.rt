@@ -13,14 +13,13 @@ ghost use Rattle.nr_shared.specs.private.CreditState.{LeavesCredit};
 ghost use Rattle.nr_shared.specs.private.Flushed.{HasFlushed};
 ghost use Rattle.nr_shared.specs.private.Taking.{IsDone};
 ghost use Rattle.nr_shared.specs.declared.entry.Entry.TheVariants as entries;
-ghost use Rattle.nr_shared.specs.Callers.{HasOpenCall, IsFeeding, IsReady, KeepsOpen, KeepsOthers};
+ghost use Rattle.nr_shared.specs.Callers.{HasOpenCall, IsFeeding, IsReady, KeepsOpen};
 ghost use Rattle.nr_shared.specs.Adding.{Adds};
 ghost use Rattle.nr_shared.specs.Callers.{Writes};
-ghost use Rattle.nr_shared.specs.Waiting.{AtCall, ForgetsCall, IsTakeTurn};
+ghost use Rattle.nr_shared.specs.Waiting.{ForgetsCall, IsTakeTurn, RevokesCall};
 ghost use Rattle.nr_shared.specs.Draining.{fed_after, stopped_after};
 ghost use Rattle.nr_shared.specs.Output.{IsCallOutstanding};
 ghost use Rattle.nr_shared.specs.declared.entry.Stop.TheVariants as causes;
-ghost use Rattle.nr_requester.specs.Buffers.{bytes_of_buffers};
 ghost use Rattle.nr_links.specs.Limits.{read_max};
 
 use crate::appending::{
@@ -144,7 +143,7 @@ pub(crate) fn revoke_under<O: Sink, C: CallRule>(
     requires has_call { HasOpenCall (pass_of turn.old) ticket }
     ensures same { IsSameTurn turn.old turn.new }
     ensures ready { IsReady O.taken O.faults C.allows turn.new }
-    ensures revoked { AtCall (pass_of turn.old) ticket (λ k asked. (result.0 ≡ asked) × (Adds (pass_of turn.old) (pass_of turn.new) (entries.Revoke ticket (bytes_of_buffers result.1) k ∷ []) × KeepsOthers k (pass_of turn.old) (pass_of turn.new))) }
+    ensures revoked { RevokesCall (pass_of turn.old) (pass_of turn.new) ticket result.0 result.1 }
 {
     let xid = ticket.xid();
     let with_sink = turn.value();

@@ -6,7 +6,7 @@ ghost use Rattle.std.specs.FinMap as map;
 ghost use Rattle.nr_tree.specs.Tree.{nodes_of, nodes_with_change, value_at, is_dir as is_directory_node, is_regular as is_regular_node};
 ghost use Rattle.std.specs.Prelude.{false};
 ghost use Rattle.nr_tree.specs.Changes.{nodes_with_entry_moved, nodes_without_entry, node_with_entry, node_without_entry, node_without_link, nodes_with_name_dropped, node_with_bytes, node_with_size, node_with_link, node_with_metadata, node_with_new_name};
-ghost use Rattle.nr_tree.specs.private.Room.{HasRoomFor, HasEntryFor, IsSource};
+ghost use Rattle.nr_tree.specs.private.Room.{HasRoomFor, HasEntryFor, HasEntryAfterRemoval, IsSource};
 ghost use Rattle.nr_tree.specs.Entries.{entry_of_name};
 ghost use Rattle.nr_tree.specs.Tree.{entries_in};
 ghost use Rattle.std.specs.Prelude.{[]};
@@ -285,7 +285,7 @@ pub(crate) fn rename_over(
     requires counted { IfSome (map.get (nodes_of nodes.old.entries) target) (λ n. 0 < n.metadata.links) }
     requires source { IfSome (map.get (nodes_of nodes.old.entries) step.from) (IsSource name.now) }
     requires entry { IfSome (map.get (nodes_of nodes.old.entries) step.to) (HasEntryFor name_to.items (value_at is_directory_node false (nodes_of nodes.old.entries) target)) }
-    requires rest { step.to ≡ step.from → IfSome (map.get (nodes_of nodes.old.entries) step.to) (λ n. HasEntryFor name_to.items (value_at is_directory_node false (nodes_of nodes.old.entries) target) (node_without_entry step.now name.now step.is_subdirectory n)) }
+    requires rest { step.to ≡ step.from → IfSome (map.get (nodes_of nodes.old.entries) step.to) (HasEntryAfterRemoval step.now name.now step.is_subdirectory name_to.items (value_at is_directory_node false (nodes_of nodes.old.entries) target)) }
     ensures { nodes_of nodes.new.entries ≡ nodes_with_entry_moved
         (nodes_without_entry (nodes_of nodes.old.entries) step.now step.to name_to.items target (value_at is_directory_node false (nodes_of nodes.old.entries) target))
         step.now step.from name.now step.to name_to.items step.number step.is_subdirectory }

@@ -10,7 +10,7 @@ ghost use Rattle.nr_texts.specs.declared.opening.Opening.{Opening};
 ghost use Rattle.nr_reduce.specs.History.{is_dropped};
 ghost use Rattle.nr_drill.specs.Drill.{Drill, links_of, after_submit, after_up, after_down, after_work, after_forget, after_revoke, after_drop, after_grant, after_raw, after_moves, after_round};
 ghost use Rattle.nr_drill.specs.Follows.{is_still as is_still_in};
-ghost use Rattle.nr_world.specs.private.Stands.{Steps, WorldStands, drill_setting};
+ghost use Rattle.nr_world.specs.private.Stands.{Steps, WorldStands, call_of_client, drill_setting};
 ghost use Rattle.nr_world.specs.private.Within.{IsClient, MayGrant};
 
 use crate::copying::{copy_cred, copy_form};
@@ -38,7 +38,7 @@ impl World {
         args: &[u8],
     ) -> Result<Call, Memory>
         requires { IsClient (length self.now.creds.items) client }
-        ensures { IfOk result (λ call. call ≡ record { prog = procedure.prog; vers = procedure.vers; proc = procedure.proc; cred = slice_index_or self.now.creds.items (client - 1) creds.None; args = args.now }) }
+        ensures { IfOk result (λ call. call ≡ call_of_client self.now.creds.items client procedure args.now) }
     {
         let cred = copy_cred(alloc, &self.creds[client - 1])?;
         let Ok(args) = Octets::from_slice(alloc, args) else {
@@ -65,7 +65,7 @@ impl World {
         requires client { IsClient (length self.old.links.items) client }
         requires creds { IsClient (length self.old.creds.items) client }
         requires cred { CanWriteCred (slice_index_or self.old.creds.items (client - 1) creds.None) }
-        ensures { OnOk result (Steps (λ s d. after_submit s client (record { prog = procedure.prog; vers = procedure.vers; proc = procedure.proc; cred = slice_index_or d.creds (client - 1) creds.None; args = args.now }) form.now d) self.old self.new) }
+        ensures { OnOk result (Steps (λ s d. after_submit s client (call_of_client d.creds client procedure args.now) form.now d) self.old self.new) }
     {
         let form = copy_form(alloc, form)?;
         match self.call(alloc, client, procedure, args) {

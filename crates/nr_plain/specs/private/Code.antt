@@ -12,7 +12,8 @@ use Rattle.nr_nfs_base.specs.declared.time.Time.{Time}
 use Rattle.nr_tree.specs.Tree.{Tree}
 use Rattle.nr_tree.specs.declared.rules.Space.{Space}
 use Rattle.nr_plain.specs.Programs.{nfs_results, nfs_tree, is_change, mount_results}
-use Rattle.nr_plain.specs.Replies.{results_reply, refusal, accepted, GARBAGE_ARGS}
+use Rattle.nr_plain.specs.Replies.{Answer, results_reply, refusal, accepted, program_call, cred_refusal, call_by_cred, GARBAGE_ARGS}
+use Rattle.nr_plain.specs.Stands.{PlainServerState, state_kept}
 use Rattle.nr_plain.specs.declared.call.Call.{Call}
 use Rattle.nr_plain.specs.declared.call.Change.{Change}
 use Rattle.nr_plain.specs.declared.call.Request.{Request}
@@ -67,6 +68,10 @@ IsChange t call p r = (r.reply ≡ reply_of t call p) × (r.is_entry ≡ changes
 -- the entry of the journal for this request, if it is a change
 abbrev pub entry_of : Request → Entry
 entry_of r = record { moment = r.moment; cred = r.cred.now; proc = r.proc; args = r.arguments.now }
+
+-- what a server answers to a call of RPC version 2, of this program and version: a refusal if it does not accept the credential
+abbrev pub version2_answer : PlainServerState → Request → (prog vers : ℕ) → Answer
+version2_answer kept r prog vers = call_by_cred (cred_refusal r.cred.now) r.xid (program_call kept.parameters (state_kept kept) r.xid prog vers (entry_of r))
 
 -- the reply of a procedure of MOUNT
 abbrev pub mount_reply : ℕ → List ℕ → MountProcedure → List ℕ → List ℕ

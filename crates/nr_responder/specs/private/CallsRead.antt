@@ -1,6 +1,6 @@
 -- What a Send with a read list makes of a responder: the sinks of its call are registered, and its reads open or wait (RFC 8166 section
 -- 3.4.5).
-use Rattle.std.specs.Prelude.{◌≡◌, ℕ, List, [], ◌∷◌, ◌++◌, length, take, Option, Some, Result, Ok, Err, Bool, not, ◌==◌, replicate, if◌then◌else◌, None}
+use Rattle.std.specs.Prelude.{◌≡◌, ℕ, List, [], ◌∷◌, ◌++◌, length, map, take, Option, Some, Result, Ok, Err, Bool, not, ◌==◌, replicate, if◌then◌else◌, None}
 use Rattle.nr_reduce.specs.ServerMessages.{CallVerdict, by_payload}
 use Rattle.nr_reduce.specs.ServerMessages.CallVerdict.{Refuses, IsReady}
 use Rattle.std.specs.List.{AllByRecursion, filter, list_any}
@@ -14,10 +14,12 @@ use Rattle.nr_reduce.specs.OfferedRegions.{Region}
 use Rattle.nr_reduce.specs.ServerState.{PendingCall, PendingRead}
 use Rattle.nr_reduce.specs.ServerReads.{chunks_of, regions_from, reads_from, read_of}
 use Rattle.nr_reduce.specs.Chunks.{positions, total_at}
+use Rattle.nr_responder.specs.declared.call.ReadEntry.{ReadEntry}
 use Rattle.nr_responder.specs.Fetching.{open_sinks}
 use Rattle.nr_responder.specs.ResponderState.{ResponderSide}
 use Rattle.nr_responder.specs.Keeping.{later_responses}
 use Rattle.nr_responder.specs.private.Reading.{opening, with_requests}
+use Rattle.nr_responder.specs.Views.{read_view}
 
 abbrev pub registered : List Region → RegisteredMemory → RegisteredMemory
 registered [] m = m
@@ -111,6 +113,10 @@ chunk_here before r read = if list_any (λ q. q.position == r.position) before t
 -- the read of an entry after others, if it has bytes
 abbrev pub read_here : List Region → (number : ℕ) → (before : List ReadSegment) → ReadSegment → List PendingRead
 read_here regions number before r = if r.length == 0 then [] else read_of regions number (total_at r.position before) r ∷ []
+
+-- the read of an entry after others is put last, if the entry has bytes
+abbrev pub AddsRead : List Region → (number : ℕ) → (before : List ReadSegment) → ReadSegment → (old new : List ReadEntry) → Type 0
+AddsRead regions number before r old new = map read_view new ≡ map read_view old ++ read_here regions number before r
 
 -- the bytes of the sink of a chunk, as it is registered
 abbrev pub sink_buffer : List ReadSegment → ℕ → List ℕ

@@ -1,5 +1,7 @@
 -- Where an entry may be put: a directory in which the name is free, with a cookie and a link left.
 use Rattle.std.specs.Prelude.{ℕ, ◌≡◌, ◌<◌, ◌≤◌, ◌^◌, Bool, true, List, None, is_some, IsTrue}
+use Rattle.nr_nfs_base.specs.declared.time.Time.{Time}
+use Rattle.nr_tree.specs.Changes.{node_without_entry}
 use Rattle.nr_tree.specs.Entries.{entry_of_name}
 use Rattle.nr_tree.specs.DirectoryGraph.{one_if}
 use Rattle.nr_tree.specs.Tree.{is_dir, entries_in}
@@ -31,6 +33,10 @@ HasEntryIn name Fifo = ⊥
 
 abbrev pub HasEntryFor : List ℕ → Bool → Node → Type 0
 HasEntryFor name is_subdirectory node = HasEntryIn name node.content × (one_if is_subdirectory ≤ node.metadata.links) × (node.metadata.links < 2 ^ 31)
+
+-- when the entry of the name `target` may be replaced after that of the name `source`, in the same directory, was taken out
+abbrev pub HasEntryAfterRemoval : Time → (source : List ℕ) → (is_subdirectory : Bool) → (target : List ℕ) → (was_subdirectory : Bool) → Node → Type 0
+HasEntryAfterRemoval now source is_subdirectory target was_subdirectory node = HasEntryFor target was_subdirectory (node_without_entry now source is_subdirectory node)
 
 -- a directory with the entry of a name that is to be taken out
 abbrev pub IsSource : List ℕ → Node → Type 0

@@ -2,6 +2,9 @@
 use Rattle.std.specs.Prelude.{◌≡◌, ℕ, ◌-◌, ◌≤◌, List, length, slice_index_or}
 use Rattle.std.specs.List.{AllByRecursion}
 use Rattle.nr_rpc.specs.Credential.{CanWriteCred}
+use Rattle.nr_rpc.specs.declared.cred.Cred.{Cred}
+use Rattle.nr_rpc.specs.declared.cred.Cred.TheVariants as creds
+use Rattle.nr_reduce.specs.declared.call.Call.{Call}
 use Rattle.nr_tree.specs.Tree.{Tree}
 use Rattle.nr_texts.specs.declared.opening.Opening.{Opening}
 use Rattle.nr_script.specs.declared.script.Line.{Line}
@@ -12,6 +15,7 @@ use Rattle.nr_drill.specs.InBytes.{RepliedInBytes}
 use Rattle.nr_world.specs.DrillLinkState.{DrillLinkState}
 use Rattle.nr_world.specs.LinkStands.{LinkStands}
 use Rattle.nr_world.specs.Steps.{ServerStands}
+use Rattle.nr_world.specs.declared.steps.Procedure.{Procedure}
 use Rattle.nr_world.specs.declared.world.World.{World}
 
 -- what a drill over this tree is with, if this is its first line
@@ -34,6 +38,10 @@ pub record HasOpened (tree : Tree) (opening : Opening) (opened : ℕ) (d : Drill
 -- all links are open
 abbrev pub WorldStands : Tree → Opening → Drill → World → Type 0
 WorldStands tree opening d w = HasOpened tree opening opening.clients d w
+
+-- a client's call of this procedure, with these arguments and with the credential that the client has
+abbrev pub call_of_client : List Cred → (client : ℕ) → Procedure → (args : List ℕ) → Call
+call_of_client all client procedure args = record { prog = procedure.prog; vers = procedure.vers; proc = procedure.proc; cred = slice_index_or all (client - 1) creds.None; args = args }
 
 -- For every drill that the world stood for, it stands for the drill after a step.
 abbrev pub Steps : (Setting → Drill → Drill) → World → World → Type 0
