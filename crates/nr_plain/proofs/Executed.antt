@@ -1,5 +1,6 @@
 -- A call that was executed.
-use Rattle.std.proofs.Common.{◌≡◌, ℕ, List, ◌++◌, length, take, Some, Ok, ap, sym, ◌∙◌, subst}
+use Rattle.std.proofs.Common.{◌≡◌, ℕ, List, ◌++◌, length, take, Some, Ok, Err, Result, ap, sym, ◌∙◌, subst}
+use Rattle.std.specs.Prelude.{IfOk, OnErr}
 use Rattle.std.specs.Option.{option_map}
 use Rattle.std.proofs.Math.Seq.{take-length}
 use Rattle.nr_rpc.specs.Reading.{call_of}
@@ -12,6 +13,7 @@ use Rattle.nr_plain.specs.Replies.{Answer, answer_to, answer_by, plain_answer, p
 use Rattle.nr_plain.specs.Added.{entries_of_call}
 use Rattle.nr_plain.specs.Stands.{PlainServerState, RepresentsJournal, ExecutesCall, state_kept, state_after_answer}
 use Rattle.nr_plain.specs.private.Executing.{ExecutedNow}
+use Rattle.nr_plain.specs.declared.server.Reply.{Reply}
 use Rattle.nr_plain.proofs.Added.{added}
 use Rattle.nr_plain.proofs.Serving.{state_is, stands_after}
 
@@ -30,6 +32,11 @@ executed_now k new m payload reply place head found at replied kept = record {
   kept = kept;
   place_is = at;
 }
+
+-- whether it was executed or not, the same replies are remembered
+pub cache_same : {E : Type 0} (k new : PlainServerState) (m : Moment) (payload : List ℕ) (r : Result Reply E) → IfOk r (λ q. ExecutedNow k m payload q.payload q.place new) → OnErr r (new ≡ k) → new.cache ≡ k.cache
+cache_same k new m payload (Ok q) x same = ap (λ (l : PlainServerState). l.cache) x.kept
+cache_same k new m payload (Err e) x same = ap (λ (l : PlainServerState). l.cache) same
 
 module _ (s : Setup) (J : List Entry) (k new : PlainServerState) (m : Moment) (payload reply : List ℕ) (place : ℕ) (is : RepresentsJournal s J k) (x : ExecutedNow k m payload reply place new) where
   pub plain_is : plain_answer s.parameters (state_of s J) m payload ≡ Some x.answer

@@ -1,6 +1,6 @@
 -- The answers of a server to calls of clients with a number.
 use Rattle.std.proofs.Common.{◌≡◌, ◌≢◌, ℕ, ◌+◌, ◌<◌, List, ◌++◌, ◌∷◌, [], length, Option, Some, sym, subst, ap, ◌∙◌, refl, arith}
-use Rattle.std.specs.Prelude.{IsOk, Result, Err}
+use Rattle.std.specs.Prelude.{IsOk, IfErr, OnErr, Result, Ok, Err}
 use Rattle.std.proofs.lemmas.List.{append-nil, length-append, length-map}
 use Rattle.nr_outside.specs.declared.moment.Moment.{Moment}
 use Rattle.nr_rpc.specs.Reading.{call_of}
@@ -16,7 +16,7 @@ use Rattle.nr_plain.specs.Added.{entries_of_call}
 use Rattle.nr_plain.specs.History.{AddsNone, AddsOne, entries_added, entries_alone, xid_in}
 use Rattle.nr_plain.specs.Stands.{PlainServerState, RepresentsJournal, ExecutesCall}
 use Rattle.nr_plain.specs.Numbered.{AnswersFor, IsAnswerBy, IsNumberedCause, IsSameButRoom, LeavesServer, RepresentsTagged, added_if, answer_of_entry, finding, kept_replies, may_change}
-use Rattle.nr_plain.specs.private.Executing.{ExecutedNow, ExecutesTagged, IsPlainCause}
+use Rattle.nr_plain.specs.private.Executing.{ExecutedNow, ExecutesTagged, IsPlainCause, IsRefusedBy}
 use Rattle.nr_plain.specs.ReplySizes.{reply_max}
 use Rattle.nr_plain.specs.declared.history_entry.TaggedEntry.{TaggedEntry}
 use Rattle.nr_plain.specs.declared.numbered.NumberedFault.{NumberedFault}
@@ -168,6 +168,13 @@ memory_alone (faults.NotCall at) r ok is = absurd (subst (λ (q : Result CallHea
 memory_alone faults.Memory r ok is = refl
 memory_alone (faults.Old top) r ok is = absurd is
 
+-- by what the cache says of the call
+pub refused_cause : (e : NumberedFault) (s : Setup) (T : List TaggedEntry) (client : ℕ) (payload : List ℕ) → IsOk (call_of payload) → (found : Finding) →
+    finding s T client (xid_in payload) ≡ found → IsRefusedBy e found → IsNumberedCause s T client payload e
+refused_cause (faults.NotCall at) s T client payload call found is refused = absurd refused
+refused_cause faults.Memory s T client payload call found is refused = tt
+refused_cause (faults.Old top) s T client payload call found is refused = (call, is ∙ refused)
+
 room_same : (k : PlainServerState) → IsSameButRoom k k
 room_same k = record { rest = refl; replies = λ E is. is }
 
@@ -175,3 +182,12 @@ pub leaves_same : (e : NumberedFault) (before after : PlainServerState) → afte
 leaves_same (faults.NotCall at) before after same = same
 leaves_same faults.Memory before after same = subst (IsSameButRoom before) (sym same) (room_same before)
 leaves_same (faults.Old top) before after same = same
+
+pub any_err : {A E : Type 0} (r : Result A E) (P : Type 0) → P → OnErr r P
+any_err (Ok x) P holds = tt
+any_err (Err e) P holds = holds
+
+pub leaves_room : {A : Type 0} (r : Result A NumberedFault) (before after : PlainServerState) → IfErr r (λ e. e ≡ faults.Memory) → OnErr r (IsSameButRoom before after) →
+    IfErr r (λ e. LeavesServer e before after)
+leaves_room (Ok x) before after memory same = tt
+leaves_room (Err e) before after memory same = subst (λ (f : NumberedFault). LeavesServer f before after) (sym memory) same

@@ -1,14 +1,15 @@
 -- What a cache remembers, and what is found in it.
-use Rattle.std.proofs.Common.{◌≡◌, ◌≢◌, ℕ, ◌+◌, ◌<◌, ◌≤◌, ◌^◌, Bool, true, false, cond, eqb, leb, List, [], ◌∷◌, ◌++◌, length, Option, None, Some, refl, sym, ap, subst, ◌∙◌, arith}
+use Rattle.std.proofs.Common.{◌≡◌, ◌≢◌, ℕ, ◌+◌, ◌<◌, ◌≤◌, ◌^◌, Bool, true, false, cond, eqb, leb, List, [], ◌∷◌, ◌++◌, length, Option, None, Some, is_some, refl, sym, ap, subst, ◌∙◌, arith}
 use Rattle.std.specs.Prelude.{All}
-use Rattle.std.specs.FinMap.{empty, get}
+use Rattle.std.specs.FinMap.{empty, get, get-empty}
+use Rattle.std.specs.Ordering.{nat_cmp}
 use Rattle.std.specs.List.{find}
 use Rattle.std.proofs.lemmas.Bool.{eqb-false, lt-leb, ne_eqb}
 use Rattle.std.proofs.lemmas.List.Elements.{All-append, All-cons, All-filter, All-head, All-nil, All-tail}
 use Rattle.nr_cache.specs.Entries.{KeptEntry, Finding, entries_of, found_for, found_in, kept_or_new, top_of, window}
 use Rattle.nr_cache.specs.Entries.Finding.{KeptCall, OldCall, NewCall}
 use Rattle.nr_cache.specs.Windows.{Replies}
-use Rattle.nr_cache.specs.Caches.{Clients, RemembersAll, RemembersBy, found_by, found_if}
+use Rattle.nr_cache.specs.Caches.{Clients, HasClient, RemembersAll, RemembersBy, found_by, found_if}
 use Rattle.nr_plain.specs.ReplySizes.{reply_max}
 use Rattle.nr_tree.specs.Sane.{IsSane}
 use Rattle.nr_tree.specs.Steps.{IsBelow}
@@ -45,16 +46,19 @@ finding_is s T client xid kept numbered is =
 
 -- ===== without entries
 
+none_there : (client : ℕ) → ◌≡◌ {A = Option Replies} (get (empty {X = Replies} {R = nat_cmp}) client) None
+none_there client = get-empty nat_cmp client
+
 remembers_none : (E : List KeptEntry) → RemembersAll E empty → E ≡ []
 remembers_none [] is = refl
-remembers_none (e ∷ E) is = absurd (own (eqb e.client e.client) refl (is e.client))
+remembers_none (e ∷ E) is = absurd (own (eqb e.client e.client) refl (subst (RemembersBy (entries_of e.client (e ∷ E))) (none_there e.client) (is e.client)))
   where
     own : (b : Bool) → eqb e.client e.client ≡ b → cond b (e ∷ entries_of e.client E) (entries_of e.client E) ≡ [] → ⊥
     own true same none = cc
     own false same none = eqb-false e.client e.client same refl
 
 pub none_remembered : RemembersAll [] empty
-none_remembered client = refl
+none_remembered client = subst (RemembersBy []) (sym (none_there client)) refl
 
 -- a cache that wasn't made yet stands for no other entries than one that was just made
 pub remembers_made : (E : List KeptEntry) (C D : Clients) → C ≡ empty → RemembersAll [] D → RemembersAll E C → RemembersAll E D
@@ -63,7 +67,10 @@ remembers_made E C D is made remembers =
 
 pub none_new : (C : Clients) (client xid : ℕ) → C ≡ empty → found_by C client xid ≡ NewCall
 unfolding found_by
-none_new C client xid is = ap (λ (D : Clients). found_by D client xid) is
+none_new C client xid is = ap (λ (D : Clients). found_by D client xid) is ∙ ap (λ (o : Option Replies). found_if o xid) (none_there client)
+
+pub none_has : (C : Clients) (client : ℕ) → C ≡ empty → HasClient C client → ⊥
+none_has C client is has = let wrong : false ≡ true = sym (ap is_some (none_there client)) ∙ subst (λ (D : Clients). HasClient D client) is has in cc
 
 -- ===== a reply that is found is short
 
@@ -72,11 +79,11 @@ IsShortEntry e = length e.reply ≤ reply_max
 
 found_all : (p : KeptEntry → Bool) (E : List KeptEntry) (k : KeptEntry) → All IsShortEntry E → find p E ≡ Some k → IsShortEntry k
 found_all p [] k all is = absurd cc
-found_all p (e ∷ E) k all is = by (p e) is
+found_all p (e ∷ E) k all is = by (p e) is (found_all p E k (All-tail IsShortEntry e E all))
   where
-    by : (b : Bool) → cond b (Some e) (find p E) ≡ Some k → IsShortEntry k
-    by true here = let same : e ≡ k = cc in subst IsShortEntry same (All-head IsShortEntry e E all)
-    by false later = found_all p E k (All-tail IsShortEntry e E all) later
+    by : (b : Bool) → cond b (Some e) (find p E) ≡ Some k → (find p E ≡ Some k → IsShortEntry k) → IsShortEntry k
+    by true here rest = let same : e ≡ k = cc in subst IsShortEntry same (All-head IsShortEntry e E all)
+    by false later rest = rest later
 
 short_if : (o : Option KeptEntry) (place : ℕ) (reply : List ℕ) → ((k : KeptEntry) → o ≡ Some k → IsShortEntry k) → kept_or_new o ≡ KeptCall place reply → length reply ≤ reply_max
 short_if None place reply all is = absurd cc
