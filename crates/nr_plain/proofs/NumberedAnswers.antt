@@ -1,6 +1,7 @@
 -- The answers of a server to calls of clients with a number.
-use Rattle.std.proofs.Common.{◌≡◌, ◌≢◌, ℕ, ◌+◌, ◌<◌, List, ◌++◌, ◌∷◌, [], length, Option, Some, sym, subst, ap, ◌∙◌, refl, arith}
+use Rattle.std.proofs.Common.{◌≡◌, ◌≢◌, ℕ, ◌+◌, ◌<◌, ◌≤◌, List, ◌++◌, ◌∷◌, [], length, Option, Some, sym, subst, ap, ◌∙◌, refl, arith}
 use Rattle.std.specs.Prelude.{IsOk, IfErr, OnErr, Result, Ok, Err}
+use Rattle.std.proofs.lemmas.Bool.{false≢true}
 use Rattle.std.proofs.lemmas.List.{append-nil, length-append, length-map}
 use Rattle.nr_outside.specs.declared.moment.Moment.{Moment}
 use Rattle.nr_rpc.specs.Reading.{call_of}
@@ -147,7 +148,7 @@ module _ (s : Setup) (T : List TaggedEntry) (client : ℕ) (m : Moment) (payload
   -- of a kept call
   pub kept_answers : finding s T client (xid_in payload) ≡ KeptCall place reply → after ≡ before → RepresentsTagged s T before → AnswersFor s T client m payload reply place before after
   kept_answers kept same is = record {
-    answer = subst (IsAnswerBy s T m payload reply place before after) (sym kept) (refl, (refl, same));
+    answer = subst (IsAnswerBy s T m payload reply place before after) (sym kept) (refl, refl, same);
     stands = stands_by (KeptCall place reply) kept
         (subst (λ (U : List TaggedEntry). RepresentsTagged s U after) (sym (append-nil T)) (subst (RepresentsTagged s T) (sym same) is));
   }
@@ -164,7 +165,7 @@ plain_cause faults.Memory s T client payload is = tt
 plain_cause (faults.Old top) s T client payload is = absurd is
 
 pub memory_alone : (e : NumberedFault) (r : Result CallHead ℕ) → IsOk r → IsPlainCause e r → e ≡ faults.Memory
-memory_alone (faults.NotCall at) r ok is = absurd (subst (λ (q : Result CallHead ℕ). IsOk q) is ok)
+memory_alone (faults.NotCall at) r ok is = absurd (false≢true (subst (λ (q : Result CallHead ℕ). IsOk q) is ok))
 memory_alone faults.Memory r ok is = refl
 memory_alone (faults.Old top) r ok is = absurd is
 

@@ -1,5 +1,5 @@
 -- The replies of the entries of a journal, and what one call more adds to them; and that no change of a numbered client takes effect twice.
-use Rattle.std.proofs.Common.{◌≡◌, ℕ, ◌+◌, suc, Bool, true, false, cond, eqb, List, [], ◌∷◌, ◌++◌, length, map, Option, None, Some, Result, Ok, Err, ◌⊎◌, inl, inr, ⊎_elim, refl, ap, sym, subst, ◌∙◌, arith, append_assoc}
+use Rattle.std.proofs.Common.{◌≡◌, ℕ, ◌+◌, suc, Bool, true, false, cond, eqb, List, [], ◌∷◌, ◌++◌, length, map, Option, None, Some, Result, Ok, Err, ◌⊎◌, inl, inr, ⊎_elim, refl, ap, sym, subst, ◌∙◌, arith, append_assoc, drop}
 use Rattle.std.specs.Prelude.{◌≢◌, ◌&&◌, unwrap_or}
 use Rattle.std.proofs.lemmas.Bool.{eqb-true, eqb-false}
 use Rattle.std.proofs.lemmas.List.{append-nil, length-map, map-append}
@@ -7,6 +7,7 @@ use Rattle.nr_outside.specs.declared.moment.Moment.{Moment}
 use Rattle.nr_rpc.specs.Reading.{call_of, head_xid, xid_of_call}
 use Rattle.nr_rpc.specs.declared.head.CallHead.{CallHead}
 use Rattle.nr_rpc.specs.declared.head.CallHead.TheVariants as calls
+use Rattle.nr_rpc.specs.declared.head.ReplyHead.TheVariants as replies
 use Rattle.nr_nfs_base.specs.Procedures.{nfs_program, nfs_version, mount_program}
 use Rattle.nr_nfs_base.specs.declared.procedure.NfsProcedure.{NfsProcedure}
 use Rattle.nr_nfs_base.specs.Codec.{read_all}
@@ -16,7 +17,7 @@ use Rattle.nr_cache.specs.Entries.{KeptEntry}
 use Rattle.nr_cache.specs.Caches.{RemembersAll}
 use Rattle.nr_plain.specs.Setup.{Parameters, Setup, State}
 use Rattle.nr_plain.specs.Journal.{first_state, next_state, state_after, state_of, nfs_procedure_of}
-use Rattle.nr_plain.specs.Replies.{Answer, answer_by, answer_to, call_by_cred, cred_refusal, entries_if, mount_call, nfs_by_arguments, nfs_by_procedure, nfs_call, program_call, refusal}
+use Rattle.nr_plain.specs.Replies.{Answer, PROG_UNAVAIL, accepted, answer_by, answer_to, call_by_cred, cred_refusal, entries_if, mount_call, nfs_by_arguments, nfs_by_procedure, nfs_call, program_call, refusal}
 use Rattle.nr_plain.specs.History.{entries_added, entries_alone, tagged, xid_in}
 use Rattle.nr_plain.specs.Added.{entries_by_call, entries_by_cred, entries_by_procedure, entries_of_call, has_succeeded}
 use Rattle.nr_plain.specs.Stands.{PlainServerState, RepresentsJournal, ExecutesCall}
@@ -47,7 +48,7 @@ unnumbered prm st place xid (e ∷ es) = unnumbered prm (next_state prm st e) (p
 pub kept_unnumbered : (s : Setup) (T : List TaggedEntry) (m : Moment) (payload reply : List ℕ) → kept_replies s (T ++ entries_added 0 m payload reply) ≡ kept_replies s T
 kept_unnumbered s T m payload reply =
     kept_append s.parameters (first_state s) 0 T (entries_added 0 m payload reply)
-    ∙ ap (λ (E : List KeptEntry). kept_replies s T ++ E) (unnumbered s.parameters (state_after s.parameters (first_state s) (entries_alone T)) (0 + length T) (xid_in payload) _)
+    ∙ ap (λ (E : List KeptEntry). kept_replies s T ++ E) (unnumbered s.parameters (state_after s.parameters (first_state s) (entries_alone T)) (0 + length T) (xid_in payload) (entries_of_call m payload reply))
     ∙ append-nil (kept_replies s T)
 
 -- ===== the reply of a change is that of its entry
@@ -75,18 +76,18 @@ by_version : (prm : Parameters) (st : State) (xid vers : ℕ) (e0 e : Entry) →
 unfolding nfs_call
 by_version prm st xid vers e0 e is = by (eqb vers nfs_version) refl is
   where
-    by : (b : Bool) → eqb vers nfs_version ≡ b → (cond b (nfs_by_procedure prm st xid e0 (nfs_procedure_of e0.proc)) (refusal _)).entries ≡ e ∷ [] → (vers ≡ nfs_version) × (e ≡ e0)
+    by : (b : Bool) → eqb vers nfs_version ≡ b → (cond b (nfs_by_procedure prm st xid e0 (nfs_procedure_of e0.proc)) (refusal (replies.ProgMismatch xid nfs_version nfs_version))).entries ≡ e ∷ [] → (vers ≡ nfs_version) × (e ≡ e0)
     by true same of_entry = (eqb-true vers nfs_version same, by_procedure prm st xid e0 e (nfs_procedure_of e0.proc) of_entry)
     by false same of_entry = not_one e of_entry
 
 by_program : (prm : Parameters) (st : State) (xid prog vers : ℕ) (e0 e : Entry) → (program_call prm st xid prog vers e0).entries ≡ e ∷ [] → IsOwn prog vers e0 e
 by_program prm st xid prog vers e0 e is = by (eqb prog nfs_program) refl is
   where
-    other : (b : Bool) → (cond b (mount_call prm xid vers e0) (refusal _)).entries ≡ e ∷ [] → IsOwn prog vers e0 e
+    other : (b : Bool) → (cond b (mount_call prm xid vers e0) (refusal (accepted xid PROG_UNAVAIL))).entries ≡ e ∷ [] → IsOwn prog vers e0 e
     other true of_entry = not_one e (sym (mount_none prm xid vers e0) ∙ of_entry)
     other false of_entry = not_one e of_entry
 
-    by : (b : Bool) → eqb prog nfs_program ≡ b → (cond b (nfs_call prm st xid vers e0) (cond (eqb prog mount_program) (mount_call prm xid vers e0) (refusal _))).entries ≡ e ∷ [] → IsOwn prog vers e0 e
+    by : (b : Bool) → eqb prog nfs_program ≡ b → (cond b (nfs_call prm st xid vers e0) (cond (eqb prog mount_program) (mount_call prm xid vers e0) (refusal (accepted xid PROG_UNAVAIL)))).entries ≡ e ∷ [] → IsOwn prog vers e0 e
     by true same of_entry = (let own = by_version prm st xid vers e0 e of_entry in (eqb-true prog nfs_program same, own.0, own.1))
     by false same of_entry = other (eqb prog mount_program) of_entry
 
@@ -97,8 +98,9 @@ by_cred (Some stat) prm st xid prog vers e0 e is = not_one e is
 change_answer : (prm : Parameters) (st : State) (m : Moment) (payload : List ℕ) (head : CallHead) (e : Entry) → (answer_to prm st m payload head).entries ≡ e ∷ [] →
     answer_to prm st m payload head ≡ answer_of_entry prm st (head_xid head) e
 change_answer prm st m payload (calls.Version2 xid prog vers proc cred args_at) e is =
-    let own = by_cred (cred_refusal cred) prm st xid prog vers _ e is in
-    (λ i. call_by_cred (cred_refusal cred) xid (program_call prm st xid (own.0 i) (own.1 i) _)) ∙ ap (answer_of_entry prm st xid) (sym own.2)
+    let e0 : Entry = record { moment = m; cred = cred; proc = proc; args = drop args_at payload } in
+    let own : IsOwn prog vers e0 e = by_cred (cred_refusal cred) prm st xid prog vers e0 e is in
+    (λ i. call_by_cred (cred_refusal cred) xid (program_call prm st xid (own.0 i) (own.1 i) e0)) ∙ ap (answer_of_entry prm st xid) (sym own.2)
 change_answer prm st m payload (calls.Other xid rpcvers) e is = not_one e is
 
 -- by the answer of a call
@@ -174,5 +176,7 @@ kept_one_added s T client m payload reply e numbered one is =
         ≡ record { client = client; xid = xid_in payload; place = length T; reply = reply } ∷ []
     by true same = absurd (numbered (eqb-true client 0 same))
     by false same =
-        ap (λ (b : Bool). cond b [] (record { client = client; xid = xid_in payload; place = length T; reply = (answer_of_entry s.parameters (state_of s (entries_alone T)) (xid_in payload) e).reply } ∷ []) ++ []) same
+        let at : 0 + length T ≡ length T = omega arith in
+        ap (λ (n : ℕ). kept_entry s.parameters (state_of s (entries_alone T)) n (record { entry = e; client = client; xid = xid_in payload }) ++ []) at
+        ∙ ap (λ (b : Bool). cond b [] (record { client = client; xid = xid_in payload; place = length T; reply = (answer_of_entry s.parameters (state_of s (entries_alone T)) (xid_in payload) e).reply } ∷ []) ++ []) same
         ∙ ap (λ (r : List ℕ). record { client = client; xid = xid_in payload; place = length T; reply = r } ∷ []) (sym is)

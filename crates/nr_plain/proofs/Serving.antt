@@ -166,7 +166,7 @@ mount_none prm xid vers e = mount_version_by prm xid e (eqb vers 3)
 pub mount_kept : (k : PlainServerState) (xid vers : ℕ) (e : Entry) → k ≡ state_after_answer k (mount_call k.parameters xid vers e).entries
 mount_kept k xid vers e = kept_none k ∙ ap (state_after_answer k) (sym (mount_none k.parameters xid vers e))
 
-any_ok : {A E : Type 0} (r : Result A E) (P : Type 0) → P → OnOk r P
+pub any_ok : {A E : Type 0} (r : Result A E) (P : Type 0) → P → OnOk r P
 any_ok (Ok x) P holds = holds
 any_ok (Err e) P holds = tt
 

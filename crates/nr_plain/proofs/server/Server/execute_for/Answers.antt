@@ -1,5 +1,5 @@
-use Rattle.std.proofs.Common.{◌≡◌, ap, sym, subst, ◌∙◌, refl, false, true, Option, arith}
-use Rattle.std.proofs.lemmas.Bool.{false≢true}
+use Rattle.std.proofs.Common.{◌≡◌, ℕ, ap, sym, subst, ◌∙◌, refl, false, Option, arith}
+use Rattle.std.proofs.lemmas.Bool.{false≢true, not-false, not-true}
 use Rattle.std.proofs.lemmas.Result.{IfErr-weaker, IfOk-weaker, err_from_is_err_and}
 use Rattle.nr_rpc.specs.Reading.{call_of}
 use Rattle.nr_cache.specs.Caches.{found_by}
@@ -97,7 +97,7 @@ returns-then-not-asked-clause-answered c =
     let after = c.execute_plain-then-not-asked.new.self in
     let found : found_by c.args.self.now.cache c.args.client c.in_ok-asked.asked.xid ≡ NewCall =
     subst (λ (o : Option Reply). IsFound o (found_by c.args.self.now.cache c.args.client c.in_ok-asked.asked.xid)) c.in_default.is c.in_ok-reply.ensures.found in
-    let reads : may_change (call_of c.args.payload.now) ≡ false = sym c.in_ok-asked.ensures.changes ∙ c.if-not-asked.true in
+    let reads : may_change (call_of c.args.payload.now) ≡ false = sym c.in_ok-asked.ensures.changes ∙ not-true c.in_ok-asked.asked.changes c.if-not-asked.true in
     IfOk-weaker c.execute_plain-then-not-asked.result _ _
     (λ r x s T is.
         new_answers s T c.args.client c.args.now c.args.payload.now r.payload r.place c.args.self.now after
@@ -141,7 +141,7 @@ pub returns-clause-err : goal.returns-clause-err
 returns-clause-err c = leaves_room c.execute_change.result c.args.self.now c.execute_change.new.self c.execute_change.ensures.cause c.execute_change.ensures.err
 
 pub returns-clause-room : goal.returns-clause-room
-returns-clause-room c reads = absurd (false≢true (sym reads ∙ sym c.in_ok-asked.ensures.changes ∙ c.if-not-asked.false))
+returns-clause-room c reads = absurd (false≢true (sym reads ∙ sym c.in_ok-asked.ensures.changes ∙ not-false c.in_ok-asked.asked.changes c.if-not-asked.false))
 
 pub returns-clause-unnumbered : goal.returns-clause-unnumbered
 returns-clause-unnumbered c zero = absurd (c.if-client-eq0.false zero)
