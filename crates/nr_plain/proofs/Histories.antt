@@ -237,7 +237,6 @@ opened_stands kept first h is h_is (s, stands) = (
         cost = stands.cost;
         count = stands.count;
         parameters = ap (λ (k : PlainServerState). k.parameters) (sym is);
-        cache = stands.cache;
       },
       tt,
     ),

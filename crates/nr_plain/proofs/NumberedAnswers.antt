@@ -1,22 +1,22 @@
 -- The answers of a server to calls of clients with a number.
-use Rattle.std.proofs.Common.{◌≡◌, ◌≢◌, ℕ, ◌+◌, ◌<◌, ◌≤◌, List, ◌++◌, ◌∷◌, [], length, Option, Some, sym, subst, ap, ◌∙◌, refl, arith}
+use Rattle.std.proofs.Common.{◌≡◌, ◌≢◌, ℕ, ◌+◌, ◌<◌, ◌≤◌, List, ◌++◌, ◌∷◌, [], length, sym, subst, ap, ◌∙◌, refl, arith}
 use Rattle.std.specs.Prelude.{IsOk, IfErr, OnErr, Result, Ok, Err}
 use Rattle.std.proofs.lemmas.Bool.{false≢true}
-use Rattle.std.proofs.lemmas.List.{append-nil, length-append, length-map}
+use Rattle.std.proofs.lemmas.List.{append-nil, length-map}
 use Rattle.nr_outside.specs.declared.moment.Moment.{Moment}
 use Rattle.nr_rpc.specs.Reading.{call_of}
 use Rattle.nr_rpc.specs.declared.head.CallHead.{CallHead}
 use Rattle.nr_reduce.specs.declared.mark.Entry.{Entry}
 use Rattle.nr_cache.specs.Entries.{KeptEntry, Finding}
-use Rattle.nr_cache.specs.Entries.Finding.{KeptCall, NewCall, OldCall}
-use Rattle.nr_cache.specs.Caches.{RemembersAll, found_by}
+use Rattle.nr_cache.specs.Entries.Finding.{KeptCall, NewCall}
+use Rattle.nr_cache.specs.Caches.{RemembersAll}
 use Rattle.nr_plain.specs.Setup.{Setup}
 use Rattle.nr_plain.specs.Journal.{state_of}
 use Rattle.nr_plain.specs.Replies.{Answer}
 use Rattle.nr_plain.specs.Added.{entries_of_call}
-use Rattle.nr_plain.specs.History.{AddsNone, AddsOne, entries_added, entries_alone, xid_in}
+use Rattle.nr_plain.specs.History.{AddsOne, entries_added, entries_alone, xid_in}
 use Rattle.nr_plain.specs.Stands.{PlainServerState, RepresentsJournal, ExecutesCall}
-use Rattle.nr_plain.specs.Numbered.{AnswersFor, IsAnswerBy, IsNumberedCause, IsSameButRoom, LeavesServer, RepresentsTagged, added_if, answer_of_entry, finding, kept_replies, may_change}
+use Rattle.nr_plain.specs.Numbered.{AnswersFor, IsAnswerBy, IsNumberedCause, IsSameButRoom, LeavesServer, RepresentsTagged, added_if, answer_of_entry, finding, kept_replies}
 use Rattle.nr_plain.specs.private.Executing.{ExecutedNow, ExecutesTagged, IsPlainCause, IsRefusedBy}
 use Rattle.nr_plain.specs.ReplySizes.{reply_max}
 use Rattle.nr_plain.specs.declared.history_entry.TaggedEntry.{TaggedEntry}
@@ -24,34 +24,28 @@ use Rattle.nr_plain.specs.declared.numbered.NumberedFault.{NumberedFault}
 use Rattle.nr_plain.specs.declared.numbered.NumberedFault.TheVariants as faults
 use Rattle.nr_plain.proofs.Changes.{changes_short}
 use Rattle.nr_plain.proofs.Executed.{adds_are, executed, plain_is}
-use Rattle.nr_plain.proofs.NumberedCalls.{entry_answer, executes_with, kept_none_added, kept_one_added, kept_unnumbered, unchanging}
+use Rattle.nr_plain.proofs.NumberedCalls.{entry_answer, executes_with, kept_none_added, kept_one_added, kept_unnumbered}
 use Rattle.nr_plain.proofs.OneEntry.{adds_none, adds_one}
-use Rattle.nr_plain.proofs.Remembering.{finding_is}
 
 -- ===== the journal, whatever the cache has
 
 -- two servers that are the same but for their caches
-abbrev pub IsSameButCache : PlainServerState → PlainServerState → Type 0
+abbrev IsSameButCache : PlainServerState → PlainServerState → Type 0
 IsSameButCache before after = ◌≡◌ {A = PlainServerState} (record after { cache = before.cache }) before
 
-other_cache : (s : Setup) (J : List Entry) (before after : PlainServerState) → IsSameButCache before after → (J ≡ [] → RemembersAll [] after.cache) → RepresentsJournal s J before → RepresentsJournal s J after
-other_cache s J before after same none is = record {
+other_cache : (s : Setup) (J : List Entry) (before after : PlainServerState) → IsSameButCache before after → RepresentsJournal s J before → RepresentsJournal s J after
+other_cache s J before after same is = record {
   tree = ap (λ (k : PlainServerState). k.tree) same ∙ is.tree;
   cost = ap (λ (k : PlainServerState). k.cost) same ∙ is.cost;
   count = ap (λ (k : PlainServerState). k.count) same ∙ is.count;
   parameters = ap (λ (k : PlainServerState). k.parameters) same ∙ is.parameters;
-  cache = none;
 }
 
 pub same_stands : (s : Setup) (T : List TaggedEntry) (before after : PlainServerState) → IsSameButRoom before after → RepresentsTagged s T before → RepresentsTagged s T after
 same_stands s T before after same is = record {
-  journal = other_cache s (entries_alone T) before after same.rest (λ none. same.replies [] (is.journal.cache none)) is.journal;
+  journal = other_cache s (entries_alone T) before after same.rest is.journal;
   remembers = same.replies (kept_replies s T) is.remembers;
 }
-
--- a server that was just opened
-pub opened_tagged : (s : Setup) (kept : PlainServerState) → RepresentsJournal s [] kept → RepresentsTagged s [] kept
-opened_tagged s kept is = record { journal = is; remembers = is.cache refl }
 
 -- ===== a call that is executed
 
@@ -109,16 +103,11 @@ module _ (m : Moment) (payload reply : List ℕ) (place : ℕ) (before mid : Pla
       place_at : place ≡ length T
       place_at = does.place_is ∙ length-map T (λ (t : TaggedEntry). t.entry)
 
-      grown : J ++ entries_of_call m payload reply ≡ [] → ⊥
-      grown none =
-          let all = length-append J (entries_of_call m payload reply) in let n = ap length none in let single = ap length one.1 in
-          (let wrong : ⊥ = omega (arith, all, n, single) in wrong)
-
       does_after : ExecutesCall s J m payload reply place after
       does_after = record {
         replied = does.replied;
         place_is = does.place_is;
-        stands = other_cache s (J ++ entries_of_call m payload reply) mid after same (λ none. absurd (grown none)) does.stands;
+        stands = other_cache s (J ++ entries_of_call m payload reply) mid after same does.stands;
       }
 
       pub kept_executes : ((E : List KeptEntry) → RemembersAll E mid.cache → RemembersAll (E ++ record { client = client; xid = xid_in payload; place = place; reply = reply } ∷ []) after.cache)

@@ -1,7 +1,7 @@
--- The replies of the entries of a journal, and what one call more adds to them; and that no change of a numbered client takes effect twice.
-use Rattle.std.proofs.Common.{◌≡◌, ℕ, ◌+◌, suc, Bool, true, false, cond, eqb, List, [], ◌∷◌, ◌++◌, length, map, Option, None, Some, Result, Ok, Err, ◌⊎◌, inl, inr, ⊎_elim, refl, ap, sym, subst, ◌∙◌, arith, append_assoc, drop}
+-- The replies of the entries of a journal, and what one call more adds to them.
+use Rattle.std.proofs.Common.{◌≡◌, ℕ, ◌+◌, suc, Bool, true, false, cond, eqb, List, [], ◌∷◌, ◌++◌, length, map, Option, None, Some, Result, Ok, Err, refl, ap, sym, subst, ◌∙◌, arith, append_assoc, drop}
 use Rattle.std.specs.Prelude.{◌≢◌, ◌&&◌, unwrap_or}
-use Rattle.std.proofs.lemmas.Bool.{eqb-true, eqb-false}
+use Rattle.std.proofs.lemmas.Bool.{eqb-true}
 use Rattle.std.proofs.lemmas.List.{append-nil, length-map, map-append}
 use Rattle.nr_outside.specs.declared.moment.Moment.{Moment}
 use Rattle.nr_rpc.specs.Reading.{call_of, head_xid, xid_of_call}
@@ -30,7 +30,7 @@ use Rattle.nr_plain.proofs.Histories.{tagged_alone}
 
 -- ===== one list of entries after the other
 
-pub kept_append : (prm : Parameters) (st : State) (place : ℕ) (T U : List TaggedEntry) →
+kept_append : (prm : Parameters) (st : State) (place : ℕ) (T U : List TaggedEntry) →
     kept_from prm st place (T ++ U) ≡ kept_from prm st place T ++ kept_from prm (state_after prm st (entries_alone T)) (place + length T) U
 kept_append prm st place [] U = let at : place ≡ place + 0 = omega arith in ap (λ (n : ℕ). kept_from prm st n U) at
 kept_append prm st place (t ∷ T) U =
@@ -138,7 +138,7 @@ unchanging m payload reply is = none_by_call m payload reply (call_of payload) i
 abbrev grows : (s : Setup) (T : List TaggedEntry) (client : ℕ) (m : Moment) (payload reply : List ℕ) → Type 0
 grows s T client m payload reply = entries_alone (T ++ entries_added client m payload reply) ≡ entries_alone T ++ entries_of_call m payload reply
 
-pub alone_added : (s : Setup) (T : List TaggedEntry) (client : ℕ) (m : Moment) (payload reply : List ℕ) → grows s T client m payload reply
+alone_added : (s : Setup) (T : List TaggedEntry) (client : ℕ) (m : Moment) (payload reply : List ℕ) → grows s T client m payload reply
 alone_added s T client m payload reply =
     map-append (λ (t : TaggedEntry). t.entry) T (entries_added client m payload reply)
     ∙ ap (λ (l : List Entry). entries_alone T ++ l) (tagged_alone client (xid_in payload) (entries_of_call m payload reply))

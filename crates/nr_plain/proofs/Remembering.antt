@@ -1,15 +1,16 @@
 -- What a cache remembers, and what is found in it.
-use Rattle.std.proofs.Common.{◌≡◌, ◌≢◌, ℕ, ◌+◌, ◌<◌, ◌≤◌, ◌^◌, Bool, true, false, cond, eqb, leb, List, [], ◌∷◌, ◌++◌, length, Option, None, Some, is_some, refl, sym, ap, subst, ◌∙◌, arith}
+use Rattle.std.proofs.Common.{◌≡◌, ◌≢◌, ℕ, ◌+◌, ◌<◌, ◌≤◌, ◌^◌, Bool, true, false, cond, eqb, leb, List, [], ◌∷◌, ◌++◌, length, Option, None, Some, refl, sym, ap, subst, ◌∙◌, arith}
 use Rattle.std.specs.Prelude.{All}
 use Rattle.std.specs.FinMap.{empty, get, get-empty}
 use Rattle.std.specs.Ordering.{nat_cmp}
 use Rattle.std.specs.List.{find}
-use Rattle.std.proofs.lemmas.Bool.{eqb-false, lt-leb, ne_eqb}
+use Rattle.std.proofs.lemmas.Bool.{eqb-false, ne_eqb}
 use Rattle.std.proofs.lemmas.List.Elements.{All-append, All-cons, All-filter, All-head, All-nil, All-tail}
-use Rattle.nr_cache.specs.Entries.{KeptEntry, Finding, entries_of, found_for, found_in, kept_or_new, top_of, window}
+use Rattle.nr_cache.specs.Entries.{KeptEntry, entries_of, found_for, found_in, kept_or_new, top_of, window}
 use Rattle.nr_cache.specs.Entries.Finding.{KeptCall, OldCall, NewCall}
 use Rattle.nr_cache.specs.Windows.{Replies}
 use Rattle.nr_cache.specs.Caches.{Clients, HasClient, RemembersAll, RemembersBy, found_by, found_if}
+use Rattle.nr_cache.proofs.Caches.{absent, found_exact}
 use Rattle.nr_plain.specs.ReplySizes.{reply_max}
 use Rattle.nr_tree.specs.Sane.{IsSane}
 use Rattle.nr_tree.specs.Steps.{IsBelow}
@@ -22,18 +23,6 @@ use Rattle.nr_plain.specs.declared.history_entry.TaggedEntry.{TaggedEntry}
 use Rattle.nr_plain.specs.declared.server.Reply.{Reply}
 
 -- ===== what is found is what the entries say
-
-none_found : (xid : ℕ) → found_in [] xid ≡ NewCall
-unfolding found_in top_of
-none_found xid = ap (λ (b : Bool). cond b (OldCall 0) NewCall) (lt-leb (xid + window) 0 (omega arith))
-
-found_of : (E : List KeptEntry) (o : Option Replies) (xid : ℕ) → RemembersBy E o → found_if o xid ≡ found_in E xid
-found_of E None xid none = sym (ap (λ (F : List KeptEntry). found_in F xid) none ∙ none_found xid)
-found_of E (Some w) xid remembers = remembers.found xid
-
-pub found_exact : (E : List KeptEntry) (C : Clients) (client xid : ℕ) → RemembersAll E C → found_by C client xid ≡ found_for E client xid
-unfolding found_by found_for
-found_exact E C client xid remembers = found_of (entries_of client E) (get C client) xid (remembers client)
 
 -- whatever is remembered more
 pub found_same : (C D : Clients) (client xid : ℕ) → RemembersChanges C → ((E : List KeptEntry) → RemembersAll E C → RemembersAll E D) → found_by D client xid ≡ found_by C client xid
@@ -70,7 +59,7 @@ unfolding found_by
 none_new C client xid is = ap (λ (D : Clients). found_by D client xid) is ∙ ap (λ (o : Option Replies). found_if o xid) (none_there client)
 
 pub none_has : (C : Clients) (client : ℕ) → C ≡ empty → HasClient C client → ⊥
-none_has C client is has = let wrong : false ≡ true = sym (ap is_some (none_there client)) ∙ subst (λ (D : Clients). HasClient D client) is has in cc
+none_has C client is = absent C client (ap (λ (D : Clients). get D client) is ∙ none_there client)
 
 -- ===== a reply that is found is short
 
@@ -97,7 +86,7 @@ short_in E xid place reply all is = by (leb (xid + window) (top_of E)) is
     by true old = absurd cc
     by false kept = short_if (find (λ (e : KeptEntry). eqb e.xid xid) E) place reply (λ k found. found_all (λ (e : KeptEntry). eqb e.xid xid) E k all found) kept
 
-pub found_short : (C : Clients) (client xid place : ℕ) (reply : List ℕ) → RemembersChanges C → found_by C client xid ≡ KeptCall place reply → length reply ≤ reply_max
+found_short : (C : Clients) (client xid place : ℕ) (reply : List ℕ) → RemembersChanges C → found_by C client xid ≡ KeptCall place reply → length reply ≤ reply_max
 unfolding found_for
 found_short C client xid place reply is found =
     short_in (entries_of client is.entries) xid place reply (All-filter (λ (e : KeptEntry). eqb e.client client) IsShortEntry is.entries is.short)
@@ -109,7 +98,7 @@ found_is_short C client xid (Some r) is found = found_short C client xid r.place
 
 -- ===== some changes are remembered
 
-pub none_changes : RemembersChanges empty
+none_changes : RemembersChanges empty
 none_changes = record { entries = []; are = none_remembered; short = All-nil IsShortEntry }
 
 pub changes_more : (C D : Clients) → ((E : List KeptEntry) → RemembersAll E C → RemembersAll E D) → RemembersChanges C → RemembersChanges D

@@ -125,10 +125,6 @@ state_is s J k is =
     let all : state_kept k ≡ state_of s (take (length J) J) = λ i. record { tree = is.tree i; cost = is.cost i } in
     all ∙ ap (state_of s) (take-length J)
 
-none_before : (J es : List Entry) → J ++ es ≡ [] → J ≡ []
-none_before [] es none = refl
-none_before (e ∷ J) es none = absurd cc
-
 pub stands_after : (s : Setup) (J : List Entry) (k : PlainServerState) (es : List Entry) → RepresentsJournal s J k → RepresentsJournal s (J ++ es) (state_after_answer k es)
 stands_after s J k es is =
     let state : state_kept k ≡ state_of s J = state_is s J k is in
@@ -139,7 +135,6 @@ stands_after s J k es is =
       cost = ap (λ (st : State). st.cost) all;
       count = omega (arith, is.count, length-append J es);
       parameters = is.parameters;
-      cache = λ none. is.cache (none_before J es none);
     }
 
 pub kept_none : (k : PlainServerState) → k ≡ state_after_answer k []

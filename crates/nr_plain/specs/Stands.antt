@@ -1,5 +1,5 @@
 -- The journal that a server stands for.
-use Rattle.std.specs.Prelude.{◌≡◌, ℕ, ◌+◌, ◌*◌, ◌<◌, ◌≤◌, ◌^◌, List, [], ◌++◌, length, Option, None, Some, Result, Err, All, refl}
+use Rattle.std.specs.Prelude.{◌≡◌, ℕ, ◌+◌, ◌*◌, ◌<◌, ◌≤◌, ◌^◌, List, ◌++◌, length, Option, None, Some, Result, Err, All, refl}
 use Rattle.std.specs.FinMap.{empty}
 use Rattle.std.specs.Coded.{Coded, code_by, coded×, coded_ℕ, coded_list}
 use Rattle.nr_cache.specs.Caches.{Clients, RemembersAll, clients_code}
@@ -29,13 +29,12 @@ pub record PlainServerState : Type 0 where
   pub parameters : Parameters
   pub cache : Clients
 
--- Opened with this setup, and after these entries. Before the first entry no reply is remembered.
+-- opened with this setup, and after these entries
 pub record RepresentsJournal (s : Setup) (J : List Entry) (kept : PlainServerState) : Type 0 where
   pub tree : kept.tree ≡ tree_at s J (length J)
   pub cost : kept.cost ≡ cost_of s J (length J)
   pub count : kept.count ≡ length J
   pub parameters : kept.parameters ≡ s.parameters
-  pub cache : J ≡ [] → RemembersAll [] kept.cache
 
 -- A call was executed after the entries J: its reply is that of the plain server at its place in the journal, its place is the number of
 -- entries before it, and then the server stands for the journal with the entry of the call, if it has one.

@@ -24,7 +24,7 @@ use nr_rpc::{CallHead, HeadFault, read_call};
 use nr_xdr::{Memory, Octets};
 use std::alloc::Global;
 
-/// Why a call of a client with a number gets no reply. The server is as before.
+/// Why a call of [`Server::execute_for`] gets no reply. Nothing of it is executed.
 #[derive(Clone, Copy, Debug, PartialEq, Eq)]
 pub enum NumberedFault {
     /// The payload begins with no call head. `at` is the offset of the first item that fails, in bytes from the front.

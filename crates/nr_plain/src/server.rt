@@ -13,7 +13,7 @@ ghost use Rattle.nr_plain.specs.Journal.{nfs_procedure_of, cost_of};
 ghost use Rattle.nr_plain.specs.Replies.{nfs_by_procedure, nfs_call, mount_call, program_call, cred_refusal, answer_to};
 ghost use Rattle.nr_plain.specs.Stands.{RepresentsJournal, ExecutesCall, IsCause, cache_kept, state_kept, state_after_answer};
 ghost use Rattle.nr_plain.specs.ReplySizes.{any_reply_max, reply_max};
-ghost use Rattle.nr_plain.specs.Numbered.{IsSameButRoom};
+ghost use Rattle.nr_plain.specs.Numbered.{IsSameButRoom, RepresentsTagged};
 ghost use Rattle.nr_plain.specs.private.Executing.{ExecutedNow, IsFound, IsRefusedBy, IsShort};
 ghost use Rattle.nr_cache.specs.Caches.{HasClient, RemembersAll, found_by};
 ghost use Rattle.nr_cache.specs.Entries.{KeptEntry};
@@ -93,7 +93,9 @@ impl Server {
         // below 2^63.
         requires below { IsBelow (2 ^ 62) tree }
         requires capacity { capacity < 2 ^ 63 }
-        ensures { RepresentsJournal (record { tree = tree; parameters = record { capacity = capacity; verifier = verifier; export = export } }) [] result }
+        ensures journal { RepresentsJournal (record { tree = tree; parameters = record { capacity = capacity; verifier = verifier; export = export } }) [] result }
+        // It remembers no reply.
+        ensures numbered { RepresentsTagged (record { tree = tree; parameters = record { capacity = capacity; verifier = verifier; export = export } }) [] result }
     {
         tree.facts();
         Server {

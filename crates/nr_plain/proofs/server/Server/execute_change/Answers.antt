@@ -2,12 +2,11 @@ use Rattle.std.proofs.Common.{◌≡◌, ℕ, ◌<◌, ◌≤◌, List, ◌++◌
 use Rattle.std.proofs.lemmas.Result.{err_from_is_err_and}
 use Rattle.nr_rpc.specs.Reading.{call_of}
 use Rattle.nr_cache.specs.Caches.{Clients, HasClient, RemembersAll, found_by}
-use Rattle.nr_cache.specs.Entries.{Finding, KeptEntry}
+use Rattle.nr_cache.specs.Entries.{KeptEntry}
 use Rattle.nr_cache.specs.Entries.Finding.{NewCall}
 use Rattle.nr_plain.specs.History.{xid_in}
 use Rattle.nr_plain.specs.Numbered.{IsSameButRoom, RepresentsTagged, finding}
 use Rattle.nr_plain.specs.ReplySizes.{reply_max}
-use Rattle.nr_plain.specs.Stands.{PlainServerState}
 use Rattle.nr_plain.specs.private.Executing.{ExecutesTagged}
 use Rattle.nr_plain.proofs.NumberedAnswers.{any_err, cache_stays, grown_short, kept_executes, memory_alone, new_answers, same_stands, unmoved_executes}
 use Rattle.nr_plain.proofs.Remembering.{finding_is}

@@ -3,10 +3,9 @@ use Rattle.std.proofs.lemmas.Bool.{false≢true, not-false, not-true}
 use Rattle.std.proofs.lemmas.Result.{IfErr-weaker, IfOk-weaker, err_from_is_err_and}
 use Rattle.nr_rpc.specs.Reading.{call_of}
 use Rattle.nr_cache.specs.Caches.{found_by}
-use Rattle.nr_cache.specs.Entries.{Finding}
 use Rattle.nr_cache.specs.Entries.Finding.{KeptCall, NewCall}
 use Rattle.nr_plain.specs.History.{xid_in}
-use Rattle.nr_plain.specs.Numbered.{IsNumberedCause, finding, may_change}
+use Rattle.nr_plain.specs.Numbered.{IsNumberedCause, may_change}
 use Rattle.nr_plain.specs.private.Executing.{IsFound, IsShort}
 use Rattle.nr_plain.specs.declared.server.Reply.{Reply}
 use Rattle.nr_plain.proofs.Executed.{cache_same}

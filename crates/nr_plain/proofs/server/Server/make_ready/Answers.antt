@@ -1,7 +1,6 @@
-use Rattle.std.proofs.Common.{ap, sym, subst, ◌∙◌}
+use Rattle.std.proofs.Common.{List, ap, sym, subst, ◌∙◌}
 use Rattle.nr_cache.specs.Caches.{Clients, RemembersAll}
 use Rattle.nr_cache.specs.Entries.{KeptEntry}
-use Rattle.std.proofs.Common.{List}
 use Rattle.nr_plain.specs.Stands.{IsServing, PlainServerState, cache_kept}
 use Rattle.nr_plain.proofs.Remembering.{changes_more, found_same, serving_cache}
 use Rattle.nr_plain.proofs.server.Server.make_ready.Goals as goal
