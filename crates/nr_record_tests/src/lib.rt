@@ -3,10 +3,9 @@
 
 #[cfg(test)]
 mod compare;
+#[cfg(test)]
 mod pieces;
 #[cfg(test)]
 mod record_ends;
 #[cfg(test)]
 mod records;
-
-pub use pieces::{Seen, next_of, read_in_pieces};

@@ -1,6 +1,6 @@
 //! A value whose entries are questions and answers. An answer closes the place of its question.
 
-ghost use Rattle.std.specs.Prelude.{◌≡◌, suc, ◌+◌, ◌<◌, ◌^◌, MatchOption, MatchBool, false};
+ghost use Rattle.std.specs.Prelude.{◌≡◌, suc, ◌+◌, ◌<◌, ◌^◌, length, MatchOption, MatchBool, false};
 ghost use Rattle.nr_turnstile.specs.Passes.{Rests, MayStep, Steps};
 ghost use Rattle.nr_turnstile.specs.Turns.{pass_of, Has, IsSameTurn};
 
@@ -16,11 +16,11 @@ pub struct Desk {
 }
 
 impl Machine for Desk {
-    ghost use Rattle.nr_turnstile_tests.specs.Asks.{IsDesk, closing};
+    ghost use Rattle.nr_turnstile_tests.specs.Asks.{closing};
 
     type Entry = u64;
 
-    ghost stands = { IsDesk };
+    ghost stands = { λ d h. d.entries ≡ length h };
 
     ghost closes = { closing };
 
@@ -30,8 +30,6 @@ impl Machine for Desk {
 }
 
 impl Desk {
-    ghost use Rattle.nr_turnstile_tests.specs.Asks.{IsDesk};
-
     pub fn new() -> Desk
         ensures { result.entries ≡ 0 }
     {

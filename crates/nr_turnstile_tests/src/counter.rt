@@ -1,7 +1,7 @@
 //! A value that doesn't keep its history: the count and the sum of the numbers that were added.
 
-ghost use Rattle.std.specs.Prelude.{◌≡◌, ℕ, ◌+◌, ◌<◌, ◌^◌, [], false};
-ghost use Rattle.nr_turnstile_tests.specs.Counters.{IsCounted, closes_none, Grows};
+ghost use Rattle.std.specs.Prelude.{◌≡◌, ℕ, ◌+◌, ◌<◌, ◌^◌, List, [], ◌∷◌, ◌++◌, false};
+ghost use Rattle.nr_turnstile_tests.specs.Counters.{IsCounted, closes_none};
 
 use nr_turnstile::{EntryName, Machine, OpeningHistory};
 use std::marker::{Brand, PhantomData};
@@ -16,7 +16,7 @@ pub struct Counter {
 impl Machine for Counter {
     type Entry = u64;
 
-    ghost stands = { IsCounted };
+    ghost stands = { λ t h. IsCounted t.count t.sum h };
 
     ghost closes = { closes_none };
 
@@ -51,7 +51,7 @@ impl OpeningHistory<u64> for Nothing {
 
 impl Counter {
     pub fn new() -> Counter
-        ensures { IsCounted result [] }
+        ensures { IsCounted result.count result.sum [] }
     {
         Counter { count: 0, sum: 0 }
     }
@@ -64,7 +64,8 @@ impl Counter {
 
     pub fn add(&mut self, x: u32)
         requires { (self.old.count + 1 < 2 ^ 62) × (self.old.sum < 2 ^ 62) }
-        ensures { Grows self.old self.new x }
+        // Whatever the counter stood for, it then stands for that and x.
+        ensures { (h : List ℕ) → IsCounted self.old.count self.old.sum h → IsCounted self.new.count self.new.sum (h ++ x ∷ []) }
     {
         self.count += 1;
         self.sum += x as u64;

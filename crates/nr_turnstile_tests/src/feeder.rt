@@ -20,7 +20,7 @@ impl Machine for Feeder {
 
     type Entry = Snapshot<Pass<Counter>>;
 
-    ghost stands = { λ f h. RepresentsNotes f h × (f.entries ≡ length h) };
+    ghost stands = { λ f h. RepresentsNotes f.pass h × (f.entries ≡ length h) };
 
     ghost closes = { closes_none };
 
@@ -32,8 +32,9 @@ impl Machine for Feeder {
 /// The history of the first entry, for the proof.
 pub trait First {
     ghost use Rattle.nr_turnstile_tests.specs.Feeds.{Noted};
+    ghost use Rattle.nr_turnstile_tests.specs.declared.counter.Counter.{Counter};
 
-    ghost noted: { List Noted };
+    ghost noted: { List (Noted Counter) };
 }
 
 impl First for Brand {

@@ -1,8 +1,12 @@
 //! Tests of `nr_turnstile`, over three values that stand for a history: a counter, a list, and a desk of questions and
 //! answers; and over a value with a pass of another turnstile. Tests of `nr_cache`, of `nr_shared` and of `nr_gate`.
+//!
+//! All of it is compiled for tests alone, so that each function is proved once.
 #![tactic(auto)]
 
+#[cfg(test)]
 mod additions;
+#[cfg(test)]
 mod asks;
 #[cfg(test)]
 mod broken;
@@ -12,15 +16,21 @@ mod cache;
 mod callers;
 #[cfg(test)]
 mod compare;
+#[cfg(test)]
 mod counter;
+#[cfg(test)]
 mod feeder;
 #[cfg(test)]
 mod gate;
 #[cfg(test)]
 mod held;
+#[cfg(test)]
 mod jobs;
+#[cfg(test)]
 mod log;
+#[cfg(test)]
 mod open;
+#[cfg(test)]
 mod pumping;
 #[cfg(test)]
 mod shared;
@@ -28,12 +38,3 @@ mod shared;
 mod sharing;
 #[cfg(test)]
 mod turns;
-
-pub use additions::{append, sees};
-pub use asks::Desk;
-pub use counter::Counter;
-pub use feeder::Feeder;
-pub use jobs::Job;
-pub use log::{Log, counted, write};
-pub use open::open_feeder;
-pub use pumping::{pump, pump_twice};

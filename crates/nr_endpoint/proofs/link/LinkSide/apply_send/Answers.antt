@@ -16,5 +16,6 @@ invariant_of-self c =
     rw c.receive.ensures (counted_send c.self.inside.terms c.self.inside.has_hello c.self.inside.receive_queue c.args.named c.args.last c.args.payload.now c.self.inside.place c.self.inside.message_max _ c.self.invariant c.requires.size)
 
 pub returns : goal.returns
-returns c =
-    rw (← c.self.view_is) (same_side c.self.inside.regions.room c.self.inside.regions.outside (took_send _ c.receive.new.self c.args.named c.args.last c.args.payload.now c.args.frame.now c.receive.ensures))
+returns c = record {
+  state = rw (← c.self.view_is) (same_side c.self.inside.regions.room c.self.inside.regions.outside (took_send _ c.receive.new.self c.args.named c.args.last c.args.payload.now c.args.frame.now c.receive.ensures));
+}

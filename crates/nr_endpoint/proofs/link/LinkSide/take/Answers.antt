@@ -52,6 +52,6 @@ returns-clause-ok c =
     (alive_send c.args.self.now.state (next_frame c.args.self.now.state c.args.frame.now) c.in-Untagged.last c.in-Untagged.opcode c.in-Untagged.word c.in-Untagged.queue c.in-Untagged.msn c.in-Untagged.offset c.in-Untagged.payload.now refl
     supported.0 c.if-opcode-eq-OPCODE_READ_REQUEST.false
     (subst (λ (s : Segment). segment_end c.args.self.now.state (next_frame c.args.self.now.state c.args.frame.now) (plain s) ≡ None) c.in-Untagged.is c.requires.lives)).0 in
-    c.apply_send.ensures ∙ ap (λ (x : LinkState). record c.args.self.now { state = x }) (ap (after_frame (next_frame c.args.self.now.state c.args.frame.now)) (ap (λ (named : Option ℕ). with_effect (send_segment named c.in-Untagged.last c.in-Untagged.payload.now) c.args.self.now.state) c.named_by.ensures
+    c.apply_send.ensures.state ∙ ap (λ (x : LinkState). record c.args.self.now { state = x }) (ap (after_frame (next_frame c.args.self.now.state c.args.frame.now)) (ap (λ (named : Option ℕ). with_effect (send_segment named c.in-Untagged.last c.in-Untagged.payload.now) c.args.self.now.state) c.named_by.ensures
     ∙ same_send c.args.self.now.state c.in-Untagged.last c.in-Untagged.opcode c.in-Untagged.word c.in-Untagged.queue c.in-Untagged.msn c.in-Untagged.offset c.in-Untagged.payload.now opcode)
     ∙ ap (λ (segment : Segment). after_frame (next_frame c.args.self.now.state c.args.frame.now) (with_effect (plain segment) c.args.self.now.state)) (sym c.in-Untagged.is))
