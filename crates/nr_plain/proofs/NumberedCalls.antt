@@ -30,7 +30,7 @@ use Rattle.nr_plain.proofs.Histories.{tagged_alone}
 
 -- ===== one list of entries after the other
 
-kept_append : (prm : Parameters) (st : State) (place : ℕ) (T U : List TaggedEntry) →
+pub kept_append : (prm : Parameters) (st : State) (place : ℕ) (T U : List TaggedEntry) →
     kept_from prm st place (T ++ U) ≡ kept_from prm st place T ++ kept_from prm (state_after prm st (entries_alone T)) (place + length T) U
 kept_append prm st place [] U = let at : place ≡ place + 0 = omega arith in ap (λ (n : ℕ). kept_from prm st n U) at
 kept_append prm st place (t ∷ T) U =

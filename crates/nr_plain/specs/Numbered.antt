@@ -1,6 +1,6 @@
 -- The calls of clients that have a number: what a call is by the journal, and what the server makes of it. Each change of such a client takes
 -- effect once (own; RFC 1813 section 4.5 says why a server needs it).
-use Rattle.std.specs.Prelude.{◌≡◌, ◌≢◌, ⊤, ℕ, ◌+◌, Bool, false, not, ◌&&◌, ◌==◌, if◌then◌else◌, List, [], ◌∷◌, ◌++◌, length, Option, None, Some, Result, Ok, Err, IsOk, All}
+use Rattle.std.specs.Prelude.{◌≡◌, ◌≢◌, ⊤, ℕ, ◌+◌, ◌<◌, Bool, false, not, ◌&&◌, ◌==◌, if◌then◌else◌, List, [], ◌∷◌, ◌++◌, length, Option, None, Some, Result, Ok, Err, IsOk, All}
 use Rattle.nr_outside.specs.declared.moment.Moment.{Moment}
 use Rattle.nr_rpc.specs.Reading.{call_of}
 use Rattle.nr_rpc.specs.declared.head.CallHead.{CallHead}
@@ -8,7 +8,7 @@ use Rattle.nr_rpc.specs.declared.head.CallHead.TheVariants as calls
 use Rattle.nr_nfs_base.specs.Procedures.{nfs_program, nfs_version}
 use Rattle.nr_nfs_base.specs.declared.procedure.NfsProcedure.{NfsProcedure}
 use Rattle.nr_reduce.specs.declared.mark.Entry.{Entry}
-use Rattle.nr_cache.specs.Entries.{KeptEntry, Finding, found_for}
+use Rattle.nr_cache.specs.Entries.{KeptEntry, Finding, entries_of, found_for, top_of, window}
 use Rattle.nr_cache.specs.Entries.Finding.{KeptCall, OldCall, NewCall}
 use Rattle.nr_cache.specs.Caches.{RemembersAll}
 use Rattle.nr_plain.specs.Setup.{Parameters, Setup, State}
@@ -16,7 +16,7 @@ use Rattle.nr_plain.specs.Programs.{only_reads}
 use Rattle.nr_plain.specs.Journal.{first_state, next_state, nfs_procedure_of}
 use Rattle.nr_plain.specs.Replies.{Answer, call_by_cred, cred_refusal, program_call, plain_reply}
 use Rattle.nr_plain.specs.Stands.{PlainServerState, RepresentsJournal}
-use Rattle.nr_plain.specs.History.{entries_added, entries_alone, xid_in}
+use Rattle.nr_plain.specs.History.{AddsOne, entries_added, entries_alone, xid_in}
 use Rattle.nr_plain.specs.declared.history_entry.TaggedEntry.{TaggedEntry}
 use Rattle.nr_plain.specs.declared.numbered.NumberedFault.{NumberedFault}
 use Rattle.nr_plain.specs.declared.numbered.NumberedFault.TheVariants as faults
@@ -129,3 +129,18 @@ NoEntryTwice (t ∷ T) = (t.client ≢ 0 → All (IsOther t) T) × NoEntryTwice 
 -- Over every list of calls, whatever they are and whatever their replies say: so over those that a server answered, one after the other.
 abbrev pub ChangesOnce : Type 0
 ChangesOnce = (s : Setup) (calls : List NumberedCall) → NoEntryTwice (journal_after s [] calls)
+
+-- ---- The reply of a kept call
+
+-- the largest xid of a client's entries, 0 without any
+abbrev pub top_in : Setup → List TaggedEntry → (client : ℕ) → ℕ
+top_in s T client = top_of (entries_of client (kept_replies s T))
+
+-- After a new call of a client with a number, which gets this reply of the plain server and adds an entry, its xid is kept, with its place and this
+-- reply, until it is 64 below the largest xid of its client, whatever is added later.
+abbrev pub FirstRepliesAreKept : Type 0
+FirstRepliesAreKept =
+    (s : Setup) (T later : List TaggedEntry) (c : NumberedCall) → c.client ≢ 0 → finding s T c.client (xid_in c.payload) ≡ NewCall
+    → plain_reply s (entries_alone T) (length T) c.moment c.payload ≡ Some c.reply → AddsOne c.moment c.payload c.reply
+    → top_in s (T ++ added_for s T c ++ later) c.client < xid_in c.payload + window
+    → finding s (T ++ added_for s T c ++ later) c.client (xid_in c.payload) ≡ KeptCall (length T) c.reply

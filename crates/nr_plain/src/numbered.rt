@@ -7,7 +7,7 @@ ghost use Rattle.nr_rpc.specs.Reading.{call_of, head_xid};
 ghost use Rattle.nr_plain.specs.Setup.{Setup};
 ghost use Rattle.nr_plain.specs.History.{xid_in};
 ghost use Rattle.nr_rpc.specs.declared.head.CallHead.{CallHead};
-ghost use Rattle.nr_plain.specs.Numbered.{AnswersFor, ChangesOnce, IsNumberedCause, IsSameButRoom, LeavesServer, RepresentsTagged, is_changing, may_change, may_change_by};
+ghost use Rattle.nr_plain.specs.Numbered.{AnswersFor, ChangesOnce, FirstRepliesAreKept, IsNumberedCause, IsSameButRoom, LeavesServer, RepresentsTagged, is_changing, may_change, may_change_by};
 ghost use Rattle.nr_plain.specs.private.Executing.{ExecutedNow, IsPlainCause};
 ghost use Rattle.nr_plain.specs.Journal.{nfs_procedure_of};
 ghost use Rattle.nr_plain.specs.ReplySizes.{any_reply_max};
@@ -221,4 +221,9 @@ impl Server {
 /// Over any list of calls, no two entries of the journal have the same client other than 0 and the same xid.
 pub fn changes_once()
     ensures { ChangesOnce }
+{}
+
+/// A kept call gets the place and the reply that its change got.
+pub fn first_replies_are_kept()
+    ensures { FirstRepliesAreKept }
 {}
