@@ -44,8 +44,7 @@ module _ (s : Setup) (T later : List TaggedEntry) (client : ℕ) (m : Moment) (p
   all_replies : (e : Entry) → plain_reply s J (length J) m payload ≡ Some reply → entries_of_call m payload reply ≡ e ∷ [] →
       kept_replies s (T ++ new_entries ++ later) ≡ kept_replies s T ++ first_reply ∷ replies_later
   all_replies e replied one =
-      ap (kept_replies s) (sym (append_assoc T new_entries later))
-      ∙ kept_append s.parameters (first_state s) 0 (T ++ new_entries) later
+      kept_append s.parameters (first_state s) 0 (T ++ new_entries) later
       ∙ ap (λ (E : List KeptEntry). E ++ replies_later) (kept_one_added s T client m payload reply e numbered one (of_entry e replied one))
       ∙ append_assoc (kept_replies s T) (first_reply ∷ []) replies_later
 
