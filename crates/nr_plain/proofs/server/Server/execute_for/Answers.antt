@@ -23,8 +23,8 @@ returns-then-client-eq0-clause-answered c =
     let after = c.execute_plain.new.self in
     IfOk-weaker c.execute_plain.result _ _
     (λ r x s T is.
-        new_answers s T c.args.client c.args.now c.args.payload.now r.payload r.place c.args.self.now after (unnumbered_new s T c.args.client (xid_in c.args.payload.now) zero)
-        (unnumbered_executes c.args.now c.args.payload.now r.payload r.place c.args.self.now after x s T c.args.client is zero))
+    new_answers s T c.args.client c.args.now c.args.payload.now r.payload r.place c.args.self.now after (unnumbered_new s T c.args.client (xid_in c.args.payload.now) zero)
+    (unnumbered_executes c.args.now c.args.payload.now r.payload r.place c.args.self.now after x s T c.args.client is zero))
     c.execute_plain.ensures.executed
 
 pub returns-then-client-eq0-clause-cause : goal.returns-then-client-eq0-clause-cause
@@ -61,11 +61,11 @@ returns-in_err-reply-clause-cause c =
     let p = err_from_is_err_and c.from_residual-in_err-reply.result c.from_residual-in_err-reply.ensures.1 in
     rw (p.1, p.2)
     (λ s T is.
-        refused_cause c.in_err-reply.field-0.0 s T c.args.client c.args.payload.now c.in_ok-asked.ensures.call
-        (found_by c.args.self.now.cache c.args.client c.in_ok-asked.asked.xid)
-        (finding_is s T c.args.client (xid_in c.args.payload.now) c.args.self.now c.if-client-eq0.false is
-        ∙ ap (λ (n : ℕ). found_by c.args.self.now.cache c.args.client n) (sym c.in_ok-asked.ensures.xid))
-        c.in_err-reply.ensures.refused)
+    refused_cause c.in_err-reply.field-0.0 s T c.args.client c.args.payload.now c.in_ok-asked.ensures.call
+    (found_by c.args.self.now.cache c.args.client c.in_ok-asked.asked.xid)
+    (finding_is s T c.args.client (xid_in c.args.payload.now) c.args.self.now c.if-client-eq0.false is
+    ∙ ap (λ (n : ℕ). found_by c.args.self.now.cache c.args.client n) (sym c.in_ok-asked.ensures.xid))
+    c.in_err-reply.ensures.refused)
 
 pub returns-in_err-reply-clause-err : goal.returns-in_err-reply-clause-err
 returns-in_err-reply-clause-err c =
@@ -99,11 +99,11 @@ returns-then-not-asked-clause-answered c =
     let reads : may_change (call_of c.args.payload.now) ≡ false = sym c.in_ok-asked.ensures.changes ∙ not-true c.in_ok-asked.asked.changes c.if-not-asked.true in
     IfOk-weaker c.execute_plain-then-not-asked.result _ _
     (λ r x s T is.
-        new_answers s T c.args.client c.args.now c.args.payload.now r.payload r.place c.args.self.now after
-        (finding_is s T c.args.client (xid_in c.args.payload.now) c.args.self.now c.if-client-eq0.false is
-        ∙ ap (λ (n : ℕ). found_by c.args.self.now.cache c.args.client n) (sym c.in_ok-asked.ensures.xid)
-        ∙ found)
-        (quiet_executes c.args.now c.args.payload.now r.payload r.place c.args.self.now after x s T c.args.client is (unchanging c.args.now c.args.payload.now r.payload reads)))
+    new_answers s T c.args.client c.args.now c.args.payload.now r.payload r.place c.args.self.now after
+    (finding_is s T c.args.client (xid_in c.args.payload.now) c.args.self.now c.if-client-eq0.false is
+    ∙ ap (λ (n : ℕ). found_by c.args.self.now.cache c.args.client n) (sym c.in_ok-asked.ensures.xid)
+    ∙ found)
+    (quiet_executes c.args.now c.args.payload.now r.payload r.place c.args.self.now after x s T c.args.client is (unchanging c.args.now c.args.payload.now r.payload reads)))
     c.execute_plain-then-not-asked.ensures.executed
 
 pub returns-then-not-asked-clause-cause : goal.returns-then-not-asked-clause-cause
