@@ -15,13 +15,13 @@ use Rattle.nr_plain.specs.Journal.{state_of}
 use Rattle.nr_plain.specs.Replies.{Answer}
 use Rattle.nr_plain.specs.Added.{entries_of_call}
 use Rattle.nr_plain.specs.History.{AddsOne, entries_added, entries_alone, xid_in}
-use Rattle.nr_plain.specs.Stands.{PlainServerState, RepresentsJournal, ExecutesCall}
+use Rattle.nr_plain.specs.Stands.{PlainServerState, RepresentsJournal, ExecutesCall, IsCause}
 use Rattle.nr_plain.specs.Numbered.{AnswersFor, IsAnswerBy, IsNumberedCause, IsSameButRoom, LeavesServer, RepresentsTagged, added_if, answer_of_entry, finding, kept_replies}
-use Rattle.nr_plain.specs.private.Executing.{ExecutedNow, ExecutesTagged, IsPlainCause, IsRefusedBy}
+use Rattle.nr_plain.specs.private.Executing.{ExecutedNow, ExecutesTagged, IsRefusedBy}
 use Rattle.nr_plain.specs.ReplySizes.{reply_max}
 use Rattle.nr_plain.specs.declared.history_entry.TaggedEntry.{TaggedEntry}
-use Rattle.nr_plain.specs.declared.numbered.NumberedFault.{NumberedFault}
-use Rattle.nr_plain.specs.declared.numbered.NumberedFault.TheVariants as faults
+use Rattle.nr_plain.specs.declared.fault.Fault.{Fault}
+use Rattle.nr_plain.specs.declared.fault.Fault.TheVariants as faults
 use Rattle.nr_plain.proofs.Changes.{changes_short}
 use Rattle.nr_plain.proofs.Executed.{adds_are, executed, plain_is}
 use Rattle.nr_plain.proofs.NumberedCalls.{entry_answer, executes_with, kept_none_added, kept_one_added, kept_unnumbered}
@@ -148,18 +148,18 @@ unnumbered_new s T client xid zero_is = ap (λ (n : ℕ). finding s T n xid) zer
 
 -- ===== faults
 
-pub plain_cause : (e : NumberedFault) (s : Setup) (T : List TaggedEntry) (client : ℕ) (payload : List ℕ) → IsPlainCause e (call_of payload) → IsNumberedCause s T client payload e
+pub plain_cause : (e : Fault) (s : Setup) (T : List TaggedEntry) (client : ℕ) (payload : List ℕ) → IsCause e (call_of payload) → IsNumberedCause s T client payload e
 plain_cause (faults.NotCall at) s T client payload is = is
 plain_cause faults.Memory s T client payload is = tt
 plain_cause (faults.Old top) s T client payload is = absurd is
 
-pub memory_alone : (e : NumberedFault) (r : Result CallHead ℕ) → IsOk r → IsPlainCause e r → e ≡ faults.Memory
+pub memory_alone : (e : Fault) (r : Result CallHead ℕ) → IsOk r → IsCause e r → e ≡ faults.Memory
 memory_alone (faults.NotCall at) r ok is = absurd (false≢true (subst (λ (q : Result CallHead ℕ). IsOk q) is ok))
 memory_alone faults.Memory r ok is = refl
 memory_alone (faults.Old top) r ok is = absurd is
 
 -- by what the cache says of the call
-pub refused_cause : (e : NumberedFault) (s : Setup) (T : List TaggedEntry) (client : ℕ) (payload : List ℕ) → IsOk (call_of payload) → (found : Finding) →
+pub refused_cause : (e : Fault) (s : Setup) (T : List TaggedEntry) (client : ℕ) (payload : List ℕ) → IsOk (call_of payload) → (found : Finding) →
     finding s T client (xid_in payload) ≡ found → IsRefusedBy e found → IsNumberedCause s T client payload e
 refused_cause (faults.NotCall at) s T client payload call found is refused = absurd refused
 refused_cause faults.Memory s T client payload call found is refused = tt
@@ -168,7 +168,7 @@ refused_cause (faults.Old top) s T client payload call found is refused = (call,
 room_same : (k : PlainServerState) → IsSameButRoom k k
 room_same k = record { rest = refl; replies = λ E is. is }
 
-pub leaves_same : (e : NumberedFault) (before after : PlainServerState) → after ≡ before → LeavesServer e before after
+pub leaves_same : (e : Fault) (before after : PlainServerState) → after ≡ before → LeavesServer e before after
 leaves_same (faults.NotCall at) before after same = same
 leaves_same faults.Memory before after same = subst (IsSameButRoom before) (sym same) (room_same before)
 leaves_same (faults.Old top) before after same = same
@@ -177,7 +177,7 @@ pub any_err : {A E : Type 0} (r : Result A E) (P : Type 0) → P → OnErr r P
 any_err (Ok x) P holds = tt
 any_err (Err e) P holds = holds
 
-pub leaves_room : {A : Type 0} (r : Result A NumberedFault) (before after : PlainServerState) → IfErr r (λ e. e ≡ faults.Memory) → OnErr r (IsSameButRoom before after) →
+pub leaves_room : {A : Type 0} (r : Result A Fault) (before after : PlainServerState) → IfErr r (λ e. e ≡ faults.Memory) → OnErr r (IsSameButRoom before after) →
     IfErr r (λ e. LeavesServer e before after)
 leaves_room (Ok x) before after memory same = tt
-leaves_room (Err e) before after memory same = subst (λ (f : NumberedFault). LeavesServer f before after) (sym memory) same
+leaves_room (Err e) before after memory same = subst (λ (f : Fault). LeavesServer f before after) (sym memory) same

@@ -18,8 +18,8 @@ use Rattle.nr_plain.specs.Replies.{Answer, call_by_cred, cred_refusal, program_c
 use Rattle.nr_plain.specs.Stands.{PlainServerState, RepresentsJournal}
 use Rattle.nr_plain.specs.History.{AddsOne, entries_added, entries_alone, xid_in}
 use Rattle.nr_plain.specs.declared.history_entry.TaggedEntry.{TaggedEntry}
-use Rattle.nr_plain.specs.declared.numbered.NumberedFault.{NumberedFault}
-use Rattle.nr_plain.specs.declared.numbered.NumberedFault.TheVariants as faults
+use Rattle.nr_plain.specs.declared.fault.Fault.{Fault}
+use Rattle.nr_plain.specs.declared.fault.Fault.TheVariants as faults
 
 -- ---- The replies of a journal
 
@@ -85,13 +85,13 @@ pub record AnswersFor (s : Setup) (T : List TaggedEntry) (client : ℕ) (m : Mom
   pub stands : RepresentsTagged s (T ++ added_for s T (record { client = client; moment = m; payload = payload; reply = reply })) after
 
 -- Why a call gets no reply: it has no call head, or it is old, by the largest xid of its client; out of memory has no cause.
-abbrev pub IsNumberedCause : Setup → List TaggedEntry → (client : ℕ) → (payload : List ℕ) → NumberedFault → Type 0
+abbrev pub IsNumberedCause : Setup → List TaggedEntry → (client : ℕ) → (payload : List ℕ) → Fault → Type 0
 IsNumberedCause s T client payload (faults.NotCall at) = call_of payload ≡ Err at
 IsNumberedCause s T client payload faults.Memory = ⊤
 IsNumberedCause s T client payload (faults.Old top) = IsOk (call_of payload) × (finding s T client (xid_in payload) ≡ OldCall top)
 
 -- The server as such a fault leaves it: as before, but that memory may have run out after room was made for the replies of a client.
-abbrev pub LeavesServer : NumberedFault → (before after : PlainServerState) → Type 0
+abbrev pub LeavesServer : Fault → (before after : PlainServerState) → Type 0
 LeavesServer (faults.NotCall at) before after = after ≡ before
 LeavesServer faults.Memory before after = IsSameButRoom before after
 LeavesServer (faults.Old top) before after = after ≡ before

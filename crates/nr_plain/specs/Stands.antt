@@ -43,10 +43,11 @@ pub record ExecutesCall (s : Setup) (J : List Entry) (m : Moment) (payload reply
   pub place_is : place ≡ length J
   pub stands : RepresentsJournal s (J ++ entries_of_call m payload reply) kept
 
--- NotCall at the first item that fails of a payload without a call head; out of memory has no cause
+-- NotCall at the first item that fails of a payload without a call head; out of memory has no cause; no call is old
 abbrev pub IsCause : Fault → Result CallHead ℕ → Type 0
 IsCause (faults.NotCall at) read = read ≡ Err at
 IsCause faults.Memory read = Unit {0}
+IsCause (faults.Old top) read = ⊥
 
 -- the replies that are remembered are those of some changes, so none is long
 pub record RemembersChanges (C : Clients) : Type 0 where

@@ -1,6 +1,6 @@
 //! Calls of clients that have a number: each change takes effect once.
 
-ghost use Rattle.std.specs.Prelude.{◌≡◌, ◌≢◌, ◌≤◌, ℕ, List, [], false, length, vec_capacity, Result, IsOk, IfOk, IfErr, OnErr};
+ghost use Rattle.std.specs.Prelude.{◌≡◌, ◌≢◌, ◌≤◌, List, [], false, length, vec_capacity, IsOk, IfOk, IfErr, OnErr};
 ghost use Rattle.nr_cache.specs.Caches.{found_by};
 ghost use Rattle.nr_cache.specs.Entries.Finding.{NewCall};
 ghost use Rattle.nr_rpc.specs.Reading.{call_of, head_xid};
@@ -8,12 +8,11 @@ ghost use Rattle.nr_plain.specs.Setup.{Setup};
 ghost use Rattle.nr_plain.specs.History.{xid_in};
 ghost use Rattle.nr_rpc.specs.declared.head.CallHead.{CallHead};
 ghost use Rattle.nr_plain.specs.Numbered.{AnswersFor, ChangesOnce, FirstRepliesAreKept, IsNumberedCause, IsSameButRoom, LeavesServer, RepresentsTagged, is_changing, may_change, may_change_by};
-ghost use Rattle.nr_plain.specs.private.Executing.{ExecutedNow, IsPlainCause};
 ghost use Rattle.nr_plain.specs.Journal.{nfs_procedure_of};
 ghost use Rattle.nr_plain.specs.ReplySizes.{any_reply_max};
 ghost use Rattle.nr_plain.specs.Stands.{IsCause};
 ghost use Rattle.nr_plain.specs.declared.history_entry.TaggedEntry.{TaggedEntry};
-ghost use Rattle.nr_plain.specs.declared.numbered.NumberedFault.TheVariants as faults;
+ghost use Rattle.nr_plain.specs.declared.fault.Fault.TheVariants as faults;
 
 use crate::dispatch::only_reads;
 use crate::fault::Fault;
@@ -23,36 +22,6 @@ use nr_outside::Moment;
 use nr_rpc::{CallHead, HeadFault, read_call};
 use nr_xdr::{Memory, Octets};
 use std::alloc::Global;
-
-/// Why a call of [`Server::execute_for`] gets no reply. Nothing of it is executed.
-#[derive(Clone, Copy, Debug, PartialEq, Eq)]
-pub enum NumberedFault {
-    /// The payload begins with no call head. `at` is the offset of the first item that fails, in bytes from the front.
-    NotCall { at: usize },
-    /// Memory ran out.
-    Memory,
-    /// The call's xid is 64 or more below the largest one of its client's changes, which is `top`: nothing is known of it
-    /// any more.
-    Old { top: u32 },
-}
-
-impl From<Memory> for NumberedFault {
-    ghost from_gives = { λ _ e. e ≡ faults.Memory };
-
-    fn from(_e: Memory) -> NumberedFault {
-        NumberedFault::Memory
-    }
-}
-
-/// A fault of a call of any client.
-fn fault_of(fault: Fault) -> NumberedFault
-    ensures { (read : Result CallHead ℕ) → IsCause fault read → IsPlainCause result read }
-{
-    match fault {
-        Fault::NotCall { at } => NumberedFault::NotCall { at },
-        Fault::Memory => NumberedFault::Memory,
-    }
-}
 
 /// What decides how a call is handled: its xid, and whether it is of a procedure that changes the tree.
 #[derive(Clone, Copy)]
@@ -98,16 +67,16 @@ fn is_changing(proc: u32) -> bool
 }
 
 /// What a call asks.
-fn read_asked(alloc: Global, payload: &[u8]) -> Result<Asked, NumberedFault>
+fn read_asked(alloc: Global, payload: &[u8]) -> Result<Asked, Fault>
     ensures xid { IfOk result (λ a. a.xid ≡ xid_in payload.now) }
     ensures changes { IfOk result (λ a. a.changes ≡ may_change (call_of payload.now)) }
     ensures call { IfOk result (λ _. IsOk (call_of payload.now)) }
-    ensures cause { IfErr result (λ e. IsPlainCause e (call_of payload.now)) }
+    ensures cause { IfErr result (λ e. IsCause e (call_of payload.now)) }
 {
     let head = match read_call(alloc, payload) {
         Ok(head) => head,
-        Err(HeadFault::NotCall { at }) => return Err(NumberedFault::NotCall { at }),
-        Err(_) => return Err(NumberedFault::Memory),
+        Err(HeadFault::NotCall { at }) => return Err(Fault::NotCall { at }),
+        Err(_) => return Err(Fault::Memory),
     };
     let asked = asked_by(&head);
     drop(head);
@@ -138,15 +107,15 @@ impl Server {
     ///
     /// # Errors
     ///
-    /// [`NumberedFault::NotCall`] only if the payload has no call head; [`NumberedFault::Old`] only if it has one whose xid
-    /// is 64 or more below the largest one of the client's changes; [`NumberedFault::Memory`].
+    /// [`Fault::NotCall`] only if the payload has no call head; [`Fault::Old`] only if it has one whose xid
+    /// is 64 or more below the largest one of the client's changes; [`Fault::Memory`].
     pub fn execute_for(
         &mut self,
         alloc: Global,
         client: u64,
         now: Moment,
         payload: &[u8],
-    ) -> Result<Reply, NumberedFault>
+    ) -> Result<Reply, Fault>
         // So an old call gets no reply.
         ensures answered { IfOk result (λ r. (s : Setup) (T : List TaggedEntry) → RepresentsTagged s T self.old → AnswersFor s T client now payload.now r.payload r.place self.old self.new) }
         ensures call { IfOk result (λ _. IsOk (call_of payload.now)) }
@@ -158,35 +127,16 @@ impl Server {
         ensures unnumbered { client ≡ 0 → self.new.cache ≡ self.old.cache }
     {
         if client == 0 {
-            return self.execute_plain(alloc, now, payload);
+            return self.execute_now(alloc, now, payload);
         }
         let asked = read_asked(alloc, payload)?;
         if let Some(reply) = self.remembered(alloc, client, asked.xid)? {
             return Ok(reply);
         }
         if !asked.changes {
-            return self.execute_plain(alloc, now, payload);
+            return self.execute_now(alloc, now, payload);
         }
         self.execute_change(alloc, client, asked.xid, now, payload)
-    }
-
-    /// Executes a call, whoever sent it.
-    fn execute_plain(
-        &mut self,
-        alloc: Global,
-        now: Moment,
-        payload: &[u8],
-    ) -> Result<Reply, NumberedFault>
-        ensures executed { IfOk result (λ r. ExecutedNow self.old now payload.now r.payload r.place self.new) }
-        ensures call { IfOk result (λ _. IsOk (call_of payload.now)) }
-        ensures limit { IfOk result (λ r. length r.payload ≤ any_reply_max) }
-        ensures cause { IfErr result (λ e. IsPlainCause e (call_of payload.now)) }
-        ensures err { OnErr result (self.new ≡ self.old) }
-    {
-        match self.execute_now(alloc, now, payload) {
-            Ok(reply) => Ok(reply),
-            Err(fault) => Err(fault_of(fault)),
-        }
     }
 
     /// Executes a new call of a client with a number, which may be a change, and keeps its reply then.
@@ -197,7 +147,7 @@ impl Server {
         xid: u32,
         now: Moment,
         payload: &[u8],
-    ) -> Result<Reply, NumberedFault>
+    ) -> Result<Reply, Fault>
         requires number { client ≢ 0 }
         requires call { IsOk (call_of payload.now) }
         requires xid { xid ≡ xid_in payload.now }
@@ -209,7 +159,7 @@ impl Server {
     {
         self.make_ready(alloc, client)?;
         let room = reply_room(alloc)?;
-        let reply = self.execute_plain(alloc, now, payload)?;
+        let reply = self.execute_now(alloc, now, payload)?;
         if self.count() > reply.place {
             let kept = filled(room, reply.payload.as_slice());
             self.keep(client, xid, reply.place, kept);

@@ -13,7 +13,9 @@ ghost use Rattle.nr_plain.specs.Journal.{nfs_procedure_of, cost_of};
 ghost use Rattle.nr_plain.specs.Replies.{nfs_by_procedure, nfs_call, mount_call, program_call, cred_refusal, answer_to};
 ghost use Rattle.nr_plain.specs.Stands.{RepresentsJournal, ExecutesCall, IsCause, cache_kept, state_kept, state_after_answer};
 ghost use Rattle.nr_plain.specs.ReplySizes.{any_reply_max, reply_max};
+ghost use Rattle.nr_plain.specs.History.{entries_added};
 ghost use Rattle.nr_plain.specs.Numbered.{IsSameButRoom, RepresentsTagged};
+ghost use Rattle.nr_plain.specs.declared.history_entry.TaggedEntry.{TaggedEntry};
 ghost use Rattle.nr_plain.specs.private.Executing.{ExecutedNow, IsFound, IsRefusedBy, IsShort};
 ghost use Rattle.nr_cache.specs.Caches.{HasClient, RemembersAll, found_by};
 ghost use Rattle.nr_cache.specs.Entries.{KeptEntry};
@@ -26,7 +28,6 @@ use crate::dispatch::run;
 use crate::encoding::{accepted_head, refused};
 use crate::fault::Fault;
 use crate::mount;
-use crate::numbered::NumberedFault;
 use nr_cache::{Cache, Found};
 use nr_nfs_base::{
     MOUNT_PROGRAM, MOUNT_VERSION, MountProcedure, NFS_PROGRAM, NFS_VERSION, NfsProcedure, Numbered,
@@ -126,13 +127,14 @@ impl Server {
     }
 
     /// Executes a call. The reply is that of the plain server over the journal; a change that succeeds is then its next
-    /// entry. After an `Err` the server is as before. The replies that it remembers stay the same.
+    /// entry. After an `Err` the server is as before.
     pub fn execute(&mut self, alloc: Global, now: Moment, payload: &[u8]) -> Result<Reply, Fault>
         ensures executed { IfOk result (λ r. (s : Setup) (J : List Entry) → RepresentsJournal s J self.old → ExecutesCall s J now payload.now r.payload r.place self.new) }
+        // The call is one of a client without a number.
+        ensures numbered { IfOk result (λ r. (s : Setup) (T : List TaggedEntry) → RepresentsTagged s T self.old → RepresentsTagged s (T ++ entries_added 0 now payload.now r.payload) self.new) }
         ensures call { IfOk result (λ _. IsOk (call_of payload.now)) }
         ensures limit { IfOk result (λ r. length r.payload ≤ any_reply_max) }
         ensures cause { IfErr result (λ e. IsCause e (call_of payload.now)) }
-        ensures cache { self.new.cache ≡ self.old.cache }
         ensures err { OnErr result (self.new ≡ self.old) }
     {
         self.execute_now(alloc, now, payload)
@@ -178,7 +180,7 @@ impl Server {
         alloc: Global,
         client: u64,
         xid: u32,
-    ) -> Result<Option<Reply>, NumberedFault>
+    ) -> Result<Option<Reply>, Fault>
         requires { client ≢ 0 }
         ensures found { IfOk result (λ r. IsFound r (found_by self.now.cache client xid)) }
         ensures short { IfOk result (λ r. IsShort r) }
@@ -385,12 +387,12 @@ impl Server {
 }
 
 /// The reply of a call that is found so, if it is kept.
-fn reply_found(alloc: Global, found: Found<'_>) -> Result<Option<Reply>, NumberedFault>
+fn reply_found(alloc: Global, found: Found<'_>) -> Result<Option<Reply>, Fault>
     ensures found { IfOk result (λ r. IsFound r (finding_of found.entry)) }
     ensures refused { IfErr result (λ e. IsRefusedBy e (finding_of found.entry)) }
 {
     match found {
-        Found::Old { top } => Err(NumberedFault::Old { top }),
+        Found::Old { top } => Err(Fault::Old { top }),
         Found::New => Ok(None),
         Found::Kept { place, reply } => Ok(Some(Reply {
             payload: Octets::from_slice(alloc, reply)?,

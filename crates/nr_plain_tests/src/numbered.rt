@@ -3,7 +3,7 @@
 use crate::calls::{called, opened};
 use crate::compare::same;
 use nr_outside::Moment;
-use nr_plain::{NumberedFault, Server};
+use nr_plain::{Fault, Server};
 use std::alloc::Global;
 use std::process::Abort;
 
@@ -73,20 +73,20 @@ fn answered(
     server: &mut Server,
     client: u64,
     payload: &[u8],
-) -> Result<(u64, Vec<u8>), NumberedFault> {
+) -> Result<(u64, Vec<u8>), Fault> {
     let now = Moment {
         seconds: 7,
         nanos: 5,
     };
     let reply = match server.execute_for(alloc, client, now, payload) {
-        Err(NumberedFault::Memory) => server.execute_for(alloc, client, now, payload)?,
+        Err(Fault::Memory) => server.execute_for(alloc, client, now, payload)?,
         first => first?,
     };
     Ok((reply.place, reply.payload.into_vec()))
 }
 
 /// The payload of a reply, or nothing.
-fn payload_of(alloc: Global, got: Result<(u64, Vec<u8>), NumberedFault>) -> Vec<u8> {
+fn payload_of(alloc: Global, got: Result<(u64, Vec<u8>), Fault>) -> Vec<u8> {
     match got {
         Ok((_, payload)) => payload,
         Err(_) => Vec::new(alloc),
@@ -94,7 +94,7 @@ fn payload_of(alloc: Global, got: Result<(u64, Vec<u8>), NumberedFault>) -> Vec<
 }
 
 /// What a call got, but for the payload.
-fn outcome(got: &Result<(u64, Vec<u8>), NumberedFault>) -> Result<u64, NumberedFault> {
+fn outcome(got: &Result<(u64, Vec<u8>), Fault>) -> Result<u64, Fault> {
     match got {
         Ok((place, _)) => Ok(*place),
         Err(fault) => Err(*fault),
@@ -102,11 +102,11 @@ fn outcome(got: &Result<(u64, Vec<u8>), NumberedFault>) -> Result<u64, NumberedF
 }
 
 /// What a row asks for: the place or the fault, and the length of the journal after it.
-fn wanted(want: Want, before: u64) -> (Result<u64, NumberedFault>, u64) {
+fn wanted(want: Want, before: u64) -> (Result<u64, Fault>, u64) {
     match want {
         Executed(place, after) => (Ok(place), after),
         Again(_, place) => (Ok(place), before),
-        Old(top) => (Err(NumberedFault::Old { top }), before),
+        Old(top) => (Err(Fault::Old { top }), before),
     }
 }
 
@@ -144,6 +144,6 @@ fn payload_without_a_head(rt: HostRuntime) {
     let mut server = opened(&rt, rt.alloc(), AMPLE);
     for client in [0, 5] {
         let got = answered(rt.alloc(), &mut server, client, &[0; 3]);
-        same(&rt, 0, outcome(&got), Err(NumberedFault::NotCall { at: 0 }));
+        same(&rt, 0, outcome(&got), Err(Fault::NotCall { at: 0 }));
     }
 }

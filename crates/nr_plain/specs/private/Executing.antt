@@ -1,7 +1,6 @@
 -- For the code: a call that was executed by the state alone, and what the cache has of a call.
-use Rattle.std.specs.Prelude.{◌≡◌, ◌≤◌, ⊤, ℕ, List, ◌++◌, length, Option, None, Some, Result, Err}
+use Rattle.std.specs.Prelude.{◌≡◌, ◌≤◌, ⊤, ℕ, List, ◌++◌, length, Option, None, Some}
 use Rattle.nr_outside.specs.declared.moment.Moment.{Moment}
-use Rattle.nr_rpc.specs.declared.head.CallHead.{CallHead}
 use Rattle.nr_cache.specs.Entries.{Finding}
 use Rattle.nr_cache.specs.Entries.Finding.{KeptCall, OldCall, NewCall}
 use Rattle.nr_plain.specs.Setup.{Setup}
@@ -11,8 +10,8 @@ use Rattle.nr_plain.specs.Replies.{Answer, plain_answer, plain_reply}
 use Rattle.nr_plain.specs.ReplySizes.{reply_max}
 use Rattle.nr_plain.specs.Stands.{PlainServerState, state_after_answer, state_kept}
 use Rattle.nr_plain.specs.declared.history_entry.TaggedEntry.{TaggedEntry}
-use Rattle.nr_plain.specs.declared.numbered.NumberedFault.{NumberedFault}
-use Rattle.nr_plain.specs.declared.numbered.NumberedFault.TheVariants as faults
+use Rattle.nr_plain.specs.declared.fault.Fault.{Fault}
+use Rattle.nr_plain.specs.declared.fault.Fault.TheVariants as faults
 use Rattle.nr_plain.specs.declared.server.Reply.{Reply}
 
 -- the reply is that of the plain server over the state, and the server is then as the answer leaves it
@@ -29,12 +28,6 @@ pub record ExecutesTagged (s : Setup) (T : List TaggedEntry) (client : ℕ) (m :
   pub place_is : place ≡ length T
   pub stands : RepresentsTagged s (T ++ entries_added client m payload reply) after
 
--- why the execution of a call fails
-abbrev pub IsPlainCause : NumberedFault → Result CallHead ℕ → Type 0
-IsPlainCause (faults.NotCall at) read = read ≡ Err at
-IsPlainCause faults.Memory read = ⊤
-IsPlainCause (faults.Old top) read = ⊥
-
 -- what is given of a call that is kept, and that nothing is given of a new one
 abbrev pub IsFound : Option Reply → Finding → Type 0
 IsFound None found = found ≡ NewCall
@@ -46,7 +39,7 @@ IsShort None = ⊤
 IsShort (Some r) = length r.payload ≤ reply_max
 
 -- only an old call is refused
-abbrev pub IsRefusedBy : NumberedFault → Finding → Type 0
+abbrev pub IsRefusedBy : Fault → Finding → Type 0
 IsRefusedBy (faults.NotCall at) found = ⊥
 IsRefusedBy faults.Memory found = ⊤
 IsRefusedBy (faults.Old top) found = found ≡ OldCall top

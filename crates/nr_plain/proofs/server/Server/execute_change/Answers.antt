@@ -30,34 +30,34 @@ returns-in_err-reply-clause-err c =
 
 pub filled-kept-requires-clause-fits : goal.filled-kept-requires-clause-fits
 filled-kept-requires-clause-fits c =
-    let more : c.in_ok-reply.reply.place < c.execute_plain.new.self.count = omega (arith, c.if-count-reply.true, c.count.ensures) in
-    let short = grown_short c.args.now c.args.payload.now c.in_ok-reply.reply.payload c.in_ok-reply.reply.place c.make_ready.new.self c.execute_plain.new.self c.in_ok-reply.ensures.executed more in
+    let more : c.in_ok-reply.reply.place < c.execute_now.new.self.count = omega (arith, c.if-count-reply.true, c.count.ensures) in
+    let short = grown_short c.args.now c.args.payload.now c.in_ok-reply.reply.payload c.in_ok-reply.reply.place c.make_ready.new.self c.execute_now.new.self c.in_ok-reply.ensures.executed more in
     let bytes = ap length c.as_slice.ensures in
     omega (arith, short, bytes, c.in_ok-room.ensures.1)
 
 pub keep-requires-clause-room : goal.keep-requires-clause-room
 keep-requires-clause-room c =
     subst (λ (C : Clients). HasClient C c.args.client)
-    (sym (cache_stays c.args.now c.args.payload.now c.in_ok-reply.reply.payload c.in_ok-reply.reply.place c.make_ready.new.self c.execute_plain.new.self c.in_ok-reply.ensures.executed))
+    (sym (cache_stays c.args.now c.args.payload.now c.in_ok-reply.reply.payload c.in_ok-reply.reply.place c.make_ready.new.self c.execute_now.new.self c.in_ok-reply.ensures.executed))
     c.in_ok-make_ready.ensures.room
 
 pub keep-requires-clause-new : goal.keep-requires-clause-new
 keep-requires-clause-new c =
     subst (λ (C : Clients). found_by C c.args.client c.args.xid ≡ NewCall)
-    (sym (cache_stays c.args.now c.args.payload.now c.in_ok-reply.reply.payload c.in_ok-reply.reply.place c.make_ready.new.self c.execute_plain.new.self c.in_ok-reply.ensures.executed))
+    (sym (cache_stays c.args.now c.args.payload.now c.in_ok-reply.reply.payload c.in_ok-reply.reply.place c.make_ready.new.self c.execute_now.new.self c.in_ok-reply.ensures.executed))
     (c.make_ready.ensures.new c.args.xid c.requires.new)
 
 pub keep-requires-clause-short : goal.keep-requires-clause-short
 keep-requires-clause-short c =
-    let more : c.in_ok-reply.reply.place < c.execute_plain.new.self.count = omega (arith, c.if-count-reply.true, c.count.ensures) in
-    let short = grown_short c.args.now c.args.payload.now c.in_ok-reply.reply.payload c.in_ok-reply.reply.place c.make_ready.new.self c.execute_plain.new.self c.in_ok-reply.ensures.executed more in
+    let more : c.in_ok-reply.reply.place < c.execute_now.new.self.count = omega (arith, c.if-count-reply.true, c.count.ensures) in
+    let short = grown_short c.args.now c.args.payload.now c.in_ok-reply.reply.payload c.in_ok-reply.reply.place c.make_ready.new.self c.execute_now.new.self c.in_ok-reply.ensures.executed more in
     subst (λ (r : List ℕ). length r ≤ reply_max) (sym (c.filled-kept.ensures ∙ c.as_slice.ensures)) short
 
 pub returns-clause-answered : goal.returns-clause-answered
 returns-clause-answered c s T is =
     let before = c.args.self.now in
     let ready = c.make_ready.new.self in
-    let mid = c.execute_plain.new.self in
+    let mid = c.execute_now.new.self in
     let reply = c.in_ok-reply.reply in
     let m = c.args.now in
     let payload = c.args.payload.now in

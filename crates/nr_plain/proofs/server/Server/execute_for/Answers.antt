@@ -20,27 +20,27 @@ use Rattle.nr_plain.proofs.server.Server.execute_for.Goals as goal
 pub returns-then-client-eq0-clause-answered : goal.returns-then-client-eq0-clause-answered
 returns-then-client-eq0-clause-answered c =
     let zero = c.if-client-eq0.true in
-    let after = c.execute_plain.new.self in
-    IfOk-weaker c.execute_plain.result _ _
+    let after = c.execute_now.new.self in
+    IfOk-weaker c.execute_now.result _ _
     (λ r x s T is.
     new_answers s T c.args.client c.args.now c.args.payload.now r.payload r.place c.args.self.now after (unnumbered_new s T c.args.client (xid_in c.args.payload.now) zero)
     (unnumbered_executes c.args.now c.args.payload.now r.payload r.place c.args.self.now after x s T c.args.client is zero))
-    c.execute_plain.ensures.executed
+    c.execute_now.ensures.executed
 
 pub returns-then-client-eq0-clause-cause : goal.returns-then-client-eq0-clause-cause
 returns-then-client-eq0-clause-cause c =
-    IfErr-weaker c.execute_plain.result _ _ (λ e f s T is. plain_cause e s T c.args.client c.args.payload.now f) c.execute_plain.ensures.cause
+    IfErr-weaker c.execute_now.result _ _ (λ e f s T is. plain_cause e s T c.args.client c.args.payload.now f) c.execute_now.ensures.cause
 
 pub returns-then-client-eq0-clause-err : goal.returns-then-client-eq0-clause-err
-returns-then-client-eq0-clause-err c = IfErr-weaker c.execute_plain.result _ _ (λ e same. leaves_same e c.args.self.now c.execute_plain.new.self same) c.execute_plain.ensures.err
+returns-then-client-eq0-clause-err c = IfErr-weaker c.execute_now.result _ _ (λ e same. leaves_same e c.args.self.now c.execute_now.new.self same) c.execute_now.ensures.err
 
 pub returns-then-client-eq0-clause-room : goal.returns-then-client-eq0-clause-room
 returns-then-client-eq0-clause-room c unchanging =
-    cache_same c.args.self.now c.execute_plain.new.self c.args.now c.args.payload.now c.execute_plain.result c.execute_plain.ensures.executed c.execute_plain.ensures.err
+    cache_same c.args.self.now c.execute_now.new.self c.args.now c.args.payload.now c.execute_now.result c.execute_now.ensures.executed c.execute_now.ensures.err
 
 pub returns-then-client-eq0-clause-unnumbered : goal.returns-then-client-eq0-clause-unnumbered
 returns-then-client-eq0-clause-unnumbered c zero =
-    cache_same c.args.self.now c.execute_plain.new.self c.args.now c.args.payload.now c.execute_plain.result c.execute_plain.ensures.executed c.execute_plain.ensures.err
+    cache_same c.args.self.now c.execute_now.new.self c.args.now c.args.payload.now c.execute_now.result c.execute_now.ensures.executed c.execute_now.ensures.err
 
 -- a payload without a call head
 
@@ -93,32 +93,32 @@ returns-in-Some-clause-limit c =
 
 pub returns-then-not-asked-clause-answered : goal.returns-then-not-asked-clause-answered
 returns-then-not-asked-clause-answered c =
-    let after = c.execute_plain-then-not-asked.new.self in
+    let after = c.execute_now-then-not-asked.new.self in
     let found : found_by c.args.self.now.cache c.args.client c.in_ok-asked.asked.xid ≡ NewCall =
     subst (λ (o : Option Reply). IsFound o (found_by c.args.self.now.cache c.args.client c.in_ok-asked.asked.xid)) c.in_default.is c.in_ok-reply.ensures.found in
     let reads : may_change (call_of c.args.payload.now) ≡ false = sym c.in_ok-asked.ensures.changes ∙ not-true c.in_ok-asked.asked.changes c.if-not-asked.true in
-    IfOk-weaker c.execute_plain-then-not-asked.result _ _
+    IfOk-weaker c.execute_now-then-not-asked.result _ _
     (λ r x s T is.
     new_answers s T c.args.client c.args.now c.args.payload.now r.payload r.place c.args.self.now after
     (finding_is s T c.args.client (xid_in c.args.payload.now) c.args.self.now c.if-client-eq0.false is
     ∙ ap (λ (n : ℕ). found_by c.args.self.now.cache c.args.client n) (sym c.in_ok-asked.ensures.xid)
     ∙ found)
     (quiet_executes c.args.now c.args.payload.now r.payload r.place c.args.self.now after x s T c.args.client is (unchanging c.args.now c.args.payload.now r.payload reads)))
-    c.execute_plain-then-not-asked.ensures.executed
+    c.execute_now-then-not-asked.ensures.executed
 
 pub returns-then-not-asked-clause-cause : goal.returns-then-not-asked-clause-cause
 returns-then-not-asked-clause-cause c =
-    IfErr-weaker c.execute_plain-then-not-asked.result _ _ (λ e f s T is. plain_cause e s T c.args.client c.args.payload.now f) c.execute_plain-then-not-asked.ensures.cause
+    IfErr-weaker c.execute_now-then-not-asked.result _ _ (λ e f s T is. plain_cause e s T c.args.client c.args.payload.now f) c.execute_now-then-not-asked.ensures.cause
 
 pub returns-then-not-asked-clause-err : goal.returns-then-not-asked-clause-err
 returns-then-not-asked-clause-err c =
-    IfErr-weaker c.execute_plain-then-not-asked.result _ _ (λ e same. leaves_same e c.args.self.now c.execute_plain-then-not-asked.new.self same)
-    c.execute_plain-then-not-asked.ensures.err
+    IfErr-weaker c.execute_now-then-not-asked.result _ _ (λ e same. leaves_same e c.args.self.now c.execute_now-then-not-asked.new.self same)
+    c.execute_now-then-not-asked.ensures.err
 
 pub returns-then-not-asked-clause-room : goal.returns-then-not-asked-clause-room
 returns-then-not-asked-clause-room c reads =
-    cache_same c.args.self.now c.execute_plain-then-not-asked.new.self c.args.now c.args.payload.now c.execute_plain-then-not-asked.result
-    c.execute_plain-then-not-asked.ensures.executed c.execute_plain-then-not-asked.ensures.err
+    cache_same c.args.self.now c.execute_now-then-not-asked.new.self c.args.now c.args.payload.now c.execute_now-then-not-asked.result
+    c.execute_now-then-not-asked.ensures.executed c.execute_now-then-not-asked.ensures.err
 
 pub returns-then-not-asked-clause-unnumbered : goal.returns-then-not-asked-clause-unnumbered
 returns-then-not-asked-clause-unnumbered c zero = absurd (c.if-client-eq0.false zero)
