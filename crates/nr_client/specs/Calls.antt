@@ -18,7 +18,8 @@ use Rattle.nr_requester.specs.Answers.{answer_of}
 use Rattle.nr_requester.specs.Standing.{StandsOn}
 use Rattle.nr_client.specs.Ending.{LinkCause}
 use Rattle.nr_client.specs.Steps.{GoesTo, HasCreditLeft, HasWrittenAt, IsLeft, IsLive, IsOut, ReadsNone, WritesFirst, WritesInFull, WritesInFullTo}
-use Rattle.nr_client.specs.Transfers.{LinkBytes, Moves}
+use Rattle.nr_client.specs.Transfers.{Moves}
+use Rattle.nr_client.specs.Views.{LinkView}
 use Rattle.nr_client.specs.declared.call_end.CallEnd.{CallEnd}
 
 -- the marks up to a Submit, after bytes moved while the call waited for a credit
@@ -31,9 +32,9 @@ run_of_call run link call xid waits moved last = (run_to_submit run link call xi
 
 -- The bytes that a call moves. Nothing is read before its Submit if a credit is left. Before bytes are fed all output is written, the call
 -- itself after its Submit. Before its Submit each Wrote writes all output due.
-pub record MovesOfCall (opened : LinkParameters) (link : ℕ) (run : List Mark) (b b' : LinkBytes) (h : RequesterSide) (call : Call) (xid : ℕ) (ahead : List ℕ) (waits moved : List Mark) : Type 0 where
-  pub bytes : Moves link b b' ahead (waits ++ moved)
-  pub at_once : HasCreditLeft h → bytes_received link Initiator waits ≡ []
+pub record MovesOfCall (opened : LinkParameters) (link : ℕ) (run : List Mark) (b b' : LinkView) (call : Call) (xid : ℕ) (ahead : List ℕ) (waits moved : List Mark) : Type 0 where
+  pub bytes : Moves link b.bytes b'.bytes ahead (waits ++ moved)
+  pub at_once : HasCreditLeft b.requester → bytes_received link Initiator waits ≡ []
   pub before : WritesFirst opened link run waits
   pub whole_before : WritesInFull opened link run waits
   pub written : WritesFirst opened link (run_to_submit run link call xid waits) moved
@@ -41,7 +42,7 @@ pub record MovesOfCall (opened : LinkParameters) (link : ℕ) (run : List Mark) 
 -- The call was submitted, and no outcome of it was handed over yet: bytes moved while it waited for a credit, none of them read if one was left.
 pub record IsSubmitted (opened : LinkParameters) (link : ℕ) (run : List Mark) (b b' : LinkView) (call : Call) (xid : ℕ) : Type 0 where
   pub waits : List Mark
-  pub bytes : Moves link b b' [] waits
+  pub bytes : Moves link b.bytes b'.bytes [] waits
   pub at_once : HasCreditLeft b.requester → bytes_received link Initiator waits ≡ []
   pub before : WritesFirst opened link run waits
   pub whole : WritesInFull opened link run waits
@@ -52,7 +53,7 @@ pub record IsAnswered (opened : LinkParameters) (link : ℕ) (run : List Mark) (
   pub waits : List Mark
   pub xid : ℕ
   pub moved : List Mark
-  pub moves : MovesOfCall opened link run b b' b.requester call xid [] waits moved
+  pub moves : MovesOfCall opened link run b b' call xid [] waits moved
   pub whole : WritesInFull opened link (run_to_submit run link call xid waits) moved
   pub live : IsLive opened link b'.requester (run_of_call run link call xid waits moved (marks.Done link xid outcome))
 
@@ -66,7 +67,7 @@ pub record IsForgotten (opened : LinkParameters) (link : ℕ) (run : List Mark) 
   pub xid : ℕ
   pub moved : List Mark
   pub ahead : List ℕ
-  pub moves : MovesOfCall opened link run b b' b.requester call xid ahead waits moved
+  pub moves : MovesOfCall opened link run b b' call xid ahead waits moved
   pub whole : WritesInFullTo end opened link (run_to_submit run link call xid waits) moved
   pub all : HasWrittenAt end opened link (run_to_submit run link call xid waits ++ moved)
   pub unanswered : NoneCame end opened link (run_to_submit run link call xid waits ++ moved) xid
@@ -80,7 +81,7 @@ Submits b b' call xid =
 
 -- It is not submitted, for this cause; nothing was read if a credit was left.
 abbrev pub RefusesToSubmit : (b b' : LinkView) → Call → CallEnd → Type 0
-RefusesToSubmit b b' call end = GoesTo end b b' × (HasCreditLeft b.requester → ReadsNone b b')
+RefusesToSubmit b b' call end = GoesTo end b.bytes b'.bytes b.requester b'.requester × (HasCreditLeft b.requester → ReadsNone b.bytes b'.bytes)
 
 -- It was answered: the client's side of the link had not ended when it was made.
 abbrev pub Answers : (b b' : LinkView) → Call → Outcome → Type 0
@@ -111,22 +112,27 @@ HandsOver xid outcome h h' =
 abbrev pub Completes : ℕ → Outcome → (b b' : LinkView) → Type 0
 Completes xid outcome b b' =
     (opened : LinkParameters) (link : ℕ) (run : List Mark) → IsOpened opened → IsLive opened link b.requester run →
-    (moved : List Mark) × (Moves link b b' [] moved × (WritesFirst opened link run moved × (WritesInFull opened link run moved
+    (moved : List Mark) × (Moves link b.bytes b'.bytes [] moved × (WritesFirst opened link run moved × (WritesInFull opened link run moved
     × IsLive opened link b'.requester ((run ++ moved) ++ marks.Done link xid outcome ∷ []))))
 
 abbrev pub Forgets : ℕ → CallEnd → (b b' : LinkView) → Type 0
 Forgets xid end b b' =
     (opened : LinkParameters) (link : ℕ) (run : List Mark) → IsOpened opened → IsLive opened link b.requester run →
-    (moved : List Mark) × (ahead : List ℕ) × (Moves link b b' ahead moved × (WritesFirst opened link run moved × (WritesInFullTo end opened link run moved × (HasWrittenAt end opened link (run ++ moved)
+    (moved : List Mark) × (ahead : List ℕ) × (Moves link b.bytes b'.bytes ahead moved × (WritesFirst opened link run moved × (WritesInFullTo end opened link run moved × (HasWrittenAt end opened link (run ++ moved)
     × (NoneCame end opened link (run ++ moved) xid × IsLeft end opened link b'.requester ahead ((run ++ moved) ++ marks.Forget link xid ∷ []))))))
 
 -- the call of an xid is forgotten, whether or not its answer has come
-abbrev pub ForgetsCall : ℕ → (h h' : RequesterSide) → Type 0
-ForgetsCall xid h h' =
+abbrev pub ForgetsMarks : ℕ → (h h' : RequesterSide) → Type 0
+ForgetsMarks xid h h' =
     ((opened : LinkParameters) (link : ℕ) (run : List Mark) → IsLive opened link h run → IsLive opened link h' (run ++ marks.Forget link xid ∷ []))
     × ((opened : LinkParameters) (link : ℕ) (run : List Mark) → IsOut opened link h run → IsOut opened link h' (run ++ marks.Forget link xid ∷ []))
 
+-- so it is of a link, of which nothing else changes
+abbrev pub ForgetsCall : ℕ → (b b' : LinkView) → Type 0
+ForgetsCall xid b b' =
+    ForgetsMarks xid b.requester b'.requester × ((b'.bytes ≡ b.bytes) × ((b'.source_faults ≡ b.source_faults) × (b'.sink_faults ≡ b.sink_faults)))
+
 -- these calls are forgotten, one after another
-abbrev pub ForgetsCalls : List ℕ → (h h' : RequesterSide) → Type 0
-ForgetsCalls [] h h' = h' ≡ h
-ForgetsCalls (xid ∷ xids) h h' = (i : RequesterSide) × (ForgetsCall xid h i × ForgetsCalls xids i h')
+abbrev pub ForgetsCalls : List ℕ → (b b' : LinkView) → Type 0
+ForgetsCalls [] b b' = b' ≡ b
+ForgetsCalls (xid ∷ xids) b b' = (c : LinkView) × (ForgetsCall xid b c × ForgetsCalls xids c b')

@@ -20,7 +20,6 @@ use Rattle.nr_outside.specs.Whole.{input_max}
 use Rattle.nr_outside.specs.Content.{HandsOut}
 use Rattle.nr_reduce.specs.declared.call.Call.{Call}
 use Rattle.nr_reduce.specs.declared.call.Outcome.{Outcome}
-use Rattle.nr_requester.specs.RequesterState.{RequesterSide}
 use Rattle.nr_client.specs.declared.client_end.ClientEnd.{ClientEnd}
 use Rattle.nr_client.specs.declared.client_end.ClientEnd.TheVariants as client
 use Rattle.nr_client.specs.Following.{Follows, MakesCalls, Next}
@@ -28,7 +27,7 @@ use Rattle.nr_client.specs.Following.Next.{Calls, Returns}
 use Rattle.nr_client.specs.Listing.{no_progress}
 use Rattle.nr_client.specs.Reading.{post_op_attr_len, results_offset}
 use Rattle.nr_client.specs.Requests.{client_call, create_result, nfs_reads}
-use Rattle.nr_client.specs.Transfers.{LinkBytes}
+use Rattle.nr_client.specs.Views.{LinkView}
 
 -- ---- CREATE (RFC 1813 section 3.3.8)
 
@@ -154,7 +153,7 @@ pub record WritesFile (uid gid : ℕ) (dir name : List ℕ) (b b' : LinkView) (l
   pub hands_out : HandsOut left given left' given' handed
   pub is_rest : IfSome left' (λ known. rest ≡ known)
   pub is_read : IsRead result handed rest
-  pub begins : ((b' ≡ b) × (b'.requester ≡ b.requester)) ⊎ (length (piece_at (handed ++ rest) 0) ≤ length handed)
+  pub begins : (b' ≡ b) ⊎ (length (piece_at (handed ++ rest) 0) ≤ length handed)
   pub calls : EndsWriting uid gid dir name handed rest b b' result
 
 -- ---- A read of the input that failed

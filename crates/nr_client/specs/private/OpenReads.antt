@@ -56,7 +56,7 @@ pub record ReadSoFar (uid gid : ℕ) (file : List ℕ) (size : ℕ) (first : Rea
   pub between : List ReadingAt
   pub outcomes : List Outcome
   pub bytes : List ℕ
-  pub made : LeadsBy uid gid file first between (record { outcomes = outcomes; waiting = reads_from uid gid file size from xids; bytes = b; side = b.requester })
+  pub made : LeadsBy uid gid file first between (record { outcomes = outcomes; waiting = reads_from uid gid file size from xids; link = b })
   pub state : file_read outcomes ≡ SizeKnown size at bytes
   pub appends : Appends taken taken' bytes
 
