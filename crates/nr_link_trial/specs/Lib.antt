@@ -1,0 +1,2 @@
+pub mod CallerViews
+pub mod Asking
