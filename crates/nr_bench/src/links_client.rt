@@ -1,6 +1,5 @@
 //! A client with several calls outstanding.
 
-
 use nr_nfs_base::{NFS_PROGRAM, NFS_VERSION};
 use nr_outside::{Sink, Source};
 use nr_reduce::{Call, Form, Outcome};
