@@ -1,9 +1,8 @@
 -- What is agreed has bounds, whatever both sides say.
 use Rattle.std.proofs.Common.{◌≡◌, ℕ, ◌≤◌, ◌-◌, ◌*◌, min, Bool, true, false, if◌then◌else◌, List, Option, None, Some, refl, arith}
 use Rattle.std.proofs.Math.Nat.{min-le_left, min-le_right}
-use Rattle.nr_wire.specs.Constants.{UNITS_MAX}
-use Rattle.nr_wire.specs.declared.terms.Terms.{Terms}
-use Rattle.nr_wire.specs.Terms.{terms_in, units_of_byte}
+use Rattle.nr_link.specs.Wire.{UNITS_MAX, Terms, terms_in}
+use Rattle.nr_link.proofs.Wire.{units_of_byte}
 use Rattle.nr_link.specs.Limits.{send_unit}
 use Rattle.nr_link.specs.Agreement.{agreement, agreed_by, IsSendLimit, AgreementsAreBounded, DefaultsWithoutTerms}
 

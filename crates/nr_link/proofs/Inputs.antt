@@ -1,11 +1,9 @@
 -- The input that an end keeps is that of the complete stream so far, piece after piece.
 use Rattle.std.proofs.Common.{◌≡◌, ℕ, ◌+◌, List, [], ◌∷◌, ◌++◌, length, refl, sym, ap, ◌∙◌, append_assoc, length-append}
 use Rattle.std.specs.List.{concat}
-use Rattle.nr_wire.specs.declared.hello.Side.{Side}
-use Rattle.nr_wire.specs.declared.stream.Awaited.{Awaited}
 use Rattle.nr_wire.specs.declared.stream.Awaited.TheVariants.{Hello as HelloFrom}
-use Rattle.nr_wire.specs.Stream.{Split, split, awaited_after, frames_then}
-use Rattle.nr_wire.proofs.Splits.{split_append, split_Splits, awaited_after_Fpdu}
+use Rattle.nr_link.specs.Wire.{Side, Awaited, Split, split, awaited_after}
+use Rattle.nr_link.proofs.Wire.{frames_then, split_append, split_Splits, awaited_after_Fpdu}
 use Rattle.nr_link.specs.Frames.{frames_completed}
 use Rattle.nr_link.specs.Input.{input_of_split, input_of, initial_input, input_count, input_split, input_frames, input_after}
 use Rattle.nr_link.proofs.Streams.{frames_completed_split}

@@ -3,10 +3,9 @@
 use Rattle.std.proofs.Common.{◌≡◌, ℕ, ◌+◌, List, [], ◌∷◌, ◌++◌, length, drop, sym, ap, ◌∙◌, arith, add-zero, length-append}
 use Rattle.std.proofs.Math.Seq.{drop-append_seam}
 use Rattle.std.specs.List.{concat}
-use Rattle.nr_wire.specs.declared.hello.Side.{Side}
 use Rattle.nr_wire.specs.declared.stream.Awaited.TheVariants.{Hello as HelloFrom}
-use Rattle.nr_wire.specs.Stream.{Split, split, awaited_after}
-use Rattle.nr_wire.proofs.Splits.{split_append}
+use Rattle.nr_link.specs.Wire.{Side, Split, split, awaited_after}
+use Rattle.nr_link.proofs.Wire.{split_append}
 use Rattle.nr_link.specs.Frames.{Frame, frames_from, frames_of, frames_completed}
 
 pub frames_from_append : (at : ℕ) (xs ys : List (List ℕ)) → frames_from at (xs ++ ys) ≡ frames_from at xs ++ frames_from (at + length (concat xs)) ys

@@ -1,10 +1,8 @@
 -- A frame that is taken as a segment is read as that segment; and one that is taken by a side without Sends with Invalidate is taken by any.
 use Rattle.std.proofs.Common.{◌≡◌, ℕ, Bool, true, false, not, ◌&&◌, eqb, ltb, cond, List, Option, None, Some, Result, Ok, Err, refl, sym, ap, ◌∙◌}
 use Rattle.std.proofs.lemmas.Bool.{eqb-true}
-use Rattle.nr_wire.specs.Hello.{value_unless}
-use Rattle.nr_wire.specs.Constants.{DDP_VERSION, RDMAP_VERSION, OPCODE_SEND_INVALIDATE, REASON_LENGTH, REASON_DDP_VERSION, REASON_RDMAP_VERSION, REASON_OPCODE, REASON_TAGGED}
-use Rattle.nr_wire.specs.Segment.{Segment, segment_of, segment_by_form, flaw_by, frame_reason, is_of_other_form, is_supported, is_tagged, is_tagged_opcode, ddp_header_len, ddp_version, rdmap_version, opcode_of, opcode_in, queue_of, ulpdu_len}
-use Rattle.nr_wire.specs.Segment.Segment.{Tagged}
+use Rattle.nr_link.specs.Wire.{OPCODE_SEND_INVALIDATE, REASON_OPCODE, Segment, segment_of, opcode_of, Tagged}
+use Rattle.nr_link.proofs.Wire.{value_unless, DDP_VERSION, RDMAP_VERSION, REASON_LENGTH, REASON_DDP_VERSION, REASON_RDMAP_VERSION, REASON_TAGGED, segment_by_form, flaw_by, frame_reason, is_of_other_form, is_supported, is_tagged, is_tagged_opcode, ddp_header_len, ddp_version, rdmap_version, opcode_in, queue_of, ulpdu_len}
 use Rattle.nr_link.specs.Frames.{Frame}
 use Rattle.nr_link.specs.Ending.{frame_segment, is_not_taken, opcode_is_judged, segment_taken}
 

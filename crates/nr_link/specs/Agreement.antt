@@ -1,9 +1,7 @@
 -- What both sides of a link agree on by the private data of their hellos: how long a Send may be in each direction, and whether a reply is a
 -- Send with Invalidate. All of it is own.
 use Rattle.std.specs.Prelude.{◌≡◌, ℕ, ◌*◌, ◌≤◌, min, Bool, false, not, ◌&&◌, ◌==◌, if◌then◌else◌, List, [], Option, None, Some}
-use Rattle.nr_wire.specs.Constants.{UNITS_MAX}
-use Rattle.nr_wire.specs.declared.terms.Terms.{Terms}
-use Rattle.nr_wire.specs.Terms.{terms_encoding, terms_in, units_byte}
+use Rattle.nr_link.specs.Wire.{UNITS_MAX, Terms, terms_encoding, terms_in, units_byte}
 use Rattle.nr_link.specs.declared.agreement.SideTerms.{SideTerms}
 use Rattle.nr_link.specs.declared.agreement.Agreement.{Agreement}
 use Rattle.nr_link.specs.Limits.{send_unit}

@@ -1,10 +1,8 @@
 -- How far an end has read its peer's stream: the input that it keeps between two pieces.
 use Rattle.std.specs.Prelude.{ℕ, ◌+◌, List, [], ◌++◌, length}
 use Rattle.std.specs.List.{concat}
-use Rattle.nr_wire.specs.declared.hello.Side.{Side}
-use Rattle.nr_wire.specs.declared.stream.Awaited.{Awaited}
 use Rattle.nr_wire.specs.declared.stream.Awaited.TheVariants.{Hello as HelloFrom}
-use Rattle.nr_wire.specs.Stream.{Split, split, awaited_after}
+use Rattle.nr_link.specs.Wire.{Side, Awaited, Split, split, awaited_after}
 use Rattle.nr_link.specs.Frames.{Frame, frames_from}
 
 -- the kind of the frame that comes next, the bytes of it so far, and the offset of its first byte

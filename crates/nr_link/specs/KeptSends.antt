@@ -1,7 +1,7 @@
 -- A begun Send that is longer than its receive: the bytes beyond the receive are counted and not kept. No reason for which a segment ends a
 -- link sees the difference.
 use Rattle.std.specs.Prelude.{◌≡◌, ℕ, ◌-◌, ◌≤◌, List, ◌++◌, length, take, replicate, Option, None, Some}
-use Rattle.nr_wire.specs.Segment.{Segment}
+use Rattle.nr_link.specs.Wire.{Segment}
 use Rattle.nr_regions.specs.declared.denied.Denied.{Denied}
 use Rattle.nr_link.specs.ReceiveState.{ReceiveState, received_after, message_completed}
 use Rattle.nr_link.specs.SegmentFaults.{Readiness, segment_reason}

@@ -2,12 +2,7 @@
 use Rattle.std.specs.Prelude.{ℕ, ◌+◌, ◌-◌, ◌*◌, ◌/◌, ◌%◌, ◌^◌, max, Bool, true, ◌==◌, if◌then◌else◌, List, [], ◌++◌, length, take, drop, Option, None, Some}
 use Rattle.std.specs.List.{flat_map, range_with_len}
 use Rattle.nr_xdr.specs.Item.{word, hyper}
-use Rattle.nr_wire.specs.Constants.{OPCODE_WRITE, OPCODE_READ_REQUEST, OPCODE_READ_RESPONSE, OPCODE_SEND, OPCODE_SEND_INVALIDATE, OPCODE_TERMINATE, QUEUE_SEND, QUEUE_READ_REQUEST, QUEUE_TERMINATE, FLAG_REJECT}
-use Rattle.nr_wire.specs.declared.hello.Side.{Side}
-use Rattle.nr_wire.specs.declared.hello.Side.TheVariants.{Responder}
-use Rattle.nr_wire.specs.Hello.{hello_encoding}
-use Rattle.nr_wire.specs.Segment.{Segment, encoding}
-use Rattle.nr_wire.specs.Segment.Segment.{Tagged, Untagged}
+use Rattle.nr_link.specs.Wire.{OPCODE_WRITE, OPCODE_READ_REQUEST, OPCODE_READ_RESPONSE, OPCODE_SEND, OPCODE_SEND_INVALIDATE, OPCODE_TERMINATE, QUEUE_SEND, QUEUE_READ_REQUEST, QUEUE_TERMINATE, FLAG_REJECT, Side, Responder, hello_encoding, Segment, encoding, Tagged, Untagged}
 use Rattle.nr_link.specs.Limits.{segment_max}
 
 -- how many segments the bytes take: each has at most segment_max of them, and no bytes take one segment
