@@ -14,7 +14,8 @@ LINK = 1
 CREDITS, UNITS, CAPACITY, EXPORT = 16, 4, 10 ** 9, '/'
 USES = {
     'link': ('Input.{initial_input, input_frames, input_after}',),
-    'reduce': ('Events.{mark_events}', 'History.{written_at, fed_at, other}', 'ClientState.{call_payload}'),
+    'wire': ('Hello.{peer}',),
+    'reduce': ('Events.{mark_events}', 'History.{written_at, fed_at}', 'ClientState.{call_payload}'),
     'rpc': ('Reading.{call_of}',),
     'tree': ('Roots.{root_only}',),
     'plain': ('Replies.{plain_answer}', 'Added.{entries_of_call}', 'Journal.{first_state, next_state}'),
@@ -70,7 +71,7 @@ class Side:
         self.state = self.step('first')
         self.due: list[int] = list(self.step('greeting')) if side == 'client' else []
         self.sent = self.fed = 0
-        self.input = names.of('initial_input', names.of('other', self.at))
+        self.input = names.of('initial_input', names.of('peer', self.at))
 
     def step(self, role: str, *more: Value) -> Value:
         steps = self.names.steps
@@ -220,7 +221,7 @@ def check_sides(names: Definitions, client: Side, server: Side, both: list[Value
         compare('mark %d: whether it is of a side' % (i + 1), True, names.of('is_client_mark', LINK, mark) or names.of('is_own', LINK, mark))
         for at in (client.at, server.at):
             came, start = names.of('fed_at', LINK, at, mark), fed[at.n]
-            compare('mark %d: bytes fed' % (i + 1), came, sent[names.of('other', at).n][start:start + len(came)])
+            compare('mark %d: bytes fed' % (i + 1), came, sent[names.of('peer', at).n][start:start + len(came)])
             fed[at.n] += len(came)
         for at in (client.at, server.at):
             sent[at.n] += names.of('written_at', LINK, at, mark)

@@ -27,7 +27,7 @@ entry_by false x y e p q = q
 tagged_is : (client xid : ℕ) (e : Entry) → (tagged client xid e).entry ≡ e
 tagged_is client xid e = entry_by (client == 0) (record { entry = e; client = 0; xid = 0 }) (record { entry = e; client = client; xid = xid }) e refl refl
 
-tagged_alone : (client xid : ℕ) (es : List Entry) → entries_alone (map (tagged client xid) es) ≡ es
+pub tagged_alone : (client xid : ℕ) (es : List Entry) → entries_alone (map (tagged client xid) es) ≡ es
 tagged_alone client xid [] = refl
 tagged_alone client xid (e ∷ es) = λ i. tagged_is client xid e i ∷ tagged_alone client xid es i
 
