@@ -1,5 +1,5 @@
 -- What the client of a run wrote: its hello, and the message of each call that it accepted.
-use Rattle.std.proofs.Common.{◌≡◌, ℕ, suc, ◌+◌, Bool, true, false, cond, ◌&&◌, eqb, List, [], ◌∷◌, ◌++◌, length, drop, map, Option, None, Some, Result, refl, sym, ap, subst, ◌∙◌, arith, append_assoc, append-nil, length-append, inl, eqb-true}
+use Rattle.std.proofs.Common.{◌≡◌, ℕ, suc, Bool, true, false, cond, ◌&&◌, eqb, List, [], ◌∷◌, ◌++◌, length, drop, map, Option, None, Some, Result, refl, sym, ap, subst, ◌∙◌, arith, append_assoc, append-nil, length-append, inl, eqb-true}
 use Rattle.nr_wire.specs.declared.hello.Side.TheVariants.{Initiator, Responder}
 use Rattle.nr_link.specs.declared.end.End.{End as Stop}
 use Rattle.nr_link.specs.Frames.{Frame, frames_completed}
