@@ -11,6 +11,7 @@ mod links;
 mod links_client;
 mod links_work;
 mod sends;
+mod shared;
 mod tree;
 mod words;
 
@@ -19,6 +20,8 @@ use std::alloc::Global;
 use std::env;
 use std::env::Args;
 use std::process::ExitCode;
+use std::sync::Wait;
+use std::thread::Threads;
 
 /// The size of the block by which the allocator is made to keep the memory of a call for the next one, in bytes, as `get`
 /// and `put` have it.
@@ -34,10 +37,19 @@ fn measured(alloc: Global, name: &str, words: &mut Args) -> Option<u64> {
 }
 
 /// Runs a benchmark, and prints its line.
-fn run(rt: HostRuntime, name: &str, words: &mut Args) -> Option<()> {
+fn run<R: Threads + Wait + Sync>(
+    rt: HostRuntime,
+    runtime: &R,
+    name: &str,
+    words: &mut Args,
+) -> Option<()> {
     if name == "links" {
         let (total, micros) = links::measure(rt, words)?;
         return println!(rt; "{total} {micros}").ok();
+    }
+    if name == "shared" {
+        let (own, unanswered) = shared::measure(rt, runtime, words)?;
+        return println!(rt; "{own} {unanswered}").ok();
     }
     let total = measured(rt.alloc(), name, words)?;
     println!(rt; "{total}").ok()
@@ -53,7 +65,7 @@ fn main(rt: HostRuntime) -> ExitCode {
         let Some(name) = words.next() else {
             return ExitCode::SUCCESS;
         };
-        if run(rt, name.as_str(), &mut words).is_none() {
+        if run(rt, &rt, name.as_str(), &mut words).is_none() {
             return ExitCode::FAILURE;
         }
     }
