@@ -3,11 +3,12 @@
     python3 conformance/check_drills.py [--only WORD] [--jobs N] [--drains]
     python3 conformance/check_drills.py --record PROGRAM
 
-It takes the scripts of scripts.json.gz that run, and those of drills.json.gz, with what the built nfsrdma printed of them. Of a
-script that is generated it also evaluates the generator, whose script must be what the text says, and the line of sums. The
-replies of the plain server are those recorded in plain_scripts.json.gz; with --record they are asked of the built plain_calls,
-and recorded. With --drains it makes each drain step by step, and asks that each step of a link that moves something leaves less
-work, as long as no line before put bytes into the pipes of the link. Exit status: 0 all agree, 1 some differ, 2 nothing could be run."""
+It takes the scripts of scripts.json.gz that run, and those of drills.json.gz, with what the built nfsrdma printed of them; and those
+of rejoin_scripts.json.gz: their clients have numbers, so they are no scripts yet, and are read line by line. Of a script that is
+generated it also evaluates the generator, whose script must be what the text says, and the line of sums. The replies of the plain
+server are those recorded in plain_scripts.json.gz; with --record they are asked of the built plain_calls, and recorded. With
+--drains it makes each drain step by step, and asks that each step of a link that moves something leaves less work, as long as no
+line before put bytes into the pipes of the link. Exit status: 0 all agree, 1 some differ, 2 nothing could be run."""
 import argparse
 import gzip
 import json
@@ -19,21 +20,26 @@ import traceback
 from typing import Any
 
 from antt import ROOT, Project
-from check_definitions import HERE, Recorded, shorten
+from check_definitions import HERE, NAMES, RUNS, Names, Recorded, recorded, shorten
 from compare_scripts import SCRIPTS
 from ends import Ends
-from values import NONE, CannotEvaluate, Fn, Value, call, deeply, some
+from values import NONE, CannotEvaluate, Con, Fn, Value, call, deeply, show, some
 
 PLAIN = os.path.join(HERE, 'plain_scripts.json.gz')
 DRILLS = os.path.join(HERE, 'drills.json.gz')
+# scripts in which clients begin further links, and the plain server's replies to their calls
+REJOIN = os.path.join(HERE, 'rejoin_scripts.json.gz')
+REJOIN_PLAIN = os.path.join(HERE, 'plain_rejoin.json.gz')
 ROUNDS_MAX = 10_000
 USES = (
     'use Rattle.nr_plain.specs.Added.{entries_of_call}',
     'use Rattle.nr_script.specs.Script.{script_of}',
     'use Rattle.nr_script.specs.Generator.{made_script}',
+    'use Rattle.nr_script.specs.Lines.{line_in}',
+    'use Rattle.nr_texts.specs.Openings.{opening_in}',
     'use Rattle.std.specs.Prelude.{length}',
     'use Rattle.nr_reduce.specs.Run.{server}',
-    'use Rattle.nr_drill.specs.Drill.{links_of, pipes_of, after_round}',
+    'use Rattle.nr_drill.specs.Drill.{pipes_of, after_round, setting_now}',
     'use Rattle.nr_drill.specs.Follows.{after_line, is_still, setting_of, opened_drill}',
     'use Rattle.nr_drill.specs.WorkLeft.{after_step, work_left}',
     'use Rattle.nr_drill.specs.WorkLeft.DrainStep.{AllUp, Work, AllDown}',
@@ -42,10 +48,11 @@ USES = (
 )
 ROLES = {
     'adds': 'λ moment payload reply. entries_of_call moment payload reply', 'script_of': 'λ text. script_of text',
-    'links': 'λ clients. links_of clients', 'round': 'λ setting links drill. after_round setting links drill',
+    'first': 'λ words. opening_in words', 'other': 'λ words. line_in words',
+    'now': 'λ setting drill. setting_now setting drill', 'round': 'λ setting links drill. after_round setting links drill',
     'line': 'λ setting line drill. after_line setting line drill', 'still': 'λ setting drill link. is_still setting drill link',
     'setting': 'λ server opening. setting_of server opening', 'opened': 'λ server opening. opened_drill server opening',
-    'shown': 'λ setting clients run. shown setting clients run', 'sums': 'λ setting run. summary setting run',
+    'shown': 'λ setting links run. shown setting links run', 'sums': 'λ setting links run. summary setting links run',
     'made': 'λ seed clients calls. made_script seed clients calls',
     'up': 'λ setting link drill. after_step setting link AllUp drill', 'work': 'λ setting link drill. after_step setting link Work drill',
     'down': 'λ setting link drill. after_step setting link AllDown drill', 'left': 'λ setting drill link. work_left setting drill link',
@@ -96,24 +103,38 @@ class Drills:
     def ask(self, role: str, *args: Value) -> Value:
         return call(self.role[role], *args)
 
+    def read(self, text: str) -> Value:
+        """What a text says: a script, or the number of its first invalid line. If its clients have numbers, what its lines say."""
+        lines = [line for line in text.split('\n') if line and not line.startswith('#')]
+        read = self.ask('script_of', list(text.encode('latin-1')))
+        if 'numbered' not in lines[0].split(' ') or read.n == 'Ok':
+            return read
+        words = [[list(word.encode('latin-1')) for word in line.split(' ')] for line in lines]
+        parts = [self.ask('first', words[0]), *(self.ask('other', w) for w in words[1:])]
+        bad = [i + 1 for i, part in enumerate(parts) if part == NONE]
+        return Con('Err', bad[0]) if bad else Con('Ok', {'opening': parts[0].a[0], 'lines': [part.a[0] for part in parts[1:]]})
+
     def made(self, script: Value, answers: Answers) -> tuple[Value, Value]:
         """What a script is made with, and the drill after its last line."""
         self.ends.begin()
         server = {'reply_to': Fn(3, answers.reply_to), 'adds': self.role['adds']}
         opening = script['opening']
         setting, drill = self.ask('setting', server, opening), self.ask('opened', server, opening)
-        links = self.ask('links', opening['clients'])
-        calm = set(links)
+        calm = set(drill['last_links'])
         for line in script['lines']:
-            drill = self.drained(setting, links, drill, calm) if line.n == 'Drain' else self.ask('line', setting, line, drill)
+            if line.n == 'Drain':
+                drill = self.drained(self.ask('now', setting, drill), drill['last_links'], drill, calm)
+            else:
+                drill = self.ask('line', setting, line, drill)
             calm = {link for link in calm if not self.ask('raw', link, line)}
         return setting, drill
 
-    def printed(self, script: Value, answers: Answers) -> tuple[str, str]:
-        """What is printed of a script: the report, and the line of sums."""
+    def printed(self, script: Value, answers: Answers) -> tuple[str, str, list[Value]]:
+        """What is printed of a script: the report, and the line of sums; and its marks."""
         setting, drill = self.made(script, answers)
-        texts = (self.ask('shown', setting, script['opening']['clients'], drill['marks']), self.ask('sums', setting, drill['marks']))
-        return bytes(texts[0]).decode('latin-1'), bytes(texts[1]).decode('latin-1')
+        now, last = self.ask('now', setting, drill), drill['last_links']
+        texts = (self.ask('shown', now, last, drill['marks']), self.ask('sums', now, last, drill['marks']))
+        return bytes(texts[0]).decode('latin-1'), bytes(texts[1]).decode('latin-1'), drill['marks']
 
     def stepped(self, setting: Value, link: int, step: str, drill: Value, calm: set[int]) -> Value:
         """A drill after a step of a link, which leaves less work if it moves something and no raw line was of the link."""
@@ -154,6 +175,9 @@ STATE: dict[str, Any] = {}
 
 def prepare(project: str, plain: dict[str, dict[str, str]], program: str | None, by_steps: bool) -> None:
     STATE.update(drills=deeply(Drills, project, by_steps), plain=plain, program=program)
+    with open(NAMES, encoding='utf-8') as h:
+        STATE['names'] = deeply(Names, project, json.load(h))
+    STATE['runs'] = {r['name']: r for r in recorded(RUNS) if 'rejoin' in r['needs']}
 
 
 def wanted_of(script: Recorded) -> tuple[str, str | None]:
@@ -172,14 +196,38 @@ def first_difference(computed: str, wanted: str) -> str | None:
 
 def compared(drills: Drills, script: Recorded, answers: dict[str, str]) -> str | None:
     """What differs between a recorded script and the definitions."""
-    read = drills.ask('script_of', list(script['script'].encode('latin-1')))
+    read = drills.read(script['script'])
     if read.n != 'Ok':
         return 'it is no script, at line %d' % read.a[0]
     if 'seed' in script and drills.ask('made', script['seed'], script['clients'], script['calls']) != read.a[0]:
         return 'it is not the script that is made from its seed'
-    text, sums = drills.printed(read.a[0], Answers(answers, STATE['program'], read.a[0]['opening']['capacity']))
+    text, sums, marks = drills.printed(read.a[0], Answers(answers, STATE['program'], read.a[0]['opening']['capacity']))
     report, line = wanted_of(script)
-    return first_difference(text, report) or (first_difference(sums, line) if line is not None else None)
+    problem = first_difference(text, report) or (first_difference(sums, line) if line is not None else None)
+    return problem or marks_differ(script['name'], marks)
+
+
+def in_order(marks: list[Recorded]) -> list[Recorded]:
+    """Done marks that one piece brings, in the order of their Submits: the record has them as they came."""
+    out: list[Recorded] = []
+    for m in marks:
+        at = len(out)
+        while m['mark'] == 'Done' and at > 0 and out[at - 1]['mark'] == 'Done' and out[at - 1]['link'] == m['link'] and out[at - 1]['xid'] > m['xid']:
+            at -= 1
+        out.insert(at, m)
+    return out
+
+
+def marks_differ(name: str, marks: list[Value]) -> str | None:
+    """Whether the marks of a script are those of the recorded run of its name, if there is one."""
+    run = STATE['runs'].get(name)
+    if run is None:
+        return None
+    wanted = [STATE['names'].mark(m) for m in in_order(run['marks'])]
+    for i, (w, c) in enumerate(zip(wanted, marks)):
+        if w != c:
+            return 'mark %d: wanted %s, computed %s' % (i + 1, shorten(show(w), 200), shorten(show(c), 200))
+    return None if len(wanted) == len(marks) else 'wanted %d marks, computed %d' % (len(wanted), len(marks))
 
 
 def check(script: Recorded) -> tuple[str, str | None, dict[str, str]]:
@@ -195,9 +243,9 @@ def check(script: Recorded) -> tuple[str, str | None, dict[str, str]]:
 
 
 def recorded_scripts() -> list[Recorded]:
-    """The scripts of both files; drills.json.gz may be missing."""
+    """The scripts of all files; drills.json.gz may be missing."""
     scripts: list[Recorded] = []
-    for path in filter(os.path.exists, (SCRIPTS, DRILLS)):
+    for path in filter(os.path.exists, (SCRIPTS, DRILLS, REJOIN)):
         with gzip.open(path, 'rt', encoding='utf-8') as h:
             scripts += [s for s in json.load(h) if s['status'] == 0]
     return scripts
@@ -216,6 +264,8 @@ def main(argv: list[str]) -> int:
     if os.path.exists(PLAIN):
         with gzip.open(PLAIN, 'rt', encoding='utf-8') as h:
             plain = json.load(h)
+    with gzip.open(REJOIN_PLAIN, 'rt', encoding='utf-8') as h:
+        plain.update(json.load(h))
     try:
         deeply(Drills, a.project)
     except CannotEvaluate as e:

@@ -16,7 +16,7 @@ from collections.abc import Iterable
 from typing import Any
 
 from antt import ROOT
-from check_definitions import NAMES, RUNS, Names, Recorded, bytes_of, recorded, weight
+from check_definitions import NAMES, RUNS, Names, Recorded, bytes_of, opening_of, recorded, weight
 from ends import Ends
 from values import NONE, CannotEvaluate, Value, call, deeply
 
@@ -26,7 +26,7 @@ PLAIN = os.path.join(HERE, 'plain.json.gz')
 Finding = tuple[str, bool, tuple[str, ...], str, int]
 
 USES = [
-    'use Rattle.nr_reduce.specs.ClientState.{call_payload, plan_for, client_memory_at, responses_owed}',
+    'use Rattle.nr_reduce.specs.ClientState.{call_payload, plan_for, stag_for, waiting_call, client_memory_at, responses_owed}',
     'use Rattle.nr_reduce.specs.Written.{ends_written, ends_waiting}',
     'use Rattle.nr_reduce.specs.DueItems.{items_due, hello_due}',
     'use Rattle.nr_link.specs.OutputItem.{items_encoding, is_send_item, is_response_item, items_written, items_left}',
@@ -61,6 +61,9 @@ USES = [
     'use Rattle.nr_reduce.specs.Hellos.{client_agreement, server_agreement}',
     'use Rattle.nr_reduce.specs.ServerState.{credit_word, is_busy}',
     'use Rattle.nr_laws.specs.Grant.{last_granted}',
+    'use Rattle.nr_reduce.specs.Client.{has_same_sizes}',
+    'use Rattle.nr_reduce.specs.Hellos.{client_private}',
+    'use Rattle.nr_link.specs.Agreement.{agreement, responder_private}',
 ]
 ROLES: dict[str, str] = {
     'events': 'λ link side before mark. events_at link side before mark',
@@ -72,8 +75,9 @@ ROLES: dict[str, str] = {
     'conveyed': 'λ form payload. form_conveyed form payload',
     'plan': 'λ state xid call form. plan_for state xid call form',
     'has_head': 'λ payload. call_of payload',
-    'message': 'λ opened state xid plan. call_message xid opened.wished state.stag plan',
-    'lists_of': 'λ stag plan. lists_of stag plan',
+    'message': 'λ opened state xid plan. call_message xid opened.wished (stag_for state xid) plan',
+    'lists_of': 'λ state xid plan. lists_of (stag_for state xid) plan',
+    'waiting': 'λ state xid. waiting_call state xid',
     'header': 'λ message. header_of message',
     'known': 'λ message body. known_stream message body',
     'lists': 'λ body. lists_by body',
@@ -110,7 +114,7 @@ ROLES: dict[str, str] = {
     'response': 'λ sink to bytes. read_response sink to bytes',
     'memory': 'λ state place stag. client_memory_at state place stag',
     'tagged': 'λ frame segment. tagged_access frame segment',
-    'chunks': 'λ state call. buffers state.stag (outstanding_of state call).plan',
+    'chunks': 'λ state call. buffers (outstanding_of state call).stag (outstanding_of state call).plan',
     'agreed_client': 'λ opened f. client_agreement opened f',
     'agreed_server': 'λ opened f. server_agreement opened f',
     'waits': 'λ state ended. first_ready state.ready ended',
@@ -121,6 +125,7 @@ ROLES: dict[str, str] = {
     'word': 'λ state. credit_word state',
     'busy': 'λ state. is_busy state',
     'last_granted': 'λ link credits run. last_granted link credits run',
+    'agrees_again': 'λ opened. has_same_sizes opened.agreed (agreement (client_private opened) (responder_private opened.server (client_private opened)))',
 }
 LAWS = (
     'once: Sends',
@@ -175,6 +180,8 @@ LAWS = (
     'segments_keep_the_rules: server',
     'matched_links_stay: stays',
     'matched_links_stay: clients',
+    'once_each: entries',
+    'once_each: completed',
 )
 CALL_REASONS, REPLY_REASONS = (18,), (18, 19)
 
@@ -197,7 +204,7 @@ class Link:
 
     def __init__(self, names: Roles, run: Recorded, number: int, found: list[Finding]) -> None:
         self.names, self.run, self.number, self.found = names, run, number, found
-        self.opened = names.opened(next(x for x in run['opened'] if x['link'] == number))
+        self.opened = opening_of(names, run, number)
         self.ends = {'client': names.ask('first_client', self.opened), 'server': names.ask('first_server', self.opened)}
         self.marks: list[Value] = []
         self.matched = self.is_matched()
@@ -330,7 +337,8 @@ class Link:
         self.note(law + ' adds', same and len(new) >= len(old))
         added = new[len(old):]
         if side == 'client' and event.n == 'CallSubmitted' and before['ended'].n == 'None':
-            chunks = self.names.ask('chunks', before['state'], event.a[1])
+            again = self.names.ask('waiting', before['state'], event.a[1]['xid']).n == 'Some'
+            chunks = [] if again else self.names.ask('chunks', before['state'], event.a[1])
             fields = ('stag', 'right', 'bytes')
             same = [[r[k] for k in fields] for r in added] == [[c[k] for k in fields] for c in chunks]
             own = all(r['from'] == event.a[0] and r['call'] == event.a[1]['xid'] for r in added)
@@ -356,7 +364,7 @@ class Link:
 
     def is_needed(self, side: str, k: Value, r: Value) -> bool:
         if side == 'client':
-            return any(o['xid'] == r['call'] and not o['is_revoked'] for o in k['outstanding'])
+            return any(o['xid'] == r['call'] and not o['is_revoked'] for o in k['outstanding'] + k['waiting'])
         pending = any(c['number'] == r['call'] for c in k['calls'])
         return any(q['number'] == r['call'] and (pending or q['position'] == r['position']) for q in k['reads'])
 
@@ -412,7 +420,7 @@ class Link:
         plan = self.names.ask('plan', state, x, c, form).a[0]
         message = self.names.ask('message', self.opened, state, x, plan)
         self.submits[x] = {'payload': self.names.ask('payload', x, c), 'form': m['form'], 'made': form, 'plan': plan,
-                           'offer': self.names.ask('lists_of', state['stag'], plan), 'message': message,
+                           'offer': self.names.ask('lists_of', state, x, plan), 'message': message,
                            'refused': self.is_refused(message)}
         if m['form']['kind'] != 'Given':
             self.note('chunk_outcomes: own plans', not self.submits[x]['refused'], self.kind(x))
@@ -436,9 +444,10 @@ class Link:
         number = state['ready'][0]['number']
         self.note('once: Sends', number not in self.numbers, () if self.matched else ('not matched',))
         self.numbers.add(number)
-        adds = ask('adds', {'seconds': m['seconds'], 'nanos': m['nanos']}, q, reply)
-        self.note('journal: places', self.run['journal'] == m['place'], ('adds',) if adds else ())
-        self.run['journal'] += len(adds)
+        adds = [] if m.get('kept') else ask('adds', {'seconds': m['seconds'], 'nanos': m['nanos']}, q, reply)
+        if not m.get('kept'):
+            self.note('journal: places', self.run['entries'] == m['place'], ('adds',) if adds else ())
+            self.run['entries'] += len(adds)
         kept = ask('offer', state, x)
         answer = ask('answer', kept, state, q, reply)
         if answer.n == 'Some':
@@ -524,16 +533,19 @@ class Link:
         ends = self.run['ends'][str(self.number)]
         kinds = tuple(sorted({k for x in self.submits for k in self.kind(x)}))
         stops = [s for s in ('client', 'server') if ends[s] is not None]
+        has_old_call = any(m['mark'] == 'Old' for m in mine)
+        agrees_again = self.names.ask('agrees_again', self.opened)
         for s in ('client', 'server'):
             first, other = ends[s], ends['server' if s == 'client' else 'client']
-            if first is not None and (other is None or other['kind'] == 'Terminated'):
+            stands = agrees_again if s == 'client' else not has_old_call
+            if stands and first is not None and (other is None or other['kind'] == 'Terminated'):
                 bad = first['kind'] == 'Bad' and first['reason'] in (CALL_REASONS if s == 'server' else REPLY_REASONS)
                 self.note('segments_keep_the_rules: ' + s, bad or s == 'client' and first['kind'] == 'Denied', kinds)
         conveys = all(s['form']['kind'] != 'Given' or self.conveys(s) for s in self.submits.values())
         revokes = any(m['mark'] == 'Revoke' for m in mine)
-        if conveys and not revokes:
+        if conveys and not revokes and agrees_again and not has_old_call:
             self.note('matched_links_stay: stays', not stops, kinds)
-        if not revokes and ends['server'] is None:
+        if not revokes and agrees_again and ends['server'] is None:
             self.note('matched_links_stay: clients', ends['client'] is None, kinds)
         def joined(kind: str, side: str) -> str:
             return ''.join(m['bytes'] for m in mine if m['mark'] == kind and m['side'] == side)
@@ -541,10 +553,12 @@ class Link:
         arrived = all(joined('Wrote', s) == joined('Fed', t) for s, t in (('client', 'server'), ('server', 'client')))
         settled = not stops and arrived
         waits = self.names.ask('waits', self.ends['server']['state'], self.ends['server']['ended']).n == 'Some'
-        if settled and not waits:
-            out = self.run['out'][str(self.number)]
+        # of a link that was left the record doesn't say how many calls are out
+        out = self.run['out'].get(str(self.number))
+        if settled and not waits and out is not None:
             given_up = {m['xid'] for m in mine if m['mark'] in ('Forget', 'Revoke', 'Lost')}
-            self.note('calls_complete', out == 0 and all(x in self.dones for x in self.submits if x not in given_up), kinds)
+            none_waits = not self.ends['client']['state']['waiting']
+            self.note('calls_complete', out == 0 and none_waits and all(x in self.dones for x in self.submits if x not in given_up), kinds)
             for x in self.submits:
                 if x not in given_up and self.has_cause(x):
                     self.note('chunk_outcomes: completed', self.dones.get(x) == 'Chunk', self.kind(x))
@@ -590,7 +604,7 @@ def check(run: Recorded) -> list[Finding]:
     def body() -> list[Finding]:
         found: list[Finding] = []
         STATE['ends'].begin()
-        run['plainly'], run['journal'] = is_plainly(run), 0
+        run['plainly'], run['entries'] = is_plainly(run), 0
         links = [Link(STATE['names'], run, o['link'], found) for o in run['opened']]
         for m in run['marks']:
             for link in links:
@@ -598,16 +612,17 @@ def check(run: Recorded) -> list[Finding]:
         for link in links:
             link.finish()
         places(run, {link.number: link for link in links}, found)
+        once_each(run, {link.number: link for link in links}, found)
         return found
     result: list[Finding] = deeply(body)
     return result
 
 
 def places(run: Recorded, links: dict[int, Link], found: list[Finding]) -> None:
-    """A call that is submitted after the outcome of another has a place that isn't smaller."""
+    """A call that is submitted after the outcome of another has a place that isn't smaller, unless it is sent again or was kept."""
     place: dict[tuple[int, int], int] = {}
     for m in run['marks']:
-        if m['mark'] == 'Execute':
+        if m['mark'] == 'Execute' and not m.get('kept'):
             place[(m['link'], m['xid'])] = m['place']
     seen: list[int] = []
     for i, m in enumerate(run['marks']):
@@ -615,10 +630,33 @@ def places(run: Recorded, links: dict[int, Link], found: list[Finding]) -> None:
             continue
         if m['mark'] == 'Done' and (m['link'], m['xid']) in place:
             seen.append(place[(m['link'], m['xid'])])
-        if m['mark'] == 'Submit' and m['answer']['kind'] == 'Accepted' and seen:
+        if m['mark'] == 'Submit' and m['answer']['kind'] == 'Accepted' and seen and not m.get('resent'):
             p = place.get((m['link'], m['answer']['xid']))
             if p is not None:
                 found.append(('places', p >= max(seen), links[m['link']].kind(m['answer']['xid']), run['name'], i + 1))
+
+
+def once_each(run: Recorded, links: dict[int, Link], found: list[Finding]) -> None:
+    """No two entries are of one call of a client with a number, and a change that completed on matched links has its entry."""
+    entries = [(e['client'], e['xid']) for e in run.get('journal', ()) if e['client']]
+    before = {o['link']: o.get('after') for o in run['opened']}
+    if entries:
+        kinds = ('links after it',) if any(before.values()) else ()
+        found.append(('once_each: entries', len(set(entries)) == len(entries), kinds, run['name'], len(run['marks'])))
+
+    def matched(link: int | None) -> bool:
+        return link is None or links[link].matched and matched(before[link])
+
+    for i, m in enumerate(run['marks']):
+        link = links[m['link']]
+        client = link.opened['client']['number']
+        if m['mark'] != 'Done' or m['outcome']['kind'] != 'Reply' or client == 0 or not matched(m['link']):
+            continue
+        submitted = link.submits[m['xid']]
+        payload = link.names.ask('conveyed', submitted['made'], submitted['payload'])
+        if payload.n == 'Some' and link.names.ask('adds', {'seconds': 0, 'nanos': 0}, payload.a[0], bytes_of(m['outcome']['payload'])):
+            kinds = ('links before it',) if before[m['link']] else ()
+            found.append(('once_each: completed', (client, m['xid']) in entries, kinds, run['name'], i + 1))
 
 
 def print_counts(seen: dict[str, dict[str, tuple[int, str]]]) -> None:

@@ -2,8 +2,9 @@
 
     python3 conformance/run.py [--jobs N]
 
-It runs test_evaluator.py, joined_frames.py, check_grammar.py, check_drills.py, captures_of_runs.py, check_definitions.py
-and laws_of_runs.py, one after the other, on all processors. Exit status: 0 if all of them agree, else 1."""
+It runs test_evaluator.py, check_numbered.py, joined_frames.py, check_grammar.py, check_drills.py, captures_of_runs.py,
+check_definitions.py and laws_of_runs.py, one after the other, on all processors. Exit status: 0 if all of them agree,
+else 1."""
 import argparse
 import os
 import subprocess
@@ -13,6 +14,7 @@ import time
 HERE = os.path.dirname(os.path.abspath(__file__))
 STEPS = (
     ('The evaluator against definitions whose values are known', 'test_evaluator.py', False),
+    ('The plain server on calls of numbered clients', 'check_numbered.py', False),
     ('Frames of a command and its server in one piece', 'joined_frames.py', False),
     ('The grammar of scripts on the recorded scripts', 'check_grammar.py', True),
     ('The definitions of a drill on the recorded scripts', 'check_drills.py', True),

@@ -1,7 +1,7 @@
 -- What a client writes are bytes, whatever its server sends.
 use Rattle.std.specs.Prelude.{not, sum}
 use Rattle.std.specs.List.{AllByRecursion}
-use Rattle.std.proofs.Common.{◌≡◌, ℕ, ◌+◌, Bool, true, false, cond, eqb, ltb, leb, List, [], ◌∷◌, ◌++◌, length, map, take, drop, replicate, Option, None, Some, Result, Ok, Err, refl, ◌&&◌}
+use Rattle.std.proofs.Common.{◌≡◌, ℕ, ◌+◌, Bool, true, false, cond, eqb, ltb, leb, List, [], ◌∷◌, ◌++◌, length, map, take, drop, replicate, Option, None, Some, Result, Ok, Err, refl, sym, subst, ◌&&◌}
 use Rattle.nr_xdr.specs.Item.{IsBytes}
 use Rattle.nr_xdr.specs.Fields.{word_at}
 use Rattle.nr_xdr.proofs.WordBytes.{IsBytes_take, IsBytes_drop}
@@ -28,13 +28,15 @@ use Rattle.nr_reduce.specs.Events.RunEvent.{FrameReceived, CallSubmitted, Memory
 use Rattle.nr_reduce.specs.EndRules.{output_for_all}
 use Rattle.nr_reduce.specs.Items.{reducible_item}
 use Rattle.nr_reduce.specs.OfferedRegions.{region_grants}
-use Rattle.nr_reduce.specs.Plans.{TooLarge, Buffer, plan_of, plan_in_form, inline_plan, given_within, given_total, within, plan_size, reduced_plan, reduced_plan_by, long_plan, offering, auto_offer, auto_plan, write_offer, given_read, buffer_if, buffers, has_segment, total, read_stag, write_stag, reply_stag}
-use Rattle.nr_reduce.specs.ClientState.{ClientState, OutstandingCall, call_payload, plan_for, client_memory_at}
+use Rattle.nr_reduce.specs.Plans.{TooLarge, Buffer, plan_of, plan_in_form, inline_plan, given_within, given_total, within, plan_size, reduced_plan, reduced_plan_by, long_plan, offering, auto_offer, auto_plan, write_offer, given_read, buffer_if, buffers, has_segment, total, read_stag, write_stag, reply_stag, regions_needed}
+use Rattle.nr_reduce.specs.declared.mark.ResumedCall.{ResumedCall}
+use Rattle.nr_reduce.specs.ClientState.{ClientState, OutstandingCall, WaitingCall, call_payload, plan_for, plan_unless, waiting_call, waiting_from, waiting_regions, client_memory_at, region_of}
 use Rattle.nr_reduce.specs.ClientMessages.{reply_verdict}
-use Rattle.nr_reduce.specs.Client.{client_segment, outcomes_of, due_with_response, with_hello, client_rules, client_output, client_state_after, call_output, calls_output, response_output, segment_request, plan_or, outstanding_of, region_of, with_message, with_request, with_segment, revoked_call, initial_client}
+use Rattle.nr_reduce.specs.Client.{client_segment, outcomes_of, due_with_response, with_hello, client_rules, client_output, client_state_after, call_output, calls_output, response_output, segment_request, plan_or, outstanding_of, with_message, with_request, with_segment, revoked_call, revoked_waiting, regions_unless_waiting, initial_client}
 use Rattle.nr_reduce.specs.Run.{client, output_due}
 use Rattle.nr_laws.specs.Typed.{IsTyped}
-use Rattle.nr_byte_laws.specs.DueBytes.{CompletedInBytes}
+use Rattle.nr_byte_laws.specs.DueBytes.{CompletedInBytes, ResumedInBytes, AreInBytes}
+use Rattle.nr_laws.proofs.WaitingCalls.{first_there, others_there}
 use Rattle.nr_laws.proofs.EventOutputs.{IsNext}
 use Rattle.nr_laws.proofs.Basics.{each_append, each_kept}
 use Rattle.nr_laws.proofs.Bytes.{bytes_both}
@@ -115,9 +117,20 @@ or_bytes : (payload : List ℕ) (r : Result Plan TooLarge) → IsBytes payload �
 or_bytes payload (Ok p) h g = g
 or_bytes payload (Err large) h g = (h, no_bytes_lem)
 
-submitted_bytes : (k : ClientState) (a : AcceptedCall) → IsBytes (call_payload a.xid a.call) → PlanOfBytes (outstanding_of k a).plan
+-- a call that waits to be sent again has its plan
+abbrev WaitsInBytes : WaitingCall → Type 0
+WaitsInBytes w = PlanOfBytes w.plan
+
+submitted_bytes : (k : ClientState) (a : AcceptedCall) → IsBytes (call_payload a.xid a.call) → AllByRecursion WaitsInBytes k.waiting → PlanOfBytes (outstanding_of k a).plan
 unfolding plan_for
-submitted_bytes k a h = or_bytes (call_payload a.xid a.call) (plan_for k a.xid a.call a.form) h (plan_bytes (call_payload a.xid a.call) a.form _ _ h)
+submitted_bytes k a h waits = by (waiting_call k a.xid) refl
+  where
+    payload : List ℕ
+    payload = call_payload a.xid a.call
+
+    by : (x : Option WaitingCall) → waiting_call k a.xid ≡ x → PlanOfBytes (plan_or payload (plan_unless x (plan_of payload a.form k.up_max k.down_max)))
+    by None is = or_bytes payload (plan_of payload a.form k.up_max k.down_max) h (plan_bytes payload a.form k.up_max k.down_max h)
+    by (Some w) is = first_there WaitsInBytes k.waiting a.xid w waits is
 
 buffer_regions : (xid place : ℕ) (b : Bool) (stag : ℕ) (right : Right) (bytes : List ℕ) → IsBytes bytes → AllByRecursion RegionOfBytes (map (region_of xid place) (buffer_if b stag right bytes))
 buffer_regions xid place true stag right bytes h = (h, tt)
@@ -149,6 +162,7 @@ record ClientOfBytes (k : ClientState) : Type 0 where
   regions : AllByRecursion RegionOfBytes k.regions
   accesses : AllByRecursion AccessOfBytes k.accesses_received
   outcomes : AllByRecursion CompletedInBytes k.outcomes
+  waits : AllByRecursion WaitsInBytes k.waiting
 
 memory_of_bytes : (k : ClientState) (place : ℕ) → ClientOfBytes k → MemoryOfBytes (client_memory_at k place)
 memory_of_bytes k place h stag = memory_bytes (region_grants place k.regions) k.regions k.accesses_received stag h.regions h.accesses
@@ -177,7 +191,7 @@ client_written_lem o k (FrameReceived f) c h = by (is_hello f)
 client_written_lem o k (CallSubmitted place a) c h = by k.has_hello
   where
     by : (b : Bool) → IsBytes (cond b (call_output o (k.sends + 1) (outstanding_of k a)) [])
-    by true = call_bytes o (k.sends + 1) (outstanding_of k a) (submitted_bytes k a c).0
+    by true = call_bytes o (k.sends + 1) (outstanding_of k a) (submitted_bytes k a c h.waits).0
     by false = no_bytes_lem
 client_written_lem o k (MemoryRevoked place xid) c h = no_bytes_lem
 client_written_lem o k (CallExecuted call) c h = no_bytes_lem
@@ -192,11 +206,12 @@ message_after k place (Some m) b h = record {
   regions = regions_closed_lem (λ r. eqb r.call (word_at 0 m)) place k.regions h.regions;
   accesses = h.accesses;
   outcomes = each_append CompletedInBytes k.outcomes (outcomes_of (reply_verdict k place m)) h.outcomes (brought_bytes k place m b (memory_of_bytes k place h));
+  waits = h.waits;
 }
 
 request_after : (k : ClientState) (due : ℕ) (q : Option ReadRequest) → ClientOfBytes k → ClientOfBytes (with_request k due q)
 request_after k due None h = h
-request_after k due (Some q) h = record { begun = h.begun; calls = h.calls; regions = h.regions; accesses = h.accesses; outcomes = h.outcomes }
+request_after k due (Some q) h = record { begun = h.begun; calls = h.calls; regions = h.regions; accesses = h.accesses; outcomes = h.outcomes; waits = h.waits }
 
 pub access_bytes : (f : Frame) (s : Segment) → IsBytes (payload_by s) → AllByRecursion AccessOfBytes (tagged_access f s)
 access_bytes f (Tagged last opcode stag to payload) h = (h, tt)
@@ -223,6 +238,7 @@ segment_after k f (Ok segment) is b h =
       regions = m.regions;
       accesses = each_append AccessOfBytes k.accesses_received (tagged_access f segment) h.accesses (access_bytes f segment own);
       outcomes = m.outcomes;
+      waits = m.waits;
     }
 
 mapped_calls : (g : OutstandingCall → OutstandingCall) (cs : List OutstandingCall) → ((c : OutstandingCall) → CallOfBytes c → CallOfBytes (g c)) → AllByRecursion CallOfBytes cs → AllByRecursion CallOfBytes (map g cs)
@@ -236,21 +252,34 @@ revoked_bytes_lem xid c h = by (eqb c.xid xid)
     by true = h
     by false = h
 
+revoked_waits : (xid : ℕ) (ws : List WaitingCall) → AllByRecursion WaitsInBytes ws → AllByRecursion WaitsInBytes (map (revoked_waiting xid) ws)
+revoked_waits xid [] h = tt
+revoked_waits xid (w ∷ ws) h = (by (eqb w.xid xid), revoked_waits xid ws h.1)
+  where
+    by : (b : Bool) → WaitsInBytes (cond b (record w { is_revoked = true }) w)
+    by true = h.0
+    by false = h.0
+
+taken_regions : (x : Option WaitingCall) (place : ℕ) (o : OutstandingCall) → PlanOfBytes o.plan → AllByRecursion RegionOfBytes (regions_unless_waiting x place o)
+taken_regions None place o plan = plan_regions o.xid place o.stag o.plan plan
+taken_regions (Some w) place o plan = tt
+
 client_after : (o : LinkParameters) (place : ℕ) (k : ClientState) (e : RunEvent) → IsNext place e → CarriesBytes (record { state = k; ended = None }) e → ClientOfBytes k → ClientOfBytes (client_state_after o k e)
 unfolding client_state_after
 client_after o place k (FrameReceived f) next c h = by (is_hello f)
   where
     by : (b : Bool) → ClientOfBytes (cond b (with_hello o k f) (with_segment k f (client_segment k f)))
-    by true = record { begun = h.begun; calls = h.calls; regions = h.regions; accesses = h.accesses; outcomes = h.outcomes }
+    by true = record { begun = h.begun; calls = h.calls; regions = h.regions; accesses = h.accesses; outcomes = h.outcomes; waits = h.waits }
     by false = segment_after k f (client_segment k f) refl next.2 h
 client_after o place k (CallSubmitted p a) next c h =
-    let plan = submitted_bytes k a c in
+    let plan = submitted_bytes k a c h.waits in
     record {
       begun = h.begun;
       calls = each_append CallOfBytes k.outstanding (outstanding_of k a ∷ []) h.calls (plan.0, tt);
-      regions = each_append RegionOfBytes k.regions (map (region_of a.xid p) (buffers k.stag (outstanding_of k a).plan)) h.regions (plan_regions a.xid p k.stag (outstanding_of k a).plan plan);
+      regions = each_append RegionOfBytes k.regions (regions_unless_waiting (waiting_call k a.xid) p (outstanding_of k a)) h.regions (taken_regions (waiting_call k a.xid) p (outstanding_of k a) plan);
       accesses = h.accesses;
       outcomes = h.outcomes;
+      waits = others_there WaitsInBytes k.waiting a.xid h.waits;
     }
 client_after o place k (MemoryRevoked p xid) next c h = record {
   begun = h.begun;
@@ -258,10 +287,11 @@ client_after o place k (MemoryRevoked p xid) next c h = record {
   regions = regions_closed_lem (λ r. eqb r.call xid) p k.regions h.regions;
   accesses = h.accesses;
   outcomes = h.outcomes;
+  waits = revoked_waits xid k.waiting h.waits;
 }
 client_after o place k (CallExecuted call) next c h = h
-client_after o place k (QueueWritten taken) next c h = record { begun = h.begun; calls = h.calls; regions = h.regions; accesses = h.accesses; outcomes = h.outcomes }
-client_after o place k (ServerTold what) next c h = record { begun = h.begun; calls = h.calls; regions = h.regions; accesses = h.accesses; outcomes = h.outcomes }
+client_after o place k (QueueWritten taken) next c h = record { begun = h.begun; calls = h.calls; regions = h.regions; accesses = h.accesses; outcomes = h.outcomes; waits = h.waits }
+client_after o place k (ServerTold what) next c h = record { begun = h.begun; calls = h.calls; regions = h.regions; accesses = h.accesses; outcomes = h.outcomes; waits = h.waits }
 
 client_keeps : (o : LinkParameters) → KeepsBytes (client_rules o) ClientOfBytes
 client_keeps o = record {
@@ -270,16 +300,31 @@ client_keeps o = record {
   last = final_bytes;
 }
 
-begins : (o : LinkParameters) → ClientOfBytes (initial_client o).state
-begins o = record { begun = no_bytes_lem; calls = tt; regions = tt; accesses = tt; outcomes = tt }
+first_waits : (stag : ℕ) (rs : List ResumedCall) → AllByRecursion ResumedInBytes rs → AllByRecursion WaitsInBytes (waiting_from stag rs)
+first_waits stag [] h = tt
+first_waits stag (r ∷ rs) h = (h.0, first_waits (stag + regions_needed r.plan) rs h.1)
 
--- On every link of a run that is of its types, what its client has to write are bytes, and so are the replies that messages brought to it.
-pub client_due : (o : LinkParameters) (link : ℕ) (run : List Mark) → IsTyped run → IsBytes (output_due o link Initiator run)
+first_regions : (ws : List WaitingCall) → AllByRecursion WaitsInBytes ws → AllByRecursion RegionOfBytes (waiting_regions ws)
+first_regions [] h = tt
+first_regions (w ∷ ws) h = each_append RegionOfBytes (map (region_of w.xid 0) (buffers w.stag w.plan)) (waiting_regions ws) (plan_regions w.xid 0 w.stag w.plan h.0) (first_regions ws h.1)
+
+begins : (o : LinkParameters) → AreInBytes Initiator o → ClientOfBytes (initial_client o).state
+begins o again =
+    let waits = first_waits o.first_stag o.resumed again in
+    record { begun = no_bytes_lem; calls = tt; regions = first_regions (waiting_from o.first_stag o.resumed) waits; accesses = tt; outcomes = tt; waits = waits }
+
+-- a client of a link that was not reopened sends nothing again
+pub none_again : (o : LinkParameters) → o.resumed ≡ [] → AreInBytes Initiator o
+none_again o none = subst (AllByRecursion ResumedInBytes) (sym none) tt
+
+-- On every link of a run that is of its types, what its client has to write are bytes, if what it sends again are, and so are the replies that
+-- messages brought to it.
+pub client_due : (o : LinkParameters) (link : ℕ) (run : List Mark) → AreInBytes Initiator o → IsTyped run → IsBytes (output_due o link Initiator run)
 unfolding output_due
-client_due o link run typed =
-    let all = run_bytes (client_rules o) ClientOfBytes (client_keeps o) (initial_client o) link Initiator run typed (begins o) in
+client_due o link run again typed =
+    let all = run_bytes (client_rules o) ClientOfBytes (client_keeps o) (initial_client o) link Initiator run typed (begins o again) in
     bytes_both (client_hello o) (output_for_all (client_rules o) (initial_client o) (events link Initiator run)) (client_hello_bytes o) all.0
 
-pub outcome_bytes : (o : LinkParameters) (link : ℕ) (run : List Mark) → IsTyped run → AllByRecursion CompletedInBytes (client o link run).state.outcomes
+pub outcome_bytes : (o : LinkParameters) (link : ℕ) (run : List Mark) → AreInBytes Initiator o → IsTyped run → AllByRecursion CompletedInBytes (client o link run).state.outcomes
 unfolding client
-outcome_bytes o link run typed = (run_bytes (client_rules o) ClientOfBytes (client_keeps o) (initial_client o) link Initiator run typed (begins o)).1.outcomes
+outcome_bytes o link run again typed = (run_bytes (client_rules o) ClientOfBytes (client_keeps o) (initial_client o) link Initiator run typed (begins o again)).1.outcomes

@@ -5,7 +5,8 @@ ghost use Rattle.nr_byte_laws.specs.DueBytes.{DueOutputIsBytes, OutcomesAreBytes
 ghost use Rattle.nr_byte_laws.specs.InBytes.{AddedEntriesAreInBytes, PlainRepliesAreBytes};
 
 /// On every link of a run that is of its types (what is written down as bytes are bytes), what each side has to write are bytes, and so are the payloads
-/// of the calls that the server has complete, and the replies among the outcomes that messages brought to the client.
+/// of the calls that the server has complete, and the replies among the outcomes that messages brought to the client. If the link was reopened, what
+/// its client sends again has to be bytes.
 pub fn due_output_is_bytes()
     ensures client { DueOutputIsBytes Initiator }
     ensures server { DueOutputIsBytes Responder }

@@ -8,11 +8,11 @@ use Rattle.nr_reduce.specs.Limits.{credits_max}
 use Rattle.nr_texts.specs.declared.opening.Opening.{Opening}
 use Rattle.nr_texts.specs.Limits.{clients_max, default_capacity, default_units, capacity_max}
 use Rattle.nr_texts.specs.Words.{◌>>=◌, space, newline, parts, number_within, IsWord}
-use Rattle.nr_texts.specs.Openings.{capacity_in, sizes_of, sizes_in, invalidate_in, opening_of, opening_in, IsOpening}
+use Rattle.nr_texts.specs.Openings.{capacity_in, sizes_of, sizes_in, numbered_in, invalidate_in, opening_of, opening_in, IsOpening}
 use Rattle.nr_texts.proofs.TypedTexts.{both_true_lem}
 use Rattle.nr_capture.specs.declared.capture.CapturedMark.{CapturedMark}
 use Rattle.nr_capture.specs.Capture.{CaptureLines, is_link, link_of, with_mark, with_line, opened_by, with_first_line, marks_from, capture_of}
-use Rattle.nr_capture.specs.Texts.{two_numbers_text, capacity_text, sizes_text, invalidate_text, opening_text, mark_text, line_text, capture_text}
+use Rattle.nr_capture.specs.Texts.{two_numbers_text, capacity_text, sizes_text, numbered_text, invalidate_text, opening_text, mark_text, line_text, capture_text}
 use Rattle.nr_capture.specs.Writable.{IsWritableMark, IsWritable}
 use Rattle.nr_capture.proofs.Steps.{more, first_more}
 use Rattle.nr_capture.proofs.WrittenWords.{lacks, lacks_both, parts_cons, joined, one_part, with_word, IsNoDigit, decimal_lacks, number_back}
@@ -36,6 +36,12 @@ capacity_words is capacity = if is then [] else codes "capacity" ∷ decimal cap
 abbrev invalidate_words : Bool → List (List ℕ)
 invalidate_words is = if is then codes "invalidate" ∷ [] else []
 
+abbrev numbered_words : Bool → List (List ℕ)
+numbered_words is = if is then codes "numbered" ∷ [] else []
+
+abbrev last_words : Bool → Bool → List (List ℕ)
+last_words numbered invalidates = numbered_words numbered ++ invalidate_words invalidates
+
 no_space : IsNoDigit space
 no_space le = omega (arith, le)
 
@@ -56,53 +62,71 @@ sizes_parts false x xs client server e c t =
     joined space (codes "sizes") (two_numbers_text client server) (codes "sizes" ∷ []) (decimal client ∷ decimal server ∷ []) refl (two_parts client server c t) in
     parts_cons space x (codes "sizes " ++ two_numbers_text client server) ∙ (λ i. e i ++ three i)
 
+numbered_parts : (n : Bool) (x : List ℕ) (xs : List (List ℕ)) → parts space x ≡ xs → parts space (x ++ numbered_text n) ≡ xs ++ numbered_words n
+numbered_parts true x xs e = parts_cons space x (codes "numbered") ∙ ap (λ (p : List (List ℕ)). p ++ codes "numbered" ∷ []) e
+numbered_parts false x xs e = ap (parts space) (append-nil x) ∙ e ∙ sym (append-nil xs)
+
 invalidate_parts : (v : Bool) (x : List ℕ) (xs : List (List ℕ)) → parts space x ≡ xs → parts space (x ++ invalidate_text v) ≡ xs ++ invalidate_words v
 invalidate_parts true x xs e = parts_cons space x (codes "invalidate") ∙ ap (λ (p : List (List ℕ)). p ++ codes "invalidate" ∷ []) e
 invalidate_parts false x xs e = ap (parts space) (append-nil x) ∙ e ∙ sym (append-nil xs)
 
-capacity_back : (b s v : Bool) (capacity client server : ℕ) → capacity == default_capacity ≡ b → capacity ≤ capacity_max →
-    capacity_in (capacity_words b capacity ++ sizes_words s client server ++ invalidate_words v) ≡ Some (capacity, sizes_words s client server ++ invalidate_words v)
-capacity_back true true true capacity client server is k = ap (λ (n : ℕ). Some (n, invalidate_words true)) (sym (eqb-true capacity default_capacity is))
-capacity_back true true false capacity client server is k = ap (λ (n : ℕ). Some (n, invalidate_words false)) (sym (eqb-true capacity default_capacity is))
-capacity_back true false v capacity client server is k = ap (λ (n : ℕ). Some (n, sizes_words false client server ++ invalidate_words v)) (sym (eqb-true capacity default_capacity is))
-capacity_back false s v capacity client server is k =
-    ap (λ (o : Option ℕ). o >>= λ b. Some (b, sizes_words s client server ++ invalidate_words v)) (number_back 0 capacity_max capacity (omega arith) k (omega (arith, k)))
+no_capacity : (n v : Bool) → capacity_in (last_words n v) ≡ Some (default_capacity, last_words n v)
+no_capacity true true = refl
+no_capacity true false = refl
+no_capacity false true = refl
+no_capacity false false = refl
 
-no_sizes : (v : Bool) → sizes_in (invalidate_words v) ≡ Some ((default_units, default_units), invalidate_words v)
-no_sizes true = refl
-no_sizes false = refl
+capacity_back : (b s n v : Bool) (capacity client server : ℕ) → capacity == default_capacity ≡ b → capacity ≤ capacity_max →
+    capacity_in (capacity_words b capacity ++ sizes_words s client server ++ numbered_words n ++ invalidate_words v) ≡ Some (capacity, sizes_words s client server ++ numbered_words n ++ invalidate_words v)
+capacity_back true true n v capacity client server is k = no_capacity n v ∙ ap (λ (c : ℕ). Some (c, last_words n v)) (sym (eqb-true capacity default_capacity is))
+capacity_back true false n v capacity client server is k = ap (λ (c : ℕ). Some (c, sizes_words false client server ++ numbered_words n ++ invalidate_words v)) (sym (eqb-true capacity default_capacity is))
+capacity_back false s n v capacity client server is k =
+    ap (λ (o : Option ℕ). o >>= λ b. Some (b, sizes_words s client server ++ numbered_words n ++ invalidate_words v)) (number_back 0 capacity_max capacity (omega arith) k (omega (arith, k)))
+
+no_sizes : (n v : Bool) → sizes_in (last_words n v) ≡ Some ((default_units, default_units), last_words n v)
+no_sizes true true = refl
+no_sizes true false = refl
+no_sizes false true = refl
+no_sizes false false = refl
 
 units_back : (client server : ℕ) → (1 ≤ client) × (client ≤ UNITS_MAX) → (1 ≤ server) × (server ≤ UNITS_MAX) → sizes_of (decimal client) (decimal server) ≡ Some (client, server)
 units_back client server c t =
     ap (λ (o : Option ℕ). o >>= λ a. number_within 1 UNITS_MAX (decimal server) >>= λ b. Some (a, b)) (number_back 1 UNITS_MAX client c.0 c.1 (let le = c.1 in omega (arith, le)))
     ∙ ap (λ (o : Option ℕ). o >>= λ b. Some (client, b)) (number_back 1 UNITS_MAX server t.0 t.1 (let le = t.1 in omega (arith, le)))
 
-sizes_back : (s v : Bool) (client server : ℕ) → client == default_units && server == default_units ≡ s → (1 ≤ client) × (client ≤ UNITS_MAX) → (1 ≤ server) × (server ≤ UNITS_MAX) →
-    sizes_in (sizes_words s client server ++ invalidate_words v) ≡ Some ((client, server), invalidate_words v)
-sizes_back true v client server is c t =
+sizes_back : (s n v : Bool) (client server : ℕ) → client == default_units && server == default_units ≡ s → (1 ≤ client) × (client ≤ UNITS_MAX) → (1 ≤ server) × (server ≤ UNITS_MAX) →
+    sizes_in (sizes_words s client server ++ numbered_words n ++ invalidate_words v) ≡ Some ((client, server), last_words n v)
+sizes_back true n v client server is c t =
     let h = both_true_lem (client == default_units) (server == default_units) is in
-    no_sizes v
-    ∙ ap (λ (n : ℕ). Some ((n, default_units), invalidate_words v)) (sym (eqb-true client default_units h.0))
-    ∙ ap (λ (n : ℕ). Some ((client, n), invalidate_words v)) (sym (eqb-true server default_units h.1))
-sizes_back false v client server is c t = ap (λ (o : Option (ℕ × ℕ)). o >>= λ units. Some (units, invalidate_words v)) (units_back client server c t)
+    no_sizes n v
+    ∙ ap (λ (units : ℕ). Some ((units, default_units), last_words n v)) (sym (eqb-true client default_units h.0))
+    ∙ ap (λ (units : ℕ). Some ((client, units), last_words n v)) (sym (eqb-true server default_units h.1))
+sizes_back false n v client server is c t = ap (λ (o : Option (ℕ × ℕ)). o >>= λ units. Some (units, last_words n v)) (units_back client server c t)
+
+numbered_back : (n v : Bool) → numbered_in (last_words n v) ≡ (n, invalidate_words v)
+numbered_back true true = refl
+numbered_back true false = refl
+numbered_back false true = refl
+numbered_back false false = refl
 
 invalidate_back : (v : Bool) → invalidate_in (invalidate_words v) ≡ Some v
 invalidate_back true = refl
 invalidate_back false = refl
 
 opening_words : (b s : Bool) (o : Opening) → IsOpening o → o.capacity == default_capacity ≡ b → o.client_units == default_units && o.server_units == default_units ≡ s →
-    opening_of (decimal o.clients) (decimal o.credits) (capacity_words b o.capacity ++ sizes_words s o.client_units o.server_units ++ invalidate_words o.invalidates) ≡ Some o
+    opening_of (decimal o.clients) (decimal o.credits) (capacity_words b o.capacity ++ sizes_words s o.client_units o.server_units ++ numbered_words o.numbered ++ invalidate_words o.invalidates) ≡ Some o
 opening_words b s o is e f =
     rw (
       number_back 1 clients_max o.clients is.some_clients is.few_clients (let le = is.few_clients in omega (arith, le)),
       number_back 1 credits_max o.credits is.some_credits is.few_credits (let le = is.few_credits in omega (arith, le)),
-      capacity_back b s o.invalidates o.capacity o.client_units o.server_units e is.capacity,
-      sizes_back s o.invalidates o.client_units o.server_units f (is.some_client_units, is.few_client_units) (is.some_server_units, is.few_server_units),
+      capacity_back b s o.numbered o.invalidates o.capacity o.client_units o.server_units e is.capacity,
+      sizes_back s o.numbered o.invalidates o.client_units o.server_units f (is.some_client_units, is.few_client_units) (is.some_server_units, is.few_server_units),
+      numbered_back o.numbered o.invalidates,
       invalidate_back o.invalidates,
     ) refl
 
-opening_parts : (b s : Bool) (o : Opening) → IsOpening o → parts space (codes "clients " ++ decimal o.clients ++ codes " credits " ++ decimal o.credits ++ capacity_by b o.capacity ++ sizes_by s o.client_units o.server_units ++ invalidate_text o.invalidates)
-    ≡ codes "clients" ∷ decimal o.clients ∷ codes "credits" ∷ decimal o.credits ∷ (capacity_words b o.capacity ++ sizes_words s o.client_units o.server_units ++ invalidate_words o.invalidates)
+opening_parts : (b s : Bool) (o : Opening) → IsOpening o → parts space (codes "clients " ++ decimal o.clients ++ codes " credits " ++ decimal o.credits ++ capacity_by b o.capacity ++ sizes_by s o.client_units o.server_units ++ numbered_text o.numbered ++ invalidate_text o.invalidates)
+    ≡ codes "clients" ∷ decimal o.clients ∷ codes "credits" ∷ decimal o.credits ∷ (capacity_words b o.capacity ++ sizes_words s o.client_units o.server_units ++ numbered_words o.numbered ++ invalidate_words o.invalidates)
 opening_parts b s o is =
     let few = is.few_clients in let g = is.few_credits in let k = is.capacity in let c = is.few_client_units in let t = is.few_server_units in
     let x : List ℕ = codes "clients " ++ decimal o.clients in
@@ -114,9 +138,11 @@ opening_parts b s o is =
     let two : parts space y ≡ codes "clients" ∷ decimal o.clients ∷ codes "credits" ∷ decimal o.credits ∷ [] =
     ap (parts space) (append_assoc x (codes " credits ") (decimal o.credits)) ∙ parts_cons space x (codes "credits " ++ decimal o.credits) ∙ (λ i. one i ++ rest i) in
     let words : List (List ℕ) = codes "clients" ∷ decimal o.clients ∷ codes "credits" ∷ decimal o.credits ∷ [] in
-    invalidate_parts o.invalidates (y ++ capacity_by b o.capacity ++ sizes_by s o.client_units o.server_units) (words ++ capacity_words b o.capacity ++ sizes_words s o.client_units o.server_units)
-    (sizes_parts s (y ++ capacity_by b o.capacity) (words ++ capacity_words b o.capacity) o.client_units o.server_units
-    (capacity_parts b y words o.capacity two (omega (arith, k))) (omega (arith, c)) (omega (arith, t)))
+    let three = sizes_parts s (y ++ capacity_by b o.capacity) (words ++ capacity_words b o.capacity) o.client_units o.server_units
+    (capacity_parts b y words o.capacity two (omega (arith, k))) (omega (arith, c)) (omega (arith, t)) in
+    let z : List ℕ = y ++ capacity_by b o.capacity ++ sizes_by s o.client_units o.server_units in
+    let four : List (List ℕ) = words ++ capacity_words b o.capacity ++ sizes_words s o.client_units o.server_units in
+    invalidate_parts o.invalidates (z ++ numbered_text o.numbered) (four ++ numbered_words o.numbered) (numbered_parts o.numbered z four three)
 
 opening_back : (o : Opening) → IsOpening o → opening_in (parts space (opening_text o)) ≡ Some o
 unfolding opening_in opening_text
@@ -129,6 +155,10 @@ capacity_lacks false capacity k = lacks_both newline (codes " capacity ") (decim
 sizes_lack : (s : Bool) (client server : ℕ) → IsWord client → IsWord server → lacks newline (sizes_by s client server) ≡ true
 sizes_lack true client server c t = refl
 sizes_lack false client server c t = lacks_both newline (codes " sizes ") (two_numbers_text client server) refl (two_lack client server c t)
+
+numbered_lacks : (n : Bool) → lacks newline (numbered_text n) ≡ true
+numbered_lacks true = refl
+numbered_lacks false = refl
 
 invalidate_lacks : (v : Bool) → lacks newline (invalidate_text v) ≡ true
 invalidate_lacks true = refl
@@ -149,7 +179,9 @@ opening_lacks o is =
     let five : lacks newline (w ++ sizes_text o.client_units o.server_units) ≡ true =
     lacks_both newline w (sizes_text o.client_units o.server_units) four
     (sizes_lack (o.client_units == default_units && o.server_units == default_units) o.client_units o.server_units (omega (arith, c)) (omega (arith, t))) in
-    lacks_both newline (w ++ sizes_text o.client_units o.server_units) (invalidate_text o.invalidates) five (invalidate_lacks o.invalidates)
+    let six : lacks newline (w ++ sizes_text o.client_units o.server_units ++ numbered_text o.numbered) ≡ true =
+    lacks_both newline (w ++ sizes_text o.client_units o.server_units) (numbered_text o.numbered) five (numbered_lacks o.numbered) in
+    lacks_both newline (w ++ sizes_text o.client_units o.server_units ++ numbered_text o.numbered) (invalidate_text o.invalidates) six (invalidate_lacks o.invalidates)
 
 -- ===== the marks
 

@@ -110,13 +110,16 @@ capacity_text capacity = if capacity == default_capacity then [] else codes " ca
 abbrev pub sizes_text : ℕ → ℕ → List ℕ
 sizes_text client server = if client == default_units && server == default_units then [] else codes " sizes " ++ two_numbers_text client server
 
+abbrev pub numbered_text : Bool → List ℕ
+numbered_text numbered = if numbered then codes " numbered" else []
+
 abbrev pub invalidate_text : Bool → List ℕ
 invalidate_text invalidates = if invalidates then codes " invalidate" else []
 
 unfoldable pub opening_text : Opening → List ℕ
 opening_text opening =
     codes "clients " ++ decimal opening.clients ++ codes " credits " ++ decimal opening.credits ++ capacity_text opening.capacity
-    ++ sizes_text opening.client_units opening.server_units ++ invalidate_text opening.invalidates
+    ++ sizes_text opening.client_units opening.server_units ++ numbered_text opening.numbered ++ invalidate_text opening.invalidates
 
 abbrev pub line_text : CapturedMark → List ℕ
 line_text mark = mark_text mark ++ codes "\n"

@@ -5,7 +5,7 @@ ghost use Rattle.std.specs.Fmt.{decimal};
 ghost use Rattle.std.specs.List.{flat_map};
 ghost use Rattle.std.specs.String.{string_bytes};
 ghost use Rattle.nr_capture.specs.Capture.{capture_of};
-ghost use Rattle.nr_capture.specs.Texts.{bytes_text, call_text, capacity_text, capture_text, cred_text, form_text, invalidate_text, lengths_after, lengths_text, line_text, mark_text, offer_text, opening_text, outcome_text, part_text, read_text, semicolon_after, semicolon_if, side_text, sizes_text, submit_text, two_numbers_text};
+ghost use Rattle.nr_capture.specs.Texts.{bytes_text, call_text, capacity_text, capture_text, cred_text, form_text, invalidate_text, lengths_after, lengths_text, line_text, mark_text, numbered_text, offer_text, opening_text, outcome_text, part_text, read_text, semicolon_after, semicolon_if, side_text, sizes_text, submit_text, two_numbers_text};
 ghost use Rattle.nr_rpc.specs.declared.cred.Cred.TheVariants as creds;
 ghost use Rattle.nr_reduce.specs.declared.call.Form.TheVariants as forms;
 
@@ -357,6 +357,15 @@ fn push_sizes(text: &mut String, client: u8, server: u8) -> Result<(), Memory>
     push_two(text, " sizes ", u32::from(client), u32::from(server))
 }
 
+fn push_numbered(text: &mut String, numbered: bool) -> Result<(), Memory>
+    ensures { OnOk result (string_bytes text.new ≡ string_bytes text.old ++ numbered_text numbered) }
+{
+    if !numbered {
+        return Ok(());
+    }
+    push_text(text, " numbered")
+}
+
 fn push_invalidate(text: &mut String, invalidates: bool) -> Result<(), Memory>
     ensures { OnOk result (string_bytes text.new ≡ string_bytes text.old ++ invalidate_text invalidates) }
 {
@@ -374,6 +383,7 @@ pub(crate) fn push_opening(text: &mut String, opening: Opening) -> Result<(), Me
     push_number(text, " credits ", u64::from(opening.credits))?;
     push_capacity(text, opening.capacity)?;
     push_sizes(text, opening.client_units, opening.server_units)?;
+    push_numbered(text, opening.numbered)?;
     push_invalidate(text, opening.invalidates)
 }
 

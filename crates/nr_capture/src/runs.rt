@@ -150,13 +150,14 @@ fn push_dropped(text: &mut String, link: u32) -> Result<(), Memory>
     push_text(text, "\n")
 }
 
-/// The line of what a server was told.
+/// The line of what a server was told. That a call is old has none.
 #[tactic(auto, unfolding(crate::specs::Texts::mark_text))]
 fn push_told(text: &mut String, link: u32, what: Told) -> Result<(), Memory>
-    ensures { OnOk result (string_bytes text.new ≡ string_bytes text.old ++ line_text (captured_told link what)) }
+    ensures { OnOk result (string_bytes text.new ≡ string_bytes text.old ++ flat_map line_text (captured_told link what)) }
 {
     match what {
         Told::Granted { credits } => push_named(text, "grant ", link, credits),
+        Told::Old { .. } => Ok(()),
     }
 }
 
@@ -228,7 +229,7 @@ fn push_run(alloc: Global, text: &mut String, marks: &MarkList) -> Result<(), Me
 }
 
 /// The text of the capture of a run, from its marks: its first line, and a line for each mark, but for calls that were refused,
-/// pieces of no bytes, and calls that were reported lost.
+/// pieces of no bytes, calls that were reported lost, and old calls.
 ///
 /// # Errors
 ///

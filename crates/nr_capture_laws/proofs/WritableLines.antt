@@ -76,8 +76,9 @@ later_writable name others =
     if_if IsWritableLine (bytes_eq name (codes "forget")) (number_line lines.Forget others) _ (number_writable lines.Forget others (λ c n. tt))
     (if_if IsWritableLine (bytes_eq name (codes "revoke")) (number_line lines.Revoke others) _ (number_writable lines.Revoke others (λ c n. tt))
     (if_if IsWritableLine (bytes_eq name (codes "drop")) (client_line lines.Drop others) _ (client_writable lines.Drop others (λ c. tt))
+    (if_if IsWritableLine (bytes_eq name (codes "rejoin")) (client_line lines.Rejoin others) _ (client_writable lines.Rejoin others (λ c. tt))
     (if_if IsWritableLine (bytes_eq name (codes "grant")) (number_line lines.Grant others) _ (number_writable lines.Grant others (λ c n. tt))
-    (if_if IsWritableLine (bytes_eq name (codes "drain")) (drain_line others) None (drain_writable others) tt))))
+    (if_if IsWritableLine (bytes_eq name (codes "drain")) (drain_line others) None (drain_writable others) tt)))))
 
 plain_writable : (name : List ℕ) (others : List (List ℕ)) → If IsWritableLine (plain_line name others)
 plain_writable name others =
@@ -101,7 +102,7 @@ line_writable (name ∷ others) = named_writable name others
 
 opened_writable : (o : Option Opening) → If AreWritable (opened_by o)
 opened_writable None = tt
-opened_writable (Some o) = tt
+opened_writable (Some o) = if_if AreWritable o.numbered None (Some (record { opening = o; lines = [] })) tt tt
 
 followed_writable : (script : ScriptLines) (line : Option Line) → AreWritable script → If IsWritableLine line → If AreWritable (followed_by script line)
 followed_writable script None is h = tt

@@ -22,7 +22,7 @@ use Rattle.nr_reduce.specs.declared.call.Submission.TheVariants as submissions
 use Rattle.nr_reduce.specs.declared.mark.Mark.{Mark}
 use Rattle.nr_reduce.specs.declared.mark.Mark.TheVariants as runs
 use Rattle.nr_reduce.specs.declared.mark.Told.{Told}
-use Rattle.nr_reduce.specs.declared.mark.Told.TheVariants.{Granted}
+use Rattle.nr_reduce.specs.declared.mark.Told.TheVariants.{Granted, Old}
 use Rattle.nr_reduce.specs.declared.mark.LinkParameters.{LinkParameters}
 use Rattle.nr_reduce.specs.Limits.{credits_max}
 use Rattle.nr_reduce.specs.History.{AcceptedCall, accepted_as, accepted_at, accepted_calls, bytes_sent}
@@ -30,7 +30,7 @@ use Rattle.nr_reduce.specs.Run.{client, server}
 use Rattle.nr_reduce.specs.ServerState.{ReadyCall}
 use Rattle.nr_rpc.specs.Reading.{head_xid}
 use Rattle.nr_reduce.specs.AtEachMark.{AtEachMark}
-use Rattle.nr_reduce.specs.Asked.{AskedMark, AskedSoFar, IsAll, IsAwaited}
+use Rattle.nr_reduce.specs.Asked.{AskedMark, AskedSoFar, IsAll, IsAwaitedOf}
 use Rattle.nr_reduce.specs.Served.{ServedMark, IsExecuted, first_ready, next_call}
 use Rattle.nr_reduce.specs.Matched.{IsPrefixOf}
 use Rattle.nr_reduce.proofs.Calls.{executed_head}
@@ -39,7 +39,7 @@ use Rattle.nr_reduce.proofs.SoFarLaws.{AtEachMark_each, asked_mark}
 use Rattle.nr_reduce.proofs.Steps.{AtEachMark_first}
 use Rattle.nr_laws.specs.Typed.{IsTyped, TypedMark}
 use Rattle.nr_byte_laws.specs.DueBytes.{CompletedInBytes, OutcomeIsBytes}
-use Rattle.nr_byte_laws.proofs.ByteClients.{client_due, outcome_bytes}
+use Rattle.nr_byte_laws.proofs.ByteClients.{client_due, none_again, outcome_bytes}
 use Rattle.nr_byte_laws.proofs.ByteServers.{ReadyOfBytes, ready_bytes, server_due}
 use Rattle.nr_texts.specs.Words.{IsWord}
 use Rattle.nr_script.specs.Script.{ScriptLines, IsScript}
@@ -53,8 +53,9 @@ use Rattle.nr_capture.specs.Writable.{IsWritable, IsWritableMark, IsWritableOutc
 use Rattle.nr_capture.proofs.WrittenCaptures.{capture_back}
 use Rattle.nr_drill.specs.Drill.{SerialServer, link_of as mark_link}
 use Rattle.nr_drill.specs.Follows.{parameters_of}
-use Rattle.nr_drill.specs.Headline.{IsDrillRun, KeepsLaws}
+use Rattle.nr_drill.specs.Headline.{IsDrillRun}
 use Rattle.nr_drill.specs.private.Drafts.{NumberedMark}
+use Rattle.nr_drill.proofs.Followed.{KeepsAll, follows_keeps_laws}
 use Rattle.nr_drill.proofs.Numbering.{drill_numbered}
 use Rattle.nr_capture_laws.specs.ReadBack.{RunsAreReadBack, RunsAreWritable}
 use Rattle.nr_capture_laws.proofs.WritableLines.{AreWritable, made_is_writable, read_is_writable}
@@ -98,7 +99,7 @@ accepted_words_from opened link b [] h = tt
 accepted_words_from opened link b (mark ∷ run) h =
     both_each (λ (a : AcceptedCall). IsWord a.xid) (accepted_at link mark) (flat_map (accepted_at link) run) (accepted_word opened link b mark h.0) (accepted_words_from opened link (b ++ mark ∷ []) run h.1)
 
-awaited_word : (opened : LinkParameters) (link : ℕ) (before : List Mark) (xid : ℕ) → AtEachMark (AskedMark IsAll opened link) [] before → IsAwaited link before xid → IsWord xid
+awaited_word : (opened : LinkParameters) (link : ℕ) (before : List Mark) (xid : ℕ) → AtEachMark (AskedMark IsAll opened link) [] before → IsAwaitedOf (accepted_calls link before) link before xid → IsWord xid
 unfolding accepted_calls
 awaited_word opened link before xid h w =
     let each = All-from_recursion (λ (a : AcceptedCall). IsWord a.xid) (accepted_calls link before) (accepted_words_from opened link [] before h) in
@@ -154,8 +155,8 @@ module _ (server : SerialServer) (script : ScriptLines) (run : List Mark) (is : 
       let link = mark_link mark in
       let opened = parameters_of script.opening link in
       let n : NumberedMark script.opening.clients before mark =
-      AtEachMark_at (NumberedMark script.opening.clients) [] before mark after (subst (AtEachMark (NumberedMark script.opening.clients) []) e (drill_numbered server script run is d)) in
-      let laws : KeepsLaws script opened link run = d.laws link (n.above, n.within) in
+      AtEachMark_at (NumberedMark script.opening.clients) [] before mark after (subst (AtEachMark (NumberedMark script.opening.clients) []) e (drill_numbered server script run is is.unnumbered d.follows)) in
+      let laws : KeepsAll opened link run = follows_keeps_laws server script run is is.unnumbered d.follows link n.above n.within in
       let typed : AtEachMark TypedMark [] (before ++ mark ∷ after) = subst (AtEachMark TypedMark []) e d.typed in
       let asked = subst (AtEachMark (AskedMark IsAll opened link) []) e laws.asked.each in
       let served = subst (AtEachMark (ServedMark IsAll opened link) []) e laws.served.each in
@@ -177,7 +178,7 @@ module _ (server : SerialServer) (script : ScriptLines) (run : List Mark) (is : 
   wrote_right : (before : List Mark) (link : ℕ) (side : Side) (bytes : List ℕ) → AtMark before (runs.Wrote link side bytes) link → AllByRecursion Right (captured_piece marks.Out link side bytes)
   wrote_right before link side [] a = tt
   wrote_right before link Initiator (b ∷ bytes) a =
-      let due = client_due (parameters_of script.opening link) link before a.typed in
+      let due = client_due (parameters_of script.opening link) link before (none_again (parameters_of script.opening link) refl) a.typed in
       ((a.is_link_of, (omega arith, IsBytes_right (bytes_sent link Initiator before) (b ∷ bytes) (subst IsBytes (sym (a.asked refl)) due))), tt)
   wrote_right before link Responder (b ∷ bytes) a =
       let due = server_due (parameters_of script.opening link) link before a.typed in
@@ -192,16 +193,17 @@ module _ (server : SerialServer) (script : ScriptLines) (run : List Mark) (is : 
       let opened = parameters_of script.opening link in
       let own = a.asked refl in
       let all = (client opened link before).state.outcomes in
-      let bytes = All-contains CompletedInBytes all (record { xid = xid; outcome = outcome }) (All-from_recursion CompletedInBytes all (outcome_bytes opened link before a.typed)) own.is_received in
+      let bytes = All-contains CompletedInBytes all (record { xid = xid; outcome = outcome }) (All-from_recursion CompletedInBytes all (outcome_bytes opened link before (none_again opened refl) a.typed)) own.is_received in
       let so_far : AskedSoFar opened link before = AtEachMark_each (AskedMark IsAll opened link) (AskedMark IsPrefixOf opened link) [] before (asked_mark opened link) a.asked_before in
       let words = outcome_words opened link before (record { xid = xid; outcome = outcome }) a.typed so_far own.is_received in
       (awaited_word opened link before xid a.asked_before own.awaited, writable_outcome outcome bytes words)
 
-  told_right : (before : List Mark) (link : ℕ) (what : Told) → AtMark before (runs.Told link what) link → Right (captured_told link what)
+  told_right : (before : List Mark) (link : ℕ) (what : Told) → AtMark before (runs.Told link what) link → AllByRecursion Right (captured_told link what)
+  told_right before link (Old xid at) a = tt
   told_right before link (Granted credits) a =
       let most : credits ≤ script.opening.credits = (a.served refl).1 in
       let few : script.opening.credits ≤ credits_max = is.few_credits in
-      (a.is_link_of, omega (arith, most, few))
+      ((a.is_link_of, omega (arith, most, few)), tt)
 
   mark_right : (before : List Mark) (mark : Mark) (after : List Mark) → run ≡ before ++ mark ∷ after → CanWriteMark mark → AllByRecursion Right (captured_mark mark)
   mark_right before (runs.Submit link call form answer) after e s = submit_right before link call form answer s (at_mark before (runs.Submit link call form answer) after e)
@@ -221,7 +223,7 @@ module _ (server : SerialServer) (script : ScriptLines) (run : List Mark) (is : 
       let a = at_mark before (runs.Revoke link xid bytes) after e in
       ((a.is_link_of, awaited_word (parameters_of script.opening link) link before xid a.asked_before (a.asked refl).awaited), tt)
   mark_right before (runs.Drop link) after e s = (((at_mark before (runs.Drop link) after e).is_link_of, tt), tt)
-  mark_right before (runs.Told link what) after e s = (told_right before link what (at_mark before (runs.Told link what) after e), tt)
+  mark_right before (runs.Told link what) after e s = told_right before link what (at_mark before (runs.Told link what) after e)
 
   all_right : (before rest : List Mark) → run ≡ before ++ rest → CanWriteMarks rest → AllByRecursion Right (flat_map captured_mark rest)
   all_right before [] e s = tt
@@ -239,7 +241,7 @@ module _ (server : SerialServer) (script : ScriptLines) (run : List Mark) (is : 
 run_writable : (server : SerialServer) (script : ScriptLines) (run : List Mark) → IsScript script → AreWritable script → IsDrillRun server script run → IsWritable (captured script.opening run)
 unfolding captured
 run_writable server script run is writable d =
-    let all = all_right server script run is writable d [] run refl (follows_writable server script run is writable d.follows) in
+    let all = all_right server script run is writable d [] run refl (follows_writable server script run is is.unnumbered writable d.follows) in
     record {
       opening = record {
         some_clients = is.some_clients;

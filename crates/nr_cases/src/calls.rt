@@ -173,6 +173,8 @@ impl Calls {
                 Ok(true)
             }
             Err(Fault::Memory) => Err(CaseFault::Memory),
+            // no call is old: none is of a client with a number
+            Err(Fault::Old { .. }) => Err(CaseFault::Memory),
         }
     }
 

@@ -20,7 +20,7 @@ use Rattle.nr_client.specs.Ending.{HasCredit, IsCause, IsEndOf, LinkCause, SinkC
 use Rattle.nr_client.specs.declared.call_end.CallEnd.{CallEnd}
 use Rattle.nr_client.specs.declared.call_end.CallEnd.TheVariants as calls
 
--- an answer that isn't for want of a credit, and the end in it
+-- an answer that isn't for want of a credit, nor for an xid too far above the least one, and the end in it
 abbrev Credited : Submission → Type 0
 Credited (submissions.Accepted xid) = ⊤
 Credited (submissions.Refused why) = HasCredit why
@@ -88,6 +88,8 @@ has_credit r call (refusals.TooLarge need room) credit says = tt
 has_credit r call (refusals.Spent left need) credit says = tt
 has_credit r call (refusals.NoCredit out grant) credit says =
     (by_answer r call (refusals.NoCredit out grant) credit (says (λ same. subst NotMemory same tt))).credited
+has_credit r call (refusals.Window oldest next) credit says =
+    (by_answer r call (refusals.Window oldest next) credit (says (λ same. subst NotMemory same tt))).credited
 
 -- the cause of its end
 pub cause_of : (h : RequesterSide) (call : Call) (why : Refused) (end : CallEnd) (left : Option (List ℕ)) (read : ℕ) → length h.state.outstanding < h.state.grant
@@ -101,6 +103,7 @@ cause_of h call (refusals.TooLarge need room) end left read credit says is =
 cause_of h call (refusals.Spent left_over need) end left read credit says is =
     subst (λ (e : CallEnd). IsCause e left read h call) (sym is) (says (λ same. subst NotMemory same tt))
 cause_of h call (refusals.NoCredit out grant) end left read credit says is = absurd is
+cause_of h call (refusals.Window oldest next) end left read credit says is = absurd is
 
 -- an end of the link is an end of the call
 pub link_cause : (h : RequesterSide) (call : Call) (end : CallEnd) (left : Option (List ℕ)) (read : ℕ) → LinkCause end left read h → IsCause end left read h call
@@ -147,6 +150,7 @@ link_refused_source (refusals.Ended ended) end is count = subst (λ (e : CallEnd
 link_refused_source (refusals.TooLarge need room) end is count = subst (λ (e : CallEnd). SourceCountAt e count count) (sym is) refl
 link_refused_source (refusals.Spent left need) end is count = subst (λ (e : CallEnd). SourceCountAt e count count) (sym is) refl
 link_refused_source (refusals.NoCredit out grant) end is count = absurd is
+link_refused_source (refusals.Window oldest next) end is count = absurd is
 
 pub link_refused_sink : (why : Refused) (end : CallEnd) → IsEndOf why end → (count : ℕ) → SinkCountAt end count count
 link_refused_sink refusals.Memory end is count = subst (λ (e : CallEnd). SinkCountAt e count count) (sym is) refl
@@ -154,3 +158,4 @@ link_refused_sink (refusals.Ended ended) end is count = subst (λ (e : CallEnd).
 link_refused_sink (refusals.TooLarge need room) end is count = subst (λ (e : CallEnd). SinkCountAt e count count) (sym is) refl
 link_refused_sink (refusals.Spent left need) end is count = subst (λ (e : CallEnd). SinkCountAt e count count) (sym is) refl
 link_refused_sink (refusals.NoCredit out grant) end is count = absurd is
+link_refused_sink (refusals.Window oldest next) end is count = absurd is

@@ -32,15 +32,17 @@ IsCause (calls.TooLarge need room) left read h call = answer_of h.state call for
 IsCause calls.Memory left read h call = ⊤
 IsCause end left read h call = LinkCause end left read h
 
--- a refusal of a call while a credit is left, and the end of the call then
+-- a refusal of a call while a credit is left, by a client without a number, and the end of the call then
 abbrev pub HasCredit : Refused → Type 0
 HasCredit (refusals.NoCredit out grant) = ⊥
+HasCredit (refusals.Window oldest next) = ⊥
 HasCredit why = ⊤
 
 abbrev pub IsEndOf : Refused → CallEnd → Type 0
 IsEndOf (refusals.Ended why) end = end ≡ calls.Ended why
 IsEndOf (refusals.TooLarge need room) end = end ≡ calls.TooLarge need room
 IsEndOf (refusals.NoCredit out grant) end = ⊥
+IsEndOf (refusals.Window oldest next) end = ⊥
 IsEndOf (refusals.Spent left_over need) end = end ≡ calls.Spent left_over need
 IsEndOf refusals.Memory end = end ≡ calls.Memory
 

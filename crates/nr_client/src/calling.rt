@@ -98,7 +98,7 @@ fn wait_for_answer<I: Source, O: Sink>(
     Ok(())
 }
 
-/// The end of a call that was refused so, while a credit is left.
+/// The end of a call that was refused so while a credit is left, by a client without a number.
 fn end_of_refused(refused: Refused) -> CallEnd
     requires { HasCredit refused }
     ensures { IsEndOf refused result }
@@ -106,7 +106,7 @@ fn end_of_refused(refused: Refused) -> CallEnd
     match refused {
         Refused::Ended(end) => CallEnd::Ended(end),
         Refused::TooLarge { need, room } => CallEnd::TooLarge { need, room },
-        Refused::NoCredit { .. } => unreachable!(),
+        Refused::NoCredit { .. } | Refused::Window { .. } => unreachable!(),
         Refused::Spent { left, need } => CallEnd::Spent { left, need },
         Refused::Memory => CallEnd::Memory,
     }

@@ -1,23 +1,25 @@
 -- On a link whose pipes no line of the script puts bytes into, each side receives what the other sent.
 use Rattle.std.specs.Prelude.{◌-◌, ◌&&◌, ◌||◌, if◌then◌else◌, slice_get, slice_index_or}
 use Rattle.std.specs.List.{list_any, AllByRecursion, range_with_len}
-use Rattle.std.proofs.lemmas.Bool.{eq-eqb, leb-true}
-use Rattle.std.proofs.Common.{◌≡◌, ◌≢◌, ℕ, zero, suc, leb, ◌+◌, ◌⊎◌, inl, inr, ◌<◌, ◌≤◌, arith, eqb-true, Bool, true, false, eqb, List, [], ◌∷◌, ◌++◌, length, take, drop, Option, None, Some, refl, sym, ap, subst, ◌∙◌, append_assoc, append-nil}
+use Rattle.std.proofs.lemmas.Bool.{eq-eqb}
+use Rattle.std.proofs.Common.{◌≡◌, ◌≢◌, ℕ, zero, suc, ◌+◌, ◌⊎◌, inl, inr, ◌<◌, ◌≤◌, arith, eqb-true, Bool, true, false, eqb, List, [], ◌∷◌, ◌++◌, length, take, drop, Option, None, Some, refl, sym, ap, subst, ◌∙◌, append_assoc, append-nil}
 use Rattle.std.proofs.lemmas.List.{get_or-set_same, get_or-replicate, length-replicate, take-append-drop, length-set}
 use Rattle.nr_wire.specs.declared.hello.Side.{Side}
 use Rattle.nr_wire.specs.declared.hello.Side.TheVariants.{Initiator, Responder}
 use Rattle.nr_reduce.specs.declared.mark.Mark.{Mark}
 use Rattle.nr_reduce.specs.declared.mark.Mark.TheVariants as marks
 use Rattle.nr_reduce.specs.declared.mark.Told.TheVariants.{Granted}
+use Rattle.nr_reduce.specs.declared.mark.Told.TheVariants as told
 use Rattle.nr_reduce.specs.declared.mark.LinkParameters.{LinkParameters}
 use Rattle.nr_link.specs.declared.end.End.{End}
 use Rattle.nr_reduce.specs.declared.call.Call.{Call}
 use Rattle.nr_reduce.specs.declared.call.Form.{Form}
-use Rattle.nr_reduce.specs.PlainJournal.{journal}
+use Rattle.nr_reduce.specs.NumberedJournal.{Standing}
+use Rattle.nr_reduce.specs.NumberedJournal.Standing.{Old, Kept, New}
 use Rattle.nr_reduce.specs.SubmitAnswer.{unless_dropped, submit_answer, submit_answer_after}
 use Rattle.nr_reduce.specs.OutcomesDue.{outcomes_due}
 use Rattle.nr_reduce.specs.Asked.{revoked_bytes}
-use Rattle.nr_reduce.specs.Served.{next_call}
+use Rattle.nr_reduce.specs.Served.{next_call, last_frame_at}
 use Rattle.nr_reduce.specs.Run.{client, server}
 use Rattle.nr_reduce.specs.Client.{client_rules, client_end, client_output}
 use Rattle.nr_reduce.specs.Server.{server_rules}
@@ -31,19 +33,21 @@ use Rattle.nr_reduce.specs.Matched.{Matched, MatchedMark}
 use Rattle.nr_reduce.proofs.Standing.{AtEachMark_more, itself, sent_one, received_one}
 use Rattle.nr_laws.proofs.DistinctKeys.{any_append}
 use Rattle.nr_reduce.proofs.Unconcerned.{not_fed as is_unfed, none_fed}
-use Rattle.nr_drill.specs.Drill.{link_of, Setting, Drill, Pipes, empty_pipes, plain_of, now, unwritten, appended, after_output, after_all_output, settled, pipes_of, with_mark, with_pipes, after_feeding, after_feeding_up, after_feeding_down, after_up, after_down, after_handing, after_done, after_dones, after_outcomes, after_submit, if_standing, waiting_call, after_answer, after_execution, after_work, after_calls, after_all_up, after_all_work, after_all_down, after_moves, answer_of_line, open_xid, after_giving_up, after_forget, after_taking_back, after_revoke, after_drop, after_raw, after_round, after_opening, after_openings, SerialServer, start, links_of, cred_of, with_cred, after_grant}
-use Rattle.nr_texts.specs.declared.opening.Opening.{Opening}
-use Rattle.nr_script.specs.Script.{ScriptLines, IsScript, FollowOn, may_follow, is_client, is_call_line, credits_in_range}
-use Rattle.nr_drill.specs.Follows.{after_line, Drains, Makes, MakeAll, Follows, parameters_of, setting_of, opened_drill}
+use Rattle.nr_drill.specs.Drill.{link_of, Setting, Drill, Pipes, empty_pipes, GivenReply, client_of, standing_of, reply_given, unwritten, appended, after_output, after_all_output, settled, pipes_of, with_mark, with_pipes, after_feeding, after_feeding_up, after_feeding_down, after_up, after_down, after_handing, after_done, after_dones, after_outcomes, after_submit, if_standing, waiting_call, after_answer, after_call, after_execution, after_work, after_calls, after_all_up, after_all_work, after_all_down, after_moves, answer_of_line, open_xid, after_giving_up, after_forget, after_taking_back, after_revoke, after_drop, after_raw, after_round, after_opening, after_openings, SerialServer, start, links_of, cred_of, with_cred, after_grant}
+use Rattle.nr_script.specs.Script.{ScriptLines, IsScript}
+use Rattle.nr_drill.specs.Follows.{Drains, Follows, parameters_of, setting_of, opened_drill}
 use Rattle.nr_drill.specs.Headline.{KeepsLaws}
-use Rattle.nr_drill.specs.Lines.{is_raw_of, HasNoRaw, IsLink}
+use Rattle.nr_drill.specs.Lines.{is_raw_of, HasNoRaw, IsClient, IsUnnumbered}
 use Rattle.nr_laws.proofs.Granted.{submits_within}
-use Rattle.nr_reduce.specs.Opening.{IsOpened}
 use Rattle.nr_drill.proofs.Lawful.{IsLawful, IsWritten, Keeps, own_written, up_written, down_written, more_due, lawful_settled, lawful_handing, lawful_after_up, lawful_after_down, lawful_submit, lawful_work, lawful_calls, lawful_revoke, lawful_moves}
 use Rattle.nr_script.specs.declared.script.Line.{Line}
 use Rattle.nr_script.specs.declared.script.Line.TheVariants as lines
 use Rattle.nr_drill.proofs.Handed.{follows_hands}
-use Rattle.nr_drill.proofs.Followed.{quiet_mark, apart, unconcerned, not_written, Extends, Acts, Holds, AreWritable, Among, elsewhere, holds_by, line_holds, cred_at, submit_adds, up_adds, down_adds, work_adds, forget_adds, revoke_adds, drop_adds, raw_adds, moves_adds, opening_adds, keeps_forget, keeps_drop, opening_keeps, among_range, start_lawful, start_creds, opened_by_script, follows_keeps_laws, grant_adds, keeps_grant, all_fit, IsFit}
+use Rattle.nr_reduce.specs.Opening.{IsFirstLink}
+use Rattle.nr_drill.proofs.FirstLinks.{opened_firsts, down_is}
+use Rattle.nr_drill.proofs.FirstLines.{NamesClient, made_first, all_name}
+use Rattle.nr_drill.proofs.Followed.{quiet_mark, apart, unconcerned, not_written, Extends, Acts, Holds, AreWritable, AreFit, Among, elsewhere, holds_by, cred_at, with_cred_at, keeps_raw, opened_first_links, submit_adds, up_adds, down_adds, work_adds, forget_adds, revoke_adds, drop_adds, raw_adds, moves_adds, opening_adds, keeps_forget, keeps_drop, opening_keeps, among_range, start_lawful, start_creds, opened_by_script, follows_keeps_laws, grant_adds, keeps_grant, all_fit, IsFit}
+use Rattle.nr_drill.specs.Unnumbered.{AreFirst, first_line, FirstMakes, FirstMakeAll}
 
 -- what each side sent is what the other received and what waits
 pub record IsCarried (link : ℕ) (d : Drill) : Type 0 where
@@ -283,9 +287,9 @@ unfolding after_done
 dones_keep s link zero d h = h
 dones_keep s link (suc n) d h = dones_keep s link n (after_done s link d) (handing_keeps s link (slice_get (outcomes_due (s.opened link) link d.marks) 0) d refl h)
 
-pub carries_down : (s : Setting) (link n : ℕ) (d : Drill) → Keeps s link d → Carries link d → Carries link (after_down s link n d)
-unfolding after_down after_outcomes
-carries_down s link n d h c = by (is_dropped link d.marks) refl
+pub carries_down : (s : Setting) (link n : ℕ) (d : Drill) → IsFirstLink (s.opened link) → Keeps s link d → Carries link d → Carries link (after_down s link n d)
+unfolding after_outcomes
+carries_down s link n d first h c = subst (Carries link) (sym (down_is s link n d first)) (by (is_dropped link d.marks) refl)
   where
     fed : Drill
     fed = after_feeding_down link n d
@@ -308,15 +312,22 @@ carries_down s link n d h c = by (is_dropped link d.marks) refl
         carry_settled s link (after_dones s link k fed) (dones_dropped s link k fed ∙ feed_dropped link Initiator (take n (pipes_of link d).down) rest d ∙ e)
         (carry_dones s link k fed (carry_down link (take n (pipes_of link d).down) (drop n (pipes_of link d).down) d (take-append-drop n (pipes_of link d).down) e c))
 
-carry_answer : (s : Setting) (link : ℕ) (call : ReadyCall) (reply : Option (List ℕ)) (d : Drill) → is_dropped link d.marks ≡ false → Carries link d → Carries link (after_answer s link call reply d)
+carry_answer : (s : Setting) (link : ℕ) (call : ReadyCall) (answer : Option GivenReply) (d : Drill) → is_dropped link d.marks ≡ false → Carries link d → Carries link (after_answer s link call answer d)
 carry_answer s link call None d standing c = c
-carry_answer s link call (Some reply) d standing c =
-    let mark = marks.Execute link call.xid (now d) call.payload (length (journal (plain_of s.server) d.marks)) reply in
+carry_answer s link call (Some g) d standing c =
+    let mark = marks.Execute link call.xid g.moment call.payload g.place g.reply in
     carry_settled s link (with_mark mark d) (same_dropped link d.marks mark refl ∙ standing) (carry_mark link mark d refl refl refl refl refl tt c)
+
+carry_call : (s : Setting) (link : ℕ) (call : ReadyCall) (is : Standing) (answer : Option GivenReply) (d : Drill) → is_dropped link d.marks ≡ false → Carries link d → Carries link (after_call s link call is answer d)
+carry_call s link call (Old top) answer d standing c =
+    let mark = marks.Told link (told.Old call.xid (last_frame_at link d.marks)) in
+    carry_settled s link (with_mark mark d) (same_dropped link d.marks mark refl ∙ standing) (carry_mark link mark d refl refl refl refl refl tt c)
+carry_call s link call (Kept place) answer d standing c = carry_answer s link call answer d standing c
+carry_call s link call New answer d standing c = carry_answer s link call answer d standing c
 
 carry_execution : (s : Setting) (link : ℕ) (call : Option ReadyCall) (d : Drill) → is_dropped link d.marks ≡ false → Carries link d → Carries link (after_execution s link call d)
 carry_execution s link None d standing c = c
-carry_execution s link (Some call) d standing c = carry_answer s link call (s.server.reply_to (journal (plain_of s.server) d.marks) (now d) call.payload) d standing c
+carry_execution s link (Some call) d standing c = carry_call s link call (standing_of s link d call) (reply_given s link d call) d standing c
 
 pub carries_work : (s : Setting) (link : ℕ) (d : Drill) → Carries link d → Carries link (after_work s link d)
 unfolding after_work waiting_call
@@ -333,14 +344,14 @@ carries_calls : (s : Setting) (link n : ℕ) (d : Drill) → Carries link d → 
 carries_calls s link zero d c = c
 carries_calls s link (suc n) d c = carries_calls s link n (after_work s link d) (carries_work s link d c)
 
-carries_moves : (s : Setting) (link : ℕ) (d : Drill) → Keeps s link d → Carries link d → Carries link (after_moves s link d)
+carries_moves : (s : Setting) (link : ℕ) (d : Drill) → IsFirstLink (s.opened link) → Keeps s link d → Carries link d → Carries link (after_moves s link d)
 unfolding after_moves after_all_work
-carries_moves s link d h c =
+carries_moves s link d first h c =
     let one = after_all_up s link d in
     let two = after_all_work s link one in
     let k = length (server (s.opened link) link one.marks).state.ready in
     let up = lawful_after_up s link (length (pipes_of link d).up) d h in
-    carries_down s link (length (pipes_of link two).down) two (lawful_calls s link k one up) (carries_calls s link k one (carries_up s link (length (pipes_of link d).up) d h c))
+    carries_down s link (length (pipes_of link two).down) two first (lawful_calls s link k one up) (carries_calls s link k one (carries_up s link (length (pipes_of link d).up) d h c))
 
 carries_submit : (s : Setting) (link : ℕ) (call : Call) (form : Form) (d : Drill) → Keeps s link d → Carries link d → Carries link (after_submit s link call form d)
 unfolding after_submit submit_answer_after
@@ -368,7 +379,7 @@ carry_giving_up link (Some xid) d c = carry_mark link (marks.Forget link xid) d 
 
 carries_forget : (s : Setting) (link number : ℕ) (d : Drill) → Carries link d → Carries link (after_forget s link number d)
 unfolding after_forget
-carries_forget s link number d c = carry_giving_up link (open_xid s link d.marks (answer_of_line link number d.marks)) d c
+carries_forget s link number d c = carry_giving_up link (open_xid s link d.marks (answer_of_line s (client_of s link) number d.marks)) d c
 
 -- taking memory back makes nothing due
 revoke_client : (o : LinkParameters) (k : ClientState) (ended : Option End) (place xid : ℕ) → output_for_all (client_rules o) (record { state = k; ended = ended }) (MemoryRevoked place xid ∷ []) ≡ []
@@ -404,7 +415,7 @@ carry_taking_back s link (Some xid) d h c = by (is_dropped link d.marks) refl
 
 carries_revoke : (s : Setting) (link number : ℕ) (d : Drill) → Keeps s link d → Carries link d → Carries link (after_revoke s link number d)
 unfolding after_revoke
-carries_revoke s link number d h c = carry_taking_back s link (open_xid s link d.marks (answer_of_line link number d.marks)) d h c
+carries_revoke s link number d h c = carry_taking_back s link (open_xid s link d.marks (answer_of_line s (client_of s link) number d.marks)) d h c
 
 pub dropped_at_last : (link : ℕ) (run : List Mark) → is_dropped link (run ++ marks.Drop link ∷ []) ≡ true
 dropped_at_last link run =
@@ -519,21 +530,6 @@ stands_by s acted link old new some one p h = record { holds = holds_by s acted 
         let ne : acted ≢ link = (λ same. differs (sym is ∙ eq-eqb acted link same)) in
         carries_elsewhere link acted old new ne (λ same. ne (let a = some in let b = one in let c = same in omega (arith, a, b, c))) p.acts.extends h.carries
 
--- a line names a client from 1 on, and puts no bytes into the pipes of this link
-abbrev pub NamesClient : Line → Type 0
-NamesClient (lines.Cred client cred) = Unit {0}
-NamesClient (lines.Call client form prog vers proc args) = 1 ≤ client
-NamesClient (lines.Up client most) = 1 ≤ client
-NamesClient (lines.Down client most) = 1 ≤ client
-NamesClient (lines.Work client) = 1 ≤ client
-NamesClient (lines.Tick seconds) = Unit {0}
-NamesClient (lines.Forget client number) = 1 ≤ client
-NamesClient (lines.Revoke client number) = 1 ≤ client
-NamesClient (lines.Drop client) = 1 ≤ client
-NamesClient (lines.Raw client side bytes) = 1 ≤ client
-NamesClient (lines.Grant client credits) = 1 ≤ client
-NamesClient lines.Drain = Unit {0}
-
 pub true_not : true ≡ false → ⊥
 true_not e = absurd cc
 
@@ -552,162 +548,168 @@ same_marks link old new m p c = record {
   gone = λ e. ap (λ (ps : List Pipes). slice_index_or ps (link - 1) empty_pipes) p ∙ c.gone (ap (λ (run : List Mark). is_dropped link run) (sym m) ∙ e);
 }
 
-line_stands : (s : Setting) (link : ℕ) (line : Line) (d : Drill) → 1 ≤ link → ((l : ℕ) → IsOpened (s.opened l)) → IsFit s line → NamesClient line → is_raw_of link line ≡ false →
-    Stands s link d → Stands s link (after_line s line d)
-line_stands s link (lines.Cred client cred) d one opened w some raw h =
-    record { holds = line_holds s link (lines.Cred client cred) d opened w h.holds; carries = same_marks link d (with_cred client cred d) refl refl h.carries }
-line_stands s link (lines.Call client form prog vers proc args) d one opened w some raw h =
+line_stands : (s : Setting) (link : ℕ) (line : Line) (d : Drill) → 1 ≤ link → AreFit s → IsFit s line → NamesClient line → is_raw_of link line ≡ false →
+    Stands s link d → Stands s link (first_line s line d)
+line_stands s link (lines.Cred client cred) d one fit w some raw h = record {
+  holds = record { keeps = h.holds.keeps; creds = with_cred_at d.creds (client - 1) cred h.holds.creds w.0 };
+  carries = same_marks link d (with_cred client cred d) refl refl h.carries;
+}
+line_stands s link (lines.Call client form prog vers proc args) d one fit w some raw h =
     let call : Call = record { prog = prog; vers = vers; proc = proc; cred = cred_of client d; args = args } in
     stands_by s client link d (after_submit s client call form d) some one (record {
-      acts = record { own = λ k. lawful_submit s client call form d (opened client) (cred_at d.creds (client - 1) h.holds.creds) k; extends = submit_adds s client call form d };
+      acts = record { own = λ k. lawful_submit s client call form d (fit.first.on client) (fit.opened client) (cred_at d.creds (client - 1) h.holds.creds) k; extends = submit_adds s client call form d };
       carries = λ k c. carries_submit s client call form d k c;
     }) h
-line_stands s link (lines.Up client most) d one opened w some raw h =
+line_stands s link (lines.Up client most) d one fit w some raw h =
     stands_by s client link d (after_up s client most d) some one (record {
       acts = record { own = λ k. lawful_after_up s client most d k; extends = up_adds s client most d };
       carries = λ k c. carries_up s client most d k c;
     }) h
-line_stands s link (lines.Down client most) d one opened w some raw h =
+line_stands s link (lines.Down client most) d one fit w some raw h =
     stands_by s client link d (after_down s client most d) some one (record {
-      acts = record { own = λ k. lawful_after_down s client most d k; extends = down_adds s client most d };
-      carries = λ k c. carries_down s client most d k c;
+      acts = record { own = λ k. lawful_after_down s client most d (fit.first.on client) k; extends = down_adds s client most d };
+      carries = λ k c. carries_down s client most d (fit.first.on client) k c;
     }) h
-line_stands s link (lines.Work client) d one opened w some raw h =
+line_stands s link (lines.Work client) d one fit w some raw h =
     stands_by s client link d (after_work s client d) some one (record {
       acts = record { own = λ k. lawful_work s client d k; extends = work_adds s client d };
       carries = λ k c. carries_work s client d c;
     }) h
-line_stands s link (lines.Tick seconds) d one opened w some raw h =
-    record { holds = line_holds s link (lines.Tick seconds) d opened w h.holds; carries = same_marks link d (record d { seconds = d.seconds + seconds }) refl refl h.carries }
-line_stands s link (lines.Forget client number) d one opened w some raw h =
+line_stands s link (lines.Tick seconds) d one fit w some raw h = record {
+  holds = record { keeps = h.holds.keeps; creds = h.holds.creds };
+  carries = same_marks link d (record d { seconds = d.seconds + seconds }) refl refl h.carries;
+}
+line_stands s link (lines.Forget client number) d one fit w some raw h =
     stands_by s client link d (after_forget s client number d) some one (record {
-      acts = record { own = λ k. keeps_forget s client number d k; extends = forget_adds s client number d };
+      acts = record { own = λ k. keeps_forget s client number d fit.first k; extends = forget_adds s client number d };
       carries = λ k c. carries_forget s client number d c;
     }) h
-line_stands s link (lines.Revoke client number) d one opened w some raw h =
+line_stands s link (lines.Revoke client number) d one fit w some raw h =
     stands_by s client link d (after_revoke s client number d) some one (record {
-      acts = record { own = λ k. lawful_revoke s client number d k; extends = revoke_adds s client number d };
+      acts = record { own = λ k. lawful_revoke s client number d fit.first k; extends = revoke_adds s client number d };
       carries = λ k c. carries_revoke s client number d k c;
     }) h
-line_stands s link (lines.Drop client) d one opened w some raw h =
+line_stands s link (lines.Drop client) d one fit w some raw h =
     stands_by s client link d (after_drop client d) some one (record {
       acts = record { own = λ k. keeps_drop s client d k; extends = drop_adds client d };
       carries = λ k c. carries_drop client d c;
     }) h
-line_stands s link (lines.Raw client side bytes) d one opened w some raw h =
+line_stands s link (lines.Rejoin client) d one fit w some raw h = h
+line_stands s link (lines.Raw client side bytes) d one fit w some raw h =
     let ne : client ≢ link = other_than client link raw in
+    let next = after_raw client side bytes (is_dropped client d.marks) d in
+    let x = raw_adds client side bytes (is_dropped client d.marks) d in
     record {
-      holds = line_holds s link (lines.Raw client side bytes) d opened w h.holds;
-      carries = carries_elsewhere link client d (after_raw client side bytes (is_dropped client d.marks) d) ne
-          (λ same. ne (let a = some in let b = one in let c = same in omega (arith, a, b, c))) (raw_adds client side bytes (is_dropped client d.marks) d) h.carries;
+      holds = holds_by s client link d next (record { own = λ k. keeps_raw s client side bytes (is_dropped client d.marks) d k; extends = x }) h.holds;
+      carries = carries_elsewhere link client d next ne (λ same. ne (let a = some in let b = one in let c = same in omega (arith, a, b, c))) x h.carries;
     }
-line_stands s link (lines.Grant client credits) d one opened w some raw h =
+line_stands s link (lines.Grant client credits) d one fit w some raw h =
     stands_by s client link d (after_grant client credits d) some one (record {
-      acts = record { own = λ k. keeps_grant s client credits d w.1 k; extends = grant_adds client credits d };
+      acts = record { own = λ k. keeps_grant s client credits d (w.1 client) k; extends = grant_adds client credits d };
       carries = λ k c. carries_grant client credits d c;
     }) h
-line_stands s link lines.Drain d one opened w some raw h = h
+line_stands s link lines.Drain d one fit w some raw h = h
 
 abbrev pub AreLinks : List ℕ → Type 0
 AreLinks links = AllByRecursion (λ (l : ℕ). 1 ≤ l) links
 
-round_stands : (s : Setting) (link : ℕ) (links : List ℕ) (d : Drill) → 1 ≤ link → AreLinks links → Stands s link d → Stands s link (after_round s links d)
-round_stands s link [] d one some h = h
-round_stands s link (l ∷ links) d one some h =
-    round_stands s link links (after_moves s l d) one some.1
+round_stands : (s : Setting) (link : ℕ) (links : List ℕ) (d : Drill) → 1 ≤ link → AreFirst s → AreLinks links → Stands s link d → Stands s link (after_round s links d)
+round_stands s link [] d one first some h = h
+round_stands s link (l ∷ links) d one first some h =
+    round_stands s link links (after_moves s l d) one first some.1
     (stands_by s l link d (after_moves s l d) some.0 one (record {
-      acts = record { own = λ k. lawful_moves s l d k; extends = moves_adds s l d };
-      carries = λ k c. carries_moves s l d k c;
+      acts = record { own = λ k. lawful_moves s l d (first.on l) k; extends = moves_adds s l d };
+      carries = λ k c. carries_moves s l d (first.on l) k c;
     }) h)
 
-pub drain_stands : (s : Setting) (link : ℕ) (links : List ℕ) (rounds : ℕ) (old new : Drill) → 1 ≤ link → AreLinks links → Drains s links rounds old new → Stands s link old → Stands s link new
-drain_stands s link links zero old new one some drains h = subst (Stands s link) (sym drains.1) h
-drain_stands s link links (suc rounds) old new one some drains h =
-    drain_stands s link links rounds (after_round s links old) new one some drains.1 (round_stands s link links old one some h)
+pub drain_stands : (s : Setting) (link : ℕ) (links : List ℕ) (rounds : ℕ) (old new : Drill) → 1 ≤ link → AreFirst s → AreLinks links → Drains s links rounds old new → Stands s link old → Stands s link new
+drain_stands s link links zero old new one first some drains h = subst (Stands s link) (sym drains.1) h
+drain_stands s link links (suc rounds) old new one first some drains h =
+    drain_stands s link links rounds (after_round s links old) new one first some drains.1 (round_stands s link links old one first some h)
 
 pub are_links : (from n : ℕ) → 1 ≤ from → AreLinks (range_with_len from n)
 are_links from zero some = tt
 are_links from (suc n) some = (some, are_links (from + 1) n (let a = some in omega (arith, a)))
 
-line_passed : (s : Setting) (clients link : ℕ) (line : Line) (old new : Drill) → 1 ≤ link → ((l : ℕ) → IsOpened (s.opened l)) → IsFit s line → NamesClient line → is_raw_of link line ≡ false →
-    Makes s clients line old new → Stands s link old → Stands s link new
-line_passed s clients link (lines.Cred client cred) old new one opened w n r e h = subst (Stands s link) (sym e) (line_stands s link (lines.Cred client cred) old one opened w n r h)
-line_passed s clients link (lines.Call client form prog vers proc args) old new one opened w n r e h =
-    subst (Stands s link) (sym e) (line_stands s link (lines.Call client form prog vers proc args) old one opened w n r h)
-line_passed s clients link (lines.Up client most) old new one opened w n r e h = subst (Stands s link) (sym e) (line_stands s link (lines.Up client most) old one opened w n r h)
-line_passed s clients link (lines.Down client most) old new one opened w n r e h = subst (Stands s link) (sym e) (line_stands s link (lines.Down client most) old one opened w n r h)
-line_passed s clients link (lines.Work client) old new one opened w n r e h = subst (Stands s link) (sym e) (line_stands s link (lines.Work client) old one opened w n r h)
-line_passed s clients link (lines.Tick seconds) old new one opened w n r e h = subst (Stands s link) (sym e) (line_stands s link (lines.Tick seconds) old one opened w n r h)
-line_passed s clients link (lines.Forget client number) old new one opened w n r e h = subst (Stands s link) (sym e) (line_stands s link (lines.Forget client number) old one opened w n r h)
-line_passed s clients link (lines.Revoke client number) old new one opened w n r e h = subst (Stands s link) (sym e) (line_stands s link (lines.Revoke client number) old one opened w n r h)
-line_passed s clients link (lines.Drop client) old new one opened w n r e h = subst (Stands s link) (sym e) (line_stands s link (lines.Drop client) old one opened w n r h)
-line_passed s clients link (lines.Raw client side bytes) old new one opened w n r e h = subst (Stands s link) (sym e) (line_stands s link (lines.Raw client side bytes) old one opened w n r h)
-line_passed s clients link (lines.Grant client credits) old new one opened w n r e h = subst (Stands s link) (sym e) (line_stands s link (lines.Grant client credits) old one opened w n r h)
-line_passed s clients link lines.Drain old new one opened w n r e h = drain_stands s link (links_of clients) e.0 old new one (are_links 1 clients (omega arith)) e.1 h
+line_passed : (s : Setting) (clients link : ℕ) (line : Line) (old new : Drill) → 1 ≤ link → AreFit s → IsFit s line → NamesClient line → is_raw_of link line ≡ false →
+    FirstMakes s clients line old new → Stands s link old → Stands s link new
+line_passed s clients link (lines.Cred client cred) old new one fit w n r e h = subst (Stands s link) (sym e) (line_stands s link (lines.Cred client cred) old one fit w n r h)
+line_passed s clients link (lines.Call client form prog vers proc args) old new one fit w n r e h = subst (Stands s link) (sym e) (line_stands s link (lines.Call client form prog vers proc args) old one fit w n r h)
+line_passed s clients link (lines.Up client most) old new one fit w n r e h = subst (Stands s link) (sym e) (line_stands s link (lines.Up client most) old one fit w n r h)
+line_passed s clients link (lines.Down client most) old new one fit w n r e h = subst (Stands s link) (sym e) (line_stands s link (lines.Down client most) old one fit w n r h)
+line_passed s clients link (lines.Work client) old new one fit w n r e h = subst (Stands s link) (sym e) (line_stands s link (lines.Work client) old one fit w n r h)
+line_passed s clients link (lines.Tick seconds) old new one fit w n r e h = subst (Stands s link) (sym e) (line_stands s link (lines.Tick seconds) old one fit w n r h)
+line_passed s clients link (lines.Forget client number) old new one fit w n r e h = subst (Stands s link) (sym e) (line_stands s link (lines.Forget client number) old one fit w n r h)
+line_passed s clients link (lines.Revoke client number) old new one fit w n r e h = subst (Stands s link) (sym e) (line_stands s link (lines.Revoke client number) old one fit w n r h)
+line_passed s clients link (lines.Drop client) old new one fit w n r e h = subst (Stands s link) (sym e) (line_stands s link (lines.Drop client) old one fit w n r h)
+line_passed s clients link (lines.Rejoin client) old new one fit w n r e h = subst (Stands s link) (sym e) (line_stands s link (lines.Rejoin client) old one fit w n r h)
+line_passed s clients link (lines.Raw client side bytes) old new one fit w n r e h = subst (Stands s link) (sym e) (line_stands s link (lines.Raw client side bytes) old one fit w n r h)
+line_passed s clients link (lines.Grant client credits) old new one fit w n r e h = subst (Stands s link) (sym e) (line_stands s link (lines.Grant client credits) old one fit w n r h)
+line_passed s clients link lines.Drain old new one fit w n r e h = drain_stands s link (links_of clients) e.0 old new one fit.first (are_links 1 clients (omega arith)) e.1 h
 
 pub neither_raw : (a b : Bool) → (a || b) ≡ false → (a ≡ false) × (b ≡ false)
 neither_raw true b e = absurd cc
 neither_raw false b e = (refl, e)
 
-pub lines_passed : (s : Setting) (clients link : ℕ) (all : List Line) (old new : Drill) → 1 ≤ link → ((l : ℕ) → IsOpened (s.opened l)) → AllByRecursion (IsFit s) all → AllByRecursion NamesClient all →
-    list_any (is_raw_of link) all ≡ false → MakeAll s clients all old new → Stands s link old → Stands s link new
-lines_passed s clients link [] old new one opened w n r e h = subst (Stands s link) (sym e) h
-lines_passed s clients link (line ∷ others) old new one opened w n r e h =
+pub lines_passed : (s : Setting) (clients link : ℕ) (all : List Line) (old new : Drill) → 1 ≤ link → AreFit s → AllByRecursion (IsFit s) all → AllByRecursion NamesClient all →
+    list_any (is_raw_of link) all ≡ false → FirstMakeAll s clients all old new → Stands s link old → Stands s link new
+lines_passed s clients link [] old new one fit w n r e h = subst (Stands s link) (sym e) h
+lines_passed s clients link (line ∷ others) old new one fit w n r e h =
     let raw = neither_raw (is_raw_of link line) (list_any (is_raw_of link) others) r in
-    lines_passed s clients link others e.0 new one opened w.1 n.1 raw.1 e.2 (line_passed s clients link line old e.0 one opened w.0 n.0 raw.0 e.1 h)
+    lines_passed s clients link others e.0 new one fit w.1 n.1 raw.1 e.2 (line_passed s clients link line old e.0 one fit w.0 n.0 raw.0 e.1 h)
 
 -- ===== links open
 
-opening_carries : (s : Setting) (link : ℕ) (d : Drill) → IsLawful (s.opened link) link d.marks → is_dropped link d.marks ≡ false → Carries link d → Carries link (after_opening s link d)
+opening_carries : (s : Setting) (link : ℕ) (d : Drill) → IsFirstLink (s.opened link) → IsLawful (s.opened link) link d.marks → is_dropped link d.marks ≡ false → Carries link d → Carries link (after_opening s link d)
 unfolding after_opening
-opening_carries s link d h standing c =
+opening_carries s link d first h standing c =
     let one = settled s link d in
     let kept = lawful_settled s link d h in
     let two = after_all_up s link one in
-    carries_down s link (length (pipes_of link two).down) two (lawful_after_up s link (length (pipes_of link one).up) one kept)
+    carries_down s link (length (pipes_of link two).down) two first (lawful_after_up s link (length (pipes_of link one).up) one kept)
     (carries_up s link (length (pipes_of link one).up) one kept (carry_settled s link d standing c))
 
 -- a link that is open already
-opened_carries : (s : Setting) (link : ℕ) (d : Drill) → Keeps s link d → Carries link d → Carries link (after_opening s link d)
+opened_carries : (s : Setting) (link : ℕ) (d : Drill) → IsFirstLink (s.opened link) → Keeps s link d → Carries link d → Carries link (after_opening s link d)
 unfolding after_opening
-opened_carries s link d h c = by (is_dropped link d.marks) refl
+opened_carries s link d first h c = by (is_dropped link d.marks) refl
   where
     rest : Carries link (settled s link d) → Carries link (after_all_down s link (after_all_up s link (settled s link d)))
     rest c =
         let one = settled s link d in
         let kept = lawful_settled s link d h.0 in
         let two = after_all_up s link one in
-        carries_down s link (length (pipes_of link two).down) two (lawful_after_up s link (length (pipes_of link one).up) one kept) (carries_up s link (length (pipes_of link one).up) one kept c)
+        carries_down s link (length (pipes_of link two).down) two first (lawful_after_up s link (length (pipes_of link one).up) one kept) (carries_up s link (length (pipes_of link one).up) one kept c)
 
     by : (b : Bool) → is_dropped link d.marks ≡ b → Carries link (after_all_down s link (after_all_up s link (settled s link d)))
     by true e = rest (subst (Carries link) (sym (settled_same s link d h.1)) c)
     by false e = rest (carry_settled s link d e c)
 
-openings_stand : (s : Setting) (link : ℕ) (links : List ℕ) (d : Drill) → 1 ≤ link → AreLinks links → Stands s link d → Stands s link (after_openings s links d)
-openings_stand s link [] d one some h = h
-openings_stand s link (l ∷ links) d one some h =
-    openings_stand s link links (after_opening s l d) one some.1
+openings_stand : (s : Setting) (link : ℕ) (links : List ℕ) (d : Drill) → 1 ≤ link → AreFirst s → AreLinks links → Stands s link d → Stands s link (after_openings s links d)
+openings_stand s link [] d one first some h = h
+openings_stand s link (l ∷ links) d one first some h =
+    openings_stand s link links (after_opening s l d) one first some.1
     (stands_by s l link d (after_opening s l d) some.0 one (record {
-      acts = record { own = λ k. opening_keeps s l d k.0; extends = opening_adds s l d };
-      carries = λ k c. opened_carries s l d k c;
+      acts = record { own = λ k. opening_keeps s l d (first.on l) k.0; extends = opening_adds s l d };
+      carries = λ k c. opened_carries s l d (first.on l) k c;
     }) h)
 
-openings_begin : (s : Setting) (link : ℕ) (links : List ℕ) (d : Drill) → 1 ≤ link → AreLinks links → Among link links → IsLawful (s.opened link) link d.marks → AreWritable d.creds →
+openings_begin : (s : Setting) (link : ℕ) (links : List ℕ) (d : Drill) → 1 ≤ link → AreFirst s → AreLinks links → Among link links → IsLawful (s.opened link) link d.marks → AreWritable d.creds →
     is_dropped link d.marks ≡ false → Carries link d → Stands s link (after_openings s links d)
-openings_begin s link [] d one some among h w standing c = absurd among
-openings_begin s link (l ∷ links) d one some among h w standing c =
-    by (eqb l link) refl among (openings_begin s link links (after_opening s l d) one some.1)
+openings_begin s link [] d one first some among h w standing c = absurd among
+openings_begin s link (l ∷ links) d one first some among h w standing c =
+    by (eqb l link) refl among (openings_begin s link links (after_opening s l d) one first some.1)
   where
     creds : AreWritable (after_opening s l d).creds
     creds = subst AreWritable (sym (opening_adds s l d).creds) w
 
     opened_here : l ≡ link → Stands s link (after_openings s links (after_opening s l d))
-    opened_here same = openings_stand s link links (after_opening s l d) one some.1 (record {
+    opened_here same = openings_stand s link links (after_opening s l d) one first some.1 (record {
       holds = record {
-        keeps = subst (λ (k : ℕ). Keeps s k (after_opening s l d)) same (opening_keeps s l d (subst (λ (k : ℕ). IsLawful (s.opened k) k d.marks) (sym same) h));
+        keeps = subst (λ (k : ℕ). Keeps s k (after_opening s l d)) same (opening_keeps s l d (first.on l) (subst (λ (k : ℕ). IsLawful (s.opened k) k d.marks) (sym same) h));
         creds = creds;
       };
-      carries = subst (λ (k : ℕ). Carries k (after_opening s l d)) same (opening_carries s l d (subst (λ (k : ℕ). IsLawful (s.opened k) k d.marks) (sym same) h)
+      carries = subst (λ (k : ℕ). Carries k (after_opening s l d)) same (opening_carries s l d (first.on l) (subst (λ (k : ℕ). IsLawful (s.opened k) k d.marks) (sym same) h)
           (subst (λ (k : ℕ). is_dropped k d.marks ≡ false) (sym same) standing) (subst (λ (k : ℕ). Carries k d) (sym same) c));
     })
 
@@ -727,11 +729,11 @@ openings_begin s link (l ∷ links) d one some among h w standing c =
     by false is (inl same) more = opened_here same
     by false is (inr later) more = later_on (other_than l link is) later more
 
-pub start_carries : (clients link : ℕ) → 1 ≤ link → link ≤ clients → Carries link (start clients)
+pub start_carries : (s : Setting) (clients link : ℕ) → 1 ≤ link → link ≤ clients → Carries link (start s clients)
 unfolding bytes_sent bytes_received
-start_carries clients link low high =
+start_carries s clients link low high =
     let room : link - 1 < clients = (let a = low in let b = high in omega (arith, a, b)) in
-    let none : pipes_of link (start clients) ≡ empty_pipes = get_or-replicate clients (link - 1) empty_pipes empty_pipes room in
+    let none : pipes_of link (start s clients) ≡ empty_pipes = get_or-replicate clients (link - 1) empty_pipes empty_pipes room in
     record {
       matched = tt;
       room = subst (λ (n : ℕ). link - 1 < n) (sym (length-replicate clients empty_pipes)) room;
@@ -739,67 +741,49 @@ start_carries clients link low high =
       gone = λ e. none;
     }
 
--- ===== a script's lines name clients
-
-pub both_true : (a b : Bool) → a && b ≡ true → (a ≡ true) × (b ≡ true)
-both_true true b e = (refl, e)
-both_true false b e = absurd cc
-
-from_one : (opening : Opening) (client : ℕ) → is_client opening client ≡ true → 1 ≤ client
-from_one opening client e = leb-true 1 client (both_true (leb 1 client) (leb client opening.clients) e).0
-
-names_client : (opening : Opening) (before : List Line) (line : Line) → may_follow opening before line ≡ true → NamesClient line
-names_client opening before (lines.Cred client cred) e = tt
-names_client opening before (lines.Call client form prog vers proc args) e = from_one opening client e
-names_client opening before (lines.Up client most) e = from_one opening client e
-names_client opening before (lines.Down client most) e = from_one opening client e
-names_client opening before (lines.Work client) e = from_one opening client e
-names_client opening before (lines.Tick seconds) e = tt
-names_client opening before (lines.Forget client number) e = from_one opening client (both_true (is_client opening client) (is_call_line client number before) e).0
-names_client opening before (lines.Revoke client number) e = from_one opening client (both_true (is_client opening client) (is_call_line client number before) e).0
-names_client opening before (lines.Drop client) e = from_one opening client e
-names_client opening before (lines.Raw client side bytes) e = from_one opening client e
-names_client opening before (lines.Grant client credits) e = from_one opening client (both_true (is_client opening client) (credits_in_range opening credits) e).0
-names_client opening before lines.Drain e = tt
-
-pub all_name : (opening : Opening) (before all : List Line) → FollowOn opening before all → AllByRecursion NamesClient all
-all_name opening before [] h = tt
-all_name opening before (line ∷ others) h = (names_client opening before line h.0, all_name opening (before ++ line ∷ []) others h.1)
+-- ===== a script whose clients have no numbers
 
 -- each link of a script stands once all are open
-pub opened_stands : (server : SerialServer) (script : ScriptLines) → IsScript script → (link : ℕ) → IsLink script link → Stands (setting_of server script.opening) link (opened_drill server script.opening)
+pub opened_stands : (server : SerialServer) (script : ScriptLines) → IsScript script → IsUnnumbered script → (link : ℕ) → IsClient script link → Stands (setting_of server script.opening) link (opened_drill server script.opening)
 unfolding opened_drill
-opened_stands server script is link within =
+opened_stands server script is none link within =
     let opening = script.opening in
     let s = setting_of server opening in
     let clients = opening.clients in
-    openings_begin s link (links_of clients) (start clients) within.0 (are_links 1 clients (omega arith)) (among_range link 1 clients within.0 (let b = within.1 in omega (arith, b)))
-    (start_lawful (parameters_of opening link) link) (start_creds clients) refl (start_carries clients link within.0 within.1)
+    openings_begin s link (links_of clients) (start s clients) within.0 (opened_firsts server opening none) (are_links 1 clients (omega arith)) (among_range link 1 clients within.0 (let b = within.1 in omega (arith, b)))
+    (start_lawful (parameters_of opening link) link) (start_creds clients) refl (start_carries s clients link within.0 within.1)
+
+pub fit_setting : (server : SerialServer) (script : ScriptLines) → IsScript script → IsUnnumbered script → AreFit (setting_of server script.opening)
+fit_setting server script is none = record { first = opened_firsts server script.opening none; opened = opened_by_script script is }
+
+-- what a script whose clients have no numbers makes of the drill whose links are open
+pub follows_made : (server : SerialServer) (script : ScriptLines) (run : List Mark) → IsScript script → IsUnnumbered script → (follows : Follows server script run) →
+    FirstMakeAll (setting_of server script.opening) script.opening.clients script.lines (opened_drill server script.opening) follows.last
+follows_made server script run is none follows =
+    made_first server script.opening script.lines (opened_drill server script.opening) follows.last (opened_first_links server script.opening none) (all_fit server script is none)
+    (all_name script.opening [] script.lines is.follow_on) follows.makes
 
 -- On a link whose pipes no line puts bytes into, each side receives what the other sent. In the end what was sent and isn't received waits.
-pub follows_matches : (server : SerialServer) (script : ScriptLines) (run : List Mark) → IsScript script → (follows : Follows server script run) → (link : ℕ) → 1 ≤ link → link ≤ script.opening.clients →
+pub follows_matches : (server : SerialServer) (script : ScriptLines) (run : List Mark) → IsScript script → IsUnnumbered script → (follows : Follows server script run) → (link : ℕ) → IsClient script link →
     HasNoRaw script.lines link → Carries link follows.last × Matched link run
-unfolding opened_drill
-follows_matches server script run is follows link low high raw =
+follows_matches server script run is none follows link within raw =
     let opening = script.opening in
-    let s = setting_of server opening in
-    let clients = opening.clients in
-    let first = openings_begin s link (links_of clients) (start clients) low (are_links 1 clients (omega arith)) (among_range link 1 clients low (let b = high in omega (arith, b)))
-    (start_lawful (parameters_of opening link) link) (start_creds clients) refl (start_carries clients link low high) in
-    let last = lines_passed s clients link script.lines (opened_drill server opening) follows.last low (opened_by_script script is) (all_fit server script is) (all_name opening [] script.lines is.follow_on) raw follows.makes first in
+    let first = opened_stands server script is none link within in
+    let last = lines_passed (setting_of server opening) opening.clients link script.lines (opened_drill server opening) follows.last within.0 (fit_setting server script is none) (all_fit server script is none)
+    (all_name opening [] script.lines is.follow_on) raw (follows_made server script run is none follows) first in
     (last.carries, subst (Matched link) (sym follows.marks_are) last.carries.matched)
 
 -- ===== what a drill promises of each link
 
-pub follows_keeps : (server : SerialServer) (script : ScriptLines) (run : List Mark) → IsScript script → Follows server script run → (link : ℕ) → IsLink script link →
-    KeepsLaws script (parameters_of script.opening link) link run
-follows_keeps server script run is follows link within =
-    let laws = follows_keeps_laws server script run is follows link within.0 within.1 in
+pub follows_keeps : (server : SerialServer) (script : ScriptLines) (run : List Mark) → IsScript script → IsUnnumbered script → Follows server script run → (link : ℕ) → IsClient script link →
+    KeepsLaws script (parameters_of script.opening link) link link run
+follows_keeps server script run is none follows link within =
+    let laws = follows_keeps_laws server script run is none follows link within.0 within.1 in
     record {
       asked = laws.asked;
       served = laws.served;
       accepts = laws.accepts;
       grant = submits_within (parameters_of script.opening link) link run laws.accepts;
-      handed = follows_hands server script run is follows link within;
-      matched = λ raw. (follows_matches server script run is follows link within.0 within.1 raw).1;
+      handed = follows_hands server script run is none follows link within;
+      matched = λ raw. (follows_matches server script run is none follows link within raw).1;
     }

@@ -25,8 +25,8 @@ use Rattle.nr_drill.specs.declared.report.CallState.TheVariants as states
 use Rattle.nr_drill.specs.declared.report.CallReport.{CallReport}
 use Rattle.nr_drill.specs.declared.draft.CallTable.{CallTable}
 use Rattle.nr_drill.specs.declared.draft.Draft.{Draft}
-use Rattle.nr_drill.specs.Reports.{submitted_state, becomes, place_shown, place_if, done_state, is_open_as, number_of, last_place, reports_with, reports_from, reports_after}
-use Rattle.nr_drill.specs.private.Drafts.{AddsLine, AddsPlace, AreEmpty, AreNumbered, EndsAt, Ended, Executed, IsDraft, IsTable, IsNextXid, Noted, NumberedMark, Same, Submitted, adding, in_table, index_of, index_of_answer, is_submit_of, place_of, state_done, submits_of, with_place}
+use Rattle.nr_drill.specs.Reports.{submitted_state, becomes, place_shown, place_if, is_open_as, number_of, last_place}
+use Rattle.nr_drill.specs.private.Drafts.{AddsLine, AddsPlace, AreEmpty, AreNumbered, EndsAt, Ended, Executed, IsDraft, IsTable, IsNextXid, Noted, NumberedMark, Same, Submitted, adding, in_table, index_of, index_of_answer, is_submit_of, place_of, state_done, submits_of, with_place, done_on, calls_with, calls_from, calls_after}
 
 -- ===== lists
 
@@ -86,15 +86,15 @@ map_one f (y ∷ xs) (suc at) x e same =
 
 -- ===== the definitions, with one mark more
 
-reports_from_one : (plain : PlainServer) (reports : List CallReport) (before run : List Mark) (mark : Mark) → reports_from plain reports before (run ++ mark ∷ []) ≡ reports_with plain (before ++ run) mark (reports_from plain reports before run)
-reports_from_one plain reports before [] mark = ap (λ (b : List Mark). reports_with plain b mark reports) (sym (append-nil before))
-reports_from_one plain reports before (x ∷ run) mark =
-    reports_from_one plain (reports_with plain before x reports) (before ++ x ∷ []) run mark
-    ∙ ap (λ (b : List Mark). reports_with plain b mark (reports_from plain (reports_with plain before x reports) (before ++ x ∷ []) run)) (append_assoc before (x ∷ []) run)
+calls_from_one : (plain : PlainServer) (reports : List CallReport) (before run : List Mark) (mark : Mark) → calls_from plain reports before (run ++ mark ∷ []) ≡ calls_with plain (before ++ run) mark (calls_from plain reports before run)
+calls_from_one plain reports before [] mark = ap (λ (b : List Mark). calls_with plain b mark reports) (sym (append-nil before))
+calls_from_one plain reports before (x ∷ run) mark =
+    calls_from_one plain (calls_with plain before x reports) (before ++ x ∷ []) run mark
+    ∙ ap (λ (b : List Mark). calls_with plain b mark (calls_from plain (calls_with plain before x reports) (before ++ x ∷ []) run)) (append_assoc before (x ∷ []) run)
 
-reports_one : (plain : PlainServer) (run : List Mark) (mark : Mark) → reports_after plain (run ++ mark ∷ []) ≡ reports_with plain run mark (reports_after plain run)
-unfolding reports_after
-reports_one plain run mark = reports_from_one plain [] [] run mark
+reports_one : (plain : PlainServer) (run : List Mark) (mark : Mark) → calls_after plain (run ++ mark ∷ []) ≡ calls_with plain run mark (calls_after plain run)
+unfolding calls_after
+reports_one plain run mark = calls_from_one plain [] [] run mark
 
 journal_one : (plain : PlainServer) (run : List Mark) (mark : Mark) → journal plain (run ++ mark ∷ []) ≡ journal plain run ++ entries_added plain mark
 unfolding journal
@@ -288,7 +288,7 @@ module _ (clients : ℕ) (all before after : List Mark) (mark : Mark) (is : all 
   no_entry : entries_added adding mark ≡ [] → journal adding (before ++ mark ∷ []) ≡ journal adding before
   no_entry none = journal_one adding before mark ∙ ap (λ (es : List Entry). journal adding before ++ es) none ∙ append-nil (journal adding before)
 
-  same : ((link : ℕ) → IsIdle link mark) → entries_added adding mark ≡ [] → reports_with adding before mark (reports_after adding before) ≡ reports_after adding before → Same old new → IsDraft clients all (before ++ mark ∷ []) new
+  same : ((link : ℕ) → IsIdle link mark) → entries_added adding mark ≡ [] → calls_with adding before mark (calls_after adding before) ≡ calls_after adding before → Same old new → IsDraft clients all (before ++ mark ∷ []) new
   same idle none reports e = record {
     room = ap (λ (ts : List CallTable). length ts) e.tables ∙ h.room;
     calls = e.calls ∙ h.calls ∙ sym reports ∙ sym (reports_one adding before mark);
@@ -299,7 +299,7 @@ module _ (clients : ℕ) (all before after : List Mark) (mark : Mark) (is : all 
   }
 
   ended : (link xid : ℕ) (state def : CallState) → 1 ≤ link → link ≤ clients → IsClosed def → ((l : ℕ) → IsIdle l mark) → entries_added adding mark ≡ []
-      → reports_with adding before mark (reports_after adding before) ≡ map (becomes link xid def) (reports_after adding before)
+      → calls_with adding before mark (calls_after adding before) ≡ map (becomes link xid def) (calls_after adding before)
       → ((j : ℕ) (r : CallReport) → slice_get old.calls.items j ≡ Some r → r.client ≡ link → is_open_as xid r.state ≡ true → state ≡ def)
       → Ended link xid state old new → IsDraft clients all (before ++ mark ∷ []) new
   ended link xid state def low high closed idle none reports agree e =
@@ -318,8 +318,8 @@ module _ (clients : ℕ) (all before after : List Mark) (mark : Mark) (is : all 
       }
 
   done_agrees : (link xid j : ℕ) (outcome : Outcome) (r : CallReport) → 1 ≤ link → link ≤ clients → slice_get old.calls.items j ≡ Some r → r.client ≡ link → is_open_as xid r.state ≡ true
-      → state_done link xid outcome old ≡ done_state adding link xid outcome before
-  unfolding state_done done_state
+      → state_done link xid outcome old ≡ done_on adding link xid outcome before
+  unfolding state_done done_on
   done_agrees link xid j outcome r low high at own opened =
       let place = placed link xid j r low high at own opened in
       λ i. states.Done (place_shown (length (h.journal i)) (place i) outcome) outcome
@@ -480,7 +480,7 @@ module _ (clients : ℕ) (all before after : List Mark) (old new : Draft) (h : I
   submitted l call form answer table numbered found s =
       let r : CallReport = record { client = l; number = table.lines + 1; state = submitted_state answer } in
       let own = h.tables l numbered.above numbered.within table found in
-      let number : table.lines + 1 ≡ number_of l (reports_after adding before) = own.lines ∙ ap (number_of l) h.calls in
+      let number : table.lines + 1 ≡ number_of l (calls_after adding before) = own.lines ∙ ap (number_of l) h.calls in
       record {
         room = ap (λ (ts : List CallTable). length ts) s.tables ∙ length-set old.tables.items (l - 1) s.changed ∙ h.room;
         calls = s.calls ∙ (λ i. h.calls i ++ record { client = l; number = number i; state = submitted_state answer } ∷ []) ∙ sym (reports_one adding before (marks.Submit l call form answer));
@@ -529,8 +529,8 @@ module _ (clients : ℕ) (all before after : List Mark) (old new : Draft) (h : I
 
 -- ===== each mark
 
-done_closed : (l xid : ℕ) (outcome : Outcome) (before : List Mark) → IsClosed (done_state adding l xid outcome before)
-unfolding done_state
+done_closed : (l xid : ℕ) (outcome : Outcome) (before : List Mark) → IsClosed (done_on adding l xid outcome before)
+unfolding done_on
 done_closed l xid outcome before x = refl
 
 pub step : (clients : ℕ) (all before after : List Mark) (mark : Mark) (old new : Draft) → all ≡ before ++ mark ∷ after → NumberedMark clients before mark → Noted mark old new → IsDraft clients all before old
@@ -544,7 +544,7 @@ step clients all before after (marks.Execute l xid moment payload place reply) o
     (subst (λ (o : Option CallTable). MatchOption o (Unit {0}) (Executed l xid place moment payload reply old new)) found.1 noted)
 step clients all before after (marks.Done l xid outcome) old new is n noted h =
     let mark = marks.Done l xid outcome in
-    ended clients all before after (marks.Done l xid outcome) is old new h l xid (state_done l xid outcome old) (done_state adding l xid outcome before) n.above n.within
+    ended clients all before after (marks.Done l xid outcome) is old new h l xid (state_done l xid outcome old) (done_on adding l xid outcome before) n.above n.within
     (done_closed l xid outcome before) (λ k. record { accepts = refl; executes = refl }) refl refl
     (λ j r at own opened. done_agrees clients all before after (marks.Done l xid outcome) is old new h l xid j outcome r n.above n.within at own opened) noted
 step clients all before after (marks.Lost l xid) old new is n noted h =
@@ -577,7 +577,7 @@ next clients i all mark old new lt at numbered noted h =
 -- ===== before the first mark
 
 pub empty : (clients : ℕ) (all : List Mark) (d : Draft) → AreEmpty clients all d.tables.items → d.calls.items ≡ [] → d.journal.items ≡ [] → IsDraft clients all [] d
-unfolding reports_after journal accepted_calls last_place executed_calls
+unfolding calls_after journal accepted_calls last_place executed_calls
 empty clients all d tables calls entries = record {
   room = tables.room;
   calls = calls;

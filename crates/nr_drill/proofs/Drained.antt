@@ -21,12 +21,14 @@ use Rattle.nr_script.specs.declared.script.Line.{Line}
 use Rattle.nr_script.specs.declared.script.Line.TheVariants as lines
 use Rattle.nr_laws.proofs.Flows.{got_sent}
 use Rattle.nr_script.specs.Script.{ScriptLines, IsScript}
-use Rattle.nr_drill.specs.Lines.{acts_on, IsLink, EndsWithDrain}
+use Rattle.nr_drill.specs.Lines.{acts_on, EndsWithDrain, IsClient, IsUnnumbered}
 use Rattle.nr_drill.specs.Drill.{link_of, SerialServer, Setting, Drill, links_of, pipes_of, cred_of, if_standing, waiting_call, after_round, after_submit, after_up, after_down, after_work, after_forget, after_revoke, after_drop, after_raw, after_grant}
-use Rattle.nr_drill.specs.Follows.{is_empty, is_still, Drains, Makes, MakeAll, after_line, Follows, parameters_of, setting_of, opened_drill}
+use Rattle.nr_drill.specs.Follows.{is_empty, is_still, Drains, Follows, parameters_of, setting_of, opened_drill}
 use Rattle.nr_drill.proofs.Followed.{Among, among_range, Extends, no_event, submit_adds, up_adds, down_adds, work_adds, forget_adds, revoke_adds, drop_adds, raw_adds, grant_adds}
-use Rattle.nr_drill.proofs.Carried.{NamesClient, all_name, both_true, neither_raw, true_not, other_than, IsSameHere, same_here}
+use Rattle.nr_drill.proofs.Carried.{neither_raw, true_not, other_than, IsSameHere, same_here, follows_made}
 use Rattle.nr_drill.proofs.NoneLost.{NoneLost, follows_lose_nothing}
+use Rattle.nr_drill.proofs.FirstLines.{NamesClient, all_name, both_true}
+use Rattle.nr_drill.specs.Unnumbered.{first_line, FirstMakes, FirstMakeAll}
 
 none_left : (xs : List ℕ) → is_empty xs ≡ true → xs ≡ []
 none_left [] e = refl
@@ -101,7 +103,7 @@ left_elsewhere s link other old new one some ne x =
     λ i. is_empty (pipes i).up && (is_empty (pipes i).down && is_none (if_standing (same.dropped i) (next i)))
 
 -- by a line that doesn't act on it
-line_leaves : (s : Setting) (link : ℕ) (line : Line) (d : Drill) → 1 ≤ link → NamesClient line → acts_on link line ≡ false → IsLeft s link d (after_line s line d)
+line_leaves : (s : Setting) (link : ℕ) (line : Line) (d : Drill) → 1 ≤ link → NamesClient line → acts_on link line ≡ false → IsLeft s link d (first_line s line d)
 unfolding is_still
 line_leaves s link (lines.Cred client cred) d one some e = refl
 line_leaves s link (lines.Call client form prog vers proc args) d one some e =
@@ -114,13 +116,14 @@ line_leaves s link (lines.Tick seconds) d one some e = refl
 line_leaves s link (lines.Forget client number) d one some e = left_elsewhere s link client d (after_forget s client number d) one some (other_than client link e) (forget_adds s client number d)
 line_leaves s link (lines.Revoke client number) d one some e = left_elsewhere s link client d (after_revoke s client number d) one some (other_than client link e) (revoke_adds s client number d)
 line_leaves s link (lines.Drop client) d one some e = left_elsewhere s link client d (after_drop client d) one some (other_than client link e) (drop_adds client d)
+line_leaves s link (lines.Rejoin client) d one some e = refl
 line_leaves s link (lines.Raw client side bytes) d one some e =
     let dropped = is_dropped client d.marks in
     left_elsewhere s link client d (after_raw client side bytes dropped d) one some (other_than client link e) (raw_adds client side bytes dropped d)
 line_leaves s link (lines.Grant client credits) d one some e = left_elsewhere s link client d (after_grant client credits d) one some (other_than client link e) (grant_adds client credits d)
 line_leaves s link lines.Drain d one some e = absurd (true_not e)
 
-made_leaves : (s : Setting) (clients link : ℕ) (line : Line) (old new : Drill) → 1 ≤ link → NamesClient line → acts_on link line ≡ false → Makes s clients line old new → IsLeft s link old new
+made_leaves : (s : Setting) (clients link : ℕ) (line : Line) (old new : Drill) → 1 ≤ link → NamesClient line → acts_on link line ≡ false → FirstMakes s clients line old new → IsLeft s link old new
 made_leaves s clients link (lines.Cred client cred) old new one some n e = subst (IsLeft s link old) (sym e) (line_leaves s link (lines.Cred client cred) old one some n)
 made_leaves s clients link (lines.Call client form prog vers proc args) old new one some n e = subst (IsLeft s link old) (sym e) (line_leaves s link (lines.Call client form prog vers proc args) old one some n)
 made_leaves s clients link (lines.Up client most) old new one some n e = subst (IsLeft s link old) (sym e) (line_leaves s link (lines.Up client most) old one some n)
@@ -130,11 +133,12 @@ made_leaves s clients link (lines.Tick seconds) old new one some n e = subst (Is
 made_leaves s clients link (lines.Forget client number) old new one some n e = subst (IsLeft s link old) (sym e) (line_leaves s link (lines.Forget client number) old one some n)
 made_leaves s clients link (lines.Revoke client number) old new one some n e = subst (IsLeft s link old) (sym e) (line_leaves s link (lines.Revoke client number) old one some n)
 made_leaves s clients link (lines.Drop client) old new one some n e = subst (IsLeft s link old) (sym e) (line_leaves s link (lines.Drop client) old one some n)
+made_leaves s clients link (lines.Rejoin client) old new one some n e = subst (IsLeft s link old) (sym e) (line_leaves s link (lines.Rejoin client) old one some n)
 made_leaves s clients link (lines.Raw client side bytes) old new one some n e = subst (IsLeft s link old) (sym e) (line_leaves s link (lines.Raw client side bytes) old one some n)
 made_leaves s clients link (lines.Grant client credits) old new one some n e = subst (IsLeft s link old) (sym e) (line_leaves s link (lines.Grant client credits) old one some n)
 made_leaves s clients link lines.Drain old new one some n e = absurd (true_not n)
 
-lines_leave : (s : Setting) (clients link : ℕ) (all : List Line) (old new : Drill) → 1 ≤ link → AllByRecursion NamesClient all → list_any (acts_on link) all ≡ false → MakeAll s clients all old new → IsLeft s link old new
+lines_leave : (s : Setting) (clients link : ℕ) (all : List Line) (old new : Drill) → 1 ≤ link → AllByRecursion NamesClient all → list_any (acts_on link) all ≡ false → FirstMakeAll s clients all old new → IsLeft s link old new
 lines_leave s clients link [] old new one some n e = subst (IsLeft s link old) (sym e) refl
 lines_leave s clients link (line ∷ others) old new one some n e =
     let parts = neither_raw (acts_on link line) (list_any (acts_on link) others) n in
@@ -146,11 +150,11 @@ pub record IsCut (s : Setting) (clients : ℕ) (before after : List Line) (old n
   pub first : Drill
   pub drained : Drill
   pub rounds : ℕ
-  pub made : MakeAll s clients before old first
+  pub made : FirstMakeAll s clients before old first
   pub drains : Drains s (links_of clients) rounds first drained
-  pub later : MakeAll s clients after drained new
+  pub later : FirstMakeAll s clients after drained new
 
-pub cut_at : (s : Setting) (clients : ℕ) (before after : List Line) (old new : Drill) → MakeAll s clients (before ++ lines.Drain ∷ after) old new → IsCut s clients before after old new
+pub cut_at : (s : Setting) (clients : ℕ) (before after : List Line) (old new : Drill) → FirstMakeAll s clients (before ++ lines.Drain ∷ after) old new → IsCut s clients before after old new
 cut_at s clients [] after old new e = record { first = old; drained = e.0; rounds = e.1.0; made = refl; drains = e.1.1; later = e.2 }
 cut_at s clients (line ∷ before) after old new e =
     let r = cut_at s clients before after e.0 new e.2 in
@@ -161,17 +165,17 @@ all_last P [] ys h = h
 all_last P (x ∷ xs) ys h = all_last P xs ys h.1
 
 -- After a drain that no later line of a matched link follows nothing waits on it, if it wasn't dropped.
-pub follows_waits : (server : SerialServer) (script : ScriptLines) (run : List Mark) → IsScript script → Follows server script run → (link : ℕ) → IsLink script link → Matched link run →
+pub follows_waits : (server : SerialServer) (script : ScriptLines) (run : List Mark) → IsScript script → IsUnnumbered script → Follows server script run → (link : ℕ) → IsClient script link → Matched link run →
     is_dropped link run ≡ false → EndsWithDrain script link → NothingInTransit (parameters_of script.opening link) link run
-follows_waits server script run is follows link within matched standing ends =
+follows_waits server script run is none follows link within matched standing ends =
     let opening = script.opening in
     let s = setting_of server opening in
     let clients = opening.clients in
-    let parts = cut_at s clients ends.before ends.after (opened_drill server opening) follows.last (subst (λ (all : List Line). MakeAll s clients all (opened_drill server opening) follows.last) ends.is_cut follows.makes) in
+    let parts = cut_at s clients ends.before ends.after (opened_drill server opening) follows.last (subst (λ (all : List Line). FirstMakeAll s clients all (opened_drill server opening) follows.last) ends.is_cut (follows_made server script run is none follows)) in
     let names : AllByRecursion NamesClient (ends.before ++ lines.Drain ∷ ends.after) = subst (AllByRecursion NamesClient) ends.is_cut (all_name opening [] script.lines is.follow_on) in
     let later : AllByRecursion NamesClient ends.after = (all_last NamesClient ends.before (lines.Drain ∷ ends.after) names).1 in
     let drained = drained_still s link (links_of clients) parts.rounds parts.first parts.drained (among_range link 1 clients within.0 (let b = within.1 in omega (arith, b))) parts.drains in
     let still : is_still s follows.last link ≡ true = lines_leave s clients link ends.after parts.drained follows.last within.0 later ends.none_after parts.later ∙ drained in
     let here : is_dropped link follows.last.marks ≡ false = ap (λ (r : List Mark). is_dropped link r) (sym follows.marks_are) ∙ standing in
     subst (NothingInTransit (parameters_of opening link) link) (sym follows.marks_are)
-    (nothing_waits s link follows.last (subst (Matched link) follows.marks_are matched) (follows_lose_nothing server script run is follows link within) here still)
+    (nothing_waits s link follows.last (subst (Matched link) follows.marks_are matched) (follows_lose_nothing server script run is none follows link within) here still)

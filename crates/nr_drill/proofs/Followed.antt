@@ -1,5 +1,5 @@
 -- A run that follows a script keeps the laws of each of its links.
-use Rattle.std.specs.Prelude.{slice_get, ◌-◌, ◌&&◌, ◌||◌, slice_index_or, slice_set, replicate}
+use Rattle.std.specs.Prelude.{slice_get, ◌-◌, ◌&&◌, ◌||◌, map, slice_index_or, slice_set, replicate}
 use Rattle.std.specs.List.{AllByRecursion, range_with_len}
 use Rattle.std.proofs.Common.{◌≡◌, ◌≢◌, ℕ, ◌+◌, ◌≤◌, ◌<◌, arith, zero, suc, Bool, true, false, eqb, leb, List, [], ◌∷◌, ◌++◌, length, take, drop, Option, None, Some, ◌⊎◌, inl, inr, refl, sym, ap, subst, ◌∙◌, append_assoc, append-nil, eqb-true}
 use Rattle.nr_wire.specs.declared.hello.Side.{Side}
@@ -10,6 +10,7 @@ use Rattle.nr_reduce.specs.declared.call.Submission.TheVariants as submissions
 use Rattle.nr_reduce.specs.declared.mark.Mark.{Mark}
 use Rattle.nr_reduce.specs.declared.mark.Mark.TheVariants as marks
 use Rattle.nr_reduce.specs.declared.mark.Told.TheVariants.{Granted}
+use Rattle.nr_reduce.specs.declared.mark.Told.TheVariants as told
 use Rattle.nr_reduce.specs.declared.mark.LinkParameters.{LinkParameters}
 use Rattle.std.proofs.lemmas.Bool.{eq-eqb, leb-true}
 use Rattle.std.proofs.lemmas.List.{get_or-set_other, length-set}
@@ -23,15 +24,15 @@ use Rattle.nr_reduce.specs.Run.{client, server, output_due}
 use Rattle.nr_rpc.specs.declared.cred.Cred.{Cred}
 use Rattle.nr_rpc.specs.declared.cred.Cred.TheVariants as creds
 use Rattle.nr_rpc.specs.Credential.{CanWriteCred}
-use Rattle.nr_reduce.specs.Opening.{IsOpened}
+use Rattle.nr_reduce.specs.Opening.{IsOpened, IsFirstLink}
 use Rattle.nr_reduce.specs.Asked.{Asked, AskedMark, IsAll, revoked_bytes}
 use Rattle.nr_reduce.specs.OutcomesDue.{outcomes_due}
-use Rattle.nr_reduce.specs.PlainJournal.{journal}
-use Rattle.nr_reduce.specs.AtEachMark.{AtEachMark}
-use Rattle.nr_reduce.specs.Journal.{Journaled, AnsweredByPlainServer, PlacedMark, PlainMark}
-use Rattle.nr_reduce.proofs.Standing.{AtEachMark_more}
-use Rattle.nr_reduce.specs.SubmitAnswer.{submit_answer_after}
-use Rattle.nr_reduce.specs.Served.{Served, ServedMark, ToldInRange}
+use Rattle.nr_reduce.specs.NumberedJournal.{Standing}
+use Rattle.nr_reduce.specs.NumberedJournal.Standing.{Old, Kept, New}
+use Rattle.nr_reduce.specs.ClientState.{WaitingCall}
+use Rattle.nr_reduce.proofs.Unresumed.{none_resent, resent_marks}
+use Rattle.nr_reduce.specs.SubmitAnswer.{submit_answer_after, calls_to_resend}
+use Rattle.nr_reduce.specs.Served.{Served, ServedMark, ToldInRange, last_frame_at}
 use Rattle.nr_laws.specs.Grant.{AcceptedMark, AcceptsByRule}
 use Rattle.nr_texts.specs.declared.opening.Opening.{Opening}
 use Rattle.nr_script.specs.declared.script.Line.{Line}
@@ -40,8 +41,11 @@ use Rattle.nr_script.specs.Script.{ScriptLines, HasWritableCred, IsScript, Follo
 use Rattle.nr_reduce.specs.Concerns.{concerns}
 use Rattle.nr_reduce.proofs.Unconcerned.{not_judged, none_written, no_events, none_asked, none_served}
 use Rattle.nr_drill.specs.Follows.{after_line, Drains, Makes, MakeAll, Follows, parameters_of, setting_of, opened_drill}
-use Rattle.nr_drill.specs.Drill.{link_of, Setting, Drill, Pipes, plain_of, now, unwritten, after_output, after_all_output, settled, pipes_of, with_mark, after_submit, after_feeding, after_feeding_up, after_up, waiting_call, after_answer, after_execution, after_work, after_calls, after_drop, after_raw, after_feeding_down, after_handing, after_done, after_dones, after_outcomes, after_down, answer_of_line, open_xid, after_giving_up, after_forget, after_taking_back, after_revoke, after_all_up, after_all_work, after_all_down, after_moves, after_round, after_opening, after_openings, SerialServer, with_pipes, appended, empty_pipes, start, links_of, cred_of, after_grant}
-use Rattle.nr_drill.proofs.Lawful.{IsLawful, IsWritten, IsDueOf, Keeps, lawful_mark, left_is, due_more, more_due, due_of, lawful_settled, lawful_drop, lawful_forget, lawful_submit, lawful_after_up, lawful_after_down, lawful_work, lawful_revoke, lawful_moves, lawful_grant, quiet_told}
+use Rattle.nr_drill.specs.Drill.{link_of, Setting, Drill, Pipes, GivenReply, client_of, last_link, setting_now, standing_of, reply_given, resend_mark, after_resends, unwritten, after_output, after_all_output, settled, pipes_of, with_mark, after_submit, after_feeding, after_feeding_up, after_up, waiting_call, after_answer, after_call, after_execution, after_work, after_calls, after_drop, after_raw, after_feeding_down, after_handing, after_done, after_dones, after_outcomes, after_down, answer_of_line, open_xid, after_giving_up, after_forget, after_taking_back, after_revoke, after_all_up, after_all_work, after_all_down, after_moves, after_round, after_opening, after_openings, SerialServer, with_pipes, appended, empty_pipes, start, links_of, cred_of, after_grant}
+use Rattle.nr_drill.proofs.Lawful.{IsLawful, IsWritten, IsDueOf, Keeps, lawful_mark, left_is, due_more, more_due, due_of, lawful_settled, lawful_drop, lawful_forget, lawful_submit, lawful_after_up, lawful_after_down, lawful_work, lawful_revoke, lawful_moves, lawful_grant, quiet_grant}
+use Rattle.nr_drill.proofs.FirstLinks.{opened_firsts, now_is}
+use Rattle.nr_drill.specs.Lines.{IsUnnumbered}
+use Rattle.nr_drill.specs.Unnumbered.{AreFirst}
 
 -- ===== marks of other links
 
@@ -136,10 +140,12 @@ elsewhere o link other old new ne a = subst (IsSame o link old) (sym a.is) (same
 
 -- ===== what each function of a drill adds
 
--- the marks that are added are those of one link, and the credentials stay, and so do the pipes of other links
+-- the marks that are added are those of one link, and the credentials stay, and so do the pipes of other links and what the links were opened with
 pub record Extends (link : ℕ) (old new : Drill) : Type 0 where
   pub marks : Adds link old.marks new.marks
   pub creds : new.creds ≡ old.creds
+  pub opened : new.opened ≡ old.opened
+  pub last_links : new.last_links ≡ old.last_links
   pub pipes : (other : ℕ) → other - 1 ≢ link - 1 → pipes_of other new ≡ pipes_of other old
   pub room : length new.pipes ≡ length old.pipes
 
@@ -149,10 +155,10 @@ all_both link [] ys h g = g
 all_both link (x ∷ xs) ys h g = (h.0, all_both link xs ys h.1 g)
 
 pub nothing : (link : ℕ) (d : Drill) → Extends link d d
-nothing link d = record { marks = record { added = []; is = sym (append-nil d.marks); own = tt }; creds = refl; pipes = λ other ne. refl; room = refl }
+nothing link d = record { marks = record { added = []; is = sym (append-nil d.marks); own = tt }; creds = refl; opened = refl; last_links = refl; pipes = λ other ne. refl; room = refl }
 
 pub one_mark : (link : ℕ) (mark : Mark) (d : Drill) → link_of mark ≡ link → Extends link d (with_mark mark d)
-one_mark link mark d own = record { marks = record { added = mark ∷ []; is = refl; own = (own, tt) }; creds = refl; pipes = λ other ne. refl; room = refl }
+one_mark link mark d own = record { marks = record { added = mark ∷ []; is = refl; own = (own, tt) }; creds = refl; opened = refl; last_links = refl; pipes = λ other ne. refl; room = refl }
 
 pub both_add : (link : ℕ) (a b c : Drill) → Extends link a b → Extends link b c → Extends link a c
 both_add link a b c x y = record {
@@ -162,6 +168,8 @@ both_add link a b c x y = record {
     own = all_both link x.marks.added y.marks.added x.marks.own y.marks.own;
   };
   creds = y.creds ∙ x.creds;
+  opened = y.opened ∙ x.opened;
+  last_links = y.last_links ∙ x.last_links;
   pipes = λ other ne. y.pipes other ne ∙ x.pipes other ne;
   room = y.room ∙ x.room;
 }
@@ -170,6 +178,8 @@ pub set_pipes : (link : ℕ) (pipes : Pipes) (old new : Drill) → Extends link 
 set_pipes link pipes old new x = record {
   marks = x.marks;
   creds = x.creds;
+  opened = x.opened;
+  last_links = x.last_links;
   pipes = λ other ne. get_or-set_other new.pipes (link - 1) (other - 1) pipes empty_pipes ne ∙ x.pipes other ne;
   room = length-set new.pipes (link - 1) pipes ∙ x.room;
 }
@@ -210,24 +220,40 @@ dones_adds s link (suc n) d =
     let next = after_done s link d in
     both_add link d next (after_dones s link n next) (handing_adds link (slice_get (outcomes_due (s.opened link) link d.marks) 0) d) (dones_adds s link n next)
 
+resends_own : (link : ℕ) (ws : List WaitingCall) → AllByRecursion (λ (mark : Mark). link_of mark ≡ link) (map (resend_mark link) ws)
+resends_own link [] = tt
+resends_own link (w ∷ ws) = (refl, resends_own link ws)
+
+pub resends_add : (s : Setting) (link : ℕ) (d : Drill) → Extends link d (after_resends s link d)
+unfolding after_resends
+resends_add s link d =
+    let ws = calls_to_resend (client (s.opened link) link d.marks) in
+    record { marks = record { added = map (resend_mark link) ws; is = refl; own = resends_own link ws }; creds = refl; opened = refl; last_links = refl; pipes = λ other ne. refl; room = refl }
+
 pub down_adds : (s : Setting) (link n : ℕ) (d : Drill) → Extends link d (after_down s link n d)
 unfolding after_down after_outcomes
 down_adds s link n d =
     let fed = after_feeding_down link n d in
-    let all = after_outcomes s link fed in
+    let sent = after_resends s link fed in
+    let all = after_outcomes s link sent in
     both_add link d all (settled s link all)
-    (both_add link d fed all (feeding_adds link Initiator (take n (pipes_of link d).down) (record (pipes_of link d) { down = drop n (pipes_of link d).down }) d)
-    (dones_adds s link (length (outcomes_due (s.opened link) link fed.marks)) fed))
+    (both_add link d sent all
+    (both_add link d fed sent (feeding_adds link Initiator (take n (pipes_of link d).down) (record (pipes_of link d) { down = drop n (pipes_of link d).down }) d) (resends_add s link fed))
+    (dones_adds s link (length (outcomes_due (s.opened link) link sent.marks)) sent))
     (settled_adds s link all)
 
-pub answer_adds : (s : Setting) (link : ℕ) (call : ReadyCall) (reply : Option (List ℕ)) (d : Drill) → Extends link d (after_answer s link call reply d)
+pub answer_adds : (s : Setting) (link : ℕ) (call : ReadyCall) (answer : Option GivenReply) (d : Drill) → Extends link d (after_answer s link call answer d)
 answer_adds s link call None d = nothing link d
-answer_adds s link call (Some reply) d =
-    mark_adds s link (marks.Execute link call.xid (now d) call.payload (length (journal (plain_of s.server) d.marks)) reply) d refl
+answer_adds s link call (Some g) d = mark_adds s link (marks.Execute link call.xid g.moment call.payload g.place g.reply) d refl
+
+pub call_adds : (s : Setting) (link : ℕ) (call : ReadyCall) (is : Standing) (answer : Option GivenReply) (d : Drill) → Extends link d (after_call s link call is answer d)
+call_adds s link call (Old top) answer d = mark_adds s link (marks.Told link (told.Old call.xid (last_frame_at link d.marks))) d refl
+call_adds s link call (Kept place) answer d = answer_adds s link call answer d
+call_adds s link call New answer d = answer_adds s link call answer d
 
 pub execution_adds : (s : Setting) (link : ℕ) (call : Option ReadyCall) (d : Drill) → Extends link d (after_execution s link call d)
 execution_adds s link None d = nothing link d
-execution_adds s link (Some call) d = answer_adds s link call (s.server.reply_to (journal (plain_of s.server) d.marks) (now d) call.payload) d
+execution_adds s link (Some call) d = call_adds s link call (standing_of s link d call) (reply_given s link d call) d
 
 pub work_adds : (s : Setting) (link : ℕ) (d : Drill) → Extends link d (after_work s link d)
 unfolding after_work
@@ -256,7 +282,7 @@ giving_up_adds link (Some xid) d = one_mark link (marks.Forget link xid) d refl
 
 pub forget_adds : (s : Setting) (link number : ℕ) (d : Drill) → Extends link d (after_forget s link number d)
 unfolding after_forget
-forget_adds s link number d = giving_up_adds link (open_xid s link d.marks (answer_of_line link number d.marks)) d
+forget_adds s link number d = giving_up_adds link (open_xid s link d.marks (answer_of_line s (client_of s link) number d.marks)) d
 
 pub taking_back_adds : (s : Setting) (link : ℕ) (xid : Option ℕ) (d : Drill) → Extends link d (after_taking_back s link xid d)
 taking_back_adds s link None d = nothing link d
@@ -264,7 +290,7 @@ taking_back_adds s link (Some xid) d = mark_adds s link (marks.Revoke link xid (
 
 pub revoke_adds : (s : Setting) (link number : ℕ) (d : Drill) → Extends link d (after_revoke s link number d)
 unfolding after_revoke
-revoke_adds s link number d = taking_back_adds s link (open_xid s link d.marks (answer_of_line link number d.marks)) d
+revoke_adds s link number d = taking_back_adds s link (open_xid s link d.marks (answer_of_line s (client_of s link) number d.marks)) d
 
 pub drop_adds : (link : ℕ) (d : Drill) → Extends link d (after_drop link d)
 drop_adds link d = set_pipes link empty_pipes d (with_mark (marks.Drop link) d) (one_mark link (marks.Drop link) d refl)
@@ -311,16 +337,16 @@ keeps_drop s link d h = (lawful_drop s link d h.0, quiet_mark (s.opened link) li
 pub keeps_grant : (s : Setting) (link credits : ℕ) (d : Drill) → ToldInRange (s.opened link) (Granted credits) → Keeps s link d → Keeps s link (after_grant link credits d)
 keeps_grant s link credits d within h = (
   lawful_grant s link credits d within h.0,
-  quiet_mark (s.opened link) link d.marks (marks.Told link (Granted credits)) h.0 h.1 refl refl (quiet_told (s.opened link) link Initiator d.marks (Granted credits)) (quiet_told (s.opened link) link Responder d.marks (Granted credits)),
+  quiet_mark (s.opened link) link d.marks (marks.Told link (Granted credits)) h.0 h.1 refl refl (quiet_grant (s.opened link) link Initiator d.marks credits) (quiet_grant (s.opened link) link Responder d.marks credits),
 )
 
 pub keeps_giving_up : (s : Setting) (link : ℕ) (xid : Option ℕ) (d : Drill) → Keeps s link d → IsWritten (s.opened link) link (after_giving_up link xid d).marks
 keeps_giving_up s link None d h = h.1
 keeps_giving_up s link (Some xid) d h = quiet_mark (s.opened link) link d.marks (marks.Forget link xid) h.0 h.1 refl refl refl refl
 
-pub keeps_forget : (s : Setting) (link number : ℕ) (d : Drill) → Keeps s link d → Keeps s link (after_forget s link number d)
+pub keeps_forget : (s : Setting) (link number : ℕ) (d : Drill) → AreFirst s → Keeps s link d → Keeps s link (after_forget s link number d)
 unfolding after_forget
-keeps_forget s link number d h = (lawful_forget s link number d h.0, keeps_giving_up s link (open_xid s link d.marks (answer_of_line link number d.marks)) d h)
+keeps_forget s link number d first h = (lawful_forget s link number d first h.0, keeps_giving_up s link (open_xid s link d.marks (answer_of_line s (client_of s link) number d.marks)) d h)
 
 pub keeps_raw : (s : Setting) (link : ℕ) (side : Side) (bytes : List ℕ) (dropped : Bool) (d : Drill) → Keeps s link d → Keeps s link (after_raw link side bytes dropped d)
 keeps_raw s link side bytes true d h = h
@@ -346,78 +372,183 @@ pub record Holds (s : Setting) (link : ℕ) (d : Drill) : Type 0 where
   pub keeps : Keeps s link d
   pub creds : AreWritable d.creds
 
-abbrev AreOpened : Setting → Type 0
-AreOpened s = (link : ℕ) → IsOpened (s.opened link)
+-- what the links of a drill are opened with: in range, and none was reopened
+pub record AreFit (s : Setting) : Type 0 where
+  pub first : AreFirst s
+  pub opened : (link : ℕ) → IsOpened (s.opened link)
 
 pub holds_by : (s : Setting) (acted link : ℕ) (old new : Drill) → Acts s acted old new → Holds s link old → Holds s link new
 holds_by s acted link old new a h = record { keeps = keeps_by s acted link old new a h.keeps; creds = subst AreWritable (sym a.extends.creds) h.creds }
 
--- what a line has to be for the laws to hold after it: its credential can be encoded, and its credits are within those of the server
+-- What a line has to be for the laws to hold after it: its credential can be encoded, its credits are within those of the server, and no client
+-- begins another link.
 abbrev pub GrantsWithin : Setting → Line → Type 0
-GrantsWithin s (lines.Grant client credits) = ToldInRange (s.opened client) (Granted credits)
+GrantsWithin s (lines.Grant client credits) = (link : ℕ) → ToldInRange (s.opened link) (Granted credits)
+GrantsWithin s (lines.Rejoin client) = ⊥
 GrantsWithin s line = Unit {0}
 
 abbrev pub IsFit : Setting → Line → Type 0
 IsFit s line = HasWritableCred line × GrantsWithin s line
 
-pub line_holds : (s : Setting) (link : ℕ) (line : Line) (d : Drill) → AreOpened s → IsFit s line → Holds s link d → Holds s link (after_line s line d)
-line_holds s link (lines.Cred client cred) d opened w h = record { keeps = h.keeps; creds = with_cred_at d.creds (client - 1) cred h.creds w.0 }
-line_holds s link (lines.Call client form prog vers proc args) d opened w h =
+-- what the links were opened with stays
+pub record KeepsLinks (old new : Drill) : Type 0 where
+  pub opened : new.opened ≡ old.opened
+  pub last_links : new.last_links ≡ old.last_links
+
+pub extending_keeps : (link : ℕ) (old new : Drill) → Extends link old new → KeepsLinks old new
+extending_keeps link old new x = record { opened = x.opened; last_links = x.last_links }
+
+pub same_setting : (s : Setting) (old new : Drill) → KeepsLinks old new → setting_now s new ≡ setting_now s old
+same_setting s old new k = ap (λ (all : List LinkParameters). record s { opened = λ link. slice_index_or all (link - 1) (s.opened link) }) k.opened
+
+abbrev pub HoldsNow : Setting → ℕ → Drill → Type 0
+HoldsNow s link d = Holds (setting_now s d) link d
+
+holds_now : (s : Setting) (acted link : ℕ) (old new : Drill) → Acts (setting_now s old) acted old new → HoldsNow s link old → HoldsNow s link new
+holds_now s acted link old new a h =
+    subst (λ (t : Setting). Holds t link new) (sym (same_setting s old new (extending_keeps acted old new a.extends))) (holds_by (setting_now s old) acted link old new a h)
+
+pub line_holds : (s : Setting) (link : ℕ) (line : Line) (d : Drill) → AreFit (setting_now s d) → IsFit (setting_now s d) line → HoldsNow s link d → HoldsNow s link (after_line s line d)
+line_holds s link (lines.Cred client cred) d fit w h = record { keeps = h.keeps; creds = with_cred_at d.creds (client - 1) cred h.creds w.0 }
+line_holds s link (lines.Call client form prog vers proc args) d fit w h =
+    let t = setting_now s d in
+    let own = last_link client d in
     let call : Call = record { prog = prog; vers = vers; proc = proc; cred = cred_of client d; args = args } in
-    holds_by s client link d (after_submit s client call form d) (record {
-      own = λ k. lawful_submit s client call form d (opened client) (cred_at d.creds (client - 1) h.creds) k;
-      extends = submit_adds s client call form d;
+    holds_now s own link d (after_submit t own call form d) (record {
+      own = λ k. lawful_submit t own call form d (fit.first.on own) (fit.opened own) (cred_at d.creds (client - 1) h.creds) k;
+      extends = submit_adds t own call form d;
     }) h
-line_holds s link (lines.Up client most) d opened w h =
-    holds_by s client link d (after_up s client most d) (record { own = λ k. lawful_after_up s client most d k; extends = up_adds s client most d }) h
-line_holds s link (lines.Down client most) d opened w h =
-    holds_by s client link d (after_down s client most d) (record { own = λ k. lawful_after_down s client most d k; extends = down_adds s client most d }) h
-line_holds s link (lines.Work client) d opened w h =
-    holds_by s client link d (after_work s client d) (record { own = λ k. lawful_work s client d k; extends = work_adds s client d }) h
-line_holds s link (lines.Tick seconds) d opened w h = record { keeps = h.keeps; creds = h.creds }
-line_holds s link (lines.Forget client number) d opened w h =
-    holds_by s client link d (after_forget s client number d) (record { own = λ k. keeps_forget s client number d k; extends = forget_adds s client number d }) h
-line_holds s link (lines.Revoke client number) d opened w h =
-    holds_by s client link d (after_revoke s client number d) (record { own = λ k. lawful_revoke s client number d k; extends = revoke_adds s client number d }) h
-line_holds s link (lines.Drop client) d opened w h =
-    holds_by s client link d (after_drop client d) (record { own = λ k. keeps_drop s client d k; extends = drop_adds client d }) h
-line_holds s link (lines.Raw client side bytes) d opened w h =
-    holds_by s client link d (after_raw client side bytes (is_dropped client d.marks) d)
-    (record { own = λ k. keeps_raw s client side bytes (is_dropped client d.marks) d k; extends = raw_adds client side bytes (is_dropped client d.marks) d }) h
-line_holds s link (lines.Grant client credits) d opened w h =
-    holds_by s client link d (after_grant client credits d) (record { own = λ k. keeps_grant s client credits d w.1 k; extends = grant_adds client credits d }) h
-line_holds s link lines.Drain d opened w h = h
+line_holds s link (lines.Up client most) d fit w h =
+    let t = setting_now s d in
+    let own = last_link client d in
+    holds_now s own link d (after_up t own most d) (record { own = λ k. lawful_after_up t own most d k; extends = up_adds t own most d }) h
+line_holds s link (lines.Down client most) d fit w h =
+    let t = setting_now s d in
+    let own = last_link client d in
+    holds_now s own link d (after_down t own most d) (record { own = λ k. lawful_after_down t own most d (fit.first.on own) k; extends = down_adds t own most d }) h
+line_holds s link (lines.Work client) d fit w h =
+    let t = setting_now s d in
+    let own = last_link client d in
+    holds_now s own link d (after_work t own d) (record { own = λ k. lawful_work t own d k; extends = work_adds t own d }) h
+line_holds s link (lines.Tick seconds) d fit w h = record { keeps = h.keeps; creds = h.creds }
+line_holds s link (lines.Forget client number) d fit w h =
+    let t = setting_now s d in
+    let own = last_link client d in
+    holds_now s own link d (after_forget t own number d) (record { own = λ k. keeps_forget t own number d fit.first k; extends = forget_adds t own number d }) h
+line_holds s link (lines.Revoke client number) d fit w h =
+    let t = setting_now s d in
+    let own = last_link client d in
+    holds_now s own link d (after_revoke t own number d) (record { own = λ k. lawful_revoke t own number d fit.first k; extends = revoke_adds t own number d }) h
+line_holds s link (lines.Drop client) d fit w h =
+    let t = setting_now s d in
+    let own = last_link client d in
+    holds_now s own link d (after_drop own d) (record { own = λ k. keeps_drop t own d k; extends = drop_adds own d }) h
+line_holds s link (lines.Rejoin client) d fit w h = absurd w.1
+line_holds s link (lines.Raw client side bytes) d fit w h =
+    let t = setting_now s d in
+    let own = last_link client d in
+    holds_now s own link d (after_raw own side bytes (is_dropped own d.marks) d)
+    (record { own = λ k. keeps_raw t own side bytes (is_dropped own d.marks) d k; extends = raw_adds own side bytes (is_dropped own d.marks) d }) h
+line_holds s link (lines.Grant client credits) d fit w h =
+    let t = setting_now s d in
+    let own = last_link client d in
+    holds_now s own link d (after_grant own credits d) (record { own = λ k. keeps_grant t own credits d (w.1 own) k; extends = grant_adds own credits d }) h
+line_holds s link lines.Drain d fit w h = h
 
 -- ===== drains
 
-pub round_holds : (s : Setting) (link : ℕ) (links : List ℕ) (d : Drill) → Holds s link d → Holds s link (after_round s links d)
-round_holds s link [] d h = h
-round_holds s link (l ∷ links) d h =
-    round_holds s link links (after_moves s l d)
-    (holds_by s l link d (after_moves s l d) (record { own = λ k. lawful_moves s l d k; extends = moves_adds s l d }) h)
+pub round_holds : (s : Setting) (link : ℕ) (links : List ℕ) (d : Drill) → AreFirst s → Holds s link d → Holds s link (after_round s links d)
+round_holds s link [] d first h = h
+round_holds s link (l ∷ links) d first h =
+    round_holds s link links (after_moves s l d) first
+    (holds_by s l link d (after_moves s l d) (record { own = λ k. lawful_moves s l d (first.on l) k; extends = moves_adds s l d }) h)
 
-pub drain_holds : (s : Setting) (link : ℕ) (links : List ℕ) (rounds : ℕ) (old new : Drill) → Drains s links rounds old new → Holds s link old → Holds s link new
-drain_holds s link links zero old new drains h = subst (Holds s link) (sym drains.1) h
-drain_holds s link links (suc rounds) old new drains h = drain_holds s link links rounds (after_round s links old) new drains.1 (round_holds s link links old h)
+pub drain_holds : (s : Setting) (link : ℕ) (links : List ℕ) (rounds : ℕ) (old new : Drill) → Drains s links rounds old new → AreFirst s → Holds s link old → Holds s link new
+drain_holds s link links zero old new drains first h = subst (Holds s link) (sym drains.1) h
+drain_holds s link links (suc rounds) old new drains first h = drain_holds s link links rounds (after_round s links old) new drains.1 first (round_holds s link links old first h)
 
-pub line_made : (s : Setting) (clients link : ℕ) (line : Line) (old new : Drill) → AreOpened s → IsFit s line → Makes s clients line old new → Holds s link old → Holds s link new
-line_made s clients link (lines.Cred client cred) old new opened w e h = subst (Holds s link) (sym e) (line_holds s link (lines.Cred client cred) old opened w h)
-line_made s clients link (lines.Call client form prog vers proc args) old new opened w e h = subst (Holds s link) (sym e) (line_holds s link (lines.Call client form prog vers proc args) old opened w h)
-line_made s clients link (lines.Up client most) old new opened w e h = subst (Holds s link) (sym e) (line_holds s link (lines.Up client most) old opened w h)
-line_made s clients link (lines.Down client most) old new opened w e h = subst (Holds s link) (sym e) (line_holds s link (lines.Down client most) old opened w h)
-line_made s clients link (lines.Work client) old new opened w e h = subst (Holds s link) (sym e) (line_holds s link (lines.Work client) old opened w h)
-line_made s clients link (lines.Tick seconds) old new opened w e h = subst (Holds s link) (sym e) (line_holds s link (lines.Tick seconds) old opened w h)
-line_made s clients link (lines.Forget client number) old new opened w e h = subst (Holds s link) (sym e) (line_holds s link (lines.Forget client number) old opened w h)
-line_made s clients link (lines.Revoke client number) old new opened w e h = subst (Holds s link) (sym e) (line_holds s link (lines.Revoke client number) old opened w h)
-line_made s clients link (lines.Drop client) old new opened w e h = subst (Holds s link) (sym e) (line_holds s link (lines.Drop client) old opened w h)
-line_made s clients link (lines.Raw client side bytes) old new opened w e h = subst (Holds s link) (sym e) (line_holds s link (lines.Raw client side bytes) old opened w h)
-line_made s clients link (lines.Grant client credits) old new opened w e h = subst (Holds s link) (sym e) (line_holds s link (lines.Grant client credits) old opened w h)
-line_made s clients link lines.Drain old new opened w e h = drain_holds s link (links_of clients) e.0 old new e.1 h
+-- ===== what a line leaves of the links
 
-pub lines_made : (s : Setting) (clients link : ℕ) (all : List Line) (old new : Drill) → AreOpened s → AllByRecursion (IsFit s) all → MakeAll s clients all old new → Holds s link old → Holds s link new
-lines_made s clients link [] old new opened w e h = subst (Holds s link) (sym e) h
-lines_made s clients link (line ∷ others) old new opened w e h =
-    lines_made s clients link others e.0 new opened w.1 e.2 (line_made s clients link line old e.0 opened w.0 e.1 h)
+no_links : (old new : Drill) → new ≡ old → KeepsLinks old new
+no_links old new e = record { opened = ap (λ (d : Drill). d.opened) e; last_links = ap (λ (d : Drill). d.last_links) e }
+
+both_keep : (a b c : Drill) → KeepsLinks a b → KeepsLinks b c → KeepsLinks a c
+both_keep a b c x y = record { opened = y.opened ∙ x.opened; last_links = y.last_links ∙ x.last_links }
+
+pub round_keeps : (s : Setting) (links : List ℕ) (d : Drill) → KeepsLinks d (after_round s links d)
+round_keeps s [] d = no_links d d refl
+round_keeps s (l ∷ links) d =
+    both_keep d (after_moves s l d) (after_round s links (after_moves s l d)) (extending_keeps l d (after_moves s l d) (moves_adds s l d)) (round_keeps s links (after_moves s l d))
+
+pub drain_keeps : (s : Setting) (links : List ℕ) (rounds : ℕ) (old new : Drill) → Drains s links rounds old new → KeepsLinks old new
+drain_keeps s links zero old new drains = no_links old new drains.1
+drain_keeps s links (suc rounds) old new drains = both_keep old (after_round s links old) new (round_keeps s links old) (drain_keeps s links rounds (after_round s links old) new drains.1)
+
+pub line_keeps : (s : Setting) (line : Line) (d : Drill) → IsFit (setting_now s d) line → KeepsLinks d (after_line s line d)
+line_keeps s (lines.Cred client cred) d w = record { opened = refl; last_links = refl }
+line_keeps s (lines.Call client form prog vers proc args) d w =
+    let call : Call = record { prog = prog; vers = vers; proc = proc; cred = cred_of client d; args = args } in
+    extending_keeps (last_link client d) d _ (submit_adds (setting_now s d) (last_link client d) call form d)
+line_keeps s (lines.Up client most) d w = extending_keeps (last_link client d) d _ (up_adds (setting_now s d) (last_link client d) most d)
+line_keeps s (lines.Down client most) d w = extending_keeps (last_link client d) d _ (down_adds (setting_now s d) (last_link client d) most d)
+line_keeps s (lines.Work client) d w = extending_keeps (last_link client d) d _ (work_adds (setting_now s d) (last_link client d) d)
+line_keeps s (lines.Tick seconds) d w = record { opened = refl; last_links = refl }
+line_keeps s (lines.Forget client number) d w = extending_keeps (last_link client d) d _ (forget_adds (setting_now s d) (last_link client d) number d)
+line_keeps s (lines.Revoke client number) d w = extending_keeps (last_link client d) d _ (revoke_adds (setting_now s d) (last_link client d) number d)
+line_keeps s (lines.Drop client) d w = extending_keeps (last_link client d) d _ (drop_adds (last_link client d) d)
+line_keeps s (lines.Rejoin client) d w = absurd w.1
+line_keeps s (lines.Raw client side bytes) d w = extending_keeps (last_link client d) d _ (raw_adds (last_link client d) side bytes (is_dropped (last_link client d) d.marks) d)
+line_keeps s (lines.Grant client credits) d w = extending_keeps (last_link client d) d _ (grant_adds (last_link client d) credits d)
+line_keeps s lines.Drain d w = record { opened = refl; last_links = refl }
+
+pub made_keeps : (s : Setting) (clients : ℕ) (line : Line) (old new : Drill) → IsFit (setting_now s old) line → Makes s clients line old new → KeepsLinks old new
+made_keeps s clients (lines.Cred client cred) old new w e = both_keep old (after_line s (lines.Cred client cred) old) new (line_keeps s (lines.Cred client cred) old w) (no_links (after_line s (lines.Cred client cred) old) new e)
+made_keeps s clients (lines.Call client form prog vers proc args) old new w e = both_keep old (after_line s (lines.Call client form prog vers proc args) old) new (line_keeps s (lines.Call client form prog vers proc args) old w) (no_links (after_line s (lines.Call client form prog vers proc args) old) new e)
+made_keeps s clients (lines.Up client most) old new w e = both_keep old (after_line s (lines.Up client most) old) new (line_keeps s (lines.Up client most) old w) (no_links (after_line s (lines.Up client most) old) new e)
+made_keeps s clients (lines.Down client most) old new w e = both_keep old (after_line s (lines.Down client most) old) new (line_keeps s (lines.Down client most) old w) (no_links (after_line s (lines.Down client most) old) new e)
+made_keeps s clients (lines.Work client) old new w e = both_keep old (after_line s (lines.Work client) old) new (line_keeps s (lines.Work client) old w) (no_links (after_line s (lines.Work client) old) new e)
+made_keeps s clients (lines.Tick seconds) old new w e = both_keep old (after_line s (lines.Tick seconds) old) new (line_keeps s (lines.Tick seconds) old w) (no_links (after_line s (lines.Tick seconds) old) new e)
+made_keeps s clients (lines.Forget client number) old new w e = both_keep old (after_line s (lines.Forget client number) old) new (line_keeps s (lines.Forget client number) old w) (no_links (after_line s (lines.Forget client number) old) new e)
+made_keeps s clients (lines.Revoke client number) old new w e = both_keep old (after_line s (lines.Revoke client number) old) new (line_keeps s (lines.Revoke client number) old w) (no_links (after_line s (lines.Revoke client number) old) new e)
+made_keeps s clients (lines.Drop client) old new w e = both_keep old (after_line s (lines.Drop client) old) new (line_keeps s (lines.Drop client) old w) (no_links (after_line s (lines.Drop client) old) new e)
+made_keeps s clients (lines.Rejoin client) old new w e = both_keep old (after_line s (lines.Rejoin client) old) new (line_keeps s (lines.Rejoin client) old w) (no_links (after_line s (lines.Rejoin client) old) new e)
+made_keeps s clients (lines.Raw client side bytes) old new w e = both_keep old (after_line s (lines.Raw client side bytes) old) new (line_keeps s (lines.Raw client side bytes) old w) (no_links (after_line s (lines.Raw client side bytes) old) new e)
+made_keeps s clients (lines.Grant client credits) old new w e = both_keep old (after_line s (lines.Grant client credits) old) new (line_keeps s (lines.Grant client credits) old w) (no_links (after_line s (lines.Grant client credits) old) new e)
+made_keeps s clients lines.Drain old new w e = drain_keeps (setting_now s old) old.last_links e.0 old new e.1
+
+-- ===== a line
+
+pub line_made : (s : Setting) (clients link : ℕ) (line : Line) (old new : Drill) → AreFit (setting_now s old) → IsFit (setting_now s old) line → Makes s clients line old new → HoldsNow s link old → HoldsNow s link new
+line_made s clients link (lines.Cred client cred) old new fit w e h = subst (HoldsNow s link) (sym e) (line_holds s link (lines.Cred client cred) old fit w h)
+line_made s clients link (lines.Call client form prog vers proc args) old new fit w e h = subst (HoldsNow s link) (sym e) (line_holds s link (lines.Call client form prog vers proc args) old fit w h)
+line_made s clients link (lines.Up client most) old new fit w e h = subst (HoldsNow s link) (sym e) (line_holds s link (lines.Up client most) old fit w h)
+line_made s clients link (lines.Down client most) old new fit w e h = subst (HoldsNow s link) (sym e) (line_holds s link (lines.Down client most) old fit w h)
+line_made s clients link (lines.Work client) old new fit w e h = subst (HoldsNow s link) (sym e) (line_holds s link (lines.Work client) old fit w h)
+line_made s clients link (lines.Tick seconds) old new fit w e h = subst (HoldsNow s link) (sym e) (line_holds s link (lines.Tick seconds) old fit w h)
+line_made s clients link (lines.Forget client number) old new fit w e h = subst (HoldsNow s link) (sym e) (line_holds s link (lines.Forget client number) old fit w h)
+line_made s clients link (lines.Revoke client number) old new fit w e h = subst (HoldsNow s link) (sym e) (line_holds s link (lines.Revoke client number) old fit w h)
+line_made s clients link (lines.Drop client) old new fit w e h = subst (HoldsNow s link) (sym e) (line_holds s link (lines.Drop client) old fit w h)
+line_made s clients link (lines.Rejoin client) old new fit w e h = subst (HoldsNow s link) (sym e) (line_holds s link (lines.Rejoin client) old fit w h)
+line_made s clients link (lines.Raw client side bytes) old new fit w e h = subst (HoldsNow s link) (sym e) (line_holds s link (lines.Raw client side bytes) old fit w h)
+line_made s clients link (lines.Grant client credits) old new fit w e h = subst (HoldsNow s link) (sym e) (line_holds s link (lines.Grant client credits) old fit w h)
+line_made s clients link lines.Drain old new fit w e h =
+    subst (λ (t : Setting). Holds t link new) (sym (same_setting s old new (drain_keeps (setting_now s old) old.last_links e.0 old new e.1)))
+    (drain_holds (setting_now s old) link old.last_links e.0 old new e.1 fit.first h)
+
+-- what the links were opened with at first stays
+pub lines_keep : (s t : Setting) (clients : ℕ) (all : List Line) (old new : Drill) → setting_now s old ≡ t → AllByRecursion (IsFit t) all → MakeAll s clients all old new → KeepsLinks old new
+lines_keep s t clients [] old new is w e = no_links old new e
+lines_keep s t clients (line ∷ others) old new is w e =
+    let keeps = made_keeps s clients line old e.0 (subst (λ (x : Setting). IsFit x line) (sym is) w.0) e.1 in
+    both_keep old e.0 new keeps (lines_keep s t clients others e.0 new (same_setting s old e.0 keeps ∙ is) w.1 e.2)
+
+pub lines_made : (s t : Setting) (clients link : ℕ) (all : List Line) (old new : Drill) → setting_now s old ≡ t → AreFit t → AllByRecursion (IsFit t) all → MakeAll s clients all old new →
+    HoldsNow s link old → HoldsNow s link new
+lines_made s t clients link [] old new is fit w e h = subst (HoldsNow s link) (sym e) h
+lines_made s t clients link (line ∷ others) old new is fit w e h =
+    let own = subst (λ (x : Setting). IsFit x line) (sym is) w.0 in
+    let keeps = made_keeps s clients line old e.0 own e.1 in
+    lines_made s t clients link others e.0 new (same_setting s old e.0 keeps ∙ is) fit w.1 e.2 (line_made s clients link line old e.0 (subst AreFit (sym is) fit) own e.1 h)
 
 -- ===== links open
 
@@ -446,29 +577,29 @@ opening_adds s link d =
     (down_adds s link (length (pipes_of link two).down) two)
 
 -- a link that opens keeps its laws
-pub opening_keeps : (s : Setting) (link : ℕ) (d : Drill) → IsLawful (s.opened link) link d.marks → Keeps s link (after_opening s link d)
+pub opening_keeps : (s : Setting) (link : ℕ) (d : Drill) → IsFirstLink (s.opened link) → IsLawful (s.opened link) link d.marks → Keeps s link (after_opening s link d)
 unfolding after_opening
-opening_keeps s link d h =
+opening_keeps s link d first h =
     let one = settled s link d in
     let two = after_all_up s link one in
-    lawful_after_down s link (length (pipes_of link two).down) two (lawful_after_up s link (length (pipes_of link one).up) one (lawful_settled s link d h))
+    lawful_after_down s link (length (pipes_of link two).down) two first (lawful_after_up s link (length (pipes_of link one).up) one (lawful_settled s link d h))
 
-pub openings_keep : (s : Setting) (link : ℕ) (links : List ℕ) (d : Drill) → Holds s link d → Holds s link (after_openings s links d)
-openings_keep s link [] d h = h
-openings_keep s link (l ∷ links) d h =
-    openings_keep s link links (after_opening s l d)
-    (holds_by s l link d (after_opening s l d) (record { own = λ k. opening_keeps s l d k.0; extends = opening_adds s l d }) h)
+pub openings_keep : (s : Setting) (link : ℕ) (links : List ℕ) (d : Drill) → AreFirst s → Holds s link d → Holds s link (after_openings s links d)
+openings_keep s link [] d first h = h
+openings_keep s link (l ∷ links) d first h =
+    openings_keep s link links (after_opening s l d) first
+    (holds_by s l link d (after_opening s l d) (record { own = λ k. opening_keeps s l d (first.on l) k.0; extends = opening_adds s l d }) h)
 
-pub openings_hold : (s : Setting) (link : ℕ) (links : List ℕ) (d : Drill) → Among link links → IsLawful (s.opened link) link d.marks → AreWritable d.creds → Holds s link (after_openings s links d)
-openings_hold s link [] d among h w = absurd among
-openings_hold s link (l ∷ links) d among h w = by (eqb l link) refl among (openings_hold s link links (after_opening s l d))
+pub openings_hold : (s : Setting) (link : ℕ) (links : List ℕ) (d : Drill) → AreFirst s → Among link links → IsLawful (s.opened link) link d.marks → AreWritable d.creds → Holds s link (after_openings s links d)
+openings_hold s link [] d first among h w = absurd among
+openings_hold s link (l ∷ links) d first among h w = by (eqb l link) refl among (openings_hold s link links (after_opening s l d) first)
   where
     creds : AreWritable (after_opening s l d).creds
     creds = subst AreWritable (sym (opening_adds s l d).creds) w
 
     opened_here : l ≡ link → Holds s link (after_openings s links (after_opening s l d))
-    opened_here same = openings_keep s link links (after_opening s l d) (record {
-      keeps = subst (λ (k : ℕ). Keeps s k (after_opening s l d)) same (opening_keeps s l d (subst (λ (k : ℕ). IsLawful (s.opened k) k d.marks) (sym same) h));
+    opened_here same = openings_keep s link links (after_opening s l d) first (record {
+      keeps = subst (λ (k : ℕ). Keeps s k (after_opening s l d)) same (opening_keeps s l d (first.on l) (subst (λ (k : ℕ). IsLawful (s.opened k) k d.marks) (sym same) h));
       creds = creds;
     })
 
@@ -510,9 +641,14 @@ pub record KeepsAll (o : LinkParameters) (link : ℕ) (run : List Mark) : Type 0
   pub served : Served o link run
   pub accepts : AcceptsByRule o link run
 
-pub laws_of : (o : LinkParameters) (link : ℕ) (run : List Mark) → IsLawful o link run → IsWritten o link run → KeepsAll o link run
-laws_of o link run h w = record {
-  asked = record { each = h.asked; written = all_written (bytes_sent link Initiator run) (unwritten o link Initiator run) (output_due o link Initiator run) h.client w.client };
+pub laws_of : (o : LinkParameters) (link : ℕ) (run : List Mark) → IsFirstLink o → IsLawful o link run → IsWritten o link run → KeepsAll o link run
+laws_of o link run first h w = record {
+  asked = record {
+    each = h.asked;
+    written = all_written (bytes_sent link Initiator run) (unwritten o link Initiator run) (output_due o link Initiator run) h.client w.client;
+    resent = resent_marks o link run first.resumed;
+    none_left = none_resent o link run first.resumed;
+  };
   served = record { each = h.served; written = all_written (bytes_sent link Responder run) (unwritten o link Responder run) (output_due o link Responder run) h.server w.server };
   accepts = h.accepts;
 }
@@ -526,6 +662,7 @@ opened_by_script script is link =
       xid_fits = omega arith;
       stag = omega arith;
       stag_fits = omega arith;
+      resumed = omega arith;
       wished = omega (arith, some);
       wished_fits = few;
       granted = omega (arith, some);
@@ -538,194 +675,78 @@ both_so : (a b : Bool) → (a && b) ≡ true → (a ≡ true) × (b ≡ true)
 both_so true b e = (refl, e)
 both_so false b e = absurd cc
 
-grants_within : (server : SerialServer) (opening : Opening) (before : List Line) (line : Line) → may_follow opening before line ≡ true → GrantsWithin (setting_of server opening) line
-grants_within server opening before (lines.Grant client credits) e =
+grants_within : (server : SerialServer) (opening : Opening) (before : List Line) (line : Line) → opening.numbered ≡ false → may_follow opening before line ≡ true → GrantsWithin (setting_of server opening) line
+grants_within server opening before (lines.Grant client credits) none e =
     let within = both_so (leb 1 credits) (leb credits opening.credits) (both_so (is_client opening client) (credits_in_range opening credits) e).1 in
-    (leb-true 1 credits within.0, leb-true credits opening.credits within.1)
-grants_within server opening before (lines.Cred client cred) e = tt
-grants_within server opening before (lines.Call client form prog vers proc args) e = tt
-grants_within server opening before (lines.Up client most) e = tt
-grants_within server opening before (lines.Down client most) e = tt
-grants_within server opening before (lines.Work client) e = tt
-grants_within server opening before (lines.Tick seconds) e = tt
-grants_within server opening before (lines.Forget client number) e = tt
-grants_within server opening before (lines.Revoke client number) e = tt
-grants_within server opening before (lines.Drop client) e = tt
-grants_within server opening before (lines.Raw client side bytes) e = tt
-grants_within server opening before lines.Drain e = tt
+    λ link. (leb-true 1 credits within.0, leb-true credits opening.credits within.1)
+grants_within server opening before (lines.Rejoin client) none e = not_numbered (both_so (is_client opening client) opening.numbered e).1
+  where
+    not_numbered : opening.numbered ≡ true → ⊥
+    not_numbered is = (let two : true ≡ false = sym is ∙ none in absurd cc)
+grants_within server opening before (lines.Cred client cred) none e = tt
+grants_within server opening before (lines.Call client form prog vers proc args) none e = tt
+grants_within server opening before (lines.Up client most) none e = tt
+grants_within server opening before (lines.Down client most) none e = tt
+grants_within server opening before (lines.Work client) none e = tt
+grants_within server opening before (lines.Tick seconds) none e = tt
+grants_within server opening before (lines.Forget client number) none e = tt
+grants_within server opening before (lines.Revoke client number) none e = tt
+grants_within server opening before (lines.Drop client) none e = tt
+grants_within server opening before (lines.Raw client side bytes) none e = tt
+grants_within server opening before lines.Drain none e = tt
 
-fit_from : (server : SerialServer) (opening : Opening) (before all : List Line) → FollowOn opening before all → AllByRecursion HasWritableCred all → AllByRecursion (IsFit (setting_of server opening)) all
-fit_from server opening before [] h w = tt
-fit_from server opening before (line ∷ all) h w = ((w.0, grants_within server opening before line h.0), fit_from server opening (before ++ line ∷ []) all h.1 w.1)
+fit_from : (server : SerialServer) (opening : Opening) (before all : List Line) → opening.numbered ≡ false → FollowOn opening before all → AllByRecursion HasWritableCred all → AllByRecursion (IsFit (setting_of server opening)) all
+fit_from server opening before [] none h w = tt
+fit_from server opening before (line ∷ all) none h w = ((w.0, grants_within server opening before line none h.0), fit_from server opening (before ++ line ∷ []) all none h.1 w.1)
 
-pub all_fit : (server : SerialServer) (script : ScriptLines) → IsScript script → AllByRecursion (IsFit (setting_of server script.opening)) script.lines
-all_fit server script is = fit_from server script.opening [] script.lines is.follow_on is.creds
+pub all_fit : (server : SerialServer) (script : ScriptLines) → IsScript script → IsUnnumbered script → AllByRecursion (IsFit (setting_of server script.opening)) script.lines
+all_fit server script is none = fit_from server script.opening [] script.lines none is.follow_on is.creds
 
-pub follows_keeps_laws : (server : SerialServer) (script : ScriptLines) (run : List Mark) → IsScript script → Follows server script run → (link : ℕ) → 1 ≤ link → link ≤ script.opening.clients →
+-- ===== the links of a script whose clients have no numbers
+
+pub openings_keep_links : (s : Setting) (links : List ℕ) (d : Drill) → KeepsLinks d (after_openings s links d)
+openings_keep_links s [] d = no_links d d refl
+openings_keep_links s (l ∷ links) d =
+    both_keep d (after_opening s l d) (after_openings s links (after_opening s l d)) (extending_keeps l d (after_opening s l d) (opening_adds s l d)) (openings_keep_links s links (after_opening s l d))
+
+pub opened_links : (server : SerialServer) (opening : Opening) → KeepsLinks (start (setting_of server opening) opening.clients) (opened_drill server opening)
+unfolding opened_drill
+opened_links server opening = openings_keep_links (setting_of server opening) (links_of opening.clients) (start (setting_of server opening) opening.clients)
+
+-- the links are those of the first line, opened as it says, after any of the first lines
+pub record HasFirstLinks (server : SerialServer) (opening : Opening) (d : Drill) : Type 0 where
+  pub setting : setting_now (setting_of server opening) d ≡ setting_of server opening
+  pub last_links : d.last_links ≡ links_of opening.clients
+  pub links : d.opened ≡ (start (setting_of server opening) opening.clients).opened
+
+pub at_first : (server : SerialServer) (opening : Opening) (d : Drill) → opening.numbered ≡ false → KeepsLinks (start (setting_of server opening) opening.clients) d → HasFirstLinks server opening d
+at_first server opening d none k = record { setting = now_is server opening opening.clients d none k.opened; last_links = k.last_links; links = k.opened }
+
+pub opened_first_links : (server : SerialServer) (opening : Opening) → opening.numbered ≡ false → HasFirstLinks server opening (opened_drill server opening)
+opened_first_links server opening none = at_first server opening (opened_drill server opening) none (opened_links server opening)
+
+pub has_first_links : (server : SerialServer) (script : ScriptLines) (all : List Line) (d : Drill) → IsUnnumbered script → AllByRecursion (IsFit (setting_of server script.opening)) all →
+    MakeAll (setting_of server script.opening) script.opening.clients all (opened_drill server script.opening) d → HasFirstLinks server script.opening d
+has_first_links server script all d none fit makes =
+    let s = setting_of server script.opening in
+    let first = opened_first_links server script.opening none in
+    at_first server script.opening d none (both_keep (start s script.opening.clients) (opened_drill server script.opening) d (opened_links server script.opening)
+    (lines_keep s s script.opening.clients all (opened_drill server script.opening) d first.setting fit makes))
+
+pub follows_first : (server : SerialServer) (script : ScriptLines) (run : List Mark) → IsScript script → IsUnnumbered script → (f : Follows server script run) → HasFirstLinks server script.opening f.last
+follows_first server script run is none f = has_first_links server script script.lines f.last none (all_fit server script is none) f.makes
+
+pub follows_keeps_laws : (server : SerialServer) (script : ScriptLines) (run : List Mark) → IsScript script → IsUnnumbered script → Follows server script run → (link : ℕ) → 1 ≤ link → link ≤ script.opening.clients →
     KeepsAll (parameters_of script.opening link) link run
 unfolding opened_drill
-follows_keeps_laws server script run is follows link low high =
+follows_keeps_laws server script run is none follows link low high =
     let s = setting_of server script.opening in
     let opening = script.opening in
-    let first = openings_hold s link (links_of opening.clients) (start opening.clients) (among_range link 1 opening.clients low (omega (arith, high)))
+    let firsts : AreFirst s = opened_firsts server opening none in
+    let first = openings_hold s link (links_of opening.clients) (start s opening.clients) firsts (among_range link 1 opening.clients low (omega (arith, high)))
     (start_lawful (parameters_of opening link) link) (start_creds opening.clients) in
-    let last = lines_made s opening.clients link script.lines (opened_drill server opening) follows.last (opened_by_script script is) (all_fit server script is) follows.makes first in
-    subst (KeepsAll (parameters_of opening link) link) (sym follows.marks_are) (laws_of (parameters_of opening link) link follows.last.marks last.keeps.0 last.keeps.1)
-
--- ===== the one journal
-
--- each call is executed at the journal's end, with the reply of the plain server there
-pub record IsPlainRun (server : SerialServer) (run : List Mark) : Type 0 where
-  pub placed : AtEachMark (PlacedMark (plain_of server)) [] run
-  pub plain_replies : AtEachMark (PlainMark (plain_of server)) [] run
-
-pub plain_mark : (server : SerialServer) (run : List Mark) (mark : Mark) → PlacedMark (plain_of server) run mark → PlainMark (plain_of server) run mark → IsPlainRun server run → IsPlainRun server (run ++ mark ∷ [])
-plain_mark server run mark p r h = record {
-  placed = AtEachMark_more (PlacedMark (plain_of server)) [] run mark h.placed p;
-  plain_replies = AtEachMark_more (PlainMark (plain_of server)) [] run mark h.plain_replies r;
-}
-
-pub output_plain : (server : SerialServer) (link : ℕ) (side : Side) (bytes : List ℕ) (d : Drill) → IsPlainRun server d.marks → IsPlainRun server (after_output link side bytes d).marks
-output_plain server link side [] d h = h
-output_plain server link side (b ∷ bytes) d h = plain_mark server d.marks (marks.Wrote link side (b ∷ bytes)) tt tt h
-
-pub settled_plain : (server : SerialServer) (s : Setting) (link : ℕ) (d : Drill) → IsPlainRun server d.marks → IsPlainRun server (settled s link d).marks
-unfolding settled
-settled_plain server s link d h =
-    let mid = after_all_output s link Initiator d in
-    output_plain server link Responder (unwritten (s.opened link) link Responder mid.marks) mid (output_plain server link Initiator (unwritten (s.opened link) link Initiator d.marks) d h)
-
-pub feeding_plain : (server : SerialServer) (link : ℕ) (side : Side) (bytes : List ℕ) (rest : Pipes) (d : Drill) → IsPlainRun server d.marks → IsPlainRun server (after_feeding link side bytes rest d).marks
-feeding_plain server link side [] rest d h = h
-feeding_plain server link side (b ∷ bytes) rest d h = plain_mark server d.marks (marks.Fed link side (b ∷ bytes)) tt tt h
-
-pub up_plain : (server : SerialServer) (s : Setting) (link n : ℕ) (d : Drill) → IsPlainRun server d.marks → IsPlainRun server (after_up s link n d).marks
-unfolding after_up
-up_plain server s link n d h =
-    settled_plain server s link (after_feeding_up link n d)
-    (feeding_plain server link Responder (take n (pipes_of link d).up) (record (pipes_of link d) { up = drop n (pipes_of link d).up }) d h)
-
-pub handing_plain : (server : SerialServer) (link : ℕ) (c : Option CompletedCall) (d : Drill) → IsPlainRun server d.marks → IsPlainRun server (after_handing link c d).marks
-handing_plain server link None d h = h
-handing_plain server link (Some c) d h = plain_mark server d.marks (marks.Done link c.xid c.outcome) tt tt h
-
-pub dones_plain : (server : SerialServer) (s : Setting) (link n : ℕ) (d : Drill) → IsPlainRun server d.marks → IsPlainRun server (after_dones s link n d).marks
-unfolding after_done
-dones_plain server s link zero d h = h
-dones_plain server s link (suc n) d h =
-    dones_plain server s link n (after_done s link d) (handing_plain server link (slice_get (outcomes_due (s.opened link) link d.marks) 0) d h)
-
-pub down_plain : (server : SerialServer) (s : Setting) (link n : ℕ) (d : Drill) → IsPlainRun server d.marks → IsPlainRun server (after_down s link n d).marks
-unfolding after_down after_outcomes
-down_plain server s link n d h =
-    let fed = after_feeding_down link n d in
-    settled_plain server s link (after_outcomes s link fed) (dones_plain server s link (length (outcomes_due (s.opened link) link fed.marks)) fed
-    (feeding_plain server link Initiator (take n (pipes_of link d).down) (record (pipes_of link d) { down = drop n (pipes_of link d).down }) d h))
-
-pub answer_plain : (s : Setting) (link : ℕ) (call : ReadyCall) (reply : Option (List ℕ)) (d : Drill) → s.server.reply_to (journal (plain_of s.server) d.marks) (now d) call.payload ≡ reply → IsPlainRun s.server d.marks →
-    IsPlainRun s.server (after_answer s link call reply d).marks
-answer_plain s link call None d e h = h
-answer_plain s link call (Some reply) d e h =
-    let mark = marks.Execute link call.xid (now d) call.payload (length (journal (plain_of s.server) d.marks)) reply in
-    settled_plain s.server s link (with_mark mark d) (plain_mark s.server d.marks mark refl e h)
-
-pub execution_plain : (s : Setting) (link : ℕ) (call : Option ReadyCall) (d : Drill) → IsPlainRun s.server d.marks → IsPlainRun s.server (after_execution s link call d).marks
-execution_plain s link None d h = h
-execution_plain s link (Some call) d h = answer_plain s link call (s.server.reply_to (journal (plain_of s.server) d.marks) (now d) call.payload) d refl h
-
-pub work_plain : (s : Setting) (link : ℕ) (d : Drill) → IsPlainRun s.server d.marks → IsPlainRun s.server (after_work s link d).marks
-unfolding after_work
-work_plain s link d h = execution_plain s link (waiting_call s link d.marks) d h
-
-pub calls_plain : (s : Setting) (link n : ℕ) (d : Drill) → IsPlainRun s.server d.marks → IsPlainRun s.server (after_calls s link n d).marks
-calls_plain s link zero d h = h
-calls_plain s link (suc n) d h = calls_plain s link n (after_work s link d) (work_plain s link d h)
-
-pub moves_plain : (s : Setting) (link : ℕ) (d : Drill) → IsPlainRun s.server d.marks → IsPlainRun s.server (after_moves s link d).marks
-unfolding after_moves after_all_work
-moves_plain s link d h =
-    let one = after_all_up s link d in
-    let two = after_all_work s link one in
-    down_plain s.server s link (length (pipes_of link two).down) two
-    (calls_plain s link (length (server (s.opened link) link one.marks).state.ready) one (up_plain s.server s link (length (pipes_of link d).up) d h))
-
-pub giving_up_plain : (s : Setting) (link : ℕ) (xid : Option ℕ) (d : Drill) → IsPlainRun s.server d.marks → IsPlainRun s.server (after_giving_up link xid d).marks
-giving_up_plain s link None d h = h
-giving_up_plain s link (Some xid) d h = plain_mark s.server d.marks (marks.Forget link xid) tt tt h
-
-pub taking_back_plain : (s : Setting) (link : ℕ) (xid : Option ℕ) (d : Drill) → IsPlainRun s.server d.marks → IsPlainRun s.server (after_taking_back s link xid d).marks
-taking_back_plain s link None d h = h
-taking_back_plain s link (Some xid) d h =
-    let mark = marks.Revoke link xid (revoked_bytes (s.opened link) link d.marks xid) in
-    settled_plain s.server s link (with_mark mark d) (plain_mark s.server d.marks mark tt tt h)
-
-pub raw_plain : (s : Setting) (link : ℕ) (side : Side) (bytes : List ℕ) (dropped : Bool) (d : Drill) → IsPlainRun s.server d.marks → IsPlainRun s.server (after_raw link side bytes dropped d).marks
-raw_plain s link side bytes true d h = h
-raw_plain s link side bytes false d h = h
-
-pub line_plain : (s : Setting) (line : Line) (d : Drill) → IsPlainRun s.server d.marks → IsPlainRun s.server (after_line s line d).marks
-unfolding after_submit after_forget after_revoke
-line_plain s (lines.Cred client cred) d h = h
-line_plain s (lines.Call client form prog vers proc args) d h =
-    let call : Call = record { prog = prog; vers = vers; proc = proc; cred = cred_of client d; args = args } in
-    let mark = marks.Submit client call form (submit_answer_after (s.opened client) client d.marks call form) in
-    settled_plain s.server s client (with_mark mark d) (plain_mark s.server d.marks mark tt tt h)
-line_plain s (lines.Up client most) d h = up_plain s.server s client most d h
-line_plain s (lines.Down client most) d h = down_plain s.server s client most d h
-line_plain s (lines.Work client) d h = work_plain s client d h
-line_plain s (lines.Tick seconds) d h = h
-line_plain s (lines.Forget client number) d h = giving_up_plain s client (open_xid s client d.marks (answer_of_line client number d.marks)) d h
-line_plain s (lines.Revoke client number) d h = taking_back_plain s client (open_xid s client d.marks (answer_of_line client number d.marks)) d h
-line_plain s (lines.Drop client) d h = plain_mark s.server d.marks (marks.Drop client) tt tt h
-line_plain s (lines.Raw client side bytes) d h = raw_plain s client side bytes (is_dropped client d.marks) d h
-line_plain s (lines.Grant client credits) d h = plain_mark s.server d.marks (marks.Told client (Granted credits)) tt tt h
-line_plain s lines.Drain d h = h
-
-pub round_plain : (s : Setting) (links : List ℕ) (d : Drill) → IsPlainRun s.server d.marks → IsPlainRun s.server (after_round s links d).marks
-round_plain s [] d h = h
-round_plain s (l ∷ links) d h = round_plain s links (after_moves s l d) (moves_plain s l d h)
-
-pub drain_plain : (s : Setting) (links : List ℕ) (rounds : ℕ) (old new : Drill) → Drains s links rounds old new → IsPlainRun s.server old.marks → IsPlainRun s.server new.marks
-drain_plain s links zero old new drains h = subst (λ (d : Drill). IsPlainRun s.server d.marks) (sym drains.1) h
-drain_plain s links (suc rounds) old new drains h = drain_plain s links rounds (after_round s links old) new drains.1 (round_plain s links old h)
-
-pub made_plain : (s : Setting) (clients : ℕ) (line : Line) (old new : Drill) → Makes s clients line old new → IsPlainRun s.server old.marks → IsPlainRun s.server new.marks
-made_plain s clients (lines.Cred client cred) old new e h = subst (λ (d : Drill). IsPlainRun s.server d.marks) (sym e) (line_plain s (lines.Cred client cred) old h)
-made_plain s clients (lines.Call client form prog vers proc args) old new e h = subst (λ (d : Drill). IsPlainRun s.server d.marks) (sym e) (line_plain s (lines.Call client form prog vers proc args) old h)
-made_plain s clients (lines.Up client most) old new e h = subst (λ (d : Drill). IsPlainRun s.server d.marks) (sym e) (line_plain s (lines.Up client most) old h)
-made_plain s clients (lines.Down client most) old new e h = subst (λ (d : Drill). IsPlainRun s.server d.marks) (sym e) (line_plain s (lines.Down client most) old h)
-made_plain s clients (lines.Work client) old new e h = subst (λ (d : Drill). IsPlainRun s.server d.marks) (sym e) (line_plain s (lines.Work client) old h)
-made_plain s clients (lines.Tick seconds) old new e h = subst (λ (d : Drill). IsPlainRun s.server d.marks) (sym e) (line_plain s (lines.Tick seconds) old h)
-made_plain s clients (lines.Forget client number) old new e h = subst (λ (d : Drill). IsPlainRun s.server d.marks) (sym e) (line_plain s (lines.Forget client number) old h)
-made_plain s clients (lines.Revoke client number) old new e h = subst (λ (d : Drill). IsPlainRun s.server d.marks) (sym e) (line_plain s (lines.Revoke client number) old h)
-made_plain s clients (lines.Drop client) old new e h = subst (λ (d : Drill). IsPlainRun s.server d.marks) (sym e) (line_plain s (lines.Drop client) old h)
-made_plain s clients (lines.Raw client side bytes) old new e h = subst (λ (d : Drill). IsPlainRun s.server d.marks) (sym e) (line_plain s (lines.Raw client side bytes) old h)
-made_plain s clients (lines.Grant client credits) old new e h = subst (λ (d : Drill). IsPlainRun s.server d.marks) (sym e) (line_plain s (lines.Grant client credits) old h)
-made_plain s clients lines.Drain old new e h = drain_plain s (links_of clients) e.0 old new e.1 h
-
-pub all_plain : (s : Setting) (clients : ℕ) (all : List Line) (old new : Drill) → MakeAll s clients all old new → IsPlainRun s.server old.marks → IsPlainRun s.server new.marks
-all_plain s clients [] old new e h = subst (λ (d : Drill). IsPlainRun s.server d.marks) (sym e) h
-all_plain s clients (line ∷ others) old new e h = all_plain s clients others e.0 new e.2 (made_plain s clients line old e.0 e.1 h)
-
-pub opening_plain : (s : Setting) (link : ℕ) (d : Drill) → IsPlainRun s.server d.marks → IsPlainRun s.server (after_opening s link d).marks
-unfolding after_opening
-opening_plain s link d h =
-    let one = settled s link d in
-    let two = after_all_up s link one in
-    down_plain s.server s link (length (pipes_of link two).down) two (up_plain s.server s link (length (pipes_of link one).up) one (settled_plain s.server s link d h))
-
-pub openings_plain : (s : Setting) (links : List ℕ) (d : Drill) → IsPlainRun s.server d.marks → IsPlainRun s.server (after_openings s links d).marks
-openings_plain s [] d h = h
-openings_plain s (l ∷ links) d h = openings_plain s links (after_opening s l d) (opening_plain s l d h)
-
--- the one journal is what the executed calls add, each at its place, and each is answered as the plain server answers there
-pub follows_is_plain : (server : SerialServer) (script : ScriptLines) (run : List Mark) → Follows server script run →
-    Journaled (plain_of server) (journal (plain_of server) run) run × AnsweredByPlainServer (plain_of server) run
-unfolding opened_drill
-follows_is_plain server script run follows =
-    let s = setting_of server script.opening in
-    let clients = script.opening.clients in
-    let first = openings_plain s (links_of clients) (start clients) (record { placed = tt; plain_replies = tt }) in
-    let last = all_plain s clients script.lines (opened_drill server script.opening) follows.last follows.makes first in
-    let run_is : IsPlainRun server run = subst (IsPlainRun server) (sym follows.marks_are) last in
-    (record { is = refl; places = run_is.placed }, run_is.plain_replies)
+    let now = (opened_first_links server opening none).setting in
+    let last = lines_made s s opening.clients link script.lines (opened_drill server opening) follows.last now (record { first = firsts; opened = opened_by_script script is }) (all_fit server script is none) follows.makes
+    (subst (λ (t : Setting). Holds t link (opened_drill server opening)) (sym now) first) in
+    let held : Holds s link follows.last = subst (λ (t : Setting). Holds t link follows.last) (follows_first server script run is none follows).setting last in
+    subst (KeepsAll (parameters_of opening link) link) (sym follows.marks_are) (laws_of (parameters_of opening link) link follows.last.marks (firsts.on link) held.keeps.0 held.keeps.1)

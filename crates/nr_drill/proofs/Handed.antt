@@ -18,22 +18,22 @@ use Rattle.nr_reduce.specs.declared.call.Submission.TheVariants as submissions
 use Rattle.nr_reduce.specs.declared.mark.Mark.{Mark}
 use Rattle.nr_reduce.specs.declared.mark.Mark.TheVariants as marks
 use Rattle.nr_reduce.specs.declared.mark.Told.TheVariants.{Granted}
+use Rattle.nr_reduce.specs.declared.mark.Told.TheVariants as told
 use Rattle.nr_reduce.specs.declared.mark.LinkParameters.{LinkParameters}
 use Rattle.nr_reduce.specs.AtEachMark.{AtEachMark}
-use Rattle.nr_reduce.specs.Opening.{IsOpened}
+use Rattle.nr_reduce.specs.Opening.{IsOpened, IsFirstLink}
 use Rattle.nr_rpc.specs.Credential.{CanWriteCred}
-use Rattle.nr_reduce.specs.PlainJournal.{journal}
 use Rattle.nr_reduce.specs.History.{AcceptedCall, CompletedCall, accepted_as, accepted_at, accepted_calls, completed_at, completed_calls, bytes_received, abandons, is_abandoned, is_dropped}
 use Rattle.nr_reduce.specs.OutcomesDue.{is_completed, outcomes_of_call, outcomes_due}
 use Rattle.nr_reduce.specs.Events.{RunEvent, events, events_at, if_own}
 use Rattle.nr_reduce.specs.Events.RunEvent.{FrameReceived, CallSubmitted, MemoryRevoked, CallExecuted, QueueWritten, ServerTold}
 use Rattle.nr_reduce.specs.EndRules.{EndState, next_end_state, next_end_state_by, next_end_state_in, end_state_after}
-use Rattle.nr_reduce.specs.ClientState.{ClientState, OutstandingCall, is_sent}
+use Rattle.nr_reduce.specs.ClientState.{ClientState, OutstandingCall, is_sent, WaitingCall, waiting_call as waiting_at, first_of}
 use Rattle.nr_reduce.specs.ClientMessages.{ReplyVerdict, reply_verdict}
 use Rattle.nr_reduce.specs.ClientMessages.ReplyVerdict.{EndsLink, GivesOutcome}
-use Rattle.nr_reduce.specs.Client.{client_rules, client_segment, client_end, client_state_after, outcomes_of, with_message, with_request, with_segment, outstanding_of, revoked_call, with_hello, due_with_response}
+use Rattle.nr_reduce.specs.Client.{client_rules, client_segment, client_end, client_state_after, outcomes_of, with_message, with_request, with_segment, outstanding_of, revoked_call, with_hello, due_with_response, xid_unless_waiting}
 use Rattle.nr_reduce.specs.ServerState.{ReadyCall}
-use Rattle.nr_reduce.specs.SubmitAnswer.{submit_answer_after}
+use Rattle.nr_reduce.specs.SubmitAnswer.{submit_answer_after, first_xid_or}
 use Rattle.nr_reduce.specs.Run.{client, server}
 use Rattle.nr_reduce.specs.Asked.{AskedMark, IsAll, revoked_bytes}
 use Rattle.nr_reduce.proofs.Steps.{client_one}
@@ -45,11 +45,18 @@ use Rattle.nr_laws.proofs.DoneCalls.{gives_by}
 use Rattle.nr_script.specs.declared.script.Line.{Line}
 use Rattle.nr_script.specs.declared.script.Line.TheVariants as lines
 use Rattle.nr_script.specs.Script.{ScriptLines, IsScript}
-use Rattle.nr_drill.specs.Drill.{link_of, SerialServer, Setting, Drill, Pipes, plain_of, now, unwritten, after_output, after_all_output, settled, pipes_of, with_mark, after_submit, after_feeding, after_feeding_up, after_up, waiting_call, after_answer, after_execution, after_work, after_drop, after_raw, after_feeding_down, after_handing, after_done, after_dones, after_outcomes, after_down, answer_of_line, open_xid, after_giving_up, after_forget, after_taking_back, after_revoke, after_all_up, after_all_work, after_moves, after_round, after_opening, after_openings, start, links_of, cred_of, after_grant}
-use Rattle.nr_drill.specs.Follows.{after_line, Drains, Makes, MakeAll, Follows, parameters_of, setting_of, opened_drill}
-use Rattle.nr_drill.specs.Lines.{IsLink}
-use Rattle.nr_drill.proofs.Lawful.{IsLawful, answer_asked}
-use Rattle.nr_drill.proofs.Followed.{no_event, apart, Extends, Holds, cred_at, line_made, round_holds, elsewhere, among_range, opened_by_script, openings_hold, opening_keeps, start_lawful, start_creds, opening_adds, submit_adds, up_adds, down_adds, work_adds, forget_adds, revoke_adds, drop_adds, raw_adds, moves_adds, grant_adds, all_fit, IsFit}
+use Rattle.nr_drill.specs.Drill.{link_of, SerialServer, Setting, Drill, Pipes, unwritten, after_output, after_all_output, settled, pipes_of, with_mark, after_submit, after_feeding, after_feeding_up, after_up, waiting_call, after_answer, after_execution, after_work, after_drop, after_raw, after_feeding_down, after_handing, after_done, after_dones, after_outcomes, after_down, answer_of_line, open_xid, after_giving_up, after_forget, after_taking_back, after_revoke, after_all_up, after_all_work, after_moves, after_round, after_opening, after_openings, start, links_of, cred_of, after_grant, GivenReply, client_of, standing_of, reply_given, after_resends, after_call}
+use Rattle.nr_drill.specs.Follows.{Drains, Follows, parameters_of, setting_of, opened_drill}
+use Rattle.nr_drill.specs.Lines.{IsClient, IsUnnumbered}
+use Rattle.nr_drill.proofs.Lawful.{IsLawful, answer_asked, lawful_submit, lawful_after_up, lawful_after_down, lawful_work, lawful_revoke}
+use Rattle.nr_drill.proofs.Followed.{no_event, apart, Extends, Holds, cred_at, round_holds, elsewhere, among_range, opened_by_script, openings_hold, opening_keeps, start_lawful, start_creds, opening_adds, submit_adds, up_adds, down_adds, work_adds, forget_adds, revoke_adds, drop_adds, raw_adds, moves_adds, grant_adds, all_fit, IsFit, AreFit, holds_by, with_cred_at, drain_holds, keeps_forget, keeps_drop, keeps_raw, keeps_grant, opened_first_links}
+use Rattle.nr_drill.proofs.FirstLinks.{opened_firsts}
+use Rattle.nr_drill.proofs.FirstLines.{made_first, all_name}
+use Rattle.nr_reduce.proofs.Unresumed.{none_waits}
+use Rattle.nr_reduce.specs.NumberedJournal.{Standing}
+use Rattle.nr_reduce.specs.NumberedJournal.Standing.{Old, Kept, New}
+use Rattle.nr_reduce.specs.Served.{last_frame_at}
+use Rattle.nr_drill.specs.Unnumbered.{AreFirst, first_line, FirstMakes, FirstMakeAll}
 
 -- ===== the xids of outcomes are below the one that is given next
 
@@ -104,10 +111,10 @@ revoked_xid xid c = by (eqb c.xid xid)
     by true = refl
     by false = refl
 
--- a call that is submitted has the next xid
+-- a call that is submitted has the next xid, and none waits to be sent again
 abbrev IsFresh : LinkParameters → ClientState → RunEvent → Type 0
 IsFresh o k (FrameReceived f) = Unit {0}
-IsFresh o k (CallSubmitted place a) = a.xid ≡ k.next_xid
+IsFresh o k (CallSubmitted place a) = (a.xid ≡ k.next_xid) × (k.waiting ≡ [])
 IsFresh o k (MemoryRevoked place xid) = Unit {0}
 IsFresh o k (CallExecuted call) = Unit {0}
 IsFresh o k (QueueWritten taken) = Unit {0}
@@ -122,10 +129,14 @@ after_below o k (FrameReceived f) fresh h = by (is_hello f)
     by false = segment_below o k f (client_segment k f) h
 after_below o k (CallSubmitted place a) fresh h =
     let more : k.next_xid ≤ k.next_xid + 1 = omega arith in
+    let is = fresh.0 in
+    let next : k.next_xid + 1 ≡ xid_unless_waiting (waiting_at k a.xid) k.next_xid = ap (λ (ws : List WaitingCall). xid_unless_waiting (first_of ws a.xid) k.next_xid) (sym fresh.1) in
     record {
-      waiting = below_append (λ (c : OutstandingCall). c.xid + 1) (k.next_xid + 1) k.outstanding (outstanding_of k a ∷ [])
-          (below_more (λ (c : OutstandingCall). c.xid + 1) k.next_xid (k.next_xid + 1) k.outstanding more h.waiting) (omega (arith, fresh), tt);
-      brought = below_more (λ (c : CompletedCall). c.xid + 1) k.next_xid (k.next_xid + 1) k.outcomes more h.brought;
+      waiting = subst (λ (n : ℕ). AreAtMost (λ (c : OutstandingCall). c.xid + 1) n (k.outstanding ++ outstanding_of k a ∷ [])) next
+          (below_append (λ (c : OutstandingCall). c.xid + 1) (k.next_xid + 1) k.outstanding (outstanding_of k a ∷ [])
+          (below_more (λ (c : OutstandingCall). c.xid + 1) k.next_xid (k.next_xid + 1) k.outstanding more h.waiting) (omega (arith, is), tt));
+      brought = subst (λ (n : ℕ). AreAtMost (λ (c : CompletedCall). c.xid + 1) n k.outcomes) next
+          (below_more (λ (c : CompletedCall). c.xid + 1) k.next_xid (k.next_xid + 1) k.outcomes more h.brought);
     }
 after_below o k (MemoryRevoked place xid) fresh h = record { waiting = same_xids k.next_xid (revoked_call xid) k.outstanding (revoked_xid xid) h.waiting; brought = h.brought }
 after_below o k (CallExecuted call) fresh h = h
@@ -156,42 +167,44 @@ fresh_if : (o : LinkParameters) (r : EndState ClientState) (b : Bool) (es : List
 fresh_if o r true es h = h
 fresh_if o r false es h = tt
 
-fresh_mark : (o : LinkParameters) (link : ℕ) (run : List Mark) (mark : Mark) → AskedMark IsAll o link run mark → AreFresh o (client o link run) (events_at link Initiator run mark)
-fresh_mark o link run (marks.Submit l call form (submissions.Accepted xid)) h = by (eqb l link) refl
+fresh_mark : (o : LinkParameters) (link : ℕ) (run : List Mark) (mark : Mark) → IsFirstLink o → AskedMark IsAll o link run mark → AreFresh o (client o link run) (events_at link Initiator run mark)
+fresh_mark o link run (marks.Submit l call form (submissions.Accepted xid)) first h = by (eqb l link) refl
   where
     a : AcceptedCall
     a = record { xid = xid; call = call; form = form }
 
     by : (b : Bool) → eqb l link ≡ b → AreFresh o (client o link run) (if_own (b && true) (CallSubmitted (length (bytes_received link Initiator run)) a ∷ []))
-    by true is = ((h (eqb-true l link is)).next, tt)
+    by true is =
+        let none = none_waits o link run first.resumed in
+        (((h (eqb-true l link is)).next ∙ ap (λ (ws : List WaitingCall). first_xid_or (client o link run).state.next_xid ws) none, none), tt)
     by false is = tt
-fresh_mark o link run (marks.Submit l call form (submissions.Refused why)) h = tt
-fresh_mark o link run (marks.Submit l call form submissions.Dropped) h = tt
-fresh_mark o link run (marks.Wrote l side bytes) h = fresh_if o (client o link run) _ (QueueWritten (length bytes) ∷ []) (tt, tt)
-fresh_mark o link run (marks.Fed l side bytes) h = fresh_if o (client o link run) _ (map FrameReceived (frames_completed Responder (bytes_received link Initiator run) bytes)) (fresh_frames o (client o link run) _)
-fresh_mark o link run (marks.Execute l xid moment payload place reply) h =
+fresh_mark o link run (marks.Submit l call form (submissions.Refused why)) first h = tt
+fresh_mark o link run (marks.Submit l call form submissions.Dropped) first h = tt
+fresh_mark o link run (marks.Wrote l side bytes) first h = fresh_if o (client o link run) _ (QueueWritten (length bytes) ∷ []) (tt, tt)
+fresh_mark o link run (marks.Fed l side bytes) first h = fresh_if o (client o link run) _ (map FrameReceived (frames_completed Responder (bytes_received link Initiator run) bytes)) (fresh_frames o (client o link run) _)
+fresh_mark o link run (marks.Execute l xid moment payload place reply) first h =
     fresh_if o (client o link run) _ (CallExecuted (record { xid = xid; moment = moment; payload = payload; place = place; reply = reply }) ∷ []) (tt, tt)
-fresh_mark o link run (marks.Done l xid outcome) h = tt
-fresh_mark o link run (marks.Lost l xid) h = tt
-fresh_mark o link run (marks.Forget l xid) h = tt
-fresh_mark o link run (marks.Revoke l xid bytes) h = fresh_if o (client o link run) _ (MemoryRevoked (length (bytes_received link Initiator run)) xid ∷ []) (tt, tt)
-fresh_mark o link run (marks.Drop l) h = tt
-fresh_mark o link run (marks.Told l what) h = fresh_if o (client o link run) _ (ServerTold what ∷ []) (tt, tt)
+fresh_mark o link run (marks.Done l xid outcome) first h = tt
+fresh_mark o link run (marks.Lost l xid) first h = tt
+fresh_mark o link run (marks.Forget l xid) first h = tt
+fresh_mark o link run (marks.Revoke l xid bytes) first h = fresh_if o (client o link run) _ (MemoryRevoked (length (bytes_received link Initiator run)) xid ∷ []) (tt, tt)
+fresh_mark o link run (marks.Drop l) first h = tt
+fresh_mark o link run (marks.Told l what) first h = fresh_if o (client o link run) _ (ServerTold what ∷ []) (tt, tt)
 
-below_from : (o : LinkParameters) (link : ℕ) (before run : List Mark) → XidsBelow o (client o link before).state → AtEachMark (AskedMark IsAll o link) before run → XidsBelow o (client o link (before ++ run)).state
-below_from o link before [] h asked = subst (λ (r : List Mark). XidsBelow o (client o link r).state) (sym (append-nil before)) h
-below_from o link before (mark ∷ run) h asked =
+below_from : (o : LinkParameters) (link : ℕ) (before run : List Mark) → IsFirstLink o → XidsBelow o (client o link before).state → AtEachMark (AskedMark IsAll o link) before run → XidsBelow o (client o link (before ++ run)).state
+below_from o link before [] first h asked = subst (λ (r : List Mark). XidsBelow o (client o link r).state) (sym (append-nil before)) h
+below_from o link before (mark ∷ run) first h asked =
     let next : XidsBelow o (client o link (before ++ mark ∷ [])).state =
     subst (λ (r : EndState ClientState). XidsBelow o r.state) (sym (client_one o link before mark))
-    (all_below o (client o link before) (events_at link Initiator before mark) (fresh_mark o link before mark asked.0) h) in
-    subst (λ (r : List Mark). XidsBelow o (client o link r).state) (append_assoc before (mark ∷ []) run) (below_from o link (before ++ mark ∷ []) run next asked.1)
+    (all_below o (client o link before) (events_at link Initiator before mark) (fresh_mark o link before mark first asked.0) h) in
+    subst (λ (r : List Mark). XidsBelow o (client o link r).state) (append_assoc before (mark ∷ []) run) (below_from o link (before ++ mark ∷ []) run first next asked.1)
 
 below_first : (o : LinkParameters) (link : ℕ) → XidsBelow o (client o link []).state
 unfolding client events
 below_first o link = record { waiting = tt; brought = tt }
 
-pub xids_below : (o : LinkParameters) (link : ℕ) (run : List Mark) → AtEachMark (AskedMark IsAll o link) [] run → XidsBelow o (client o link run).state
-xids_below o link run asked = below_from o link [] run (below_first o link) asked
+pub xids_below : (o : LinkParameters) (link : ℕ) (run : List Mark) → IsFirstLink o → AtEachMark (AskedMark IsAll o link) [] run → XidsBelow o (client o link run).state
+xids_below o link run first asked = below_from o link [] run first (below_first o link) asked
 
 -- ===== one mark more
 
@@ -414,18 +427,25 @@ dones_hand s link (suc n) d le = dones_hand s link n (after_done s link d) (hand
 down_hands : (s : Setting) (link n : ℕ) (d : Drill) → HandsAll s link (after_down s link n d)
 unfolding after_down after_outcomes
 down_hands s link n d =
-    let fed = after_feeding_down link n d in
-    settled_hands s link (after_outcomes s link fed) (dones_hand s link (length (outcomes_due (s.opened link) link fed.marks)) fed (omega arith))
+    let sent = after_resends s link (after_feeding_down link n d) in
+    settled_hands s link (after_outcomes s link sent) (dones_hand s link (length (outcomes_due (s.opened link) link sent.marks)) sent (omega arith))
 
-answer_hands : (s : Setting) (link : ℕ) (call : ReadyCall) (reply : Option (List ℕ)) (d : Drill) → HandsAll s link d → HandsAll s link (after_answer s link call reply d)
+answer_hands : (s : Setting) (link : ℕ) (call : ReadyCall) (answer : Option GivenReply) (d : Drill) → HandsAll s link d → HandsAll s link (after_answer s link call answer d)
 answer_hands s link call None d h = h
-answer_hands s link call (Some reply) d h =
-    let mark = marks.Execute link call.xid (now d) call.payload (length (journal (plain_of s.server) d.marks)) reply in
+answer_hands s link call (Some g) d h =
+    let mark = marks.Execute link call.xid g.moment call.payload g.place g.reply in
     settled_hands s link (with_mark mark d) (none_then (s.opened link) link d.marks mark (record { none = other_side_lem (eqb link link) _; fresh = refl }) h)
+
+call_hands : (s : Setting) (link : ℕ) (call : ReadyCall) (is : Standing) (answer : Option GivenReply) (d : Drill) → HandsAll s link d → HandsAll s link (after_call s link call is answer d)
+call_hands s link call (Old top) answer d h =
+    let mark = marks.Told link (told.Old call.xid (last_frame_at link d.marks)) in
+    settled_hands s link (with_mark mark d) (none_then (s.opened link) link d.marks mark (record { none = other_side_lem (eqb link link) _; fresh = refl }) h)
+call_hands s link call (Kept place) answer d h = answer_hands s link call answer d h
+call_hands s link call New answer d h = answer_hands s link call answer d h
 
 execution_hands : (s : Setting) (link : ℕ) (call : Option ReadyCall) (d : Drill) → HandsAll s link d → HandsAll s link (after_execution s link call d)
 execution_hands s link None d h = h
-execution_hands s link (Some call) d h = answer_hands s link call (s.server.reply_to (journal (plain_of s.server) d.marks) (now d) call.payload) d h
+execution_hands s link (Some call) d h = call_hands s link call (standing_of s link d call) (reply_given s link d call) d h
 
 work_hands : (s : Setting) (link : ℕ) (d : Drill) → HandsAll s link d → HandsAll s link (after_work s link d)
 unfolding after_work
@@ -437,7 +457,7 @@ giving_up_hands s link (Some xid) d h = none_then (s.opened link) link d.marks (
 
 forget_hands : (s : Setting) (link number : ℕ) (d : Drill) → HandsAll s link d → HandsAll s link (after_forget s link number d)
 unfolding after_forget
-forget_hands s link number d h = giving_up_hands s link (open_xid s link d.marks (answer_of_line link number d.marks)) d h
+forget_hands s link number d h = giving_up_hands s link (open_xid s link d.marks (answer_of_line s (client_of s link) number d.marks)) d h
 
 taking_back_hands : (s : Setting) (link : ℕ) (xid : Option ℕ) (d : Drill) → HandsAll s link d → HandsAll s link (after_taking_back s link xid d)
 taking_back_hands s link None d h = h
@@ -447,7 +467,7 @@ taking_back_hands s link (Some xid) d h =
 
 revoke_hands : (s : Setting) (link number : ℕ) (d : Drill) → HandsAll s link d → HandsAll s link (after_revoke s link number d)
 unfolding after_revoke
-revoke_hands s link number d h = taking_back_hands s link (open_xid s link d.marks (answer_of_line link number d.marks)) d h
+revoke_hands s link number d h = taking_back_hands s link (open_xid s link d.marks (answer_of_line s (client_of s link) number d.marks)) d h
 
 drop_hands : (s : Setting) (link : ℕ) (d : Drill) → HandsAll s link d → HandsAll s link (after_drop link d)
 drop_hands s link d h = none_then (s.opened link) link d.marks (marks.Drop link) (record { none = tt; fresh = refl }) h
@@ -478,37 +498,37 @@ none_of_lem n xid (c ∷ outs) le h = by (eqb c.xid xid) refl (none_of_lem n xid
     by true is rest = absurd (let a = h.0 in let b = eqb-true c.xid xid is in omega (arith, a, b, le))
     by false is rest = rest
 
-submit_brings : (o : LinkParameters) (link : ℕ) (run : List Mark) (call : Call) (form : Form) (answer : Submission) → XidsBelow o (client o link run).state →
+submit_brings : (o : LinkParameters) (link : ℕ) (run : List Mark) (call : Call) (form : Form) (answer : Submission) → IsFirstLink o → XidsBelow o (client o link run).state →
     AskedMark IsAll o link run (marks.Submit link call form answer) → BringsNone o link run (marks.Submit link call form answer)
-submit_brings o link run call form (submissions.Accepted xid) below asked =
+submit_brings o link run call form (submissions.Accepted xid) first below asked =
     let outs = (client o link run).state.outcomes in
     let a : AcceptedCall = record { xid = xid; call = call; form = form } in
-    let next = (asked refl).next in
+    let next = (asked refl).next ∙ ap (λ (ws : List WaitingCall). first_xid_or (client o link run).state.next_xid ws) (none_waits o link run first.resumed) in
     record {
       none = if_none_lem _ (CallSubmitted (length (bytes_received link Initiator run)) a ∷ []) (tt, tt);
       fresh = ap (λ (b : Bool). flat_map (outcomes_of_call outs) (if b then a ∷ [] else [])) (itself link) ∙ append-nil (outcomes_of_call outs a)
           ∙ none_of_lem (client o link run).state.next_xid xid outs (omega (arith, next)) below.brought;
     }
-submit_brings o link run call form (submissions.Refused why) below asked = record { none = tt; fresh = by (eqb link link) }
+submit_brings o link run call form (submissions.Refused why) first below asked = record { none = tt; fresh = by (eqb link link) }
   where
     by : (b : Bool) → flat_map (outcomes_of_call (client o link run).state.outcomes) (cond {A = List AcceptedCall} b [] []) ≡ []
     by true = refl
     by false = refl
-submit_brings o link run call form submissions.Dropped below asked = record { none = tt; fresh = by (eqb link link) }
+submit_brings o link run call form submissions.Dropped first below asked = record { none = tt; fresh = by (eqb link link) }
   where
     by : (b : Bool) → flat_map (outcomes_of_call (client o link run).state.outcomes) (cond {A = List AcceptedCall} b [] []) ≡ []
     by true = refl
     by false = refl
 
-submit_hands : (s : Setting) (link : ℕ) (call : Call) (form : Form) (d : Drill) → IsOpened (s.opened link) → CanWriteCred call.cred → IsLawful (s.opened link) link d.marks → HandsAll s link d →
+submit_hands : (s : Setting) (link : ℕ) (call : Call) (form : Form) (d : Drill) → IsFirstLink (s.opened link) → IsOpened (s.opened link) → CanWriteCred call.cred → IsLawful (s.opened link) link d.marks → HandsAll s link d →
     HandsAll s link (after_submit s link call form d)
 unfolding after_submit
-submit_hands s link call form d numbers writable lawful h =
+submit_hands s link call form d first numbers writable lawful h =
     let o = s.opened link in
     let answer = submit_answer_after o link d.marks call form in
     let mark = marks.Submit link call form answer in
     settled_hands s link (with_mark mark d)
-    (none_then o link d.marks mark (submit_brings o link d.marks call form answer (xids_below o link d.marks lawful.asked) (answer_asked o link d.marks call form answer numbers writable lawful refl)) h)
+    (none_then o link d.marks mark (submit_brings o link d.marks call form answer first (xids_below o link d.marks first lawful.asked) (answer_asked o link d.marks call form answer first numbers writable lawful refl)) h)
 
 -- ===== every link
 
@@ -532,76 +552,123 @@ hands_by s acted link old new a lawful h = by (eqb acted link) refl
         differs : false ≡ true → ⊥
         differs e = absurd cc
 
-line_hands : (s : Setting) (link : ℕ) (line : Line) (d : Drill) → ((l : ℕ) → IsOpened (s.opened l)) → Holds s link d → HandsAll s link d → HandsAll s link (after_line s line d)
-line_hands s link (lines.Cred client cred) d opened k h = h
-line_hands s link (lines.Call client form prog vers proc args) d opened k h =
+line_hands : (s : Setting) (link : ℕ) (line : Line) (d : Drill) → AreFit s → Holds s link d → HandsAll s link d → HandsAll s link (first_line s line d)
+line_hands s link (lines.Cred client cred) d fit k h = h
+line_hands s link (lines.Call client form prog vers proc args) d fit k h =
     let call : Call = record { prog = prog; vers = vers; proc = proc; cred = cred_of client d; args = args } in
     hands_by s client link d (after_submit s client call form d) (record {
-      own = λ l e. submit_hands s client call form d (opened client) (cred_at d.creds (client - 1) k.creds) l e;
+      own = λ l e. submit_hands s client call form d (fit.first.on client) (fit.opened client) (cred_at d.creds (client - 1) k.creds) l e;
       extends = submit_adds s client call form d;
     }) k.keeps.0 h
-line_hands s link (lines.Up client most) d opened k h =
+line_hands s link (lines.Up client most) d fit k h =
     hands_by s client link d (after_up s client most d) (record { own = λ l e. up_hands s client most d e; extends = up_adds s client most d }) k.keeps.0 h
-line_hands s link (lines.Down client most) d opened k h =
+line_hands s link (lines.Down client most) d fit k h =
     hands_by s client link d (after_down s client most d) (record { own = λ l e. down_hands s client most d; extends = down_adds s client most d }) k.keeps.0 h
-line_hands s link (lines.Work client) d opened k h =
+line_hands s link (lines.Work client) d fit k h =
     hands_by s client link d (after_work s client d) (record { own = λ l e. work_hands s client d e; extends = work_adds s client d }) k.keeps.0 h
-line_hands s link (lines.Tick seconds) d opened k h = h
-line_hands s link (lines.Forget client number) d opened k h =
+line_hands s link (lines.Tick seconds) d fit k h = h
+line_hands s link (lines.Forget client number) d fit k h =
     hands_by s client link d (after_forget s client number d) (record { own = λ l e. forget_hands s client number d e; extends = forget_adds s client number d }) k.keeps.0 h
-line_hands s link (lines.Revoke client number) d opened k h =
+line_hands s link (lines.Revoke client number) d fit k h =
     hands_by s client link d (after_revoke s client number d) (record { own = λ l e. revoke_hands s client number d e; extends = revoke_adds s client number d }) k.keeps.0 h
-line_hands s link (lines.Drop client) d opened k h =
+line_hands s link (lines.Drop client) d fit k h =
     hands_by s client link d (after_drop client d) (record { own = λ l e. drop_hands s client d e; extends = drop_adds client d }) k.keeps.0 h
-line_hands s link (lines.Raw client side bytes) d opened k h =
+line_hands s link (lines.Rejoin client) d fit k h = h
+line_hands s link (lines.Raw client side bytes) d fit k h =
     hands_by s client link d (after_raw client side bytes (is_dropped client d.marks) d)
     (record { own = λ l e. raw_hands s client side bytes (is_dropped client d.marks) d e; extends = raw_adds client side bytes (is_dropped client d.marks) d }) k.keeps.0 h
-line_hands s link (lines.Grant client credits) d opened k h =
+line_hands s link (lines.Grant client credits) d fit k h =
     hands_by s client link d (after_grant client credits d) (record { own = λ l e. grant_hands s client credits d e; extends = grant_adds client credits d }) k.keeps.0 h
-line_hands s link lines.Drain d opened k h = h
+line_hands s link lines.Drain d fit k h = h
 
-round_hands : (s : Setting) (link : ℕ) (links : List ℕ) (d : Drill) → Holds s link d → HandsAll s link d → HandsAll s link (after_round s links d)
-round_hands s link [] d k h = h
-round_hands s link (l ∷ links) d k h =
-    round_hands s link links (after_moves s l d) (round_holds s link (l ∷ []) d k)
+round_hands : (s : Setting) (link : ℕ) (links : List ℕ) (d : Drill) → AreFirst s → Holds s link d → HandsAll s link d → HandsAll s link (after_round s links d)
+round_hands s link [] d first k h = h
+round_hands s link (l ∷ links) d first k h =
+    round_hands s link links (after_moves s l d) first (round_holds s link (l ∷ []) d first k)
     (hands_by s l link d (after_moves s l d) (record { own = λ own e. moves_hands s l d; extends = moves_adds s l d }) k.keeps.0 h)
 
-drain_hands : (s : Setting) (link : ℕ) (links : List ℕ) (rounds : ℕ) (old new : Drill) → Drains s links rounds old new → Holds s link old → HandsAll s link old → HandsAll s link new
-drain_hands s link links zero old new drains k h = subst (HandsAll s link) (sym drains.1) h
-drain_hands s link links (suc rounds) old new drains k h =
-    drain_hands s link links rounds (after_round s links old) new drains.1 (round_holds s link links old k) (round_hands s link links old k h)
+drain_hands : (s : Setting) (link : ℕ) (links : List ℕ) (rounds : ℕ) (old new : Drill) → Drains s links rounds old new → AreFirst s → Holds s link old → HandsAll s link old → HandsAll s link new
+drain_hands s link links zero old new drains first k h = subst (HandsAll s link) (sym drains.1) h
+drain_hands s link links (suc rounds) old new drains first k h =
+    drain_hands s link links rounds (after_round s links old) new drains.1 first (round_holds s link links old first k) (round_hands s link links old first k h)
 
 -- each line leaves none due, a drain too
-pub line_hands_all : (s : Setting) (clients link : ℕ) (line : Line) (old new : Drill) → ((l : ℕ) → IsOpened (s.opened l)) → Makes s clients line old new → Holds s link old → HandsAll s link old → HandsAll s link new
-line_hands_all s clients link (lines.Cred client cred) old new opened e k h = subst (HandsAll s link) (sym e) (line_hands s link (lines.Cred client cred) old opened k h)
-line_hands_all s clients link (lines.Call client form prog vers proc args) old new opened e k h = subst (HandsAll s link) (sym e) (line_hands s link (lines.Call client form prog vers proc args) old opened k h)
-line_hands_all s clients link (lines.Up client most) old new opened e k h = subst (HandsAll s link) (sym e) (line_hands s link (lines.Up client most) old opened k h)
-line_hands_all s clients link (lines.Down client most) old new opened e k h = subst (HandsAll s link) (sym e) (line_hands s link (lines.Down client most) old opened k h)
-line_hands_all s clients link (lines.Work client) old new opened e k h = subst (HandsAll s link) (sym e) (line_hands s link (lines.Work client) old opened k h)
-line_hands_all s clients link (lines.Tick seconds) old new opened e k h = subst (HandsAll s link) (sym e) (line_hands s link (lines.Tick seconds) old opened k h)
-line_hands_all s clients link (lines.Forget client number) old new opened e k h = subst (HandsAll s link) (sym e) (line_hands s link (lines.Forget client number) old opened k h)
-line_hands_all s clients link (lines.Revoke client number) old new opened e k h = subst (HandsAll s link) (sym e) (line_hands s link (lines.Revoke client number) old opened k h)
-line_hands_all s clients link (lines.Drop client) old new opened e k h = subst (HandsAll s link) (sym e) (line_hands s link (lines.Drop client) old opened k h)
-line_hands_all s clients link (lines.Raw client side bytes) old new opened e k h = subst (HandsAll s link) (sym e) (line_hands s link (lines.Raw client side bytes) old opened k h)
-line_hands_all s clients link (lines.Grant client credits) old new opened e k h = subst (HandsAll s link) (sym e) (line_hands s link (lines.Grant client credits) old opened k h)
-line_hands_all s clients link lines.Drain old new opened e k h = drain_hands s link (links_of clients) e.0 old new e.1 k h
+pub line_hands_all : (s : Setting) (clients link : ℕ) (line : Line) (old new : Drill) → AreFit s → FirstMakes s clients line old new → Holds s link old → HandsAll s link old → HandsAll s link new
+line_hands_all s clients link (lines.Cred client cred) old new fit e k h = subst (HandsAll s link) (sym e) (line_hands s link (lines.Cred client cred) old fit k h)
+line_hands_all s clients link (lines.Call client form prog vers proc args) old new fit e k h = subst (HandsAll s link) (sym e) (line_hands s link (lines.Call client form prog vers proc args) old fit k h)
+line_hands_all s clients link (lines.Up client most) old new fit e k h = subst (HandsAll s link) (sym e) (line_hands s link (lines.Up client most) old fit k h)
+line_hands_all s clients link (lines.Down client most) old new fit e k h = subst (HandsAll s link) (sym e) (line_hands s link (lines.Down client most) old fit k h)
+line_hands_all s clients link (lines.Work client) old new fit e k h = subst (HandsAll s link) (sym e) (line_hands s link (lines.Work client) old fit k h)
+line_hands_all s clients link (lines.Tick seconds) old new fit e k h = subst (HandsAll s link) (sym e) (line_hands s link (lines.Tick seconds) old fit k h)
+line_hands_all s clients link (lines.Forget client number) old new fit e k h = subst (HandsAll s link) (sym e) (line_hands s link (lines.Forget client number) old fit k h)
+line_hands_all s clients link (lines.Revoke client number) old new fit e k h = subst (HandsAll s link) (sym e) (line_hands s link (lines.Revoke client number) old fit k h)
+line_hands_all s clients link (lines.Drop client) old new fit e k h = subst (HandsAll s link) (sym e) (line_hands s link (lines.Drop client) old fit k h)
+line_hands_all s clients link (lines.Rejoin client) old new fit e k h = subst (HandsAll s link) (sym e) (line_hands s link (lines.Rejoin client) old fit k h)
+line_hands_all s clients link (lines.Raw client side bytes) old new fit e k h = subst (HandsAll s link) (sym e) (line_hands s link (lines.Raw client side bytes) old fit k h)
+line_hands_all s clients link (lines.Grant client credits) old new fit e k h = subst (HandsAll s link) (sym e) (line_hands s link (lines.Grant client credits) old fit k h)
+line_hands_all s clients link lines.Drain old new fit e k h = drain_hands s link (links_of clients) e.0 old new e.1 fit.first k h
 
-lines_hand : (s : Setting) (clients link : ℕ) (all : List Line) (old new : Drill) → ((l : ℕ) → IsOpened (s.opened l)) → AllByRecursion (IsFit s) all → MakeAll s clients all old new →
+-- a line keeps the laws of a link
+line_holds_first : (s : Setting) (link : ℕ) (line : Line) (d : Drill) → AreFit s → IsFit s line → Holds s link d → Holds s link (first_line s line d)
+line_holds_first s link (lines.Cred client cred) d fit w h = record { keeps = h.keeps; creds = with_cred_at d.creds (client - 1) cred h.creds w.0 }
+line_holds_first s link (lines.Call client form prog vers proc args) d fit w h =
+    let call : Call = record { prog = prog; vers = vers; proc = proc; cred = cred_of client d; args = args } in
+    holds_by s client link d (after_submit s client call form d) (record {
+      own = λ k. lawful_submit s client call form d (fit.first.on client) (fit.opened client) (cred_at d.creds (client - 1) h.creds) k;
+      extends = submit_adds s client call form d;
+    }) h
+line_holds_first s link (lines.Up client most) d fit w h =
+    holds_by s client link d (after_up s client most d) (record { own = λ k. lawful_after_up s client most d k; extends = up_adds s client most d }) h
+line_holds_first s link (lines.Down client most) d fit w h =
+    holds_by s client link d (after_down s client most d) (record { own = λ k. lawful_after_down s client most d (fit.first.on client) k; extends = down_adds s client most d }) h
+line_holds_first s link (lines.Work client) d fit w h =
+    holds_by s client link d (after_work s client d) (record { own = λ k. lawful_work s client d k; extends = work_adds s client d }) h
+line_holds_first s link (lines.Tick seconds) d fit w h = record { keeps = h.keeps; creds = h.creds }
+line_holds_first s link (lines.Forget client number) d fit w h =
+    holds_by s client link d (after_forget s client number d) (record { own = λ k. keeps_forget s client number d fit.first k; extends = forget_adds s client number d }) h
+line_holds_first s link (lines.Revoke client number) d fit w h =
+    holds_by s client link d (after_revoke s client number d) (record { own = λ k. lawful_revoke s client number d fit.first k; extends = revoke_adds s client number d }) h
+line_holds_first s link (lines.Drop client) d fit w h =
+    holds_by s client link d (after_drop client d) (record { own = λ k. keeps_drop s client d k; extends = drop_adds client d }) h
+line_holds_first s link (lines.Rejoin client) d fit w h = h
+line_holds_first s link (lines.Raw client side bytes) d fit w h =
+    holds_by s client link d (after_raw client side bytes (is_dropped client d.marks) d)
+    (record { own = λ k. keeps_raw s client side bytes (is_dropped client d.marks) d k; extends = raw_adds client side bytes (is_dropped client d.marks) d }) h
+line_holds_first s link (lines.Grant client credits) d fit w h =
+    holds_by s client link d (after_grant client credits d) (record { own = λ k. keeps_grant s client credits d (w.1 client) k; extends = grant_adds client credits d }) h
+line_holds_first s link lines.Drain d fit w h = h
+
+line_holds_all : (s : Setting) (clients link : ℕ) (line : Line) (old new : Drill) → AreFit s → IsFit s line → FirstMakes s clients line old new → Holds s link old → Holds s link new
+line_holds_all s clients link (lines.Cred client cred) old new fit w e h = subst (Holds s link) (sym e) (line_holds_first s link (lines.Cred client cred) old fit w h)
+line_holds_all s clients link (lines.Call client form prog vers proc args) old new fit w e h = subst (Holds s link) (sym e) (line_holds_first s link (lines.Call client form prog vers proc args) old fit w h)
+line_holds_all s clients link (lines.Up client most) old new fit w e h = subst (Holds s link) (sym e) (line_holds_first s link (lines.Up client most) old fit w h)
+line_holds_all s clients link (lines.Down client most) old new fit w e h = subst (Holds s link) (sym e) (line_holds_first s link (lines.Down client most) old fit w h)
+line_holds_all s clients link (lines.Work client) old new fit w e h = subst (Holds s link) (sym e) (line_holds_first s link (lines.Work client) old fit w h)
+line_holds_all s clients link (lines.Tick seconds) old new fit w e h = subst (Holds s link) (sym e) (line_holds_first s link (lines.Tick seconds) old fit w h)
+line_holds_all s clients link (lines.Forget client number) old new fit w e h = subst (Holds s link) (sym e) (line_holds_first s link (lines.Forget client number) old fit w h)
+line_holds_all s clients link (lines.Revoke client number) old new fit w e h = subst (Holds s link) (sym e) (line_holds_first s link (lines.Revoke client number) old fit w h)
+line_holds_all s clients link (lines.Drop client) old new fit w e h = subst (Holds s link) (sym e) (line_holds_first s link (lines.Drop client) old fit w h)
+line_holds_all s clients link (lines.Rejoin client) old new fit w e h = subst (Holds s link) (sym e) (line_holds_first s link (lines.Rejoin client) old fit w h)
+line_holds_all s clients link (lines.Raw client side bytes) old new fit w e h = subst (Holds s link) (sym e) (line_holds_first s link (lines.Raw client side bytes) old fit w h)
+line_holds_all s clients link (lines.Grant client credits) old new fit w e h = subst (Holds s link) (sym e) (line_holds_first s link (lines.Grant client credits) old fit w h)
+line_holds_all s clients link lines.Drain old new fit w e h = drain_holds s link (links_of clients) e.0 old new e.1 fit.first h
+
+lines_hand : (s : Setting) (clients link : ℕ) (all : List Line) (old new : Drill) → AreFit s → AllByRecursion (IsFit s) all → FirstMakeAll s clients all old new →
     Holds s link old → HandsAll s link old → HandsAll s link new
-lines_hand s clients link [] old new opened w e k h = subst (HandsAll s link) (sym e) h
-lines_hand s clients link (line ∷ others) old new opened w e k h =
-    lines_hand s clients link others e.0 new opened w.1 e.2 (line_made s clients link line old e.0 opened w.0 e.1 k) (line_hands_all s clients link line old e.0 opened e.1 k h)
+lines_hand s clients link [] old new fit w e k h = subst (HandsAll s link) (sym e) h
+lines_hand s clients link (line ∷ others) old new fit w e k h =
+    lines_hand s clients link others e.0 new fit w.1 e.2 (line_holds_all s clients link line old e.0 fit w.0 e.1 k) (line_hands_all s clients link line old e.0 fit e.1 k h)
 
 -- ===== links open
 
-openings_hand : (s : Setting) (link : ℕ) (links : List ℕ) (d : Drill) → IsLawful (s.opened link) link d.marks → HandsAll s link d → HandsAll s link (after_openings s links d)
-openings_hand s link [] d lawful h = h
-openings_hand s link (l ∷ links) d lawful h =
-    openings_hand s link links (after_opening s l d) (opened_lawful s l link d lawful)
+openings_hand : (s : Setting) (link : ℕ) (links : List ℕ) (d : Drill) → AreFirst s → IsLawful (s.opened link) link d.marks → HandsAll s link d → HandsAll s link (after_openings s links d)
+openings_hand s link [] d first lawful h = h
+openings_hand s link (l ∷ links) d first lawful h =
+    openings_hand s link links (after_opening s l d) first (opened_lawful s l link d (first.on l) lawful)
     (hands_by s l link d (after_opening s l d) (record { own = λ own e. opening_hands s l d; extends = opening_adds s l d }) lawful h)
   where
-    opened_lawful : (s : Setting) (l link : ℕ) (d : Drill) → IsLawful (s.opened link) link d.marks → IsLawful (s.opened link) link (after_opening s l d).marks
-    opened_lawful s l link d lawful = by (eqb l link) refl
+    opened_lawful : (s : Setting) (l link : ℕ) (d : Drill) → IsFirstLink (s.opened l) → IsLawful (s.opened link) link d.marks → IsLawful (s.opened link) link (after_opening s l d).marks
+    opened_lawful s l link d first lawful = by (eqb l link) refl
       where
         differs : false ≡ true → ⊥
         differs e = absurd cc
@@ -609,7 +676,7 @@ openings_hand s link (l ∷ links) d lawful h =
         by : (b : Bool) → eqb l link ≡ b → IsLawful (s.opened link) link (after_opening s l d).marks
         by true is =
             let same = eqb-true l link is in
-            subst (λ (k : ℕ). IsLawful (s.opened k) k (after_opening s l d).marks) same (opening_keeps s l d (subst (λ (k : ℕ). IsLawful (s.opened k) k d.marks) (sym same) lawful)).0
+            subst (λ (k : ℕ). IsLawful (s.opened k) k (after_opening s l d).marks) same (opening_keeps s l d first (subst (λ (k : ℕ). IsLawful (s.opened k) k d.marks) (sym same) lawful)).0
         by false is = (elsewhere (s.opened link) link l d.marks (after_opening s l d).marks (λ same. differs (sym is ∙ eq-eqb l link same)) (opening_adds s l d).marks).lawful lawful
 
 start_hands : (o : LinkParameters) (link : ℕ) → NoneDue o link []
@@ -621,21 +688,25 @@ all_front_lem P [] ys h = tt
 all_front_lem P (x ∷ xs) ys h = (h.0, all_front_lem P xs ys h.1)
 
 -- On every link, after each line, whatever a script puts into its pipes, all outcomes that are due have been handed over.
-pub handed_after : (server : SerialServer) (script : ScriptLines) (before after : List Line) (d : Drill) → IsScript script → script.lines ≡ before ++ after →
-    MakeAll (setting_of server script.opening) script.opening.clients before (opened_drill server script.opening) d → (link : ℕ) → IsLink script link → outcomes_due (parameters_of script.opening link) link d.marks ≡ []
+pub handed_after : (server : SerialServer) (script : ScriptLines) (before after : List Line) (d : Drill) → IsScript script → IsUnnumbered script → script.lines ≡ before ++ after →
+    FirstMakeAll (setting_of server script.opening) script.opening.clients before (opened_drill server script.opening) d → (link : ℕ) → IsClient script link → outcomes_due (parameters_of script.opening link) link d.marks ≡ []
 unfolding opened_drill
-handed_after server script before after d is parts makes link within =
+handed_after server script before after d is none parts makes link within =
     let opening = script.opening in
     let s = setting_of server opening in
     let clients = opening.clients in
     let o = parameters_of opening link in
-    let began = openings_hold s link (links_of clients) (start clients) (among_range link 1 clients within.0 (let b = within.1 in omega (arith, b))) (start_lawful o link) (start_creds clients) in
-    let first = openings_hand s link (links_of clients) (start clients) (start_lawful o link) (start_hands o link) in
-    lines_hand s clients link before (opened_drill server opening) d (opened_by_script script is) (all_front_lem (IsFit s) before after (subst (AllByRecursion (IsFit s)) parts (all_fit server script is))) makes began first
+    let firsts : AreFirst s = opened_firsts server opening none in
+    let began = openings_hold s link (links_of clients) (start s clients) firsts (among_range link 1 clients within.0 (let b = within.1 in omega (arith, b))) (start_lawful o link) (start_creds clients) in
+    let first = openings_hand s link (links_of clients) (start s clients) firsts (start_lawful o link) (start_hands o link) in
+    lines_hand s clients link before (opened_drill server opening) d (record { first = firsts; opened = opened_by_script script is })
+    (all_front_lem (IsFit s) before after (subst (AllByRecursion (IsFit s)) parts (all_fit server script is none))) makes began first
 
 -- so in the end
-pub follows_hands : (server : SerialServer) (script : ScriptLines) (run : List Mark) → IsScript script → Follows server script run → (link : ℕ) → IsLink script link →
+pub follows_hands : (server : SerialServer) (script : ScriptLines) (run : List Mark) → IsScript script → IsUnnumbered script → Follows server script run → (link : ℕ) → IsClient script link →
     outcomes_due (parameters_of script.opening link) link run ≡ []
-follows_hands server script run is follows link within =
+follows_hands server script run is none follows link within =
+    let made = made_first server script.opening script.lines (opened_drill server script.opening) follows.last (opened_first_links server script.opening none) (all_fit server script is none)
+    (all_name script.opening [] script.lines is.follow_on) follows.makes in
     subst (NoneDue (parameters_of script.opening link) link) (sym follows.marks_are)
-    (handed_after server script script.lines [] follows.last is (sym (append-nil script.lines)) follows.makes link within)
+    (handed_after server script script.lines [] follows.last is none (sym (append-nil script.lines)) made link within)

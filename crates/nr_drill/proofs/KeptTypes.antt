@@ -8,18 +8,22 @@ use Rattle.nr_wire.specs.declared.hello.Side.{Side}
 use Rattle.nr_wire.specs.declared.hello.Side.TheVariants.{Initiator, Responder}
 use Rattle.nr_reduce.specs.declared.mark.Mark.{Mark}
 use Rattle.nr_reduce.specs.declared.mark.Mark.TheVariants as marks
+use Rattle.nr_reduce.specs.declared.mark.Told.TheVariants as told
 use Rattle.nr_reduce.specs.History.{CompletedCall, bytes_sent, is_dropped}
 use Rattle.nr_reduce.proofs.Standing.{AtEachMark_more}
 use Rattle.nr_reduce.specs.ServerState.{ReadyCall}
 use Rattle.nr_reduce.specs.OutcomesDue.{outcomes_due}
-use Rattle.nr_reduce.specs.PlainJournal.{journal}
 use Rattle.nr_laws.specs.Typed.{TypedMark, IsTyped}
 use Rattle.nr_script.proofs.ByteLists.{no_bytes_lem}
-use Rattle.nr_drill.specs.Drill.{Setting, Drill, Pipes, pipes_of, plain_of, now, with_mark, unwritten, after_output, after_all_output, settled, after_feeding, after_feeding_up, after_feeding_down, after_up, after_down, after_handing, after_done, after_dones, after_outcomes, waiting_call, after_answer, after_execution, after_work}
+use Rattle.nr_drill.specs.Drill.{Setting, Drill, Pipes, pipes_of, with_mark, unwritten, after_output, after_all_output, settled, after_feeding, after_feeding_up, after_feeding_down, after_up, after_handing, after_done, after_dones, after_outcomes, waiting_call, after_answer, after_execution, after_work, GivenReply, standing_of, reply_given, after_call}
 use Rattle.nr_drill.specs.WorkLeft.DrainStep.{AllUp, Work, AllDown}
 use Rattle.nr_drill.specs.Drains.{AnswersInBytesAt, StepsKeepTypes}
-use Rattle.nr_byte_laws.proofs.ByteClients.{client_due}
+use Rattle.nr_byte_laws.proofs.ByteClients.{client_due, none_again}
 use Rattle.nr_byte_laws.proofs.ByteServers.{server_due}
+use Rattle.nr_drill.proofs.FirstLinks.{down_is}
+use Rattle.nr_reduce.specs.NumberedJournal.{Standing}
+use Rattle.nr_reduce.specs.NumberedJournal.Standing.{Old, Kept, New}
+use Rattle.nr_reduce.specs.Served.{last_frame_at}
 
 more : (mark : Mark) (d : Drill) → TypedMark d.marks mark → IsTyped d.marks → IsTyped (with_mark mark d).marks
 more mark d t h = AtEachMark_more TypedMark [] d.marks mark h t
@@ -52,31 +56,38 @@ pipe_bytes : (got pipe sent : List ℕ) (dropped : Bool) → (dropped ≡ false 
 pipe_bytes got pipe sent true carried gone b = subst IsBytes (sym (gone refl)) no_bytes_lem
 pipe_bytes got pipe sent false carried gone b = IsBytes_right got pipe (subst IsBytes (sym (carried refl)) b)
 
-answers : (s : Setting) (link : ℕ) (call : ReadyCall) (reply : Option (List ℕ)) (d : Drill) → ((r : List ℕ) → reply ≡ Some r → IsBytes r) → IsTyped d.marks → IsTyped (after_answer s link call reply d).marks
+answers : (s : Setting) (link : ℕ) (call : ReadyCall) (answer : Option GivenReply) (d : Drill) → ((g : GivenReply) → answer ≡ Some g → IsBytes g.reply) → IsTyped d.marks → IsTyped (after_answer s link call answer d).marks
 answers s link call None d b h = h
-answers s link call (Some reply) d b h =
-    let mark = marks.Execute link call.xid (now d) call.payload (length (journal (plain_of s.server) d.marks)) reply in
-    settles s link (with_mark mark d) (more mark d (b reply refl) h)
+answers s link call (Some g) d b h =
+    let mark = marks.Execute link call.xid g.moment call.payload g.place g.reply in
+    settles s link (with_mark mark d) (more mark d (b g refl) h)
+
+makes : (s : Setting) (link : ℕ) (call : ReadyCall) (is : Standing) (answer : Option GivenReply) (d : Drill) → ((g : GivenReply) → answer ≡ Some g → IsBytes g.reply) → IsTyped d.marks → IsTyped (after_call s link call is answer d).marks
+makes s link call (Old top) answer d b h =
+    let mark = marks.Told link (told.Old call.xid (last_frame_at link d.marks)) in
+    settles s link (with_mark mark d) (more mark d tt h)
+makes s link call (Kept place) answer d b h = answers s link call answer d b h
+makes s link call New answer d b h = answers s link call answer d b h
 
 executes : (s : Setting) (link : ℕ) (call : Option ReadyCall) (d : Drill) → AnswersInBytesAt s link d → waiting_call s link d.marks ≡ call → IsTyped d.marks → IsTyped (after_execution s link call d).marks
 executes s link None d replies is h = h
-executes s link (Some call) d replies is h =
-    answers s link call (s.server.reply_to (journal (plain_of s.server) d.marks) (now d) call.payload) d (λ reply told. replies call reply is told) h
+executes s link (Some call) d replies is h = makes s link call (standing_of s link d call) (reply_given s link d call) d (λ g given. replies call g is given) h
 
 pub steps_keep_types : StepsKeepTypes
-unfolding after_up after_down after_outcomes after_work
-steps_keep_types s link AllUp d running replies typed =
+unfolding after_up after_outcomes after_work
+steps_keep_types s link AllUp d start running replies typed =
     let pipes = pipes_of link d in
     let bytes = pipe_bytes _ pipes.up (bytes_sent link Initiator d.marks) (is_dropped link d.marks) running.up (λ gone. ap (λ (p : Pipes). p.up) (running.gone gone))
-    (subst IsBytes (sym running.asked.written) (client_due (s.opened link) link d.marks typed)) in
+    (subst IsBytes (sym running.asked.written) (client_due (s.opened link) link d.marks (none_again (s.opened link) start.resumed) typed)) in
     settles s link (after_feeding_up link (length pipes.up) d)
     (feeds link Responder (take (length pipes.up) pipes.up) (record pipes { up = drop (length pipes.up) pipes.up }) d (IsBytes_take (length pipes.up) pipes.up bytes) typed)
-steps_keep_types s link Work d running replies typed = executes s link (waiting_call s link d.marks) d replies refl typed
-steps_keep_types s link AllDown d running replies typed =
+steps_keep_types s link Work d start running replies typed = executes s link (waiting_call s link d.marks) d replies refl typed
+steps_keep_types s link AllDown d start running replies typed =
     let pipes = pipes_of link d in
     let bytes = pipe_bytes _ pipes.down (bytes_sent link Responder d.marks) (is_dropped link d.marks) running.down (λ gone. ap (λ (p : Pipes). p.down) (running.gone gone))
     (subst IsBytes (sym running.served.written) (server_due (s.opened link) link d.marks typed)) in
     let fed = after_feeding_down link (length pipes.down) d in
-    settles s link (after_outcomes s link fed)
+    subst (λ (x : Drill). IsTyped x.marks) (sym (down_is s link (length pipes.down) d start))
+    (settles s link (after_outcomes s link fed)
     (dones s link (length (outcomes_due (s.opened link) link fed.marks)) fed
-    (feeds link Initiator (take (length pipes.down) pipes.down) (record pipes { down = drop (length pipes.down) pipes.down }) d (IsBytes_take (length pipes.down) pipes.down bytes) typed))
+    (feeds link Initiator (take (length pipes.down) pipes.down) (record pipes { down = drop (length pipes.down) pipes.down }) d (IsBytes_take (length pipes.down) pipes.down bytes) typed)))

@@ -1,6 +1,6 @@
 -- The laws of a link follow from the functions of a drill: each mark stands there by the definition by which the laws judge it.
-use Rattle.std.specs.Prelude.{is_none, ◌-◌, ◌&&◌, ◌||◌, not, if◌then◌else◌, slice_get, unwrap_or, Contains}
-use Rattle.std.specs.List.{flat_map}
+use Rattle.std.specs.Prelude.{is_none, ◌-◌, ◌==◌, ◌&&◌, ◌||◌, not, if◌then◌else◌, slice_get, unwrap_or, Contains}
+use Rattle.std.specs.List.{flat_map, list_any}
 use Rattle.std.proofs.Common.{◌≡◌, ◌≢◌, ℕ, cond, eqb, filter, ◌⊎◌, inl, inr, arith, eqb-true, zero, suc, Bool, true, false, take, List, [], ◌∷◌, ◌++◌, length, drop, Option, None, Some, refl, sym, ap, subst, ◌∙◌, append_assoc, append-nil}
 use Rattle.std.proofs.Math.Seq.{drop-append_seam}
 use Rattle.std.proofs.lemmas.Bool.{eq-eqb}
@@ -15,15 +15,16 @@ use Rattle.nr_reduce.specs.declared.call.Submission.{Submission}
 use Rattle.nr_reduce.specs.declared.call.Submission.TheVariants as submissions
 use Rattle.nr_reduce.specs.declared.mark.Mark.{Mark}
 use Rattle.nr_reduce.specs.declared.mark.Mark.TheVariants as marks
-use Rattle.nr_reduce.specs.declared.mark.Told.{Told}
 use Rattle.nr_reduce.specs.declared.mark.Told.TheVariants.{Granted}
+use Rattle.nr_reduce.specs.declared.mark.Told.TheVariants as told
 use Rattle.nr_reduce.specs.declared.mark.LinkParameters.{LinkParameters}
 use Rattle.nr_reduce.specs.AtEachMark.{AtEachMark}
-use Rattle.nr_reduce.specs.Opening.{IsOpened}
-use Rattle.nr_reduce.specs.PlainJournal.{journal}
+use Rattle.nr_reduce.specs.Opening.{IsOpened, IsFirstLink}
+use Rattle.nr_reduce.specs.NumberedJournal.{Standing, number_heard, standing_for}
+use Rattle.nr_reduce.specs.NumberedJournal.Standing.{Old, Kept, New}
 use Rattle.nr_reduce.specs.SubmitAnswer.{unless_dropped, submit_answer, submit_answer_after}
 use Rattle.nr_reduce.specs.Matched.{IsPrefixOf}
-use Rattle.nr_reduce.specs.History.{AcceptedCall, CompletedCall, accepted_as, accepted_at, bytes_sent, written_at, accepted_calls, completed_calls, is_abandoned, is_dropped}
+use Rattle.nr_reduce.specs.History.{AcceptedCall, CompletedCall, accepted_as, accepted_at, bytes_sent, written_at, accepted_calls, completed_at, completed_calls, abandons, is_abandoned, is_dropped}
 use Rattle.nr_reduce.specs.OutcomesDue.{is_completed, outcomes_of_call, outcomes_due}
 use Rattle.nr_reduce.specs.Events.{events_at, if_own}
 use Rattle.nr_reduce.specs.Events.RunEvent.{QueueWritten, ServerTold}
@@ -33,15 +34,18 @@ use Rattle.nr_reduce.specs.ServerState.{ServerState, ReadyCall}
 use Rattle.nr_reduce.specs.Client.{client_rules, client_end, client_output}
 use Rattle.nr_reduce.specs.Server.{server_rules, server_end, server_output}
 use Rattle.nr_reduce.specs.Run.{client, server, output_due}
-use Rattle.nr_reduce.specs.Asked.{AskedMark, AskedSoFar, IsAll, IsCompleted, IsAwaited, revoked_bytes}
-use Rattle.nr_reduce.specs.Served.{ServedMark, next_call, ToldInRange}
+use Rattle.nr_reduce.specs.Asked.{AskedMark, AskedSoFar, IsAll, IsCompleted, IsAwaited, IsAwaitedOrWaits, revoked_bytes}
+use Rattle.nr_reduce.specs.Served.{ServedMark, next_call, last_frame_at, ToldInRange}
 use Rattle.nr_reduce.proofs.Steps.{output_due_up_one, output_due_down_one}
 use Rattle.nr_reduce.proofs.SoFarLaws.{AtEachMark_each, asked_mark}
 use Rattle.nr_reduce.proofs.Submitting.{accepted_keeps}
+use Rattle.nr_reduce.proofs.Unresumed.{none_waits, awaited_or_waits}
 use Rattle.nr_reduce.proofs.Standing.{AtEachMark_more, itself, sent_one}
 use Rattle.nr_laws.proofs.LiveRegions.{passes_any}
 use Rattle.nr_laws.specs.Grant.{AcceptedMark, AcceptsByRule}
-use Rattle.nr_drill.specs.Drill.{Setting, Drill, Pipes, plain_of, now, unwritten, after_output, after_all_output, settled, pipes_of, with_mark, after_submit, after_feeding, after_feeding_up, after_up, if_standing, waiting_call, after_answer, after_execution, after_work, after_calls, after_drop, after_feeding_down, after_handing, after_done, after_dones, after_outcomes, after_down, answer_at, answer_of_line, is_open, open_xid, after_giving_up, after_forget, after_taking_back, after_revoke, after_all_up, after_all_work, after_moves, after_grant}
+use Rattle.nr_drill.specs.Drill.{Setting, Drill, Pipes, GivenReply, client_of, is_sent_again, settles, standing_of, reply_given, unwritten, after_output, after_all_output, settled, pipes_of, with_mark, after_submit, after_feeding, after_feeding_up, after_up, if_standing, waiting_call, after_answer, after_call, after_execution, after_work, after_calls, after_drop, after_feeding_down, after_handing, after_done, after_dones, after_outcomes, after_down, answer_at, answer_of_line, is_open, open_xid, after_giving_up, after_forget, after_taking_back, after_revoke, after_all_up, after_all_work, after_moves, after_grant, journal_of}
+use Rattle.nr_drill.proofs.FirstLinks.{own_client, down_is}
+use Rattle.nr_drill.specs.Unnumbered.{AreFirst}
 
 -- what a side has to write is what it wrote and what it hasn't written yet
 abbrev pub IsDueOf : LinkParameters → ℕ → Side → List Mark → Type 0
@@ -139,18 +143,18 @@ quiet o link Responder Responder run bytes =
     ap (λ (b : Bool). output_for_all (server_rules o) (server o link run) (if_own (b && true) (QueueWritten (length bytes) ∷ []))) (itself link)
     ∙ quiet_server o (server o link run).state (server o link run).ended (length bytes)
 
--- nor does what a server is told
-told_server : (o : LinkParameters) (k : ServerState) (ended : Option End) (what : Told) → output_for_all (server_rules o) (record { state = k; ended = ended }) (ServerTold what ∷ []) ≡ []
+-- nor do credits that a server is told to grant
+granted_server : (o : LinkParameters) (k : ServerState) (ended : Option End) (credits : ℕ) → output_for_all (server_rules o) (record { state = k; ended = ended }) (ServerTold (Granted credits) ∷ []) ≡ []
 unfolding server_end server_output
-told_server o k None what = refl
-told_server o k (Some end) what = refl
+granted_server o k None credits = refl
+granted_server o k (Some end) credits = refl
 
-pub quiet_told : (o : LinkParameters) (link : ℕ) (side : Side) (run : List Mark) (what : Told) → more_due o link side run (marks.Told link what) ≡ []
-quiet_told o link Initiator run what =
-    ap (λ (b : Bool). output_for_all (client_rules o) (client o link run) (if_own (b && false) (ServerTold what ∷ []))) (itself link)
-quiet_told o link Responder run what =
-    ap (λ (b : Bool). output_for_all (server_rules o) (server o link run) (if_own (b && true) (ServerTold what ∷ []))) (itself link)
-    ∙ told_server o (server o link run).state (server o link run).ended what
+pub quiet_grant : (o : LinkParameters) (link : ℕ) (side : Side) (run : List Mark) (credits : ℕ) → more_due o link side run (marks.Told link (Granted credits)) ≡ []
+quiet_grant o link Initiator run credits =
+    ap (λ (b : Bool). output_for_all (client_rules o) (client o link run) (if_own (b && false) (ServerTold (Granted credits) ∷ []))) (itself link)
+quiet_grant o link Responder run credits =
+    ap (λ (b : Bool). output_for_all (server_rules o) (server o link run) (if_own (b && true) (ServerTold (Granted credits) ∷ []))) (itself link)
+    ∙ granted_server o (server o link run).state (server o link run).ended credits
 
 pub own_written : (link : ℕ) (side : Side) (bytes : List ℕ) → written_at link side (marks.Wrote link side bytes) ≡ bytes
 own_written link Initiator bytes = ap (λ (b : Bool). if b && true then bytes else []) (itself link)
@@ -242,17 +246,17 @@ not_dropped true answer xid e = absurd cc
 not_dropped false answer xid e = e
 
 -- what a client answers keeps the law
-pub answer_asked : (o : LinkParameters) (link : ℕ) (run : List Mark) (call : Call) (form : Form) (answer : Submission) → IsOpened o → CanWriteCred call.cred → IsLawful o link run →
+pub answer_asked : (o : LinkParameters) (link : ℕ) (run : List Mark) (call : Call) (form : Form) (answer : Submission) → IsFirstLink o → IsOpened o → CanWriteCred call.cred → IsLawful o link run →
     submit_answer_after o link run call form ≡ answer → AskedMark IsAll o link run (marks.Submit link call form answer)
 unfolding submit_answer_after
-answer_asked o link run call form (submissions.Accepted xid) numbers writable h e =
-    λ same. (accepted_keeps o link run call form xid (not_dropped (is_dropped link run) (submit_answer (client o link run) call form) xid e) numbers (asked_so_far o link run h) writable).0
-answer_asked o link run call form (submissions.Refused why) numbers writable h e = tt
-answer_asked o link run call form submissions.Dropped numbers writable h e = tt
+answer_asked o link run call form (submissions.Accepted xid) first numbers writable h e =
+    λ same. (accepted_keeps o link run call form xid (not_dropped (is_dropped link run) (submit_answer (client o link run) call form) xid e) (none_waits o link run first.resumed) numbers (asked_so_far o link run h) writable).0
+answer_asked o link run call form (submissions.Refused why) first numbers writable h e = tt
+answer_asked o link run call form submissions.Dropped first numbers writable h e = tt
 
 answer_accepted : (o : LinkParameters) (link : ℕ) (run : List Mark) (call : Call) (form : Form) (answer : Submission) →
     submit_answer_after o link run call form ≡ answer → AcceptedMark o link run (marks.Submit link call form answer)
-answer_accepted o link run call form (submissions.Accepted xid) e = λ same. e
+answer_accepted o link run call form (submissions.Accepted xid) e = λ same. inl e
 answer_accepted o link run call form (submissions.Refused why) e = tt
 answer_accepted o link run call form submissions.Dropped e = tt
 
@@ -260,14 +264,14 @@ answer_accepted o link run call form submissions.Dropped e = tt
 abbrev pub Keeps : Setting → ℕ → Drill → Type 0
 Keeps s link d = IsLawful (s.opened link) link d.marks × IsWritten (s.opened link) link d.marks
 
-pub lawful_submit : (s : Setting) (link : ℕ) (call : Call) (form : Form) (d : Drill) → IsOpened (s.opened link) → CanWriteCred call.cred → Keeps s link d → Keeps s link (after_submit s link call form d)
+pub lawful_submit : (s : Setting) (link : ℕ) (call : Call) (form : Form) (d : Drill) → IsFirstLink (s.opened link) → IsOpened (s.opened link) → CanWriteCred call.cred → Keeps s link d → Keeps s link (after_submit s link call form d)
 unfolding after_submit
-lawful_submit s link call form d numbers writable h =
+lawful_submit s link call form d first numbers writable h =
     let o = s.opened link in
     let answer = submit_answer_after o link d.marks call form in
     let mark = marks.Submit link call form answer in
     lawful_settled s link (with_mark mark d) (lawful_mark o link d.marks mark h.0 refl refl
-    (answer_asked o link d.marks call form answer numbers writable h.0 refl) tt (answer_accepted o link d.marks call form answer refl))
+    (answer_asked o link d.marks call form answer first numbers writable h.0 refl) tt (answer_accepted o link d.marks call form answer refl))
 
 lawful_fed : (s : Setting) (link : ℕ) (side : Side) (bytes : List ℕ) (rest : Pipes) (d : Drill) → IsLawful (s.opened link) link d.marks →
     IsLawful (s.opened link) link (after_feeding link side bytes rest d).marks
@@ -285,19 +289,33 @@ is_next : (dropped : Bool) (call : ReadyCall) (next : Option ReadyCall) → if_s
 is_next true call next e = absurd cc
 is_next false call next e = e
 
-lawful_execution : (s : Setting) (link : ℕ) (call : ReadyCall) (reply : Option (List ℕ)) (d : Drill) → next_call (s.opened link) link d.marks ≡ Some call → Keeps s link d →
-    Keeps s link (after_answer s link call reply d)
-lawful_execution s link call None d next h = h
-lawful_execution s link call (Some reply) d next h =
+lawful_answer : (s : Setting) (link : ℕ) (call : ReadyCall) (answer : Option GivenReply) (d : Drill) → next_call (s.opened link) link d.marks ≡ Some call → Keeps s link d →
+    Keeps s link (after_answer s link call answer d)
+lawful_answer s link call None d next h = h
+lawful_answer s link call (Some g) d next h =
     let o = s.opened link in
-    let mark = marks.Execute link call.xid (now d) call.payload (length (journal (plain_of s.server) d.marks)) reply in
+    let mark = marks.Execute link call.xid g.moment call.payload g.place g.reply in
     lawful_settled s link (with_mark mark d) (lawful_mark o link d.marks mark h.0 refl refl tt (λ same. record { call = call; is_next = next; own = refl; conveyed = refl }) tt)
+
+-- an old call is one of a client with a number, and ends the link
+old_numbered : (s : Setting) (link : ℕ) (call : ReadyCall) (d : Drill) (top : ℕ) → standing_of s link d call ≡ Old top → number_heard d.marks link ≢ 0
+unfolding standing_of
+old_numbered s link call d top e none = absurd (let new : New ≡ Old top = sym (ap (λ (n : ℕ). standing_for (journal_of s d.marks) n call.xid) none) ∙ e in cc)
+
+lawful_call : (s : Setting) (link : ℕ) (call : ReadyCall) (is : Standing) (answer : Option GivenReply) (d : Drill) → standing_of s link d call ≡ is → next_call (s.opened link) link d.marks ≡ Some call → Keeps s link d →
+    Keeps s link (after_call s link call is answer d)
+lawful_call s link call (Old top) answer d stood next h =
+    let o = s.opened link in
+    let mark = marks.Told link (told.Old call.xid (last_frame_at link d.marks)) in
+    lawful_settled s link (with_mark mark d) (lawful_mark o link d.marks mark h.0 refl refl tt (λ same. record { call = call; numbered = old_numbered s link call d top stood; is_next = next; own = refl; last = refl }) tt)
+lawful_call s link call (Kept place) answer d stood next h = lawful_answer s link call answer d next h
+lawful_call s link call New answer d stood next h = lawful_answer s link call answer d next h
 
 lawful_waiting : (s : Setting) (link : ℕ) (call : Option ReadyCall) (d : Drill) → if_standing (is_dropped link d.marks) (next_call (s.opened link) link d.marks) ≡ call → Keeps s link d →
     Keeps s link (after_execution s link call d)
 lawful_waiting s link None d e h = h
 lawful_waiting s link (Some call) d e h =
-    lawful_execution s link call (s.server.reply_to (journal (plain_of s.server) d.marks) (now d) call.payload) d
+    lawful_call s link call (standing_of s link d call) (reply_given s link d call) d refl
     (is_next (is_dropped link d.marks) call (next_call (s.opened link) link d.marks) e) h
 
 pub lawful_work : (s : Setting) (link : ℕ) (d : Drill) → Keeps s link d → Keeps s link (after_work s link d)
@@ -413,14 +431,14 @@ lawful_dones s link zero d h = h
 lawful_dones s link (suc n) d h =
     lawful_dones s link n (after_done s link d) (lawful_handing (s.opened link) link (slice_get (outcomes_due (s.opened link) link d.marks) 0) d refl h)
 
-pub lawful_after_down : (s : Setting) (link n : ℕ) (d : Drill) → Keeps s link d → Keeps s link (after_down s link n d)
-unfolding after_down after_outcomes
-lawful_after_down s link n d h =
+pub lawful_after_down : (s : Setting) (link n : ℕ) (d : Drill) → IsFirstLink (s.opened link) → Keeps s link d → Keeps s link (after_down s link n d)
+unfolding after_outcomes
+lawful_after_down s link n d first h =
     let o = s.opened link in
     let pipes = pipes_of link d in
     let fed = after_feeding_down link n d in
     let h = lawful_fed s link Initiator (take n pipes.down) (record pipes { down = drop n pipes.down }) d h.0 in
-    lawful_settled s link (after_outcomes s link fed) (lawful_dones s link (length (outcomes_due o link fed.marks)) fed h)
+    subst (Keeps s link) (sym (down_is s link n d first)) (lawful_settled s link (after_outcomes s link fed) (lawful_dones s link (length (outcomes_due o link fed.marks)) fed h))
 
 -- ===== calls are given up
 
@@ -429,12 +447,64 @@ accepted_xid (submissions.Accepted xid) other = xid
 accepted_xid (submissions.Refused why) other = other
 accepted_xid submissions.Dropped other = other
 
-open_parts : (a b c d : Bool) → not (a || (b || c)) && d ≡ true → (a ≡ false) × (b ≡ false) × (c ≡ false) × (d ≡ true)
-open_parts true b c d e = absurd cc
-open_parts false true c d e = absurd cc
-open_parts false false true d e = absurd cc
-open_parts false false false true e = (refl, refl, refl, refl)
-open_parts false false false false e = absurd cc
+open_parts : (a b c : Bool) → not (a || b) && c ≡ true → (a ≡ false) × (b ≡ false) × (c ≡ true)
+open_parts true b c e = absurd cc
+open_parts false true c e = absurd cc
+open_parts false false true e = (refl, refl, refl)
+open_parts false false false e = absurd cc
+
+-- what settles a call on a link settles it for its client
+neither_of : (a b : Bool) → a || b ≡ false → (a ≡ false) × (b ≡ false)
+neither_of true b e = absurd cc
+neither_of false b e = (refl, e)
+
+own_call : (s : Setting) (link l x xid : ℕ) → client_of s l == client_of s link && x == xid ≡ false → eqb l link && eqb x xid ≡ false
+own_call s link l x xid off = by (eqb l link) refl
+  where
+    by : (b : Bool) → eqb l link ≡ b → b && eqb x xid ≡ false
+    by true is =
+        let same : client_of s l == client_of s link ≡ true = eq-eqb (client_of s l) (client_of s link) (ap (client_of s) (eqb-true l link is)) in
+        sym (ap (λ (b : Bool). b && eqb x xid) same) ∙ off
+    by false is = refl
+
+not_settled : (s : Setting) (link xid : ℕ) (mark : Mark) → settles s (client_of s link) xid mark ≡ false → (list_any (λ (c : CompletedCall). eqb c.xid xid) (completed_at link mark) ≡ false) × (abandons link xid mark ≡ false)
+not_settled s link xid (marks.Done l x outcome) off = by (eqb l link) (own_call s link l x xid off)
+  where
+    or_nothing : (b : Bool) → b ≡ false → b || false ≡ false
+    or_nothing true e = e
+    or_nothing false e = refl
+
+    by : (b : Bool) → b && eqb x xid ≡ false → (list_any (λ (c : CompletedCall). eqb c.xid xid) (cond b (record { xid = x; outcome = outcome } ∷ []) []) ≡ false) × (false ≡ false)
+    by true off = (or_nothing (eqb x xid) off, refl)
+    by false off = (refl, refl)
+not_settled s link xid (marks.Forget l x) off = (refl, own_call s link l x xid off)
+not_settled s link xid (marks.Revoke l x bytes) off = (refl, own_call s link l x xid off)
+not_settled s link xid (marks.Lost l x) off = (refl, own_call s link l x xid off)
+not_settled s link xid (marks.Submit l call form answer) off = (refl, refl)
+not_settled s link xid (marks.Wrote l side bytes) off = (refl, refl)
+not_settled s link xid (marks.Fed l side bytes) off = (refl, refl)
+not_settled s link xid (marks.Execute l x moment payload place reply) off = (refl, refl)
+not_settled s link xid (marks.Drop l) off = (refl, refl)
+not_settled s link xid (marks.Told l what) off = (refl, refl)
+
+or_false : (a b : Bool) → a ≡ false → b ≡ false → a || b ≡ false
+or_false true b e f = e
+or_false false b e f = f
+
+any_both : {X : Type 0} (p : X → Bool) (xs ys : List X) → list_any p xs ≡ false → list_any p ys ≡ false → list_any p (xs ++ ys) ≡ false
+any_both p [] ys e f = f
+any_both p (x ∷ xs) ys e f = (let parts = neither_of (p x) (list_any p xs) e in or_false (p x) (list_any p (xs ++ ys)) parts.0 (any_both p xs ys parts.1 f))
+
+none_settles : (s : Setting) (link xid : ℕ) (run : List Mark) → list_any (settles s (client_of s link) xid) run ≡ false → (is_completed link xid run ≡ false) × (is_abandoned link xid run ≡ false)
+unfolding completed_calls
+none_settles s link xid [] off = (refl, refl)
+none_settles s link xid (mark ∷ run) off =
+    let parts = neither_of (settles s (client_of s link) xid mark) (list_any (settles s (client_of s link) xid) run) off in
+    let one = not_settled s link xid mark parts.0 in
+    let rest = none_settles s link xid run parts.1 in (
+      any_both (λ (c : CompletedCall). eqb c.xid xid) (completed_at link mark) (flat_map (completed_at link) run) one.0 rest.0,
+      or_false (abandons link xid mark) (list_any (abandons link xid) run) one.1 rest.1,
+    )
 
 accepted_in : (xid : ℕ) (answer : Submission) (call : Call) (form : Form) → Contains (answer ∷ []) (submissions.Accepted xid) → (a : AcceptedCall) × Contains (accepted_as answer call form) a × (a.xid ≡ xid)
 accepted_in xid answer call form h = by answer (one_in answer (submissions.Accepted xid) h)
@@ -446,85 +516,101 @@ accepted_in xid answer call form h = by answer (one_in answer (submissions.Accep
     by (submissions.Refused why) is = absurd cc
     by submissions.Dropped is = absurd cc
 
-accepted_of : (link xid : ℕ) (mark : Mark) → Contains (answer_at link mark) (submissions.Accepted xid) → (a : AcceptedCall) × Contains (accepted_at link mark) a × (a.xid ≡ xid)
-accepted_of link xid (marks.Submit l call form answer) h = by (eqb l link) h
-  where
-    by : (b : Bool) → Contains (cond b (answer ∷ []) []) (submissions.Accepted xid) → (a : AcceptedCall) × Contains (cond b (accepted_as answer call form) []) a × (a.xid ≡ xid)
-    by true h = accepted_in xid answer call form h
-    by false h = none_in {W = (a : AcceptedCall) × Contains [] a × (a.xid ≡ xid)} (submissions.Accepted xid) h
-accepted_of link xid (marks.Wrote l side bytes) h = none_in {W = (a : AcceptedCall) × Contains [] a × (a.xid ≡ xid)} (submissions.Accepted xid) h
-accepted_of link xid (marks.Fed l side bytes) h = none_in {W = (a : AcceptedCall) × Contains [] a × (a.xid ≡ xid)} (submissions.Accepted xid) h
-accepted_of link xid (marks.Execute l x moment payload place reply) h = none_in {W = (a : AcceptedCall) × Contains [] a × (a.xid ≡ xid)} (submissions.Accepted xid) h
-accepted_of link xid (marks.Done l x outcome) h = none_in {W = (a : AcceptedCall) × Contains [] a × (a.xid ≡ xid)} (submissions.Accepted xid) h
-accepted_of link xid (marks.Lost l x) h = none_in {W = (a : AcceptedCall) × Contains [] a × (a.xid ≡ xid)} (submissions.Accepted xid) h
-accepted_of link xid (marks.Forget l x) h = none_in {W = (a : AcceptedCall) × Contains [] a × (a.xid ≡ xid)} (submissions.Accepted xid) h
-accepted_of link xid (marks.Revoke l x bytes) h = none_in {W = (a : AcceptedCall) × Contains [] a × (a.xid ≡ xid)} (submissions.Accepted xid) h
-accepted_of link xid (marks.Drop l) h = none_in {W = (a : AcceptedCall) × Contains [] a × (a.xid ≡ xid)} (submissions.Accepted xid) h
-accepted_of link xid (marks.Told l what) h = none_in {W = (a : AcceptedCall) × Contains [] a × (a.xid ≡ xid)} (submissions.Accepted xid) h
+both_of : (a b : Bool) → a && b ≡ true → (a ≡ true) × (b ≡ true)
+both_of true b e = (refl, e)
+both_of false b e = absurd cc
 
-was_accepted : (link xid : ℕ) (run : List Mark) → Contains (flat_map (answer_at link) run) (submissions.Accepted xid) → (a : AcceptedCall) × Contains (accepted_calls link run) a × (a.xid ≡ xid)
+accepted_of : (s : Setting) (link xid : ℕ) (mark : Mark) → AreFirst s → Contains (answer_at s (client_of s link) mark) (submissions.Accepted xid) →
+    (a : AcceptedCall) × Contains (accepted_at link mark) a × (a.xid ≡ xid)
+accepted_of s link xid (marks.Submit l call form answer) first h = by (client_of s l == client_of s link && not (is_sent_again s l answer)) refl h
+  where
+    here_too : client_of s l == client_of s link ≡ true → eqb l link ≡ true
+    here_too is = eq-eqb l link (sym (own_client s l (first.unnumbered l)) ∙ eqb-true (client_of s l) (client_of s link) is ∙ own_client s link (first.unnumbered link))
+
+    by : (b : Bool) → client_of s l == client_of s link && not (is_sent_again s l answer) ≡ b → Contains (cond b (answer ∷ []) []) (submissions.Accepted xid) →
+        (a : AcceptedCall) × Contains (cond (eqb l link) (accepted_as answer call form) []) a × (a.xid ≡ xid)
+    by true is h =
+        subst (λ (b : Bool). (a : AcceptedCall) × Contains (cond b (accepted_as answer call form) []) a × (a.xid ≡ xid))
+        (sym (here_too (both_of (client_of s l == client_of s link) (not (is_sent_again s l answer)) is).0)) (accepted_in xid answer call form h)
+    by false is h = none_in {W = (a : AcceptedCall) × Contains (cond (eqb l link) (accepted_as answer call form) []) a × (a.xid ≡ xid)} (submissions.Accepted xid) h
+accepted_of s link xid (marks.Wrote l side bytes) first h = none_in {W = (a : AcceptedCall) × Contains [] a × (a.xid ≡ xid)} (submissions.Accepted xid) h
+accepted_of s link xid (marks.Fed l side bytes) first h = none_in {W = (a : AcceptedCall) × Contains [] a × (a.xid ≡ xid)} (submissions.Accepted xid) h
+accepted_of s link xid (marks.Execute l x moment payload place reply) first h = none_in {W = (a : AcceptedCall) × Contains [] a × (a.xid ≡ xid)} (submissions.Accepted xid) h
+accepted_of s link xid (marks.Done l x outcome) first h = none_in {W = (a : AcceptedCall) × Contains [] a × (a.xid ≡ xid)} (submissions.Accepted xid) h
+accepted_of s link xid (marks.Lost l x) first h = none_in {W = (a : AcceptedCall) × Contains [] a × (a.xid ≡ xid)} (submissions.Accepted xid) h
+accepted_of s link xid (marks.Forget l x) first h = none_in {W = (a : AcceptedCall) × Contains [] a × (a.xid ≡ xid)} (submissions.Accepted xid) h
+accepted_of s link xid (marks.Revoke l x bytes) first h = none_in {W = (a : AcceptedCall) × Contains [] a × (a.xid ≡ xid)} (submissions.Accepted xid) h
+accepted_of s link xid (marks.Drop l) first h = none_in {W = (a : AcceptedCall) × Contains [] a × (a.xid ≡ xid)} (submissions.Accepted xid) h
+accepted_of s link xid (marks.Told l what) first h = none_in {W = (a : AcceptedCall) × Contains [] a × (a.xid ≡ xid)} (submissions.Accepted xid) h
+
+was_accepted : (s : Setting) (link xid : ℕ) (run : List Mark) → AreFirst s → Contains (flat_map (answer_at s (client_of s link)) run) (submissions.Accepted xid) →
+    (a : AcceptedCall) × Contains (accepted_calls link run) a × (a.xid ≡ xid)
 unfolding accepted_calls
-was_accepted link xid [] h = none_in {W = (a : AcceptedCall) × Contains [] a × (a.xid ≡ xid)} (submissions.Accepted xid) h
-was_accepted link xid (mark ∷ run) h = by (was_accepted link xid run) (Contains-append_cases (answer_at link mark) (flat_map (answer_at link) run) (submissions.Accepted xid) h)
+was_accepted s link xid [] first h = none_in {W = (a : AcceptedCall) × Contains [] a × (a.xid ≡ xid)} (submissions.Accepted xid) h
+was_accepted s link xid (mark ∷ run) first h =
+    by (was_accepted s link xid run first) (Contains-append_cases (answer_at s (client_of s link) mark) (flat_map (answer_at s (client_of s link)) run) (submissions.Accepted xid) h)
   where
     all : List AcceptedCall
     all = flat_map (accepted_at link) run
 
-    by : (Contains (flat_map (answer_at link) run) (submissions.Accepted xid) → (a : AcceptedCall) × Contains all a × (a.xid ≡ xid)) →
-        Contains (answer_at link mark) (submissions.Accepted xid) ⊎ Contains (flat_map (answer_at link) run) (submissions.Accepted xid) →
+    by : (Contains (flat_map (answer_at s (client_of s link)) run) (submissions.Accepted xid) → (a : AcceptedCall) × Contains all a × (a.xid ≡ xid)) →
+        Contains (answer_at s (client_of s link) mark) (submissions.Accepted xid) ⊎ Contains (flat_map (answer_at s (client_of s link)) run) (submissions.Accepted xid) →
         (a : AcceptedCall) × Contains (accepted_at link mark ++ all) a × (a.xid ≡ xid)
-    by more (inl first) = (let r = accepted_of link xid mark first in (r.0, Contains-append_left (accepted_at link mark) all r.0 r.1, r.2))
+    by more (inl one) = (let r = accepted_of s link xid mark first one in (r.0, Contains-append_left (accepted_at link mark) all r.0 r.1, r.2))
     by more (inr h) = (let r = more h in (r.0, Contains-append_right (accepted_at link mark) all r.0 r.1, r.2))
 
 -- an open call is one that is awaited
-open_awaited : (s : Setting) (link number xid : ℕ) (run : List Mark) → answer_of_line link number run ≡ Some (submissions.Accepted xid) → is_open s link xid run ≡ true → IsAwaited link run xid
+open_awaited : (s : Setting) (link number xid : ℕ) (run : List Mark) → AreFirst s → answer_of_line s (client_of s link) number run ≡ Some (submissions.Accepted xid) → is_open s link xid run ≡ true → IsAwaited link run xid
 unfolding answer_of_line
-open_awaited s link number xid run e is =
-    let parts = open_parts (is_dropped link run) (is_completed link xid run) (is_abandoned link xid run) (is_none (client (s.opened link) link run).ended) is in
-    let a = was_accepted link xid run (got_in (flat_map (answer_at link) run) (number - 1) (submissions.Accepted xid) e) in
-    record { asked = a.0; is_asked = a.1; own = a.2; first = none_completed link xid run parts.1; kept = parts.2 }
+open_awaited s link number xid run first e is =
+    let parts = open_parts (is_dropped link run) (list_any (settles s (client_of s link) xid) run) (is_none (client (s.opened link) link run).ended) is in
+    let none = none_settles s link xid run parts.1 in
+    let a = was_accepted s link xid run first (got_in (flat_map (answer_at s (client_of s link)) run) (number - 1) (submissions.Accepted xid) e) in
+    record { asked = a.0; is_asked = a.1; own = a.2; first = none_completed link xid run none.0; kept = none.1 }
 
-opens_awaited : (s : Setting) (link number xid : ℕ) (run : List Mark) (answer : Option Submission) → answer_of_line link number run ≡ answer → open_xid s link run answer ≡ Some xid → IsAwaited link run xid
-opens_awaited s link number xid run (Some (submissions.Accepted x)) is e = by (is_open s link x run) refl e
+opens_awaited : (s : Setting) (link number xid : ℕ) (run : List Mark) (answer : Option Submission) → AreFirst s → answer_of_line s (client_of s link) number run ≡ answer → open_xid s link run answer ≡ Some xid →
+    IsAwaitedOrWaits (s.opened link) link run xid
+opens_awaited s link number xid run (Some (submissions.Accepted x)) first is e = by (is_open s link x run) refl e
   where
-    by : (b : Bool) → is_open s link x run ≡ b → cond b (Some x) None ≡ Some xid → IsAwaited link run xid
-    by true so e = subst (IsAwaited link run) (ap (λ (o : Option ℕ). unwrap_or o xid) e) (open_awaited s link number x run is so)
+    by : (b : Bool) → is_open s link x run ≡ b → cond b (Some x) None ≡ Some xid → IsAwaitedOrWaits (s.opened link) link run xid
+    by true so e =
+        awaited_or_waits (s.opened link) link run xid (subst (IsAwaited link run) (ap (λ (o : Option ℕ). unwrap_or o xid) e) (open_awaited s link number x run first is so))
     by false so e = absurd cc
-opens_awaited s link number xid run (Some (submissions.Refused why)) is e = absurd cc
-opens_awaited s link number xid run (Some submissions.Dropped) is e = absurd cc
-opens_awaited s link number xid run None is e = absurd cc
+opens_awaited s link number xid run (Some (submissions.Refused why)) first is e = absurd cc
+opens_awaited s link number xid run (Some submissions.Dropped) first is e = absurd cc
+opens_awaited s link number xid run None first is e = absurd cc
 
-lawful_giving_up : (s : Setting) (link number : ℕ) (xid : Option ℕ) (d : Drill) → open_xid s link d.marks (answer_of_line link number d.marks) ≡ xid → IsLawful (s.opened link) link d.marks →
+lawful_giving_up : (s : Setting) (link number : ℕ) (xid : Option ℕ) (d : Drill) → AreFirst s → open_xid s link d.marks (answer_of_line s (client_of s link) number d.marks) ≡ xid → IsLawful (s.opened link) link d.marks →
     IsLawful (s.opened link) link (after_giving_up link xid d).marks
-lawful_giving_up s link number None d e h = h
-lawful_giving_up s link number (Some xid) d e h =
+lawful_giving_up s link number None d first e h = h
+lawful_giving_up s link number (Some xid) d first e h =
     lawful_mark (s.opened link) link d.marks (marks.Forget link xid) h refl refl
-    (λ same. opens_awaited s link number xid d.marks (answer_of_line link number d.marks) refl e) tt tt
+    (λ same. opens_awaited s link number xid d.marks (answer_of_line s (client_of s link) number d.marks) first refl e) tt tt
 
-pub lawful_forget : (s : Setting) (link number : ℕ) (d : Drill) → IsLawful (s.opened link) link d.marks → IsLawful (s.opened link) link (after_forget s link number d).marks
+pub lawful_forget : (s : Setting) (link number : ℕ) (d : Drill) → AreFirst s → IsLawful (s.opened link) link d.marks → IsLawful (s.opened link) link (after_forget s link number d).marks
 unfolding after_forget
-lawful_forget s link number d h = lawful_giving_up s link number (open_xid s link d.marks (answer_of_line link number d.marks)) d refl h
+lawful_forget s link number d first h = lawful_giving_up s link number (open_xid s link d.marks (answer_of_line s (client_of s link) number d.marks)) d first refl h
 
-lawful_taking_back : (s : Setting) (link number : ℕ) (xid : Option ℕ) (d : Drill) → open_xid s link d.marks (answer_of_line link number d.marks) ≡ xid → Keeps s link d →
+lawful_taking_back : (s : Setting) (link number : ℕ) (xid : Option ℕ) (d : Drill) → AreFirst s → open_xid s link d.marks (answer_of_line s (client_of s link) number d.marks) ≡ xid → Keeps s link d →
     Keeps s link (after_taking_back s link xid d)
-lawful_taking_back s link number None d e h = h
-lawful_taking_back s link number (Some xid) d e h =
+lawful_taking_back s link number None d first e h = h
+lawful_taking_back s link number (Some xid) d first e h =
     let o = s.opened link in
     let mark = marks.Revoke link xid (revoked_bytes o link d.marks xid) in
     lawful_settled s link (with_mark mark d) (lawful_mark o link d.marks mark h.0 refl refl
-    (λ same. record { awaited = opens_awaited s link number xid d.marks (answer_of_line link number d.marks) refl e; bytes_are = refl }) tt tt)
+    (λ same. record { awaited = opens_awaited s link number xid d.marks (answer_of_line s (client_of s link) number d.marks) first refl e; bytes_are = refl }) tt tt)
 
-pub lawful_revoke : (s : Setting) (link number : ℕ) (d : Drill) → Keeps s link d → Keeps s link (after_revoke s link number d)
+pub lawful_revoke : (s : Setting) (link number : ℕ) (d : Drill) → AreFirst s → Keeps s link d → Keeps s link (after_revoke s link number d)
 unfolding after_revoke
-lawful_revoke s link number d h = lawful_taking_back s link number (open_xid s link d.marks (answer_of_line link number d.marks)) d refl h
+lawful_revoke s link number d first h = lawful_taking_back s link number (open_xid s link d.marks (answer_of_line s (client_of s link) number d.marks)) d first refl h
 
 -- ===== a round on a link
 
-pub lawful_moves : (s : Setting) (link : ℕ) (d : Drill) → Keeps s link d → Keeps s link (after_moves s link d)
+pub lawful_moves : (s : Setting) (link : ℕ) (d : Drill) → IsFirstLink (s.opened link) → Keeps s link d → Keeps s link (after_moves s link d)
 unfolding after_moves after_all_work
-lawful_moves s link d h =
+lawful_moves s link d first h =
     let one = after_all_up s link d in
     let two = after_all_work s link one in
-    lawful_after_down s link (length (pipes_of link two).down) two
+    lawful_after_down s link (length (pipes_of link two).down) two first
     (lawful_calls s link (length (server (s.opened link) link one.marks).state.ready) one
     (lawful_after_up s link (length (pipes_of link d).up) d h))

@@ -33,6 +33,8 @@ use Rattle.nr_drill.proofs.Followed.{down_adds}
 use Rattle.nr_drill.proofs.Carried.{Carries, carries_down}
 use Rattle.nr_drill.proofs.LessWork.{Leaves, leaves_all, leaves_through, settled_leaves, done_leaves, own, not_own, not_fed_lem, no_drop, same_client, same_server, due_more_up, same_due_down}
 use Rattle.nr_drill.proofs.LessFrames.{completed_two, still_heard, sends_waiting}
+use Rattle.nr_reduce.specs.Opening.{IsFirstLink}
+use Rattle.nr_drill.proofs.FirstLinks.{none_waiting, down_is}
 
 -- ===== outcomes that are handed over
 
@@ -100,11 +102,11 @@ fed_down link bytes d = with_pipes link (record (pipes_of link d) { down = [] })
 abbrev after_fed : Setting → ℕ → Drill → Drill
 after_fed s link d = settled s link (after_outcomes s link d)
 
-fed_less : (s : Setting) (link : ℕ) (bytes : List ℕ) (d : Drill) → Keeps s link d → Carries link d → frames_of Responder (bytes_received link Initiator d.marks) ≢ [] →
+fed_less : (s : Setting) (link : ℕ) (bytes : List ℕ) (d : Drill) → IsFirstLink (s.opened link) → Keeps s link d → Carries link d → frames_of Responder (bytes_received link Initiator d.marks) ≢ [] →
     (pipes_of link d).down ≡ bytes → 0 < length bytes → IsTyped d.marks → IsTyped (after_fed s link (fed_down link bytes d)).marks → Keeps s link (after_fed s link (fed_down link bytes d)) → Carries link (after_fed s link (fed_down link bytes d)) →
     IsLess (work_left s (after_fed s link (fed_down link bytes d)) link) (work_left s d link)
 unfolding work_left send_bytes_left end_of_side
-fed_less s link bytes d h c heard_down waits some typed typed_new h_new c_new = by_client before.ended refl
+fed_less s link bytes d start h c heard_down waits some typed typed_new h_new c_new = by_client before.ended refl
   where
     o : LinkParameters
     o = s.opened link
@@ -216,7 +218,10 @@ fed_less s link bytes d h c heard_down waits some typed typed_new h_new c_new = 
     last : after.ended ≡ before.ended → sends_in (bytes_received link Responder new.marks) sent_new ≡ sends_in got sent_old → IsLess (work_left s new link) (work_left s d link)
     last same same_sends = inr (
       (λ i. stays ((client_end_is ∙ same) i) + stays (server_end i)),
-      inr (same_sends, inr (ap (λ (rs : List PendingRead). length rs) reads, inr (ap (λ (rs : List ReadyCall). length rs) ready, inl down_less))),
+      inr (
+        none_waiting o link run new.marks start,
+        inr (same_sends, inr (ap (λ (rs : List PendingRead). length rs) reads, inr (ap (λ (rs : List ReadyCall). length rs) ready, inl down_less))),
+      ),
     )
 
     heard_down_new : frames_of Responder (bytes_received link Initiator new.marks) ≢ []
@@ -265,17 +270,17 @@ feeding_down link (b ∷ bytes) rest d some = refl
 
 -- If the client has the server's hello, what each side received and what waits is what the other sent, and bytes wait for the client, feeding it
 -- all of them leaves less work.
-pub down_less_lem : (s : Setting) (link : ℕ) (d : Drill) → Keeps s link d → Carries link d → frames_of Responder (bytes_received link Initiator d.marks) ≢ [] →
+pub down_less_lem : (s : Setting) (link : ℕ) (d : Drill) → IsFirstLink (s.opened link) → Keeps s link d → Carries link d → frames_of Responder (bytes_received link Initiator d.marks) ≢ [] →
     (pipes_of link d).down ≢ [] → IsTyped (after_all_down s link d).marks → IsLess (work_left s (after_all_down s link d) link) (work_left s d link)
-unfolding after_down
-down_less_lem s link d h c heard_down some typed =
+down_less_lem s link d start h c heard_down some typed =
     let pipes = pipes_of link d in
     let n = length pipes.down in
     let all : take n pipes.down ≡ pipes.down = take_all n pipes.down (omega arith) in
-    let is : after_feeding_down link n d ≡ fed_down link pipes.down d =
+    let fed : after_feeding_down link n d ≡ fed_down link pipes.down d =
     (λ i. after_feeding link Initiator (all i) (record pipes { down = drop-length pipes.down i }) d) ∙ feeding_down link pipes.down (record pipes { down = [] }) d some in
+    let is : after_down s link n d ≡ after_fed s link (fed_down link pipes.down d) = down_is s link n d start ∙ ap (λ (x : Drill). after_fed s link x) fed in
     let extends = down_adds s link n d in
     let before : IsTyped d.marks = AtEachMark_first TypedMark [] d.marks extends.marks.added (subst IsTyped extends.marks.is typed) in
-    subst (λ (x : Drill). IsTyped (after_fed s link x).marks → Keeps s link (after_fed s link x) → Carries link (after_fed s link x) → IsLess (work_left s (after_fed s link x) link) (work_left s d link)) (sym is)
-    (λ t k g. fed_less s link pipes.down d h c heard_down refl (has_bytes n pipes.down refl some) before t k g)
-    typed (lawful_after_down s link n d h) (carries_down s link n d h c)
+    subst (λ (x : Drill). IsTyped x.marks → Keeps s link x → Carries link x → IsLess (work_left s x link) (work_left s d link)) (sym is)
+    (λ t k g. fed_less s link pipes.down d start h c heard_down refl (has_bytes n pipes.down refl some) before t k g)
+    typed (lawful_after_down s link n d start h) (carries_down s link n d start h c)

@@ -18,8 +18,8 @@ use Rattle.nr_reduce.specs.Server.{server_rules}
 use Rattle.nr_reduce.specs.Run.{client, server, output_due, end_of_side}
 use Rattle.nr_reduce.specs.Served.{next_call, first_ready}
 use Rattle.nr_reduce.proofs.Steps.{client_one, server_one}
-use Rattle.nr_drill.specs.Drill.{link_of, Setting, Drill, Pipes, empty_pipes, unwritten, pipes_of, settled, if_standing, waiting_call, after_feeding, after_up, after_down, after_outcomes, after_done, after_dones, after_handing, after_answer, after_execution, after_work, after_calls, after_all_up, after_all_work, after_all_down, after_moves, after_round}
-use Rattle.nr_drill.specs.Follows.{is_empty, is_still, Drains}
+use Rattle.nr_drill.specs.Drill.{link_of, Setting, Drill, Pipes, empty_pipes, unwritten, pipes_of, settled, if_standing, waiting_call, after_feeding, after_up, after_outcomes, after_done, after_dones, after_handing, after_execution, after_work, after_calls, after_all_up, after_all_work, after_all_down, after_moves, after_round, GivenReply, given, reply_by, standing_of, reply_given, journal_of, now, after_call}
+use Rattle.nr_drill.specs.Follows.{is_empty, is_still, Drains, opened_drill}
 use Rattle.nr_drill.specs.WorkLeft.{DrainStep, after_step, frame_len, is_send, send_bytes_left, work_left, stays, IsLess}
 use Rattle.nr_drill.specs.WorkLeft.DrainStep.{AllUp, Work, AllDown}
 use Rattle.nr_drill.specs.DrainSteps.{Moves}
@@ -27,14 +27,20 @@ use Rattle.nr_drill.specs.Drains.{IsRunning, AnswersCalls, DrainsEnd}
 use Rattle.nr_drill.specs.Drill.{links_of}
 use Rattle.nr_drill.specs.Follows.{setting_of}
 use Rattle.nr_drill.proofs.ByteDrills.{IsByteDrill, next_of_lem, StepsKeepBytes, steps_keep_bytes, script_bytes}
-use Rattle.nr_drill.proofs.Followed.{Extends, no_event, moves_adds}
+use Rattle.nr_drill.proofs.Followed.{Extends, no_event, moves_adds, IsFit, all_fit, opened_first_links, has_first_links}
 use Rattle.nr_drill.proofs.Carried.{same_here, settled_same, dones_keep}
 use Rattle.nr_drill.proofs.Lawful.{Keeps}
 use Rattle.nr_drill.proofs.LessWork.{same_due, executed_less}
 use Rattle.nr_drill.proofs.LessSteps.{running_keeps, running_carries}
 use Rattle.nr_drill.proofs.LessUp.{up_less_lem}
 use Rattle.nr_drill.proofs.LessDown.{down_less_lem, outcomes_leave}
-use Rattle.nr_drill.proofs.LessScripts.{step_runs, other_runs, script_runs}
+use Rattle.nr_drill.proofs.LessScripts.{step_runs, other_runs, script_runs, all_front}
+use Rattle.nr_drill.proofs.FirstLinks.{opened_firsts, none_waiting, down_is}
+use Rattle.nr_drill.proofs.FirstLines.{NamesClient, all_name, made_first, first_drains}
+use Rattle.nr_reduce.specs.Opening.{IsFirstLink}
+use Rattle.nr_reduce.specs.NumberedJournal.{Standing, standing_for}
+use Rattle.nr_reduce.specs.NumberedJournal.Standing.{New}
+use Rattle.nr_drill.specs.Unnumbered.{AreFirst}
 
 -- ===== the order
 
@@ -144,6 +150,7 @@ same_left_lem : (s : Setting) (link : ℕ) (old new : Drill) → LeftAlone s lin
 unfolding work_left send_bytes_left end_of_side unwritten
 same_left_lem s link old new a = λ i.
     (stays (a.client_is i).ended + stays (a.server_is i).ended)
+    ∷ length (a.client_is i).state.waiting
     ∷ sum_by frame_len (filter is_send (frames_completed Initiator (a.got i) ((a.pipes i).up ++ drop (length (a.sent i)) (a.due i))))
     ∷ length (a.server_is i).state.reads
     ∷ length (a.server_is i).state.ready
@@ -163,7 +170,7 @@ abbrev Good : Setting → ℕ → Drill → Type 0
 Good s link d = IsRunning s link d × IsByteDrill d
 
 good_step : (s : Setting) → StepsKeepBytes s → (link : ℕ) (step : DrainStep) (d : Drill) → Good s link d → Good s link (after_step s link step d)
-good_step s types link step d g = (step_runs s link step d g.0, types link step d g.1)
+good_step s types link step d g = (step_runs s link step d (types.first.on link) g.0, types.keeps link step d g.1)
 
 idle_up : (s : Setting) (link : ℕ) (d : Drill) → IsRunning s link d → (pipes_of link d).up ≡ [] → after_all_up s link d ≡ d
 unfolding after_up
@@ -174,12 +181,12 @@ idle_up s link d r none =
     let nothing : take n up ≡ [] = take_all n up (omega arith) ∙ none in
     ap (λ (xs : List ℕ). settled s link (after_feeding link Responder xs rest d)) nothing ∙ settled_same s link d (running_keeps s link d r).1
 
-up_not_more : (s : Setting) (link : ℕ) (d : Drill) → IsRunning s link d → NotMore (work_left s (after_all_up s link d) link) (work_left s d link)
-up_not_more s link d r = by (pipes_of link d).up refl
+up_not_more : (s : Setting) (link : ℕ) (d : Drill) → IsFirstLink (s.opened link) → IsRunning s link d → NotMore (work_left s (after_all_up s link d) link) (work_left s d link)
+up_not_more s link d start r = by (pipes_of link d).up refl
   where
     by : (xs : List ℕ) → (pipes_of link d).up ≡ xs → NotMore (work_left s (after_all_up s link d) link) (work_left s d link)
     by [] e = inl (ap (λ (x : Drill). work_left s x link) (idle_up s link d r e))
-    by (b ∷ xs) e = inr (up_less_lem s link d (running_keeps s link d r) r.room r.server_heard (λ none. some b xs (sym e ∙ none)))
+    by (b ∷ xs) e = inr (up_less_lem s link d start (running_keeps s link d r) r.room r.server_heard (λ none. some b xs (sym e ∙ none)))
       where
         some : (b : ℕ) (xs : List ℕ) → b ∷ xs ≡ [] → ⊥
         some b xs x = absurd cc
@@ -193,9 +200,9 @@ dones_pipes s link (suc n) d = dones_pipes s link n (after_done s link d) ∙ by
     by None = refl
     by (Some c) = refl
 
-outcomes_left : (s : Setting) (link : ℕ) (d : Drill) → Keeps s link d → work_left s (settled s link (after_outcomes s link d)) link ≡ work_left s d link
+outcomes_left : (s : Setting) (link : ℕ) (d : Drill) → IsFirstLink (s.opened link) → Keeps s link d → work_left s (settled s link (after_outcomes s link d)) link ≡ work_left s d link
 unfolding after_outcomes work_left send_bytes_left end_of_side
-outcomes_left s link d h =
+outcomes_left s link d start h =
     let o = s.opened link in
     let n = length (outcomes_due o link d.marks) in
     let mid = after_dones s link n d in
@@ -204,6 +211,7 @@ outcomes_left s link d h =
     let pipes = ap (λ (ps : List Pipes). slice_index_or ps (link - 1) empty_pipes) (dones_pipes s link n d) in
     ap (λ (x : Drill). work_left s x link) (settled_same s link mid kept.1)
     ∙ (λ i. (stays (leaves.client_end i) + stays (leaves.server_end i))
+    ∷ none_waiting o link d.marks mid.marks start i
     ∷ sum_by frame_len (filter is_send (frames_completed Initiator (leaves.got i) ((pipes i).up ++ (kept.1.client ∙ sym h.1.client) i)))
     ∷ length (leaves.reads i)
     ∷ length (leaves.ready i)
@@ -211,21 +219,21 @@ outcomes_left s link d h =
     ∷ length (pipes i).up
     ∷ [])
 
-idle_down : (s : Setting) (link : ℕ) (d : Drill) → IsRunning s link d → (pipes_of link d).down ≡ [] → work_left s (after_all_down s link d) link ≡ work_left s d link
-unfolding after_down
-idle_down s link d r none =
+idle_down : (s : Setting) (link : ℕ) (d : Drill) → IsFirstLink (s.opened link) → IsRunning s link d → (pipes_of link d).down ≡ [] → work_left s (after_all_down s link d) link ≡ work_left s d link
+idle_down s link d start r none =
     let down = (pipes_of link d).down in
     let n = length down in
     let rest : Pipes = record (pipes_of link d) { down = drop n down } in
     let nothing : take n down ≡ [] = take_all n down (omega arith) ∙ none in
-    ap (λ (xs : List ℕ). work_left s (settled s link (after_outcomes s link (after_feeding link Initiator xs rest d))) link) nothing ∙ outcomes_left s link d (running_keeps s link d r)
+    ap (λ (x : Drill). work_left s x link) (down_is s link n d start)
+    ∙ ap (λ (xs : List ℕ). work_left s (settled s link (after_outcomes s link (after_feeding link Initiator xs rest d))) link) nothing ∙ outcomes_left s link d start (running_keeps s link d r)
 
 down_not_more : (s : Setting) → StepsKeepBytes s → (link : ℕ) (d : Drill) → Good s link d → NotMore (work_left s (after_all_down s link d) link) (work_left s d link)
 down_not_more s types link d g = by (pipes_of link d).down refl
   where
     by : (xs : List ℕ) → (pipes_of link d).down ≡ xs → NotMore (work_left s (after_all_down s link d) link) (work_left s d link)
-    by [] e = inl (idle_down s link d g.0 e)
-    by (b ∷ xs) e = inr (down_less_lem s link d (running_keeps s link d g.0) (running_carries s link d g.0) g.0.client_heard (λ none. some b xs (sym e ∙ none)) (types link AllDown d g.1).typed.typed)
+    by [] e = inl (idle_down s link d (types.first.on link) g.0 e)
+    by (b ∷ xs) e = inr (down_less_lem s link d (types.first.on link) (running_keeps s link d g.0) (running_carries s link d g.0) g.0.client_heard (λ none. some b xs (sym e ∙ none)) (types.keeps link AllDown d g.1).typed.typed)
       where
         some : (b : ℕ) (xs : List ℕ) → b ∷ xs ≡ [] → ⊥
         some b xs x = absurd cc
@@ -236,16 +244,30 @@ work_idle : (s : Setting) (link : ℕ) (d : Drill) → waiting_call s link d.mar
 unfolding after_work
 work_idle s link d e = ap (λ (c : Option ReadyCall). after_execution s link c d) e
 
-work_of : (s : Setting) → AnswersCalls s → (link : ℕ) (d : Drill) (call : ReadyCall) → IsRunning s link d → waiting_call s link d.marks ≡ Some call → IsLess (work_left s (after_work s link d) link) (work_left s d link)
-unfolding after_work waiting_call
+-- the server has a reply to each call that waits, if it is executed as a new one, and all calls are: the clients have no numbers
+pub record Answering (s : Setting) : Type 0 where
+  first : AreFirst s
+  each : AnswersCalls s
+
+is_new : (s : Setting) (link : ℕ) (d : Drill) (call : ReadyCall) → (s.opened link).client.number ≡ 0 → IsRunning s link d → standing_of s link d call ≡ New
+unfolding standing_of
+is_new s link d call none r = ap (λ (n : ℕ). standing_for (journal_of s d.marks) n call.xid) (r.number ∙ none)
+
+work_of : (s : Setting) → Answering s → (link : ℕ) (d : Drill) (call : ReadyCall) → IsRunning s link d → waiting_call s link d.marks ≡ Some call → IsLess (work_left s (after_work s link d) link) (work_left s d link)
+unfolding after_work waiting_call reply_given
 work_of s answers link d call r e =
     let next = next_of_lem (is_dropped link d.marks) call (next_call (s.opened link) link d.marks) e in
-    let answer = answers link d call next in
+    let answer = answers.each link d call next in
+    let T = journal_of s d.marks in
+    let g : GivenReply = record { moment = now d; place = length T; reply = answer.0 } in
+    let new = is_new s link d call (answers.first.unnumbered link) r in
+    let given_is : reply_given s link d call ≡ Some g =
+    ap (λ (is : Standing). reply_by s.server T (now d) call.payload is) new ∙ ap (λ (reply : Option (List ℕ)). given (now d) (length T) reply) answer.1 in
     subst (λ (x : Drill). IsLess (work_left s x link) (work_left s d link))
-    (sym (ap (λ (c : Option ReadyCall). after_execution s link c d) e ∙ ap (λ (reply : Option (List ℕ)). after_answer s link call reply d) answer.1))
-    (executed_less s link call answer.0 d (running_keeps s link d r) r.room next)
+    (sym (ap (λ (c : Option ReadyCall). after_execution s link c d) e ∙ (λ i. after_call s link call (new i) (given_is i) d)))
+    (executed_less s link call g d (answers.first.on link) (running_keeps s link d r) r.room next)
 
-work_not_more : (s : Setting) → AnswersCalls s → (link : ℕ) (d : Drill) → IsRunning s link d → NotMore (work_left s (after_work s link d) link) (work_left s d link)
+work_not_more : (s : Setting) → Answering s → (link : ℕ) (d : Drill) → IsRunning s link d → NotMore (work_left s (after_work s link d) link) (work_left s d link)
 work_not_more s answers link d r = by (waiting_call s link d.marks) refl
   where
     by : (c : Option ReadyCall) → waiting_call s link d.marks ≡ c → NotMore (work_left s (after_work s link d) link) (work_left s d link)
@@ -256,21 +278,21 @@ calls_good : (s : Setting) → StepsKeepBytes s → (link n : ℕ) (d : Drill) �
 calls_good s types link zero d g = g
 calls_good s types link (suc n) d g = calls_good s types link n (after_work s link d) (good_step s types link Work d g)
 
-calls_not_more : (s : Setting) → AnswersCalls s → (link n : ℕ) (d : Drill) → IsRunning s link d → NotMore (work_left s (after_calls s link n d) link) (work_left s d link)
+calls_not_more : (s : Setting) → Answering s → (link n : ℕ) (d : Drill) → IsRunning s link d → NotMore (work_left s (after_calls s link n d) link) (work_left s d link)
 calls_not_more s answers link zero d r = inl refl
 calls_not_more s answers link (suc n) d r =
     not_more_lem (work_left s (after_calls s link (suc n) d) link) (work_left s (after_work s link d) link) (work_left s d link)
-    (calls_not_more s answers link n (after_work s link d) (step_runs s link Work d r)) (work_not_more s answers link d r)
+    (calls_not_more s answers link n (after_work s link d) (step_runs s link Work d (answers.first.on link) r)) (work_not_more s answers link d r)
 
 calls_idle : (s : Setting) (link n : ℕ) (d : Drill) → waiting_call s link d.marks ≡ None → after_calls s link n d ≡ d
 calls_idle s link zero d e = refl
 calls_idle s link (suc n) d e = ap (λ (x : Drill). after_calls s link n x) (work_idle s link d e) ∙ calls_idle s link n d e
 
-calls_less : (s : Setting) → AnswersCalls s → (link n : ℕ) (d : Drill) (call : ReadyCall) → 0 < n → IsRunning s link d → waiting_call s link d.marks ≡ Some call → IsLess (work_left s (after_calls s link n d) link) (work_left s d link)
+calls_less : (s : Setting) → Answering s → (link n : ℕ) (d : Drill) (call : ReadyCall) → 0 < n → IsRunning s link d → waiting_call s link d.marks ≡ Some call → IsLess (work_left s (after_calls s link n d) link) (work_left s d link)
 calls_less s answers link zero d call some r e = absurd (omega (arith, some))
 calls_less s answers link (suc n) d call some r e =
     then_less (work_left s (after_calls s link (suc n) d) link) (work_left s (after_work s link d) link) (work_left s d link)
-    (calls_not_more s answers link n (after_work s link d) (step_runs s link Work d r)) (work_of s answers link d call r e)
+    (calls_not_more s answers link n (after_work s link d) (step_runs s link Work d (answers.first.on link) r)) (work_of s answers link d call r e)
 
 some_ready : (s : Setting) (link : ℕ) (d : Drill) (call : ReadyCall) → waiting_call s link d.marks ≡ Some call → 0 < length (server (s.opened link) link d.marks).state.ready
 unfolding waiting_call next_call
@@ -292,7 +314,7 @@ moves_good s types link d g =
     let n = length (server (s.opened link) link one.marks).state.ready in
     good_step s types link AllDown (after_calls s link n one) (calls_good s types link n one (good_step s types link AllUp d g))
 
-moves_not_more : (s : Setting) → StepsKeepBytes s → AnswersCalls s → (link : ℕ) (d : Drill) → Good s link d → NotMore (work_left s (after_moves s link d) link) (work_left s d link)
+moves_not_more : (s : Setting) → StepsKeepBytes s → Answering s → (link : ℕ) (d : Drill) → Good s link d → NotMore (work_left s (after_moves s link d) link) (work_left s d link)
 unfolding after_moves after_all_work
 moves_not_more s types answers link d g =
     let one = after_all_up s link d in
@@ -300,7 +322,7 @@ moves_not_more s types answers link d g =
     let two = after_calls s link n one in
     let g_one = good_step s types link AllUp d g in
     not_more_lem (work_left s (after_all_down s link two) link) (work_left s two link) (work_left s d link) (down_not_more s types link two (calls_good s types link n one g_one))
-    (not_more_lem (work_left s two link) (work_left s one link) (work_left s d link) (calls_not_more s answers link n one g_one.0) (up_not_more s link d g.0))
+    (not_more_lem (work_left s two link) (work_left s one link) (work_left s d link) (calls_not_more s answers link n one g_one.0) (up_not_more s link d (types.first.on link) g.0))
 
 still_cases : (up down : List ℕ) (c : Option ReadyCall) → (is_empty up && (is_empty down && is_none c)) ≡ false →
     (up ≢ []) ⊎ ((up ≡ []) × (((call : ReadyCall) × (c ≡ Some call)) ⊎ ((c ≡ None) × (down ≢ []))))
@@ -310,7 +332,7 @@ still_cases [] [] None e = absurd cc
 still_cases [] (b ∷ down) None e = inr (refl, inr (refl, λ none. absurd cc))
 
 -- if something moves on the link
-moves_less : (s : Setting) → StepsKeepBytes s → AnswersCalls s → (link : ℕ) (d : Drill) → Good s link d → is_still s d link ≡ false → IsLess (work_left s (after_moves s link d) link) (work_left s d link)
+moves_less : (s : Setting) → StepsKeepBytes s → Answering s → (link : ℕ) (d : Drill) → Good s link d → is_still s d link ≡ false → IsLess (work_left s (after_moves s link d) link) (work_left s d link)
 unfolding after_moves after_all_work is_still
 moves_less s types answers link d g e = by (still_cases (pipes_of link d).up (pipes_of link d).down (waiting_call s link d.marks) e)
   where
@@ -333,7 +355,7 @@ moves_less s types answers link d g e = by (still_cases (pipes_of link d).up (pi
         let g_one = good_step s types link AllUp d g in
         then_less (work_left s (after_all_down s link two) link) (work_left s one link) (work_left s d link)
         (not_more_lem (work_left s (after_all_down s link two) link) (work_left s two link) (work_left s one link) (down_not_more s types link two (calls_good s types link (ready_after one) one g_one)) (calls_not_more s answers link (ready_after one) one g_one.0))
-        (up_less_lem s link d (running_keeps s link d g.0) g.0.room g.0.server_heard some)
+        (up_less_lem s link d (types.first.on link) (running_keeps s link d g.0) g.0.room g.0.server_heard some)
     by (inr (none, inl (call, is))) =
         let two = after_calls s link (ready_after d) d in
         idle none
@@ -342,7 +364,7 @@ moves_less s types answers link d g e = by (still_cases (pipes_of link d).up (pi
     by (inr (none, inr (waits, some))) =
         idle none
         (subst (λ (x : Drill). IsLess (work_left s (after_all_down s link x) link) (work_left s d link)) (sym (calls_idle s link (ready_after d) d waits))
-        (down_less_lem s link d (running_keeps s link d g.0) (running_carries s link d g.0) g.0.client_heard some (types link AllDown d g.1).typed.typed))
+        (down_less_lem s link d (types.first.on link) (running_keeps s link d g.0) (running_carries s link d g.0) g.0.client_heard some (types.keeps link AllDown d g.1).typed.typed))
 
 -- ===== a round
 
@@ -389,11 +411,11 @@ all_same s l (k ∷ links) d one others =
     let rest = all_same s l links d one others.1 in
     ((λ i. same_left_lem s k d (after_moves s l d) a i ++ rest.0 i), (λ i. same_still s k d (after_moves s l d) a i && rest.1 i))
 
-others_run : (s : Setting) (l : ℕ) (links : List ℕ) (d : Drill) → 1 ≤ l → AllByRecursion (λ (k : ℕ). (1 ≤ k) × (k ≢ l)) links → AllRun s links d → AllRun s links (after_moves s l d)
-others_run s l [] d one others r = tt
-others_run s l (k ∷ links) d one others r = (
-  other_runs s k l d (after_moves s l d) (λ same. others.0.1 (sym same)) (apart_pipes k l others.0.0 one others.0.1) (moves_adds s l d) r.0,
-  others_run s l links d one others.1 r.1,
+others_run : (s : Setting) (l : ℕ) (links : List ℕ) (d : Drill) → AreFirst s → 1 ≤ l → AllByRecursion (λ (k : ℕ). (1 ≤ k) × (k ≢ l)) links → AllRun s links d → AllRun s links (after_moves s l d)
+others_run s l [] d first one others r = tt
+others_run s l (k ∷ links) d first one others r = (
+  other_runs s k l d (after_moves s l d) (λ same. others.0.1 (sym same)) (apart_pipes k l others.0.0 one others.0.1) (moves_adds s l d) (first.on k) r.0,
+  others_run s l links d first one others.1 r.1,
 )
 
 -- the links of a round still run after it, and all that is written down is bytes
@@ -401,19 +423,19 @@ record RoundGood (s : Setting) (links : List ℕ) (new : Drill) : Type 0 where
   run : AllRun s links new
   typed : IsByteDrill new
 
-round_runs : (s : Setting) (link : ℕ) (links : List ℕ) (d : Drill) → 1 ≤ link → AllByRecursion (λ (k : ℕ). (1 ≤ k) × (k ≢ link)) links → IsRunning s link d → IsRunning s link (after_round s links d)
-round_runs s link [] d one others r = r
-round_runs s link (l ∷ links) d one others r =
-    round_runs s link links (after_moves s l d) one others.1
-    (other_runs s link l d (after_moves s l d) others.0.1 (λ same. apart_pipes l link others.0.0 one others.0.1 (sym same)) (moves_adds s l d) r)
+round_runs : (s : Setting) (link : ℕ) (links : List ℕ) (d : Drill) → AreFirst s → 1 ≤ link → AllByRecursion (λ (k : ℕ). (1 ≤ k) × (k ≢ link)) links → IsRunning s link d → IsRunning s link (after_round s links d)
+round_runs s link [] d first one others r = r
+round_runs s link (l ∷ links) d first one others r =
+    round_runs s link links (after_moves s l d) first one others.1
+    (other_runs s link l d (after_moves s l d) others.0.1 (λ same. apart_pipes l link others.0.0 one others.0.1 (sym same)) (moves_adds s l d) (first.on link) r)
 
 round_good : (s : Setting) → StepsKeepBytes s → (links : List ℕ) (d : Drill) → AreApart links → AllRun s links d → IsByteDrill d → RoundGood s links (after_round s links d)
 round_good s types [] d apart r t = record { run = tt; typed = t }
 round_good s types (l ∷ links) d apart r t =
     let mid = after_moves s l d in
     let g = moves_good s types l d (r.0, t) in
-    let rest = round_good s types links mid apart.2 (others_run s l links d apart.0 apart.1 r.1) g.1 in
-    record { run = (round_runs s l links mid apart.0 apart.1 g.0, rest.run); typed = rest.typed }
+    let rest = round_good s types links mid apart.2 (others_run s l links d types.first apart.0 apart.1 r.1) g.1 in
+    record { run = (round_runs s l links mid types.first apart.0 apart.1 g.0, rest.run); typed = rest.typed }
 
 not_all : (a b : Bool) → a && b ≡ false → (a ≡ false) ⊎ (b ≡ false)
 not_all true b e = inr e
@@ -432,7 +454,7 @@ record RoundLess (s : Setting) (links : List ℕ) (d new : Drill) : Type 0 where
   not_more : NotMore (all_left s links new) (all_left s links d)
   less : list_all (is_still s d) links ≡ false → IsLess (all_left s links new) (all_left s links d)
 
-round_less : (s : Setting) → StepsKeepBytes s → AnswersCalls s → (links : List ℕ) (d : Drill) → AreApart links → AllRun s links d → IsByteDrill d → RoundLess s links d (after_round s links d)
+round_less : (s : Setting) → StepsKeepBytes s → Answering s → (links : List ℕ) (d : Drill) → AreApart links → AllRun s links d → IsByteDrill d → RoundLess s links d (after_round s links d)
 round_less s types answers [] d apart r t = record { not_more = inl refl; less = λ e. absurd (wrong e) }
   where
     wrong : true ≡ false → ⊥
@@ -440,7 +462,7 @@ round_less s types answers [] d apart r t = record { not_more = inl refl; less =
 round_less s types answers (l ∷ links) d apart r t =
     let mid = after_moves s l d in
     let g = moves_good s types l d (r.0, t) in
-    by (round_less s types answers links mid apart.2 (others_run s l links d apart.0 apart.1 r.1) g.1)
+    by (round_less s types answers links mid apart.2 (others_run s l links d types.first apart.0 apart.1 r.1) g.1)
   where
     mid : Drill
     mid = after_moves s l d
@@ -473,26 +495,26 @@ round_less s types answers (l ∷ links) d apart r t =
 
 -- ===== a drain ends
 
-six : (s : Setting) (link : ℕ) (d : Drill) → length (work_left s d link) ≡ 6
+seven : (s : Setting) (link : ℕ) (d : Drill) → length (work_left s d link) ≡ 7
 unfolding work_left
-six s link d = refl
+seven s link d = refl
 
-all_long : (s : Setting) (links : List ℕ) (d : Drill) → length (all_left s links d) ≡ 6 * length links
+all_long : (s : Setting) (links : List ℕ) (d : Drill) → length (all_left s links d) ≡ 7 * length links
 all_long s [] d = refl
-all_long s (l ∷ links) d = omega (arith, length-append (work_left s d l) (all_left s links d), six s l d, all_long s links d)
+all_long s (l ∷ links) d = omega (arith, length-append (work_left s d l) (all_left s links d), seven s l d, all_long s links d)
 
 Ends : Setting → List ℕ → Drill → Type 0
 Ends s links d = (rounds : ℕ) × (new : Drill) × Drains s links rounds d new
 
 -- If the server has a reply to each call that waits, and steps keep what is written down bytes: a number of rounds, and nothing moves on any of the links.
-pub drain_ends : (s : Setting) (links : List ℕ) → AreApart links → StepsKeepBytes s → AnswersCalls s → (d : Drill) → AllRun s links d → IsByteDrill d → (rounds : ℕ) × (new : Drill) × Drains s links rounds d new
+pub drain_ends : (s : Setting) (links : List ℕ) → AreApart links → StepsKeepBytes s → Answering s → (d : Drill) → AllRun s links d → IsByteDrill d → (rounds : ℕ) × (new : Drill) × Drains s links rounds d new
 unfolding Ends
-drain_ends s links apart types answers d r t = by_less (6 * length links) P step (all_left s links d) (all_long s links d) d refl r t
+drain_ends s links apart types answers d r t = by_less (7 * length links) P step (all_left s links d) (all_long s links d) d refl r t
   where
     P : List ℕ → Type 0
     P x = (d : Drill) → all_left s links d ≡ x → AllRun s links d → IsByteDrill d → Ends s links d
 
-    step : (x : List ℕ) → length x ≡ 6 * length links → ((y : List ℕ) → length y ≡ 6 * length links → IsLess y x → P y) → P x
+    step : (x : List ℕ) → length x ≡ 7 * length links → ((y : List ℕ) → length y ≡ 7 * length links → IsLess y x → P y) → P x
     step x long less d is r t = by (list_all (is_still s d) links) refl
       where
         by : (b : Bool) → list_all (is_still s d) links ≡ b → Ends s links d
@@ -519,27 +541,35 @@ range_all P most from zero h some le = tt
 range_all P most from (suc n) h some le = (h from some (omega (arith, le)), range_all P most (from + 1) n h (omega (arith, some)) (omega (arith, le)))
 
 pub drains_end : DrainsEnd
-drains_end server script is replies answers before after cut raw mid made =
+drains_end server script is none replies answers before after cut raw mid made =
     let s = setting_of server script.opening in
-    let types = steps_keep_bytes s replies in
     let clients = script.opening.clients in
-    drain_ends s (links_of clients) (range_apart 1 clients (omega arith)) types answers mid
-    (range_all (λ (l : ℕ). IsRunning s l mid) clients 1 clients (λ l low high. script_runs server script is l (low, high) before after cut (raw l (low, high)) mid made) (omega arith) (omega arith))
-    (script_bytes server script is replies before after cut mid made)
+    let firsts = opened_firsts server script.opening none in
+    let types = steps_keep_bytes s firsts replies in
+    let fit = all_front (IsFit s) before after (subst (AllByRecursion (IsFit s)) cut (all_fit server script is none)) in
+    let names = all_front NamesClient before after (subst (AllByRecursion NamesClient) cut (all_name script.opening [] script.lines is.follow_on)) in
+    let start = opened_first_links server script.opening none in
+    let at_mid = has_first_links server script before mid none fit made in
+    let first_made = made_first server script.opening before (opened_drill server script.opening) mid start fit names made in
+    let ends = drain_ends s (links_of clients) (range_apart 1 clients (omega arith)) types (record { first = firsts; each = answers }) mid
+    (range_all (λ (l : ℕ). IsRunning s l mid) clients 1 clients (λ l low high. script_runs server script is none l (low, high) before after cut (raw l (low, high)) mid first_made) (omega arith) (omega arith))
+    (script_bytes server script is none replies before after cut mid first_made) in
+    (ends.0, ends.1, first_drains s clients ends.0 mid ends.1 at_mid.setting at_mid.last_links ends.2)
 
 -- ===== if no outcome is due, a step that adds a mark moves something
 
-idle_all : (s : Setting) (link : ℕ) (d : Drill) → IsRunning s link d → outcomes_due (s.opened link) link d.marks ≡ [] → (pipes_of link d).down ≡ [] → after_all_down s link d ≡ d
-unfolding after_down after_outcomes
-idle_all s link d r due none =
+idle_all : (s : Setting) (link : ℕ) (d : Drill) → IsFirstLink (s.opened link) → IsRunning s link d → outcomes_due (s.opened link) link d.marks ≡ [] → (pipes_of link d).down ≡ [] → after_all_down s link d ≡ d
+unfolding after_outcomes
+idle_all s link d start r due none =
     let down = (pipes_of link d).down in
     let n = length down in
     let rest : Pipes = record (pipes_of link d) { down = drop n down } in
     let nothing : take n down ≡ [] = take_all n down (omega arith) ∙ none in
-    ap (λ (xs : List ℕ). settled s link (after_outcomes s link (after_feeding link Initiator xs rest d))) nothing
+    down_is s link n d start
+    ∙ ap (λ (xs : List ℕ). settled s link (after_outcomes s link (after_feeding link Initiator xs rest d))) nothing
     ∙ ap (λ (cs : List CompletedCall). settled s link (after_dones s link (length cs) d)) due ∙ settled_same s link d (running_keeps s link d r).1
 
-pub moves_if : (s : Setting) (link : ℕ) (step : DrainStep) (d : Drill) → IsRunning s link d → outcomes_due (s.opened link) link d.marks ≡ [] → (after_step s link step d).marks ≢ d.marks → Moves s link step d
-moves_if s link AllUp d r due moved = λ none. moved (ap (λ (x : Drill). x.marks) (idle_up s link d r none))
-moves_if s link Work d r due moved = moved
-moves_if s link AllDown d r due moved = λ none. moved (ap (λ (x : Drill). x.marks) (idle_all s link d r due none))
+pub moves_if : (s : Setting) (link : ℕ) (step : DrainStep) (d : Drill) → IsFirstLink (s.opened link) → IsRunning s link d → outcomes_due (s.opened link) link d.marks ≡ [] → (after_step s link step d).marks ≢ d.marks → Moves s link step d
+moves_if s link AllUp d start r due moved = λ none. moved (ap (λ (x : Drill). x.marks) (idle_up s link d r none))
+moves_if s link Work d start r due moved = moved
+moves_if s link AllDown d start r due moved = λ none. moved (ap (λ (x : Drill). x.marks) (idle_all s link d start r due none))

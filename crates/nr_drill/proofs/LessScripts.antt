@@ -1,7 +1,7 @@
 -- A link runs after the first lines of a script, if none of these puts bytes into its pipes.
-use Rattle.std.specs.Prelude.{◌-◌, ◌&&◌, ◌≤◌, if◌then◌else◌}
+use Rattle.std.specs.Prelude.{◌-◌, ◌&&◌, ◌≤◌, if◌then◌else◌, ◌==◌, not}
 use Rattle.std.specs.List.{list_any, AllByRecursion}
-use Rattle.std.proofs.Common.{◌≡◌, ◌≢◌, ℕ, zero, suc, ◌+◌, ◌⊎◌, inl, inr, arith, eqb, eqb-true, Bool, true, false, List, [], ◌∷◌, ◌++◌, length, map, take, drop, Option, None, refl, sym, ap, subst, ◌∙◌, append-nil, append_assoc}
+use Rattle.std.proofs.Common.{◌≡◌, ◌≢◌, ℕ, zero, suc, ◌+◌, ◌⊎◌, inl, inr, arith, eqb, eqb-true, Bool, true, false, List, [], ◌∷◌, ◌++◌, length, map, take, drop, Option, None, refl, sym, ap, subst, ◌∙◌, append-nil, append_assoc, ◌^◌, ◌<◌}
 use Rattle.std.proofs.lemmas.List.{take_all}
 use Rattle.std.proofs.lemmas.Grind.{flat_map-append}
 use Rattle.nr_wire.specs.declared.hello.Side.{Side}
@@ -27,86 +27,109 @@ use Rattle.nr_reduce.specs.Run.{client, server, output_due}
 use Rattle.nr_reduce.proofs.Steps.{server_one, output_due_down_one}
 use Rattle.nr_reduce.proofs.Standing.{itself, received_one}
 use Rattle.nr_laws.proofs.Brought.{IsHelloFrame}
-use Rattle.nr_laws.proofs.FirstHellos.{client_hello_is, server_hello_is}
+use Rattle.nr_laws.proofs.FirstHellos.{client_hello_is, server_hello_is, client_says}
 use Rattle.nr_laws.proofs.ServerEnds.{hello_goes}
 use Rattle.nr_script.specs.declared.script.Line.{Line}
 use Rattle.nr_script.specs.declared.script.Line.TheVariants as lines
 use Rattle.nr_script.specs.Script.{ScriptLines, IsScript}
-use Rattle.nr_drill.specs.Lines.{HasNoRaw, IsLink}
-use Rattle.nr_drill.specs.Drill.{link_of, SerialServer, Setting, Drill, Pipes, start, links_of, pipes_of, cred_of, settled, after_feeding, after_feeding_up, after_feeding_down, after_outcomes, after_up, after_down, after_round, after_moves, after_submit, after_work, after_forget, after_revoke, after_drop, after_raw, after_opening, after_openings, after_grant}
-use Rattle.nr_drill.specs.Follows.{after_line, Drains, Makes, MakeAll, parameters_of, setting_of, opened_drill}
+use Rattle.nr_drill.specs.Lines.{HasNoRaw, IsClient, IsUnnumbered}
+use Rattle.nr_drill.specs.Drill.{link_of, SerialServer, Setting, Drill, Pipes, start, links_of, pipes_of, cred_of, settled, after_feeding, after_feeding_up, after_feeding_down, after_outcomes, after_up, after_down, after_round, after_moves, after_submit, after_work, after_forget, after_revoke, after_drop, after_raw, after_opening, after_openings, after_grant, after_all_down}
+use Rattle.nr_drill.specs.Follows.{Drains, parameters_of, setting_of, opened_drill}
 use Rattle.nr_drill.specs.WorkLeft.{DrainStep, after_step}
 use Rattle.nr_drill.specs.WorkLeft.DrainStep.{AllUp, Work, AllDown}
 use Rattle.nr_drill.specs.Drains.{IsRunning}
 use Rattle.nr_laws.proofs.DistinctKeys.{any_append}
 use Rattle.nr_drill.proofs.Lawful.{IsLawful, Keeps, lawful_settled, lawful_after_up, lawful_work, lawful_after_down}
-use Rattle.nr_drill.proofs.Followed.{Among, among_range, Extends, no_event, submit_adds, up_adds, down_adds, work_adds, forget_adds, revoke_adds, drop_adds, raw_adds, moves_adds, opening_adds, start_lawful, elsewhere, laws_of, opened_by_script, grant_adds, all_fit, IsFit}
-use Rattle.nr_drill.proofs.Carried.{Carries, NamesClient, opened_stands, lines_passed, all_name, neither_raw, carry_settled, carries_up, carries_down, carries_work, carries_elsewhere, same_here, IsSameHere, other_than, are_links, start_carries}
+use Rattle.nr_drill.proofs.Followed.{Among, among_range, Extends, no_event, submit_adds, up_adds, down_adds, work_adds, forget_adds, revoke_adds, drop_adds, raw_adds, moves_adds, opening_adds, start_lawful, elsewhere, laws_of, grant_adds, all_fit, IsFit}
+use Rattle.nr_drill.proofs.Carried.{Carries, opened_stands, lines_passed, neither_raw, carry_settled, carries_up, carries_down, carries_work, carries_elsewhere, same_here, IsSameHere, other_than, are_links, start_carries, fit_setting}
 use Rattle.nr_drill.proofs.LessWork.{leaves_through, settled_leaves, own, no_drop, same_due_down}
 use Rattle.nr_drill.proofs.LessFrames.{frames_one, completed_is, still_heard}
 use Rattle.nr_drill.proofs.LessSteps.{running_keeps, running_carries}
 use Rattle.nr_drill.proofs.LessDown.{all_written_lem, outcomes_leave}
+use Rattle.nr_drill.proofs.FirstLines.{NamesClient, all_name}
+use Rattle.nr_drill.proofs.FirstLinks.{opened_firsts, down_is}
+use Rattle.nr_reduce.specs.Opening.{IsFirstLink}
+use Rattle.nr_reduce.specs.NumberedJournal.{number_in_frames, number_heard}
+use Rattle.nr_link.specs.declared.agreement.SideTerms.{SideTerms}
+use Rattle.nr_wire.specs.declared.terms.Terms.{Terms}
+use Rattle.nr_link.specs.Agreement.{initiator_private, client_number, number_by}
+use Rattle.nr_wire.specs.Constants.{UNITS_MAX}
+use Rattle.nr_wire.specs.Terms.{units_byte, terms_encoding, terms_in}
+use Rattle.nr_wire.proofs.PrivateData.{terms_are_read}
+use Rattle.nr_drill.specs.Unnumbered.{AreFirst, first_line, FirstMakes, FirstMakeAll, Heard}
 
 -- ===== each side has the hello of the other
-
-pub record Heard (link : ℕ) (run : List Mark) : Type 0 where
-  pub client : frames_of Responder (bytes_received link Initiator run) ≢ []
-  pub server : frames_of Initiator (bytes_received link Responder run) ≢ []
 
 received_both : (link : ℕ) (side : Side) (run more : List Mark) → bytes_received link side (run ++ more) ≡ bytes_received link side run ++ bytes_received link side more
 unfolding bytes_received
 received_both link side run more = flat_map-append (fed_at link side) run more
 
-pub heard_more : (link : ℕ) (run more : List Mark) → Heard link run → Heard link (run ++ more)
-heard_more link run more h = record {
+-- the first frame stays
+first_number : (fs gs : List Frame) → fs ≢ [] → number_in_frames (fs ++ gs) ≡ number_in_frames fs
+first_number [] gs some = absurd (some refl)
+first_number (f ∷ fs) gs some = refl
+
+pub number_more : (link : ℕ) (run more : List Mark) → frames_of Initiator (bytes_received link Responder run) ≢ [] → number_heard (run ++ more) link ≡ number_heard run link
+unfolding number_heard
+number_more link run more some =
+    let old = bytes_received link Responder run in
+    let new = bytes_received link Responder more in
+    ap (λ (xs : List ℕ). number_in_frames (frames_of Initiator xs)) (received_both link Responder run more)
+    ∙ ap (λ (fs : List Frame). number_in_frames fs) (frames_one Initiator old new) ∙ first_number (frames_of Initiator old) (frames_completed Initiator old new) some
+
+pub heard_more : (o : LinkParameters) (link : ℕ) (run more : List Mark) → Heard o link run → Heard o link (run ++ more)
+heard_more o link run more h = record {
   client = subst (λ (xs : List ℕ). frames_of Responder xs ≢ []) (sym (received_both link Initiator run more)) (still_heard Responder (bytes_received link Initiator run) (bytes_received link Initiator more) h.client);
   server = subst (λ (xs : List ℕ). frames_of Initiator xs ≢ []) (sym (received_both link Responder run more)) (still_heard Initiator (bytes_received link Responder run) (bytes_received link Responder more) h.server);
+  number = number_more link run more h.server ∙ h.number;
 }
 
-pub heard_by_lem : (link acted : ℕ) (old new : Drill) → Extends acted old new → Heard link old.marks → Heard link new.marks
-heard_by_lem link acted old new x h = subst (Heard link) (sym x.marks.is) (heard_more link old.marks x.marks.added h)
+pub heard_by_lem : (o : LinkParameters) (link acted : ℕ) (old new : Drill) → Extends acted old new → Heard o link old.marks → Heard o link new.marks
+heard_by_lem o link acted old new x h = subst (Heard o link) (sym x.marks.is) (heard_more o link old.marks x.marks.added h)
 
-line_heard : (s : Setting) (link : ℕ) (line : Line) (d : Drill) → Heard link d.marks → Heard link (after_line s line d).marks
-line_heard s link (lines.Cred client cred) d h = h
-line_heard s link (lines.Call client form prog vers proc args) d h =
+line_heard : (o : LinkParameters) (s : Setting) (link : ℕ) (line : Line) (d : Drill) → Heard o link d.marks → Heard o link (first_line s line d).marks
+line_heard o s link (lines.Cred client cred) d h = h
+line_heard o s link (lines.Call client form prog vers proc args) d h =
     let call : Call = record { prog = prog; vers = vers; proc = proc; cred = cred_of client d; args = args } in
-    heard_by_lem link client d (after_submit s client call form d) (submit_adds s client call form d) h
-line_heard s link (lines.Up client most) d h = heard_by_lem link client d (after_up s client most d) (up_adds s client most d) h
-line_heard s link (lines.Down client most) d h = heard_by_lem link client d (after_down s client most d) (down_adds s client most d) h
-line_heard s link (lines.Work client) d h = heard_by_lem link client d (after_work s client d) (work_adds s client d) h
-line_heard s link (lines.Tick seconds) d h = h
-line_heard s link (lines.Forget client number) d h = heard_by_lem link client d (after_forget s client number d) (forget_adds s client number d) h
-line_heard s link (lines.Revoke client number) d h = heard_by_lem link client d (after_revoke s client number d) (revoke_adds s client number d) h
-line_heard s link (lines.Drop client) d h = heard_by_lem link client d (after_drop client d) (drop_adds client d) h
-line_heard s link (lines.Raw client side bytes) d h = heard_by_lem link client d (after_raw client side bytes (is_dropped client d.marks) d) (raw_adds client side bytes (is_dropped client d.marks) d) h
-line_heard s link (lines.Grant client credits) d h = heard_by_lem link client d (after_grant client credits d) (grant_adds client credits d) h
-line_heard s link lines.Drain d h = h
+    heard_by_lem o link client d (after_submit s client call form d) (submit_adds s client call form d) h
+line_heard o s link (lines.Up client most) d h = heard_by_lem o link client d (after_up s client most d) (up_adds s client most d) h
+line_heard o s link (lines.Down client most) d h = heard_by_lem o link client d (after_down s client most d) (down_adds s client most d) h
+line_heard o s link (lines.Work client) d h = heard_by_lem o link client d (after_work s client d) (work_adds s client d) h
+line_heard o s link (lines.Tick seconds) d h = h
+line_heard o s link (lines.Forget client number) d h = heard_by_lem o link client d (after_forget s client number d) (forget_adds s client number d) h
+line_heard o s link (lines.Revoke client number) d h = heard_by_lem o link client d (after_revoke s client number d) (revoke_adds s client number d) h
+line_heard o s link (lines.Drop client) d h = heard_by_lem o link client d (after_drop client d) (drop_adds client d) h
+line_heard o s link (lines.Rejoin client) d h = h
+line_heard o s link (lines.Raw client side bytes) d h = heard_by_lem o link client d (after_raw client side bytes (is_dropped client d.marks) d) (raw_adds client side bytes (is_dropped client d.marks) d) h
+line_heard o s link (lines.Grant client credits) d h = heard_by_lem o link client d (after_grant client credits d) (grant_adds client credits d) h
+line_heard o s link lines.Drain d h = h
 
-round_heard : (s : Setting) (link : ℕ) (links : List ℕ) (d : Drill) → Heard link d.marks → Heard link (after_round s links d).marks
-round_heard s link [] d h = h
-round_heard s link (l ∷ links) d h = round_heard s link links (after_moves s l d) (heard_by_lem link l d (after_moves s l d) (moves_adds s l d) h)
+round_heard : (o : LinkParameters) (s : Setting) (link : ℕ) (links : List ℕ) (d : Drill) → Heard o link d.marks → Heard o link (after_round s links d).marks
+round_heard o s link [] d h = h
+round_heard o s link (l ∷ links) d h = round_heard o s link links (after_moves s l d) (heard_by_lem o link l d (after_moves s l d) (moves_adds s l d) h)
 
-pub drain_heard : (s : Setting) (link : ℕ) (links : List ℕ) (rounds : ℕ) (old new : Drill) → Drains s links rounds old new → Heard link old.marks → Heard link new.marks
-drain_heard s link links zero old new drains h = subst (λ (d : Drill). Heard link d.marks) (sym drains.1) h
-drain_heard s link links (suc rounds) old new drains h = drain_heard s link links rounds (after_round s links old) new drains.1 (round_heard s link links old h)
+pub drain_heard : (o : LinkParameters) (s : Setting) (link : ℕ) (links : List ℕ) (rounds : ℕ) (old new : Drill) → Drains s links rounds old new → Heard o link old.marks → Heard o link new.marks
+drain_heard o s link links zero old new drains h = subst (λ (d : Drill). Heard o link d.marks) (sym drains.1) h
+drain_heard o s link links (suc rounds) old new drains h = drain_heard o s link links rounds (after_round s links old) new drains.1 (round_heard o s link links old h)
 
-made_heard : (s : Setting) (clients link : ℕ) (line : Line) (old new : Drill) → Makes s clients line old new → Heard link old.marks → Heard link new.marks
-made_heard s clients link (lines.Cred client cred) old new e h = subst (λ (d : Drill). Heard link d.marks) (sym e) (line_heard s link (lines.Cred client cred) old h)
-made_heard s clients link (lines.Call client form prog vers proc args) old new e h = subst (λ (d : Drill). Heard link d.marks) (sym e) (line_heard s link (lines.Call client form prog vers proc args) old h)
-made_heard s clients link (lines.Up client most) old new e h = subst (λ (d : Drill). Heard link d.marks) (sym e) (line_heard s link (lines.Up client most) old h)
-made_heard s clients link (lines.Down client most) old new e h = subst (λ (d : Drill). Heard link d.marks) (sym e) (line_heard s link (lines.Down client most) old h)
-made_heard s clients link (lines.Work client) old new e h = subst (λ (d : Drill). Heard link d.marks) (sym e) (line_heard s link (lines.Work client) old h)
-made_heard s clients link (lines.Tick seconds) old new e h = subst (λ (d : Drill). Heard link d.marks) (sym e) (line_heard s link (lines.Tick seconds) old h)
-made_heard s clients link (lines.Forget client number) old new e h = subst (λ (d : Drill). Heard link d.marks) (sym e) (line_heard s link (lines.Forget client number) old h)
-made_heard s clients link (lines.Revoke client number) old new e h = subst (λ (d : Drill). Heard link d.marks) (sym e) (line_heard s link (lines.Revoke client number) old h)
-made_heard s clients link (lines.Drop client) old new e h = subst (λ (d : Drill). Heard link d.marks) (sym e) (line_heard s link (lines.Drop client) old h)
-made_heard s clients link (lines.Raw client side bytes) old new e h = subst (λ (d : Drill). Heard link d.marks) (sym e) (line_heard s link (lines.Raw client side bytes) old h)
-made_heard s clients link (lines.Grant client credits) old new e h = subst (λ (d : Drill). Heard link d.marks) (sym e) (line_heard s link (lines.Grant client credits) old h)
-made_heard s clients link lines.Drain old new e h = drain_heard s link (links_of clients) e.0 old new e.1 h
+made_heard : (o : LinkParameters) (s : Setting) (clients link : ℕ) (line : Line) (old new : Drill) → FirstMakes s clients line old new → Heard o link old.marks → Heard o link new.marks
+made_heard o s clients link (lines.Cred client cred) old new e h = subst (λ (d : Drill). Heard o link d.marks) (sym e) (line_heard o s link (lines.Cred client cred) old h)
+made_heard o s clients link (lines.Call client form prog vers proc args) old new e h = subst (λ (d : Drill). Heard o link d.marks) (sym e) (line_heard o s link (lines.Call client form prog vers proc args) old h)
+made_heard o s clients link (lines.Up client most) old new e h = subst (λ (d : Drill). Heard o link d.marks) (sym e) (line_heard o s link (lines.Up client most) old h)
+made_heard o s clients link (lines.Down client most) old new e h = subst (λ (d : Drill). Heard o link d.marks) (sym e) (line_heard o s link (lines.Down client most) old h)
+made_heard o s clients link (lines.Work client) old new e h = subst (λ (d : Drill). Heard o link d.marks) (sym e) (line_heard o s link (lines.Work client) old h)
+made_heard o s clients link (lines.Tick seconds) old new e h = subst (λ (d : Drill). Heard o link d.marks) (sym e) (line_heard o s link (lines.Tick seconds) old h)
+made_heard o s clients link (lines.Forget client number) old new e h = subst (λ (d : Drill). Heard o link d.marks) (sym e) (line_heard o s link (lines.Forget client number) old h)
+made_heard o s clients link (lines.Revoke client number) old new e h = subst (λ (d : Drill). Heard o link d.marks) (sym e) (line_heard o s link (lines.Revoke client number) old h)
+made_heard o s clients link (lines.Drop client) old new e h = subst (λ (d : Drill). Heard o link d.marks) (sym e) (line_heard o s link (lines.Drop client) old h)
+made_heard o s clients link (lines.Rejoin client) old new e h = subst (λ (d : Drill). Heard o link d.marks) (sym e) (line_heard o s link (lines.Rejoin client) old h)
+made_heard o s clients link (lines.Raw client side bytes) old new e h = subst (λ (d : Drill). Heard o link d.marks) (sym e) (line_heard o s link (lines.Raw client side bytes) old h)
+made_heard o s clients link (lines.Grant client credits) old new e h = subst (λ (d : Drill). Heard o link d.marks) (sym e) (line_heard o s link (lines.Grant client credits) old h)
+made_heard o s clients link lines.Drain old new e h = drain_heard o s link (links_of clients) e.0 old new e.1 h
 
-pub lines_heard : (s : Setting) (clients link : ℕ) (all : List Line) (old new : Drill) → MakeAll s clients all old new → Heard link old.marks → Heard link new.marks
-lines_heard s clients link [] old new e h = subst (λ (d : Drill). Heard link d.marks) (sym e) h
-lines_heard s clients link (line ∷ others) old new e h = lines_heard s clients link others e.0 new e.2 (made_heard s clients link line old e.0 e.1 h)
+pub lines_heard : (o : LinkParameters) (s : Setting) (clients link : ℕ) (all : List Line) (old new : Drill) → FirstMakeAll s clients all old new → Heard o link old.marks → Heard o link new.marks
+lines_heard o s clients link [] old new e h = subst (λ (d : Drill). Heard o link d.marks) (sym e) h
+lines_heard o s clients link (line ∷ others) old new e h = lines_heard o s clients link others e.0 new e.2 (made_heard o s clients link line old e.0 e.1 h)
 
 -- ===== the hello is one frame
 
@@ -145,6 +168,35 @@ first_completed hello piece more read is =
           ∙ ap (λ (old : List Frame). drop (length old) (frames_of Initiator piece)) (none_framed Initiator)
           ∙ ap (λ (xs : List ℕ). frames_of Initiator xs) is ∙ frames_one Initiator hello more ∙ ap (λ (old : List Frame). old ++ fs) (hello_frames Initiator hello read),
     )
+
+-- ===== the number that it says
+
+own_number : (t : SideTerms) → 1 ≤ t.units → t.units ≤ UNITS_MAX → t.number < 2 ^ 64 → client_number (initiator_private t) ≡ t.number
+unfolding initiator_private client_number terms_in
+own_number t some few small = by (units_byte t.units == 0) (t.number == 0) refl (not t.invalidates)
+  where
+    encoded : List ℕ
+    encoded = terms_encoding t.units t.number t.invalidates
+
+    said : number_by (terms_in encoded) ≡ t.number
+    said = ap (λ (bytes : List ℕ). number_by (terms_in bytes)) (sym (append-nil encoded)) ∙ ap (λ (terms : Option Terms). number_by terms) (terms_are_read t.units t.number t.invalidates [] some few small)
+
+    by : (a b : Bool) → t.number == 0 ≡ b → (c : Bool) → number_by (terms_in (if a && (b && c) then [] else encoded)) ≡ t.number
+    by true true is true = sym (eqb-true t.number 0 is)
+    by true true is false = said
+    by true false is c = said
+    by false b is c = said
+
+-- what the units and the number of a client are in range for
+abbrev AreTerms : SideTerms → Type 0
+AreTerms t = (1 ≤ t.units) × (t.units ≤ UNITS_MAX) × (t.number < 2 ^ 64)
+
+hello_number : (o : LinkParameters) (more : List ℕ) → AreTerms o.client → number_in_frames (frames_of Initiator (client_hello o ++ more)) ≡ o.client.number
+unfolding hello_frame
+hello_number o more terms =
+    let hello = client_hello o in
+    ap (λ (fs : List Frame). number_in_frames fs) (frames_one Initiator hello more ∙ ap (λ (fs : List Frame). fs ++ frames_completed Initiator hello more) (hello_frames Initiator hello (client_hello_is o)))
+    ∙ ap (λ (private : List ℕ). client_number private) (client_says o) ∙ own_number o.client terms.0 terms.1 terms.2
 
 -- a server answers it with its own, whatever else it knows
 answers_hello : (o : LinkParameters) (hello : List ℕ) (r : EndState ServerState) (es : List RunEvent) → IsHelloFrame Initiator hello → r.ended ≡ None →
@@ -227,9 +279,10 @@ fed_due o link (b ∷ piece) more rest d is h =
     )
 
 -- Once a link is open each side has the hello of the other.
-opening_heard : (s : Setting) (link : ℕ) (d : Drill) → IsLawful (s.opened link) link d.marks → is_dropped link d.marks ≡ false → Carries link d → Fresh (s.opened link) link d.marks → Heard link (after_opening s link d).marks
-unfolding after_opening after_up after_down
-opening_heard s link d h standing c fresh =
+opening_heard : (s : Setting) (link : ℕ) (d : Drill) → IsFirstLink (s.opened link) → AreTerms (s.opened link).client → IsLawful (s.opened link) link d.marks → is_dropped link d.marks ≡ false → Carries link d →
+    Fresh (s.opened link) link d.marks → Heard (s.opened link) link (after_opening s link d).marks
+unfolding after_opening after_up number_heard
+opening_heard s link d start terms h standing c fresh =
     let o = s.opened link in
     let one = settled s link d in
     let l_one = settled_leaves s o link d in
@@ -262,36 +315,41 @@ opening_heard s link d h standing c fresh =
     let got_three : bytes_received link Initiator three.marks ≡ server_hello o (hello_frame (client_hello o)) ++ due.0 =
     l_three.heard ∙ fed_got link Initiator (take m down) rest_two two ∙ ap (λ (xs : List ℕ). bytes_received link Initiator two.marks ++ xs) (take_all m down (omega arith))
     ∙ (c_two.carried stands_two).down ∙ (all_written_lem s link two k_two).1 ∙ l_two.due_down ∙ due.1 in
+    let last = after_all_down s link two in
+    let last_is : last ≡ three = down_is s link m two start in
     let extends = down_adds s link m two in
     let server_two : frames_of Initiator (bytes_received link Responder two.marks) ≢ [] = begins_heard Initiator (client_hello o) (bytes_received link Responder two.marks) begins.0 (client_hello_is o) got_two in
+    let number_two : number_heard two.marks link ≡ o.client.number = ap (λ (xs : List ℕ). number_in_frames (frames_of Initiator xs)) got_two ∙ hello_number o begins.0 terms in
     record {
-      client = begins_heard Responder (server_hello o (hello_frame (client_hello o))) (bytes_received link Initiator three.marks) due.0 (server_hello_is o (hello_frame (client_hello o))) got_three;
+      client = begins_heard Responder (server_hello o (hello_frame (client_hello o))) (bytes_received link Initiator last.marks) due.0 (server_hello_is o (hello_frame (client_hello o)))
+          (ap (λ (x : Drill). bytes_received link Initiator x.marks) last_is ∙ got_three);
       server = subst (λ (run : List Mark). frames_of Initiator (bytes_received link Responder run) ≢ []) (sym extends.marks.is)
           (subst (λ (xs : List ℕ). frames_of Initiator xs ≢ []) (sym (received_both link Responder two.marks extends.marks.added)) (still_heard Initiator (bytes_received link Responder two.marks) (bytes_received link Responder extends.marks.added) server_two));
+      number = ap (λ (run : List Mark). number_heard run link) extends.marks.is ∙ number_more link two.marks extends.marks.added server_two ∙ number_two;
     }
 
-openings_leave : (s : Setting) (link : ℕ) (links : List ℕ) (d : Drill) → Heard link d.marks → Heard link (after_openings s links d).marks
+openings_leave : (s : Setting) (link : ℕ) (links : List ℕ) (d : Drill) → Heard (s.opened link) link d.marks → Heard (s.opened link) link (after_openings s links d).marks
 openings_leave s link [] d h = h
-openings_leave s link (l ∷ links) d h = openings_leave s link links (after_opening s l d) (heard_by_lem link l d (after_opening s l d) (opening_adds s l d) h)
+openings_leave s link (l ∷ links) d h = openings_leave s link links (after_opening s l d) (heard_by_lem (s.opened link) link l d (after_opening s l d) (opening_adds s l d) h)
 
-openings_heard : (s : Setting) (link : ℕ) (links : List ℕ) (d : Drill) → 1 ≤ link → AllByRecursion (λ (l : ℕ). 1 ≤ l) links → Among link links → IsLawful (s.opened link) link d.marks →
-    is_dropped link d.marks ≡ false → Carries link d → Fresh (s.opened link) link d.marks → Heard link (after_openings s links d).marks
-openings_heard s link [] d one some among h standing c fresh = absurd among
-openings_heard s link (l ∷ links) d one some among h standing c fresh =
-    by (eqb l link) refl among (openings_heard s link links (after_opening s l d) one some.1)
+openings_heard : (s : Setting) (link : ℕ) (links : List ℕ) (d : Drill) → AreFirst s → ((l : ℕ) → Among l links → AreTerms (s.opened l).client) → 1 ≤ link → AllByRecursion (λ (l : ℕ). 1 ≤ l) links → Among link links → IsLawful (s.opened link) link d.marks →
+    is_dropped link d.marks ≡ false → Carries link d → Fresh (s.opened link) link d.marks → Heard (s.opened link) link (after_openings s links d).marks
+openings_heard s link [] d first terms one some among h standing c fresh = absurd among
+openings_heard s link (l ∷ links) d first terms one some among h standing c fresh =
+    by (eqb l link) refl among (openings_heard s link links (after_opening s l d) first (λ k later. terms k (inr later)) one some.1)
   where
-    here : l ≡ link → Heard link (after_openings s links (after_opening s l d)).marks
+    here : l ≡ link → Heard (s.opened link) link (after_openings s links (after_opening s l d)).marks
     here same =
         openings_leave s link links (after_opening s l d)
-        (subst (λ (k : ℕ). Heard k (after_opening s l d).marks) same
-        (opening_heard s l d (subst (λ (k : ℕ). IsLawful (s.opened k) k d.marks) (sym same) h) (subst (λ (k : ℕ). is_dropped k d.marks ≡ false) (sym same) standing)
+        (subst (λ (k : ℕ). Heard (s.opened k) k (after_opening s l d).marks) same
+        (opening_heard s l d (first.on l) (terms l (inl refl)) (subst (λ (k : ℕ). IsLawful (s.opened k) k d.marks) (sym same) h) (subst (λ (k : ℕ). is_dropped k d.marks ≡ false) (sym same) standing)
         (subst (λ (k : ℕ). Carries k d) (sym same) c) (subst (λ (k : ℕ). Fresh (s.opened k) k d.marks) (sym same) fresh)))
 
     Later : Type 0
     Later = Among link links → IsLawful (s.opened link) link (after_opening s l d).marks → is_dropped link (after_opening s l d).marks ≡ false → Carries link (after_opening s l d) →
-        Fresh (s.opened link) link (after_opening s l d).marks → Heard link (after_openings s links (after_opening s l d)).marks
+        Fresh (s.opened link) link (after_opening s l d).marks → Heard (s.opened link) link (after_openings s links (after_opening s l d)).marks
 
-    later_on : l ≢ link → Among link links → Later → Heard link (after_openings s links (after_opening s l d)).marks
+    later_on : l ≢ link → Among link links → Later → Heard (s.opened link) link (after_openings s links (after_opening s l d)).marks
     later_on ne later more =
         let x = opening_adds s l d in
         let same : IsSameHere link d.marks (after_opening s l d).marks = subst (IsSameHere link d.marks) (sym x.marks.is) (same_here link l d.marks x.marks.added ne x.marks.own) in
@@ -299,26 +357,32 @@ openings_heard s link (l ∷ links) d one some among h standing c fresh =
         (carries_elsewhere link l d (after_opening s l d) ne (λ same. ne (let a = some.0 in let b = one in let c = same in omega (arith, a, b, c))) x c)
         (fresh_elsewhere (s.opened link) link l d (after_opening s l d) ne x fresh)
 
-    by : (b : Bool) → eqb l link ≡ b → (l ≡ link) ⊎ Among link links → Later → Heard link (after_openings s links (after_opening s l d)).marks
+    by : (b : Bool) → eqb l link ≡ b → (l ≡ link) ⊎ Among link links → Later → Heard (s.opened link) link (after_openings s links (after_opening s l d)).marks
     by true is among more = here (eqb-true l link is)
     by false is (inl same) more = here same
     by false is (inr later) more = later_on (other_than l link is) later more
 
 -- on each link of a script, once all are open
-pub opened_heard : (server : SerialServer) (script : ScriptLines) → (link : ℕ) → IsLink script link → Heard link (opened_drill server script.opening).marks
+script_terms : (script : ScriptLines) → IsScript script → IsUnnumbered script → (link : ℕ) → AreTerms (parameters_of script.opening link).client
+script_terms script is none link =
+    let number : (parameters_of script.opening link).client.number ≡ 0 = ap (λ (b : Bool). if b then link else 0) none in
+    (is.some_client_units, is.few_client_units, subst (λ (n : ℕ). n < 2 ^ 64) (sym number) (omega arith))
+
+pub opened_heard : (server : SerialServer) (script : ScriptLines) → IsScript script → IsUnnumbered script → (link : ℕ) → IsClient script link → Heard (parameters_of script.opening link) link (opened_drill server script.opening).marks
 unfolding opened_drill
-opened_heard server script link within =
+opened_heard server script is none link within =
     let opening = script.opening in
     let s = setting_of server opening in
     let clients = opening.clients in
-    openings_heard s link (links_of clients) (start clients) within.0 (are_links 1 clients (omega arith)) (among_range link 1 clients within.0 (let b = within.1 in omega (arith, b)))
-    (start_lawful (parameters_of opening link) link) refl (start_carries clients link within.0 within.1) (start_fresh (parameters_of opening link) link)
+    openings_heard s link (links_of clients) (start s clients) (opened_firsts server opening none) (λ l among. script_terms script is none l) within.0 (are_links 1 clients (omega arith))
+    (among_range link 1 clients within.0 (let b = within.1 in omega (arith, b)))
+    (start_lawful (parameters_of opening link) link) refl (start_carries s clients link within.0 within.1) (start_fresh (parameters_of opening link) link)
 
 -- ===== so a link runs before and after each line and each step
 
-pub running_from : (s : Setting) (link : ℕ) (d : Drill) → Keeps s link d → Carries link d → Heard link d.marks → IsRunning s link d
-running_from s link d h c heard =
-    let laws = laws_of (s.opened link) link d.marks h.0 h.1 in
+pub running_from : (s : Setting) (link : ℕ) (d : Drill) → IsFirstLink (s.opened link) → Keeps s link d → Carries link d → Heard (s.opened link) link d.marks → IsRunning s link d
+running_from s link d start h c heard =
+    let laws = laws_of (s.opened link) link d.marks start h.0 h.1 in
     record {
       asked = laws.asked;
       served = laws.served;
@@ -330,20 +394,21 @@ running_from s link d h c heard =
       gone = c.gone;
       client_heard = heard.client;
       server_heard = heard.server;
+      number = heard.number;
     }
 
-pub running_heard : (s : Setting) (link : ℕ) (d : Drill) → IsRunning s link d → Heard link d.marks
-running_heard s link d r = record { client = r.client_heard; server = r.server_heard }
+pub running_heard : (s : Setting) (link : ℕ) (d : Drill) → IsRunning s link d → Heard (s.opened link) link d.marks
+running_heard s link d r = record { client = r.client_heard; server = r.server_heard; number = r.number }
 
-step_keeps : (s : Setting) (link : ℕ) (step : DrainStep) (d : Drill) → Keeps s link d → Keeps s link (after_step s link step d)
-step_keeps s link AllUp d h = lawful_after_up s link (length (pipes_of link d).up) d h
-step_keeps s link Work d h = lawful_work s link d h
-step_keeps s link AllDown d h = lawful_after_down s link (length (pipes_of link d).down) d h
+step_keeps : (s : Setting) (link : ℕ) (step : DrainStep) (d : Drill) → IsFirstLink (s.opened link) → Keeps s link d → Keeps s link (after_step s link step d)
+step_keeps s link AllUp d start h = lawful_after_up s link (length (pipes_of link d).up) d h
+step_keeps s link Work d start h = lawful_work s link d h
+step_keeps s link AllDown d start h = lawful_after_down s link (length (pipes_of link d).down) d start h
 
-step_carries : (s : Setting) (link : ℕ) (step : DrainStep) (d : Drill) → Keeps s link d → Carries link d → Carries link (after_step s link step d)
-step_carries s link AllUp d h c = carries_up s link (length (pipes_of link d).up) d h c
-step_carries s link Work d h c = carries_work s link d c
-step_carries s link AllDown d h c = carries_down s link (length (pipes_of link d).down) d h c
+step_carries : (s : Setting) (link : ℕ) (step : DrainStep) (d : Drill) → IsFirstLink (s.opened link) → Keeps s link d → Carries link d → Carries link (after_step s link step d)
+step_carries s link AllUp d start h c = carries_up s link (length (pipes_of link d).up) d h c
+step_carries s link Work d start h c = carries_work s link d c
+step_carries s link AllDown d start h c = carries_down s link (length (pipes_of link d).down) d start h c
 
 pub step_adds : (s : Setting) (link : ℕ) (step : DrainStep) (d : Drill) → Extends link d (after_step s link step d)
 step_adds s link AllUp d = up_adds s link (length (pipes_of link d).up) d
@@ -351,18 +416,18 @@ step_adds s link Work d = work_adds s link d
 step_adds s link AllDown d = down_adds s link (length (pipes_of link d).down) d
 
 -- a step of the link
-pub step_runs : (s : Setting) (link : ℕ) (step : DrainStep) (d : Drill) → IsRunning s link d → IsRunning s link (after_step s link step d)
-step_runs s link step d r =
+pub step_runs : (s : Setting) (link : ℕ) (step : DrainStep) (d : Drill) → IsFirstLink (s.opened link) → IsRunning s link d → IsRunning s link (after_step s link step d)
+step_runs s link step d start r =
     let h = running_keeps s link d r in
-    running_from s link (after_step s link step d) (step_keeps s link step d h) (step_carries s link step d h (running_carries s link d r))
-    (heard_by_lem link link d (after_step s link step d) (step_adds s link step d) (running_heard s link d r))
+    running_from s link (after_step s link step d) start (step_keeps s link step d start h) (step_carries s link step d start h (running_carries s link d r))
+    (heard_by_lem (s.opened link) link link d (after_step s link step d) (step_adds s link step d) (running_heard s link d r))
 
 -- what is done on another link
-pub other_runs : (s : Setting) (link other : ℕ) (old new : Drill) → other ≢ link → link - 1 ≢ other - 1 → Extends other old new → IsRunning s link old → IsRunning s link new
-other_runs s link other old new ne apart x r =
+pub other_runs : (s : Setting) (link other : ℕ) (old new : Drill) → other ≢ link → link - 1 ≢ other - 1 → Extends other old new → IsFirstLink (s.opened link) → IsRunning s link old → IsRunning s link new
+other_runs s link other old new ne apart x start r =
     let h = running_keeps s link old r in
     let same = elsewhere (s.opened link) link other old.marks new.marks ne x.marks in
-    running_from s link new (same.lawful h.0, same.written h.0 h.1) (carries_elsewhere link other old new ne apart x (running_carries s link old r)) (heard_by_lem link other old new x (running_heard s link old r))
+    running_from s link new start (same.lawful h.0, same.written h.0 h.1) (carries_elsewhere link other old new ne apart x (running_carries s link old r)) (heard_by_lem (s.opened link) link other old new x (running_heard s link old r))
 
 pub any_front : {X : Type 0} (p : X → Bool) (xs ys : List X) → list_any p (xs ++ ys) ≡ false → list_any p xs ≡ false
 any_front p xs ys e = (neither_raw (list_any p xs) (list_any p ys) (sym (any_append p xs ys) ∙ e)).0
@@ -372,15 +437,16 @@ all_front P [] ys h = tt
 all_front P (x ∷ xs) ys h = (h.0, all_front P xs ys h.1)
 
 -- A link of a script runs after the first lines, however many, if none of these puts bytes into its pipes.
-pub script_runs : (server : SerialServer) (script : ScriptLines) → IsScript script → (link : ℕ) → IsLink script link → (before after : List Line) → script.lines ≡ before ++ after → HasNoRaw before link → (mid : Drill) →
-    MakeAll (setting_of server script.opening) script.opening.clients before (opened_drill server script.opening) mid → IsRunning (setting_of server script.opening) link mid
-script_runs server script is link within before after cut raw mid made =
+pub script_runs : (server : SerialServer) (script : ScriptLines) → IsScript script → IsUnnumbered script → (link : ℕ) → IsClient script link → (before after : List Line) → script.lines ≡ before ++ after → HasNoRaw before link → (mid : Drill) →
+    FirstMakeAll (setting_of server script.opening) script.opening.clients before (opened_drill server script.opening) mid → IsRunning (setting_of server script.opening) link mid
+script_runs server script is none link within before after cut raw mid made =
     let opening = script.opening in
     let s = setting_of server opening in
     let clients = opening.clients in
-    let first = opened_stands server script is link within in
-    let stands = lines_passed s clients link before (opened_drill server opening) mid within.0 (opened_by_script script is)
-    (all_front (IsFit s) before after (subst (AllByRecursion (IsFit s)) cut (all_fit server script is)))
+    let first = opened_stands server script is none link within in
+    let stands = lines_passed s clients link before (opened_drill server opening) mid within.0 (fit_setting server script is none)
+    (all_front (IsFit s) before after (subst (AllByRecursion (IsFit s)) cut (all_fit server script is none)))
     (all_front NamesClient before after (subst (AllByRecursion NamesClient) cut (all_name opening [] script.lines is.follow_on)))
     raw made first in
-    running_from s link mid stands.holds.keeps stands.carries (lines_heard s clients link before (opened_drill server opening) mid made (opened_heard server script link within))
+    running_from s link mid ((opened_firsts server opening none).on link) stands.holds.keeps stands.carries
+    (lines_heard (parameters_of opening link) s clients link before (opened_drill server opening) mid made (opened_heard server script is none link within))

@@ -31,6 +31,6 @@ pub running_carries : (s : Setting) (link : ℕ) (d : Drill) → IsRunning s lin
 running_carries s link d r = record { matched = r.matched; room = r.room; carried = λ e. record { up = r.up e; down = r.down e }; gone = r.gone }
 
 pub steps_leave_less : StepsLeaveLess
-steps_leave_less s link AllUp old r moves typed = up_less_lem s link old (running_keeps s link old r) r.room r.server_heard moves
-steps_leave_less s link Work old r moves typed = work_less s link old (running_keeps s link old r) r.room moves
-steps_leave_less s link AllDown old r moves typed = down_less_lem s link old (running_keeps s link old r) (running_carries s link old r) r.client_heard moves typed
+steps_leave_less s link AllUp old start r moves typed = up_less_lem s link old start (running_keeps s link old r) r.room r.server_heard moves
+steps_leave_less s link Work old start r moves typed = work_less s link old start (running_keeps s link old r) r.room moves
+steps_leave_less s link AllDown old start r moves typed = down_less_lem s link old start (running_keeps s link old r) (running_carries s link old r) r.client_heard moves typed

@@ -45,6 +45,8 @@ use Rattle.nr_drill.specs.Drill.{Setting, Drill, Pipes, unwritten, after_output,
 use Rattle.nr_drill.specs.WorkLeft.{frame_len, is_send, is_send_segment, send_bytes_left, work_left, stays, IsLess}
 use Rattle.nr_drill.proofs.Lawful.{Keeps, lawful_mark, lawful_settled}
 use Rattle.nr_drill.proofs.LessWork.{own, not_own, same_client, same_server, settled_leaves, settled_down, more_left, set_pipes, set_room, down_leaves_up}
+use Rattle.nr_reduce.specs.Opening.{IsFirstLink}
+use Rattle.nr_drill.proofs.FirstLinks.{none_waiting}
 
 -- ===== what a frame that is no Send makes of a server
 
@@ -251,10 +253,10 @@ none_completed side got = ap (λ (xs : List ℕ). drop (length (frames_of side g
 abbrev fed_up : ℕ → List ℕ → Drill → Drill
 fed_up link bytes d = with_pipes link (record (pipes_of link d) { up = [] }) (with_mark (marks.Fed link Responder bytes) d)
 
-fed_less : (s : Setting) (link : ℕ) (bytes : List ℕ) (d : Drill) → Keeps s link d → link - 1 < length d.pipes → frames_of Initiator (bytes_received link Responder d.marks) ≢ [] →
+fed_less : (s : Setting) (link : ℕ) (bytes : List ℕ) (d : Drill) → IsFirstLink (s.opened link) → Keeps s link d → link - 1 < length d.pipes → frames_of Initiator (bytes_received link Responder d.marks) ≢ [] →
     (pipes_of link d).up ≡ bytes → 0 < length bytes → IsLess (work_left s (settled s link (fed_up link bytes d)) link) (work_left s d link)
 unfolding work_left send_bytes_left end_of_side
-fed_less s link bytes d h room heard waits some = by_end before.ended refl
+fed_less s link bytes d start h room heard waits some = by_end before.ended refl
   where
     o : LinkParameters
     o = s.opened link
@@ -342,7 +344,7 @@ fed_less s link bytes d h room heard waits some = by_end before.ended refl
     sides : after.ended ≡ before.ended → stays (client o link new.marks).ended + stays (server o link new.marks).ended ≡ stays (client o link run).ended + stays before.ended
     sides same = (λ i. stays (client_end i) + stays ((server_end_is ∙ same) i))
 
-    -- none of the first five numbers changes
+    -- none of the first six numbers changes
     Same : Type 0
     Same = (after.state.reads ≡ before.state.reads) × (after.state.ready ≡ before.state.ready) × (output_for_all (server_rules o) before es ≡ [])
 
@@ -365,8 +367,8 @@ fed_less s link bytes d h room heard waits some = by_end before.ended refl
     by_sends same lower = by_send (no_send fs)
       where
         by_send : AllByRecursion (λ (f : Frame). is_send f ≡ false) fs ⊎ (0 < sum_by frame_len (filter is_send fs)) → IsLess (work_left s new link) (work_left s d link)
-        by_send (inr more) = inr (sides same, inl (omega (arith, more, sent_before, sent_after)))
-        by_send (inl absent) = inr (sides same, inr (sent_after ∙ sym (sent_before ∙ no_sum fs absent), by_frames (lower absent)))
+        by_send (inr more) = inr (sides same, inr (none_waiting o link run new.marks start, inl (omega (arith, more, sent_before, sent_after))))
+        by_send (inl absent) = inr (sides same, inr (none_waiting o link run new.marks start, inr (sent_after ∙ sym (sent_before ∙ no_sum fs absent), by_frames (lower absent))))
 
     by_after : before.ended ≡ None → (end : Option End) → after.ended ≡ end → IsLess (work_left s new link) (work_left s d link)
     by_after lives (Some end) is =
@@ -402,13 +404,13 @@ feeding_up link [] rest d some = absurd (some refl)
 feeding_up link (b ∷ bytes) rest d some = refl
 
 -- If the server has the client's hello and bytes wait for it, feeding it all of them leaves less work.
-pub up_less_lem : (s : Setting) (link : ℕ) (d : Drill) → Keeps s link d → link - 1 < length d.pipes → frames_of Initiator (bytes_received link Responder d.marks) ≢ [] → (pipes_of link d).up ≢ [] →
+pub up_less_lem : (s : Setting) (link : ℕ) (d : Drill) → IsFirstLink (s.opened link) → Keeps s link d → link - 1 < length d.pipes → frames_of Initiator (bytes_received link Responder d.marks) ≢ [] → (pipes_of link d).up ≢ [] →
     IsLess (work_left s (after_all_up s link d) link) (work_left s d link)
 unfolding after_up
-up_less_lem s link d h room heard some =
+up_less_lem s link d start h room heard some =
     let pipes = pipes_of link d in
     let n = length pipes.up in
     let all : take n pipes.up ≡ pipes.up = take_all n pipes.up (omega arith) in
     let is : after_feeding_up link n d ≡ fed_up link pipes.up d =
     (λ i. after_feeding link Responder (all i) (record pipes { up = drop-length pipes.up i }) d) ∙ feeding_up link pipes.up (record pipes { up = [] }) d some in
-    subst (λ (x : Drill). IsLess (work_left s (settled s link x) link) (work_left s d link)) (sym is) (fed_less s link pipes.up d h room heard refl (no_bytes_less n pipes.up refl some))
+    subst (λ (x : Drill). IsLess (work_left s (settled s link x) link) (work_left s d link)) (sym is) (fed_less s link pipes.up d start h room heard refl (no_bytes_less n pipes.up refl some))

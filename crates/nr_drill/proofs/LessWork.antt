@@ -9,24 +9,28 @@ use Rattle.nr_link.specs.Frames.{frames_completed}
 use Rattle.nr_reduce.specs.declared.call.Outcome.{Outcome}
 use Rattle.nr_reduce.specs.declared.mark.Mark.{Mark}
 use Rattle.nr_reduce.specs.declared.mark.Mark.TheVariants as marks
+use Rattle.nr_reduce.specs.declared.mark.Told.TheVariants as told
 use Rattle.nr_reduce.specs.declared.mark.LinkParameters.{LinkParameters}
 use Rattle.nr_reduce.specs.History.{ExecutedCall, written_at, fed_at, bytes_received, is_drop_of, is_dropped}
-use Rattle.nr_reduce.specs.PlainJournal.{journal}
 use Rattle.nr_reduce.specs.Events.{RunEvent, events_at, if_own}
-use Rattle.nr_reduce.specs.Events.RunEvent.{CallExecuted, QueueWritten}
-use Rattle.nr_reduce.specs.EndRules.{EndState, end_state_after, output_for_all}
+use Rattle.nr_reduce.specs.Events.RunEvent.{CallExecuted, QueueWritten, ServerTold}
+use Rattle.nr_reduce.specs.EndRules.{EndState, end_state_after, output_for_all, next_end_state_by}
 use Rattle.nr_reduce.specs.ClientState.{ClientState}
 use Rattle.nr_reduce.specs.ServerState.{ServerState, PendingRead, ReadyCall}
 use Rattle.nr_reduce.specs.Client.{client_rules, client_end, client_output, client_state_after}
-use Rattle.nr_reduce.specs.Server.{server_rules, server_end, server_output, server_state_after}
+use Rattle.nr_reduce.specs.Server.{server_rules, server_end, server_output, server_state_after, old_end}
 use Rattle.nr_reduce.specs.Run.{client, server, output_due, end_of_side}
-use Rattle.nr_reduce.specs.Served.{next_call, first_ready}
+use Rattle.nr_reduce.specs.Served.{next_call, first_ready, last_frame_at}
 use Rattle.nr_reduce.proofs.Steps.{client_one, server_one, output_due_up_one, output_due_down_one}
 use Rattle.nr_reduce.proofs.Standing.{itself, received_one}
 use Rattle.nr_laws.proofs.DistinctKeys.{any_append}
-use Rattle.nr_drill.specs.Drill.{Setting, Drill, Pipes, empty_pipes, plain_of, now, unwritten, appended, after_output, after_all_output, settled, pipes_of, with_mark, with_pipes, if_standing, waiting_call, after_answer, after_execution, after_work}
+use Rattle.nr_drill.specs.Drill.{Setting, Drill, Pipes, empty_pipes, unwritten, appended, after_output, after_all_output, settled, pipes_of, with_mark, with_pipes, if_standing, waiting_call, after_answer, after_execution, after_work, GivenReply, standing_of, reply_given, after_call}
 use Rattle.nr_drill.specs.WorkLeft.{frame_len, is_send, send_bytes_left, work_left, stays, IsLess}
 use Rattle.nr_drill.proofs.Lawful.{IsDueOf, Keeps, more_due, left_is, due_more, lawful_mark, lawful_settled}
+use Rattle.nr_reduce.specs.Opening.{IsFirstLink}
+use Rattle.nr_reduce.specs.NumberedJournal.{Standing}
+use Rattle.nr_reduce.specs.NumberedJournal.Standing.{Old, Kept, New}
+use Rattle.nr_drill.proofs.FirstLinks.{none_waiting}
 
 -- ===== what writing leaves
 
@@ -258,20 +262,20 @@ waits_next : (dropped : Bool) (call : ReadyCall) (next : Option ReadyCall) → i
 waits_next true call next e = absurd cc
 waits_next false call next e = e
 
-pub executed_less : (s : Setting) (link : ℕ) (call : ReadyCall) (reply : List ℕ) (d : Drill) → Keeps s link d → link - 1 < length d.pipes → next_call (s.opened link) link d.marks ≡ Some call →
-    IsLess (work_left s (after_answer s link call (Some reply) d) link) (work_left s d link)
+pub executed_less : (s : Setting) (link : ℕ) (call : ReadyCall) (g : GivenReply) (d : Drill) → IsFirstLink (s.opened link) → Keeps s link d → link - 1 < length d.pipes → next_call (s.opened link) link d.marks ≡ Some call →
+    IsLess (work_left s (after_answer s link call (Some g) d) link) (work_left s d link)
 unfolding work_left send_bytes_left end_of_side next_call
-executed_less s link call reply d h room next =
+executed_less s link call g d start h room next =
     let o = s.opened link in
     let run = d.marks in
-    let place = length (journal (plain_of s.server) run) in
-    let mark = marks.Execute link call.xid (now d) call.payload place reply in
-    let event = CallExecuted (record { xid = call.xid; moment = now d; payload = call.payload; place = place; reply = reply }) in
+    let mark = marks.Execute link call.xid g.moment call.payload g.place g.reply in
+    let executed : ExecutedCall = record { xid = call.xid; moment = g.moment; payload = call.payload; place = g.place; reply = g.reply } in
+    let event = CallExecuted executed in
     let mid = with_mark mark d in
     let new = settled s link mid in
     let server_before = server o link run in
     let first = is_next_lem server_before.state.ready server_before.ended call next in
-    let done = executed_end o server_before.state (record { xid = call.xid; moment = now d; payload = call.payload; place = place; reply = reply }) in
+    let done = executed_end o server_before.state executed in
     let client_is = same_client o link run mark [] (not_own link (event ∷ [])) in
     let server_is : server o link mid.marks ≡ end_state_after (server_rules o) (record { state = server_before.state; ended = None }) (event ∷ []) =
     same_server o link run mark (event ∷ []) (own link (event ∷ []))
@@ -291,29 +295,70 @@ executed_less s link call reply d h room next =
     inr (
       (λ i. stays (client_end i) + stays (server_end i)),
       inr (
-        (λ i. sum_by frame_len (filter is_send (frames_completed Initiator (got i) (up i ++ (kept.1.client ∙ sym h.1.client) i)))),
+        none_waiting o link run new.marks start,
         inr (
-          ap (λ (rs : List PendingRead). length rs) reads,
-          inl (subst (λ (rs : List ReadyCall). length rs < length server_before.state.ready) (sym ready) (fewer server_before.state.ready call first.1)),
+          (λ i. sum_by frame_len (filter is_send (frames_completed Initiator (got i) (up i ++ (kept.1.client ∙ sym h.1.client) i)))),
+          inr (
+            ap (λ (rs : List PendingRead). length rs) reads,
+            inl (subst (λ (rs : List ReadyCall). length rs < length server_before.state.ready) (sym ready) (fewer server_before.state.ready call first.1)),
+          ),
         ),
       ),
     )
 
-answered_less : (s : Setting) (link : ℕ) (call : ReadyCall) (reply : Option (List ℕ)) (d : Drill) → Keeps s link d → link - 1 < length d.pipes → next_call (s.opened link) link d.marks ≡ Some call →
-    (after_answer s link call reply d).marks ≢ d.marks → IsLess (work_left s (after_answer s link call reply d) link) (work_left s d link)
-answered_less s link call None d h room next moved = absurd (moved refl)
-answered_less s link call (Some reply) d h room next moved = executed_less s link call reply d h room next
+answered_less : (s : Setting) (link : ℕ) (call : ReadyCall) (answer : Option GivenReply) (d : Drill) → IsFirstLink (s.opened link) → Keeps s link d → link - 1 < length d.pipes → next_call (s.opened link) link d.marks ≡ Some call →
+    (after_answer s link call answer d).marks ≢ d.marks → IsLess (work_left s (after_answer s link call answer d) link) (work_left s d link)
+answered_less s link call None d start h room next moved = absurd (moved refl)
+answered_less s link call (Some g) d start h room next moved = executed_less s link call g d start h room next
 
-waiting_less : (s : Setting) (link : ℕ) (call : Option ReadyCall) (d : Drill) → Keeps s link d → link - 1 < length d.pipes →
+-- ===== an old call ends its server
+
+told_end_lem : (o : LinkParameters) (k : ServerState) (ready : List ReadyCall) (call : ReadyCall) (xid at : ℕ) → k.ready ≡ ready → slice_get ready 0 ≡ Some call →
+    stays (end_state_after (server_rules o) (record { state = k; ended = None }) (ServerTold (told.Old xid at) ∷ [])).ended ≡ 0
+unfolding server_end
+told_end_lem o k [] call xid at is e = absurd cc
+told_end_lem o k (r ∷ ready) call xid at is e = ap (λ (rs : List ReadyCall). stays (next_end_state_by (server_rules o) k (ServerTold (told.Old xid at)) (old_end at rs)).ended) is
+
+told_less : (s : Setting) (link : ℕ) (call : ReadyCall) (d : Drill) → next_call (s.opened link) link d.marks ≡ Some call →
+    IsLess (work_left s (settled s link (with_mark (marks.Told link (told.Old call.xid (last_frame_at link d.marks))) d)) link) (work_left s d link)
+unfolding work_left end_of_side next_call
+told_less s link call d next =
+    let o = s.opened link in
+    let run = d.marks in
+    let at = last_frame_at link run in
+    let mark = marks.Told link (told.Old call.xid at) in
+    let event = ServerTold (told.Old call.xid at) in
+    let mid = with_mark mark d in
+    let new = settled s link mid in
+    let before = server o link run in
+    let first = is_next_lem before.state.ready before.ended call next in
+    let leaves = settled_leaves s o link mid in
+    let client_is = same_client o link run mark [] (not_own link (event ∷ [])) in
+    let server_is : server o link mid.marks ≡ end_state_after (server_rules o) (record { state = before.state; ended = None }) (event ∷ []) =
+    same_server o link run mark (event ∷ []) (own link (event ∷ []))
+    ∙ (λ i. end_state_after (server_rules o) (record { state = before.state; ended = first.0 i }) (event ∷ [])) in
+    let same : stays (client o link new.marks).ended ≡ stays (client o link run).ended = ap (λ (e : Option End). stays e) (leaves.client_end ∙ ap (λ (r : EndState ClientState). r.ended) client_is) in
+    let gone : stays (server o link new.marks).ended ≡ 0 =
+    ap (λ (e : Option End). stays e) (leaves.server_end ∙ ap (λ (r : EndState ServerState). r.ended) server_is) ∙ told_end_lem o before.state before.state.ready call call.xid at refl first.1 in
+    let was : stays before.ended ≡ 1 = ap (λ (e : Option End). stays e) first.0 in
+    inl (omega (arith, same, gone, was))
+
+call_less : (s : Setting) (link : ℕ) (call : ReadyCall) (is : Standing) (answer : Option GivenReply) (d : Drill) → IsFirstLink (s.opened link) → Keeps s link d → link - 1 < length d.pipes →
+    next_call (s.opened link) link d.marks ≡ Some call → (after_call s link call is answer d).marks ≢ d.marks → IsLess (work_left s (after_call s link call is answer d) link) (work_left s d link)
+call_less s link call (Old top) answer d start h room next moved = told_less s link call d next
+call_less s link call (Kept place) answer d start h room next moved = answered_less s link call answer d start h room next moved
+call_less s link call New answer d start h room next moved = answered_less s link call answer d start h room next moved
+
+waiting_less : (s : Setting) (link : ℕ) (call : Option ReadyCall) (d : Drill) → IsFirstLink (s.opened link) → Keeps s link d → link - 1 < length d.pipes →
     if_standing (is_dropped link d.marks) (next_call (s.opened link) link d.marks) ≡ call →
     (after_execution s link call d).marks ≢ d.marks → IsLess (work_left s (after_execution s link call d) link) (work_left s d link)
-waiting_less s link None d h room next moved = absurd (moved refl)
-waiting_less s link (Some call) d h room next moved =
-    answered_less s link call (s.server.reply_to (journal (plain_of s.server) d.marks) (now d) call.payload) d h room
+waiting_less s link None d start h room next moved = absurd (moved refl)
+waiting_less s link (Some call) d start h room next moved =
+    call_less s link call (standing_of s link d call) (reply_given s link d call) d start h room
     (waits_next (is_dropped link d.marks) call (next_call (s.opened link) link d.marks) next) moved
 
 -- a call that is executed leaves less work, on any link
-pub work_less : (s : Setting) (link : ℕ) (d : Drill) → Keeps s link d → link - 1 < length d.pipes → (after_work s link d).marks ≢ d.marks →
+pub work_less : (s : Setting) (link : ℕ) (d : Drill) → IsFirstLink (s.opened link) → Keeps s link d → link - 1 < length d.pipes → (after_work s link d).marks ≢ d.marks →
     IsLess (work_left s (after_work s link d) link) (work_left s d link)
 unfolding after_work waiting_call
-work_less s link d h room moved = waiting_less s link (waiting_call s link d.marks) d h room refl moved
+work_less s link d start h room moved = waiting_less s link (waiting_call s link d.marks) d start h room refl moved

@@ -1,5 +1,7 @@
+pub mod FirstLinks
 pub mod Lawful
 pub mod Followed
+pub mod FirstLines
 pub mod Carried
 pub mod Promised
 pub mod NoneLost
@@ -14,6 +16,7 @@ pub mod LessFrames
 pub mod LessDown
 pub mod LessSteps
 pub mod LessScripts
+pub mod Journals
 pub mod KeptTypes
 pub mod ByteDrills
 pub mod DrillTrees

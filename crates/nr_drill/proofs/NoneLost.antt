@@ -1,7 +1,7 @@
 -- On each link that isn't dropped no byte that a side wrote is lost: it was received, or it waits, whatever else a script puts into the pipes.
-use Rattle.std.specs.Prelude.{◌-◌, slice_get}
+use Rattle.std.specs.Prelude.{◌-◌, slice_get, map}
 use Rattle.std.specs.List.{AllByRecursion}
-use Rattle.std.proofs.Common.{◌≡◌, ◌≢◌, ℕ, zero, suc, ◌+◌, ◌<◌, ◌≤◌, arith, eqb-true, Bool, true, false, eqb, List, [], ◌∷◌, ◌++◌, length, take, drop, Option, None, Some, refl, sym, ap, subst, ◌∙◌}
+use Rattle.std.proofs.Common.{◌≡◌, ◌≢◌, ℕ, zero, suc, ◌+◌, ◌<◌, ◌≤◌, arith, eqb-true, Bool, true, false, eqb, List, [], ◌∷◌, ◌++◌, length, take, drop, Option, None, Some, refl, sym, ap, subst, ◌∙◌, append-nil, append_assoc}
 use Rattle.std.proofs.lemmas.List.{length-append, take-append-drop}
 use Rattle.nr_wire.specs.declared.hello.Side.{Side}
 use Rattle.nr_wire.specs.declared.hello.Side.TheVariants.{Initiator, Responder}
@@ -10,23 +10,29 @@ use Rattle.nr_reduce.specs.declared.call.Form.{Form}
 use Rattle.nr_reduce.specs.declared.mark.Mark.{Mark}
 use Rattle.nr_reduce.specs.declared.mark.Mark.TheVariants as marks
 use Rattle.nr_reduce.specs.declared.mark.Told.TheVariants.{Granted}
-use Rattle.nr_reduce.specs.PlainJournal.{journal}
+use Rattle.nr_reduce.specs.declared.mark.Told.TheVariants as told
 use Rattle.nr_reduce.specs.History.{CompletedCall, bytes_sent, bytes_received, written_at, fed_at, is_drop_of, is_dropped}
 use Rattle.nr_reduce.specs.ServerState.{ReadyCall}
-use Rattle.nr_reduce.specs.SubmitAnswer.{submit_answer_after}
+use Rattle.nr_reduce.specs.SubmitAnswer.{submit_answer_after, calls_to_resend}
 use Rattle.nr_reduce.specs.OutcomesDue.{outcomes_due}
 use Rattle.nr_reduce.specs.Asked.{revoked_bytes}
-use Rattle.nr_reduce.specs.Run.{server}
+use Rattle.nr_reduce.specs.Run.{server, client}
 use Rattle.nr_reduce.proofs.Standing.{sent_one, received_one}
 use Rattle.nr_script.specs.declared.script.Line.{Line}
 use Rattle.nr_script.specs.declared.script.Line.TheVariants as lines
 use Rattle.nr_script.specs.Script.{ScriptLines, IsScript}
-use Rattle.nr_drill.specs.Drill.{SerialServer, Setting, Drill, Pipes, empty_pipes, plain_of, now, unwritten, appended, after_output, after_all_output, settled, pipes_of, cred_of, with_mark, after_feeding, after_feeding_up, after_feeding_down, after_up, after_down, after_handing, after_done, after_dones, after_outcomes, after_submit, waiting_call, after_answer, after_execution, after_work, after_calls, after_all_up, after_all_work, after_moves, answer_of_line, open_xid, after_giving_up, after_forget, after_taking_back, after_revoke, after_drop, after_raw, after_round, after_opening, after_openings, start, links_of, after_grant}
-use Rattle.nr_drill.specs.Follows.{after_line, Drains, Makes, MakeAll, Follows, setting_of, opened_drill}
-use Rattle.nr_drill.specs.Lines.{IsLink}
+use Rattle.nr_drill.specs.Drill.{SerialServer, Setting, Drill, Pipes, empty_pipes, unwritten, appended, after_output, after_all_output, settled, pipes_of, cred_of, with_mark, after_feeding, after_feeding_up, after_feeding_down, after_up, after_down, after_handing, after_done, after_dones, after_outcomes, after_submit, waiting_call, after_answer, after_execution, after_work, after_calls, after_all_up, after_all_work, after_moves, answer_of_line, open_xid, after_giving_up, after_forget, after_taking_back, after_revoke, after_drop, after_raw, after_round, after_opening, after_openings, start, links_of, after_grant, GivenReply, client_of, standing_of, reply_given, resend_mark, after_resends, after_call}
+use Rattle.nr_drill.specs.Follows.{Drains, Follows, setting_of, opened_drill}
+use Rattle.nr_drill.specs.Lines.{IsClient, IsUnnumbered}
 use Rattle.nr_drill.proofs.Lawful.{own_written, up_written, down_written}
 use Rattle.nr_drill.proofs.Followed.{Extends, submit_adds, up_adds, down_adds, work_adds, forget_adds, revoke_adds, drop_adds, raw_adds, moves_adds, opening_adds, grant_adds}
-use Rattle.nr_drill.proofs.Carried.{same_dropped, same_sent, same_received, own_pipes, still_room, own_fed, up_fed, down_fed, dropped_at_last, IsSameHere, same_here, other_than, NamesClient, all_name, AreLinks, are_links, start_carries}
+use Rattle.nr_drill.proofs.Carried.{same_dropped, same_sent, same_received, own_pipes, still_room, own_fed, up_fed, down_fed, dropped_at_last, IsSameHere, same_here, other_than, AreLinks, are_links, start_carries, follows_made}
+use Rattle.nr_drill.proofs.FirstLines.{NamesClient, all_name}
+use Rattle.nr_reduce.specs.NumberedJournal.{Standing}
+use Rattle.nr_reduce.specs.NumberedJournal.Standing.{Old, Kept, New}
+use Rattle.nr_reduce.specs.ClientState.{WaitingCall}
+use Rattle.nr_reduce.specs.Served.{last_frame_at}
+use Rattle.nr_drill.specs.Unnumbered.{first_line, FirstMakes, FirstMakeAll}
 
 pub record NoneLost (link : ℕ) (d : Drill) : Type 0 where
   pub room : link - 1 < length d.pipes
@@ -174,23 +180,42 @@ unfolding after_done
 none_dones s link zero d h = h
 none_dones s link (suc n) d h = none_dones s link n (after_done s link d) (none_handing link (slice_get (outcomes_due (s.opened link) link d.marks) 0) d h)
 
+none_resent : (link : ℕ) (ws : List WaitingCall) (d : Drill) → NoneLost link d → NoneLost link (record d { marks = d.marks ++ map (resend_mark link) ws })
+none_resent link [] d h = subst (λ (run : List Mark). NoneLost link (record d { marks = run })) (sym (append-nil d.marks)) h
+none_resent link (w ∷ ws) d h =
+    let mark = resend_mark link w in
+    subst (λ (run : List Mark). NoneLost link (record d { marks = run })) (append_assoc d.marks (mark ∷ []) (map (resend_mark link) ws))
+    (none_resent link ws (with_mark mark d) (none_mark link mark d refl refl refl refl refl h))
+
+none_resends : (s : Setting) (link : ℕ) (d : Drill) → NoneLost link d → NoneLost link (after_resends s link d)
+unfolding after_resends
+none_resends s link d h = none_resent link (calls_to_resend (client (s.opened link) link d.marks)) d h
+
 none_down : (s : Setting) (link n : ℕ) (d : Drill) → NoneLost link d → NoneLost link (after_down s link n d)
 unfolding after_down after_outcomes
 none_down s link n d h =
     let fed = after_feeding_down link n d in
-    none_settled s link (after_outcomes s link fed)
-    (none_dones s link (length (outcomes_due (s.opened link) link fed.marks)) fed
-    (none_fed_down link (take n (pipes_of link d).down) (drop n (pipes_of link d).down) d (take-append-drop n (pipes_of link d).down) h))
+    let sent = after_resends s link fed in
+    none_settled s link (after_outcomes s link sent)
+    (none_dones s link (length (outcomes_due (s.opened link) link sent.marks)) sent
+    (none_resends s link fed (none_fed_down link (take n (pipes_of link d).down) (drop n (pipes_of link d).down) d (take-append-drop n (pipes_of link d).down) h)))
 
-none_answer : (s : Setting) (link : ℕ) (call : ReadyCall) (reply : Option (List ℕ)) (d : Drill) → NoneLost link d → NoneLost link (after_answer s link call reply d)
+none_answer : (s : Setting) (link : ℕ) (call : ReadyCall) (answer : Option GivenReply) (d : Drill) → NoneLost link d → NoneLost link (after_answer s link call answer d)
 none_answer s link call None d h = h
-none_answer s link call (Some reply) d h =
-    let mark = marks.Execute link call.xid (now d) call.payload (length (journal (plain_of s.server) d.marks)) reply in
+none_answer s link call (Some g) d h =
+    let mark = marks.Execute link call.xid g.moment call.payload g.place g.reply in
     none_settled s link (with_mark mark d) (none_mark link mark d refl refl refl refl refl h)
+
+none_call : (s : Setting) (link : ℕ) (call : ReadyCall) (is : Standing) (answer : Option GivenReply) (d : Drill) → NoneLost link d → NoneLost link (after_call s link call is answer d)
+none_call s link call (Old top) answer d h =
+    let mark = marks.Told link (told.Old call.xid (last_frame_at link d.marks)) in
+    none_settled s link (with_mark mark d) (none_mark link mark d refl refl refl refl refl h)
+none_call s link call (Kept place) answer d h = none_answer s link call answer d h
+none_call s link call New answer d h = none_answer s link call answer d h
 
 none_execution : (s : Setting) (link : ℕ) (call : Option ReadyCall) (d : Drill) → NoneLost link d → NoneLost link (after_execution s link call d)
 none_execution s link None d h = h
-none_execution s link (Some call) d h = none_answer s link call (s.server.reply_to (journal (plain_of s.server) d.marks) (now d) call.payload) d h
+none_execution s link (Some call) d h = none_call s link call (standing_of s link d call) (reply_given s link d call) d h
 
 none_work : (s : Setting) (link : ℕ) (d : Drill) → NoneLost link d → NoneLost link (after_work s link d)
 unfolding after_work
@@ -227,7 +252,7 @@ none_giving_up link (Some xid) d h = none_mark link (marks.Forget link xid) d re
 
 none_forget : (s : Setting) (link number : ℕ) (d : Drill) → NoneLost link d → NoneLost link (after_forget s link number d)
 unfolding after_forget
-none_forget s link number d h = none_giving_up link (open_xid s link d.marks (answer_of_line link number d.marks)) d h
+none_forget s link number d h = none_giving_up link (open_xid s link d.marks (answer_of_line s (client_of s link) number d.marks)) d h
 
 none_taking_back : (s : Setting) (link : ℕ) (xid : Option ℕ) (d : Drill) → NoneLost link d → NoneLost link (after_taking_back s link xid d)
 none_taking_back s link None d h = h
@@ -237,7 +262,7 @@ none_taking_back s link (Some xid) d h =
 
 none_revoke : (s : Setting) (link number : ℕ) (d : Drill) → NoneLost link d → NoneLost link (after_revoke s link number d)
 unfolding after_revoke
-none_revoke s link number d h = none_taking_back s link (open_xid s link d.marks (answer_of_line link number d.marks)) d h
+none_revoke s link number d h = none_taking_back s link (open_xid s link d.marks (answer_of_line s (client_of s link) number d.marks)) d h
 
 not_dropped : true ≡ false → ⊥
 not_dropped e = absurd cc
@@ -310,7 +335,7 @@ none_by acted link old new some one x own h = by (eqb acted link) refl
 
 -- ===== lines
 
-none_line : (s : Setting) (link : ℕ) (line : Line) (d : Drill) → 1 ≤ link → NamesClient line → NoneLost link d → NoneLost link (after_line s line d)
+none_line : (s : Setting) (link : ℕ) (line : Line) (d : Drill) → 1 ≤ link → NamesClient line → NoneLost link d → NoneLost link (first_line s line d)
 none_line s link (lines.Cred client cred) d one some h = record { room = h.room; up = h.up; down = h.down }
 none_line s link (lines.Call client form prog vers proc args) d one some h =
     let call : Call = record { prog = prog; vers = vers; proc = proc; cred = cred_of client d; args = args } in
@@ -322,6 +347,7 @@ none_line s link (lines.Tick seconds) d one some h = record { room = h.room; up 
 none_line s link (lines.Forget client number) d one some h = none_by client link d (after_forget s client number d) some one (forget_adds s client number d) (none_forget s client number d) h
 none_line s link (lines.Revoke client number) d one some h = none_by client link d (after_revoke s client number d) some one (revoke_adds s client number d) (none_revoke s client number d) h
 none_line s link (lines.Drop client) d one some h = none_by client link d (after_drop client d) some one (drop_adds client d) (none_drop client d) h
+none_line s link (lines.Rejoin client) d one some h = h
 none_line s link (lines.Raw client side bytes) d one some h =
     let dropped = is_dropped client d.marks in
     none_by client link d (after_raw client side bytes dropped d) some one (raw_adds client side bytes dropped d) (none_raw client side bytes dropped d) h
@@ -337,7 +363,7 @@ none_drain : (s : Setting) (link : ℕ) (links : List ℕ) (rounds : ℕ) (old n
 none_drain s link links zero old new one some drains h = subst (NoneLost link) (sym drains.1) h
 none_drain s link links (suc rounds) old new one some drains h = none_drain s link links rounds (after_round s links old) new one some drains.1 (none_round s link links old one some h)
 
-none_made : (s : Setting) (clients link : ℕ) (line : Line) (old new : Drill) → 1 ≤ link → NamesClient line → Makes s clients line old new → NoneLost link old → NoneLost link new
+none_made : (s : Setting) (clients link : ℕ) (line : Line) (old new : Drill) → 1 ≤ link → NamesClient line → FirstMakes s clients line old new → NoneLost link old → NoneLost link new
 none_made s clients link (lines.Cred client cred) old new one n e h = subst (NoneLost link) (sym e) (none_line s link (lines.Cred client cred) old one n h)
 none_made s clients link (lines.Call client form prog vers proc args) old new one n e h = subst (NoneLost link) (sym e) (none_line s link (lines.Call client form prog vers proc args) old one n h)
 none_made s clients link (lines.Up client most) old new one n e h = subst (NoneLost link) (sym e) (none_line s link (lines.Up client most) old one n h)
@@ -347,11 +373,12 @@ none_made s clients link (lines.Tick seconds) old new one n e h = subst (NoneLos
 none_made s clients link (lines.Forget client number) old new one n e h = subst (NoneLost link) (sym e) (none_line s link (lines.Forget client number) old one n h)
 none_made s clients link (lines.Revoke client number) old new one n e h = subst (NoneLost link) (sym e) (none_line s link (lines.Revoke client number) old one n h)
 none_made s clients link (lines.Drop client) old new one n e h = subst (NoneLost link) (sym e) (none_line s link (lines.Drop client) old one n h)
+none_made s clients link (lines.Rejoin client) old new one n e h = subst (NoneLost link) (sym e) (none_line s link (lines.Rejoin client) old one n h)
 none_made s clients link (lines.Raw client side bytes) old new one n e h = subst (NoneLost link) (sym e) (none_line s link (lines.Raw client side bytes) old one n h)
 none_made s clients link (lines.Grant client credits) old new one n e h = subst (NoneLost link) (sym e) (none_line s link (lines.Grant client credits) old one n h)
 none_made s clients link lines.Drain old new one n e h = none_drain s link (links_of clients) e.0 old new one (are_links 1 clients (omega arith)) e.1 h
 
-none_lines : (s : Setting) (clients link : ℕ) (all : List Line) (old new : Drill) → 1 ≤ link → AllByRecursion NamesClient all → MakeAll s clients all old new → NoneLost link old → NoneLost link new
+none_lines : (s : Setting) (clients link : ℕ) (all : List Line) (old new : Drill) → 1 ≤ link → AllByRecursion NamesClient all → FirstMakeAll s clients all old new → NoneLost link old → NoneLost link new
 none_lines s clients link [] old new one n e h = subst (NoneLost link) (sym e) h
 none_lines s clients link (line ∷ others) old new one n e h = none_lines s clients link others e.0 new one n.1 e.2 (none_made s clients link line old e.0 one n.0 e.1 h)
 
@@ -360,15 +387,15 @@ none_openings s link [] d one some h = h
 none_openings s link (l ∷ links) d one some h =
     none_openings s link links (after_opening s l d) one some.1 (none_by l link d (after_opening s l d) some.0 one (opening_adds s l d) (none_opening s l d) h)
 
-start_none : (clients link : ℕ) → 1 ≤ link → link ≤ clients → NoneLost link (start clients)
+start_none : (s : Setting) (clients link : ℕ) → 1 ≤ link → link ≤ clients → NoneLost link (start s clients)
 unfolding bytes_sent bytes_received
-start_none clients link low high = record { room = (start_carries clients link low high).room; up = λ e. omega arith; down = λ e. omega arith }
+start_none s clients link low high = record { room = (start_carries s clients link low high).room; up = λ e. omega arith; down = λ e. omega arith }
 
-pub follows_lose_nothing : (server : SerialServer) (script : ScriptLines) (run : List Mark) → IsScript script → (follows : Follows server script run) → (link : ℕ) → IsLink script link → NoneLost link follows.last
+pub follows_lose_nothing : (server : SerialServer) (script : ScriptLines) (run : List Mark) → IsScript script → IsUnnumbered script → (follows : Follows server script run) → (link : ℕ) → IsClient script link → NoneLost link follows.last
 unfolding opened_drill
-follows_lose_nothing server script run is follows link within =
+follows_lose_nothing server script run is none follows link within =
     let opening = script.opening in
     let s = setting_of server opening in
     let clients = opening.clients in
-    none_lines s clients link script.lines (opened_drill server opening) follows.last within.0 (all_name opening [] script.lines is.follow_on) follows.makes
-    (none_openings s link (links_of clients) (start clients) within.0 (are_links 1 clients (omega arith)) (start_none clients link within.0 within.1))
+    none_lines s clients link script.lines (opened_drill server opening) follows.last within.0 (all_name opening [] script.lines is.follow_on) (follows_made server script run is none follows)
+    (none_openings s link (links_of clients) (start s clients) within.0 (are_links 1 clients (omega arith)) (start_none s clients link within.0 within.1))

@@ -14,26 +14,32 @@ use Rattle.nr_reduce.specs.declared.mark.Mark.TheVariants as marks
 use Rattle.nr_reduce.specs.declared.mark.LinkParameters.{LinkParameters}
 use Rattle.nr_reduce.specs.AtEachMark.{AtEachMark}
 use Rattle.nr_reduce.specs.Asked.{AskedMark, IsAll}
-use Rattle.nr_reduce.specs.Client.{client_rules, client_segment, client_end, client_state_after, with_hello, with_segment}
-use Rattle.nr_reduce.specs.ClientState.{ClientState}
+use Rattle.nr_reduce.specs.Client.{client_rules, client_segment, client_end, client_state_after, with_hello, with_segment, xid_unless_waiting}
+use Rattle.nr_reduce.specs.ClientState.{ClientState, WaitingCall, first_of}
 use Rattle.nr_reduce.specs.EndRules.{EndState, end_state_after, next_end_state, next_end_state_by, next_end_state_in}
 use Rattle.nr_reduce.specs.Events.{RunEvent, events, events_at, if_own}
 use Rattle.nr_reduce.specs.Events.RunEvent.{FrameReceived, CallSubmitted, MemoryRevoked, CallExecuted, QueueWritten, ServerTold}
 use Rattle.nr_reduce.specs.History.{AcceptedCall, accepted_at, accepted_calls, bytes_received, same_side}
 use Rattle.nr_reduce.specs.Run.{client}
-use Rattle.nr_reduce.proofs.Placing.{next_xid_one, segment_next}
+use Rattle.nr_reduce.proofs.Placing.{segment_next}
 use Rattle.nr_reduce.proofs.Steps.{client_one}
 use Rattle.nr_texts.specs.declared.opening.Opening.{Opening}
 use Rattle.nr_script.specs.declared.script.Line.{Line}
 use Rattle.nr_script.specs.declared.script.Line.TheVariants as lines
 use Rattle.nr_script.specs.Script.{ScriptLines, IsScript, FollowOn, may_follow, is_client, is_call_line, credits_in_range}
 use Rattle.nr_drill.specs.Drill.{link_of, SerialServer, Setting, Drill, links_of, start, after_openings, after_opening, after_round, after_moves}
-use Rattle.nr_drill.specs.Follows.{after_line, Drains, Makes, MakeAll, Follows, parameters_of, setting_of, opened_drill}
-use Rattle.nr_drill.specs.Headline.{IsDrillRun}
+use Rattle.nr_drill.specs.Follows.{Drains, Follows, parameters_of, setting_of, opened_drill}
 use Rattle.nr_drill.specs.private.Drafts.{AreNumbered, IsNextXid, NumberedMark}
 use Rattle.nr_drill.proofs.DraftSteps.{accepted_one, itself}
-use Rattle.nr_drill.proofs.Followed.{Adds, submit_adds, up_adds, down_adds, work_adds, forget_adds, revoke_adds, drop_adds, raw_adds, moves_adds, opening_adds, grant_adds}
+use Rattle.nr_drill.proofs.Followed.{Adds, submit_adds, up_adds, down_adds, work_adds, forget_adds, revoke_adds, drop_adds, raw_adds, moves_adds, opening_adds, grant_adds, follows_keeps_laws}
 use Rattle.nr_reduce.specs.History.{is_dropped}
+use Rattle.nr_reduce.proofs.Unresumed.{none_waits}
+use Rattle.nr_reduce.specs.SubmitAnswer.{first_xid_or}
+use Rattle.nr_reduce.specs.Opening.{IsFirstLink}
+use Rattle.nr_drill.specs.Lines.{IsUnnumbered}
+use Rattle.nr_drill.proofs.Carried.{follows_made}
+use Rattle.nr_drill.proofs.FirstLinks.{same_parameters}
+use Rattle.nr_drill.specs.Unnumbered.{first_line, FirstMakes, FirstMakeAll}
 
 -- ===== links
 
@@ -64,7 +70,7 @@ client_within opening client e =
     (leb-true 1 client both.0, leb-true client opening.clients both.1)
 
 module _ (opening : Opening) (s : Setting) where
-  line_within : (before : List Line) (line : Line) (d : Drill) → may_follow opening before line ≡ true → AreLinksWithin opening.clients d.marks → AreLinksWithin opening.clients (after_line s line d).marks
+  line_within : (before : List Line) (line : Line) (d : Drill) → may_follow opening before line ≡ true → AreLinksWithin opening.clients d.marks → AreLinksWithin opening.clients (first_line s line d).marks
   line_within before (lines.Cred client cred) d e h = h
   line_within before (lines.Call client form prog vers proc args) d e h = added_within opening.clients client d.marks _ (client_within opening client e) (submit_adds s client _ form d).marks h
   line_within before (lines.Up client most) d e h = added_within opening.clients client d.marks _ (client_within opening client e) (up_adds s client most d).marks h
@@ -76,6 +82,7 @@ module _ (opening : Opening) (s : Setting) where
   line_within before (lines.Revoke client number) d e h =
       added_within opening.clients client d.marks _ (client_within opening client (both_true (is_client opening client) (is_call_line client number before) e).0) (revoke_adds s client number d).marks h
   line_within before (lines.Drop client) d e h = added_within opening.clients client d.marks _ (client_within opening client e) (drop_adds client d).marks h
+  line_within before (lines.Rejoin client) d e h = h
   line_within before (lines.Raw client side bytes) d e h =
       added_within opening.clients client d.marks _ (client_within opening client e) (raw_adds client side bytes (is_dropped client d.marks) d).marks h
   line_within before (lines.Grant client credits) d e h =
@@ -101,7 +108,7 @@ module _ (opening : Opening) (s : Setting) where
   all_links : AllWithin (links_of opening.clients)
   all_links = range_within 1 opening.clients (omega arith) (omega arith)
 
-  made_within : (before : List Line) (line : Line) (old new : Drill) → may_follow opening before line ≡ true → Makes s opening.clients line old new → AreLinksWithin opening.clients old.marks → AreLinksWithin opening.clients new.marks
+  made_within : (before : List Line) (line : Line) (old new : Drill) → may_follow opening before line ≡ true → FirstMakes s opening.clients line old new → AreLinksWithin opening.clients old.marks → AreLinksWithin opening.clients new.marks
   made_within before (lines.Cred client cred) old new f e h = subst (λ (d : Drill). AreLinksWithin opening.clients d.marks) (sym e) (line_within before (lines.Cred client cred) old f h)
   made_within before (lines.Call client form prog vers proc args) old new f e h = subst (λ (d : Drill). AreLinksWithin opening.clients d.marks) (sym e) (line_within before (lines.Call client form prog vers proc args) old f h)
   made_within before (lines.Up client most) old new f e h = subst (λ (d : Drill). AreLinksWithin opening.clients d.marks) (sym e) (line_within before (lines.Up client most) old f h)
@@ -111,11 +118,12 @@ module _ (opening : Opening) (s : Setting) where
   made_within before (lines.Forget client number) old new f e h = subst (λ (d : Drill). AreLinksWithin opening.clients d.marks) (sym e) (line_within before (lines.Forget client number) old f h)
   made_within before (lines.Revoke client number) old new f e h = subst (λ (d : Drill). AreLinksWithin opening.clients d.marks) (sym e) (line_within before (lines.Revoke client number) old f h)
   made_within before (lines.Drop client) old new f e h = subst (λ (d : Drill). AreLinksWithin opening.clients d.marks) (sym e) (line_within before (lines.Drop client) old f h)
+  made_within before (lines.Rejoin client) old new f e h = subst (λ (d : Drill). AreLinksWithin opening.clients d.marks) (sym e) (line_within before (lines.Rejoin client) old f h)
   made_within before (lines.Raw client side bytes) old new f e h = subst (λ (d : Drill). AreLinksWithin opening.clients d.marks) (sym e) (line_within before (lines.Raw client side bytes) old f h)
   made_within before (lines.Grant client credits) old new f e h = subst (λ (d : Drill). AreLinksWithin opening.clients d.marks) (sym e) (line_within before (lines.Grant client credits) old f h)
   made_within before lines.Drain old new f e h = drain_within (links_of opening.clients) e.0 old new all_links e.1 h
 
-  lines_within : (before all : List Line) (old new : Drill) → FollowOn opening before all → MakeAll s opening.clients all old new → AreLinksWithin opening.clients old.marks → AreLinksWithin opening.clients new.marks
+  lines_within : (before all : List Line) (old new : Drill) → FollowOn opening before all → FirstMakeAll s opening.clients all old new → AreLinksWithin opening.clients old.marks → AreLinksWithin opening.clients new.marks
   lines_within before [] old new f e h = subst (λ (d : Drill). AreLinksWithin opening.clients d.marks) (sym e) h
   lines_within before (line ∷ others) old new f e h = lines_within (before ++ line ∷ []) others e.0 new f.1 e.2 (made_within before line old e.0 f.0 e.1 h)
 
@@ -123,12 +131,13 @@ module _ (opening : Opening) (s : Setting) where
   openings_within [] d w h = h
   openings_within (l ∷ links) d w h = openings_within links (after_opening s l d) w.1 (added_within opening.clients l d.marks _ w.0 (opening_adds s l d).marks h)
 
-follows_within : (server : SerialServer) (script : ScriptLines) (run : List Mark) → IsScript script → Follows server script run → AreLinksWithin script.opening.clients run
+follows_within : (server : SerialServer) (script : ScriptLines) (run : List Mark) → IsScript script → IsUnnumbered script → Follows server script run → AreLinksWithin script.opening.clients run
 unfolding opened_drill
-follows_within server script run is follows =
+follows_within server script run is none follows =
     let s = setting_of server script.opening in
-    let first = openings_within script.opening s (links_of script.opening.clients) (start script.opening.clients) (all_links script.opening s) tt in
-    subst (AreLinksWithin script.opening.clients) (sym follows.marks_are) (lines_within script.opening s [] script.lines (opened_drill server script.opening) follows.last is.follow_on follows.makes first)
+    let first = openings_within script.opening s (links_of script.opening.clients) (start s script.opening.clients) (all_links script.opening s) tt in
+    subst (AreLinksWithin script.opening.clients) (sym follows.marks_are)
+    (lines_within script.opening s [] script.lines (opened_drill server script.opening) follows.last is.follow_on (follows_made server script run is none follows) first)
 
 -- ===== xids
 
@@ -183,7 +192,23 @@ module _ (o : LinkParameters) where
   abbrev IsCounted : ℕ → List Mark → Type 0
   IsCounted link run = (client o link run).state.next_xid ≡ o.first_xid + length (accepted_calls link run)
 
-  module _ (link : ℕ) (run : List Mark) where
+  -- after an accepted call the next xid is one more, if none waits to be sent again
+  submits_one : (k : ClientState) (ended : Option End) (place : ℕ) (a : AcceptedCall) → ended ≡ None → k.waiting ≡ [] →
+      (end_state_after (client_rules o) (record { state = k; ended = ended }) (CallSubmitted place a ∷ [])).state.next_xid ≡ k.next_xid + 1
+  unfolding client_end client_state_after
+  submits_one k None place a stays none = ap (λ (ws : List WaitingCall). xid_unless_waiting (first_of ws a.xid) k.next_xid) none
+  submits_one k (Some end) place a stays none = absurd cc
+
+  next_xid_one : (link : ℕ) (run : List Mark) (call : Call) (form : Form) (xid : ℕ) → (client o link run).ended ≡ None → (client o link run).state.waiting ≡ [] →
+      (client o link (run ++ marks.Submit link call form (submissions.Accepted xid) ∷ [])).state.next_xid ≡ (client o link run).state.next_xid + 1
+  next_xid_one link run call form xid stays none =
+      let a : AcceptedCall = record { xid = xid; call = call; form = form } in
+      let r = client o link run in
+      ap (λ (r : EndState ClientState). r.state.next_xid) (client_one o link run (marks.Submit link call form (submissions.Accepted xid)))
+      ∙ ap (λ (b : Bool). (end_state_after (client_rules o) r (if_own (b && true) (CallSubmitted (length (bytes_received link Initiator run)) a ∷ []))).state.next_xid) (itself link)
+      ∙ submits_one r.state r.ended (length (bytes_received link Initiator run)) a stays none
+
+  module _ (link : ℕ) (run : List Mark) (start : IsFirstLink o) where
     quiet_mark : (mark : Mark) → AllByRecursion IsQuiet (events_at link Initiator run mark) → accepted_at link mark ≡ [] → IsCounted link run → IsCounted link (run ++ mark ∷ [])
     quiet_mark mark quiet none is =
         ap (λ (r : EndState ClientState). r.state.next_xid) (client_one o link run mark) ∙ quiet_all (client o link run) (events_at link Initiator run mark) quiet ∙ is
@@ -200,7 +225,7 @@ module _ (o : LinkParameters) where
         let more : length (accepted_calls link (run ++ marks.Submit link call form (submissions.Accepted xid) ∷ [])) ≡ length (accepted_calls link run) + 1 =
         ap (λ (cs : List AcceptedCall). length cs) (accepted_one link run (marks.Submit link call form (submissions.Accepted xid)) ∙ ap (λ (cs : List AcceptedCall). accepted_calls link run ++ cs) at)
         ∙ length-append (accepted_calls link run) (a ∷ []) in
-        omega (arith, next_xid_one o link run call form xid stays, is, more)
+        omega (arith, next_xid_one link run call form xid stays (none_waits o link run start.resumed), is, more)
 
     counted_one : (mark : Mark) → AskedMark IsAll o link run mark → IsCounted link run → IsCounted link (run ++ mark ∷ [])
     counted_one (marks.Submit l call form (submissions.Accepted xid)) asked is = by (eqb l link) refl
@@ -228,33 +253,37 @@ module _ (o : LinkParameters) where
     counted_one (marks.Drop l) asked is = quiet_mark (marks.Drop l) tt refl is
     counted_one (marks.Told l what) asked is = quiet_mark (marks.Told l what) (never (eqb l link) (ServerTold what ∷ [])) refl is
 
-  next_xid_is : (before : List Mark) (mark : Mark) → o.first_xid ≡ 1 → AskedMark IsAll o (link_of mark) before mark → IsCounted (link_of mark) before → IsNextXid before mark
-  next_xid_is before (marks.Submit l call form (submissions.Accepted xid)) first asked is = (let e = (asked refl).next in omega (arith, e, is, first))
-  next_xid_is before (marks.Submit l call form (submissions.Refused why)) first asked is = tt
-  next_xid_is before (marks.Submit l call form submissions.Dropped) first asked is = tt
-  next_xid_is before (marks.Wrote l side bytes) first asked is = tt
-  next_xid_is before (marks.Fed l side bytes) first asked is = tt
-  next_xid_is before (marks.Execute l xid moment payload place reply) first asked is = tt
-  next_xid_is before (marks.Done l xid outcome) first asked is = tt
-  next_xid_is before (marks.Lost l xid) first asked is = tt
-  next_xid_is before (marks.Forget l xid) first asked is = tt
-  next_xid_is before (marks.Revoke l xid bytes) first asked is = tt
-  next_xid_is before (marks.Drop l) first asked is = tt
-  next_xid_is before (marks.Told l what) first asked is = tt
+  next_xid_is : (before : List Mark) (mark : Mark) → IsFirstLink o → o.first_xid ≡ 1 → AskedMark IsAll o (link_of mark) before mark → IsCounted (link_of mark) before → IsNextXid before mark
+  next_xid_is before (marks.Submit l call form (submissions.Accepted xid)) start first asked is =
+      let e = (asked refl).next ∙ ap (λ (ws : List WaitingCall). first_xid_or (client o l before).state.next_xid ws) (none_waits o l before start.resumed) in
+      omega (arith, e, is, first)
+  next_xid_is before (marks.Submit l call form (submissions.Refused why)) start first asked is = tt
+  next_xid_is before (marks.Submit l call form submissions.Dropped) start first asked is = tt
+  next_xid_is before (marks.Wrote l side bytes) start first asked is = tt
+  next_xid_is before (marks.Fed l side bytes) start first asked is = tt
+  next_xid_is before (marks.Execute l xid moment payload place reply) start first asked is = tt
+  next_xid_is before (marks.Done l xid outcome) start first asked is = tt
+  next_xid_is before (marks.Lost l xid) start first asked is = tt
+  next_xid_is before (marks.Forget l xid) start first asked is = tt
+  next_xid_is before (marks.Revoke l xid bytes) start first asked is = tt
+  next_xid_is before (marks.Drop l) start first asked is = tt
+  next_xid_is before (marks.Told l what) start first asked is = tt
 
-  numbered_from : (clients : ℕ) (before run : List Mark) → o.first_xid ≡ 1 → ((link : ℕ) → IsLinkWithin clients link → AtEachMark (AskedMark IsAll o link) before run) → ((link : ℕ) → IsLinkWithin clients link → IsCounted link before)
+  numbered_from : (clients : ℕ) (before run : List Mark) → IsFirstLink o → o.first_xid ≡ 1 → ((link : ℕ) → IsLinkWithin clients link → AtEachMark (AskedMark IsAll o link) before run) → ((link : ℕ) → IsLinkWithin clients link → IsCounted link before)
       → AreLinksWithin clients run → AtEachMark (NumberedMark clients) before run
-  numbered_from clients before [] first asked count w = tt
-  numbered_from clients before (mark ∷ run) first asked count w = (
-    record { above = w.0.0; within = w.0.1; xid = next_xid_is before mark first (asked (link_of mark) w.0).0 (count (link_of mark) w.0) },
-    numbered_from clients (before ++ mark ∷ []) run first (λ link i. (asked link i).1) (λ link i. counted_one link before mark (asked link i).0 (count link i)) w.1,
+  numbered_from clients before [] start first asked count w = tt
+  numbered_from clients before (mark ∷ run) start first asked count w = (
+    record { above = w.0.0; within = w.0.1; xid = next_xid_is before mark start first (asked (link_of mark) w.0).0 (count (link_of mark) w.0) },
+    numbered_from clients (before ++ mark ∷ []) run start first (λ link i. (asked link i).1) (λ link i. counted_one link before start mark (asked link i).0 (count link i)) w.1,
   )
 
   first_count : (link : ℕ) → IsCounted link []
   unfolding client events accepted_calls
   first_count link = (let same : o.first_xid ≡ o.first_xid + 0 = omega arith in same)
 
-pub drill_numbered : (server : SerialServer) (script : ScriptLines) (run : List Mark) → IsScript script → IsDrillRun server script run → AreNumbered script.opening.clients run
-drill_numbered server script run is drill =
-    numbered_from (parameters_of script.opening 1) script.opening.clients [] run refl (λ link w. (drill.laws link w).asked.each) (λ link w. first_count (parameters_of script.opening 1) link)
-    (follows_within server script run is drill.follows)
+pub drill_numbered : (server : SerialServer) (script : ScriptLines) (run : List Mark) → IsScript script → IsUnnumbered script → Follows server script run → AreNumbered script.opening.clients run
+drill_numbered server script run is none follows =
+    let o = parameters_of script.opening 1 in
+    numbered_from o script.opening.clients [] run (record { resumed = refl; agreed = refl }) refl
+    (λ link w. subst (λ (p : LinkParameters). AtEachMark (AskedMark IsAll p link) [] run) (same_parameters script.opening link 1 none) (follows_keeps_laws server script run is none follows link w.0 w.1).asked.each)
+    (λ link w. first_count o link) (follows_within server script run is none follows)

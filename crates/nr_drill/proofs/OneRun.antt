@@ -4,7 +4,7 @@ use Rattle.nr_reduce.specs.declared.mark.Mark.{Mark}
 use Rattle.nr_script.specs.declared.script.Line.{Line}
 use Rattle.nr_script.specs.declared.script.Line.TheVariants as lines
 use Rattle.nr_script.specs.Script.{ScriptLines}
-use Rattle.nr_drill.specs.Drill.{SerialServer, Setting, Drill, links_of, after_round}
+use Rattle.nr_drill.specs.Drill.{SerialServer, Setting, Drill, after_round, setting_now}
 use Rattle.nr_drill.specs.Follows.{Drains, Makes, MakeAll, Follows, setting_of, opened_drill}
 
 drains_once : (s : Setting) (links : List ℕ) (n m : ℕ) (old one two : Drill) → Drains s links n old one → Drains s links m old two → one ≡ two
@@ -23,9 +23,10 @@ makes_once s clients (lines.Tick seconds) old one two h g = h ∙ sym g
 makes_once s clients (lines.Forget client number) old one two h g = h ∙ sym g
 makes_once s clients (lines.Revoke client number) old one two h g = h ∙ sym g
 makes_once s clients (lines.Drop client) old one two h g = h ∙ sym g
+makes_once s clients (lines.Rejoin client) old one two h g = h ∙ sym g
 makes_once s clients (lines.Raw client side bytes) old one two h g = h ∙ sym g
 makes_once s clients (lines.Grant client credits) old one two h g = h ∙ sym g
-makes_once s clients lines.Drain old one two h g = drains_once s (links_of clients) h.0 g.0 old one two h.1 g.1
+makes_once s clients lines.Drain old one two h g = drains_once (setting_now s old) old.last_links h.0 g.0 old one two h.1 g.1
 
 pub made_once : (s : Setting) (clients : ℕ) (all : List Line) (old one two : Drill) → MakeAll s clients all old one → MakeAll s clients all old two → one ≡ two
 made_once s clients [] old one two h g = h ∙ sym g

@@ -16,8 +16,12 @@ use Rattle.nr_reduce.specs.declared.call.Submission.TheVariants as submissions
 use Rattle.nr_reduce.specs.declared.mark.Mark.{Mark}
 use Rattle.nr_reduce.specs.declared.mark.Mark.TheVariants as marks
 use Rattle.nr_reduce.specs.declared.mark.Told.TheVariants.{Granted}
+use Rattle.nr_reduce.specs.declared.mark.Told.TheVariants as told
 use Rattle.nr_reduce.specs.declared.mark.LinkParameters.{LinkParameters}
-use Rattle.nr_reduce.specs.PlainJournal.{entries_added, journal}
+use Rattle.nr_reduce.specs.PlainJournal.{entries_added}
+use Rattle.nr_reduce.specs.NumberedJournal.{Standing}
+use Rattle.nr_reduce.specs.NumberedJournal.Standing.{Old, Kept, New}
+use Rattle.nr_reduce.specs.Served.{last_frame_at}
 use Rattle.nr_reduce.specs.History.{CompletedCall, bytes_sent, is_dropped}
 use Rattle.nr_reduce.specs.OutcomesDue.{outcomes_due}
 use Rattle.nr_reduce.specs.ServerState.{ReadyCall}
@@ -33,13 +37,18 @@ use Rattle.nr_laws.proofs.Bytes.{bytes_both}
 use Rattle.nr_script.specs.declared.script.Line.{Line}
 use Rattle.nr_script.specs.declared.script.Line.TheVariants as lines
 use Rattle.nr_script.specs.Script.{ScriptLines, IsTypedCred, IsTypedLine, IsScript}
-use Rattle.nr_drill.specs.Drill.{SerialServer, Setting, Drill, Pipes, plain_of, now, unwritten, after_output, after_all_output, settled, pipes_of, with_pipes, with_mark, with_cred, appended, empty_pipes, cred_of, after_submit, after_feeding, after_feeding_up, after_up, waiting_call, after_answer, after_execution, after_work, after_calls, after_drop, after_raw, after_feeding_down, after_handing, after_done, after_dones, after_outcomes, after_down, answer_of_line, open_xid, after_giving_up, after_forget, after_taking_back, after_revoke, after_all_up, after_all_work, after_moves, after_round, after_opening, after_openings, start, links_of, after_grant}
-use Rattle.nr_drill.specs.Follows.{after_line, Drains, Makes, MakeAll, Follows, setting_of, opened_drill}
+use Rattle.nr_drill.specs.Drill.{SerialServer, Setting, Drill, Pipes, GivenReply, plain_of, client_of, standing_of, reply_given, unwritten, after_output, after_all_output, settled, pipes_of, with_pipes, with_mark, with_cred, appended, empty_pipes, cred_of, after_submit, after_feeding, after_feeding_up, after_up, waiting_call, after_answer, after_call, after_execution, after_work, after_calls, after_drop, after_raw, after_feeding_down, after_handing, after_done, after_dones, after_outcomes, after_down, answer_of_line, open_xid, after_giving_up, after_forget, after_taking_back, after_revoke, after_all_up, after_all_work, after_moves, after_round, after_opening, after_openings, start, links_of, after_grant}
+use Rattle.nr_drill.specs.Follows.{Drains, Follows, setting_of, opened_drill}
+use Rattle.nr_drill.specs.Lines.{IsUnnumbered}
+use Rattle.nr_drill.proofs.FirstLinks.{opened_firsts, down_is}
 use Rattle.nr_drill.specs.InBytes.{RepliedMark, RepliedInBytes, ExecutedMark}
 use Rattle.nr_script.proofs.ByteLists.{no_bytes_lem}
-use Rattle.nr_byte_laws.proofs.ByteClients.{client_due}
+use Rattle.nr_byte_laws.proofs.ByteClients.{client_due, none_again}
 use Rattle.nr_byte_laws.proofs.ByteServers.{server_due}
 use Rattle.nr_byte_laws.proofs.CallBytes.{payload_is_bytes}
+use Rattle.nr_drill.proofs.Carried.{follows_made}
+use Rattle.nr_drill.specs.Unnumbered.{AreFirst, first_line, FirstMakes, FirstMakeAll}
+use Rattle.nr_reduce.specs.Opening.{IsFirstLink}
 
 -- ===== a drill that is of its types
 
@@ -84,10 +93,10 @@ behind_bytes Responder bytes p b h = (h.0, bytes_both p.down bytes h.1 b)
 -- ===== each step of a drill
 
 -- what a side has to write, and hasn't written, are bytes
-unwritten_bytes : (o : LinkParameters) (link : ℕ) (side : Side) (run : List Mark) → IsTyped run → IsBytes (unwritten o link side run)
+unwritten_bytes : (o : LinkParameters) (link : ℕ) (side : Side) (run : List Mark) → IsFirstLink o → IsTyped run → IsBytes (unwritten o link side run)
 unfolding unwritten
-unwritten_bytes o link Initiator run typed = IsBytes_drop (length (bytes_sent link Initiator run)) (output_due o link Initiator run) (client_due o link run typed)
-unwritten_bytes o link Responder run typed = IsBytes_drop (length (bytes_sent link Responder run)) (output_due o link Responder run) (server_due o link run typed)
+unwritten_bytes o link Initiator run first typed = IsBytes_drop (length (bytes_sent link Initiator run)) (output_due o link Initiator run) (client_due o link run (none_again o first.resumed) typed)
+unwritten_bytes o link Responder run first typed = IsBytes_drop (length (bytes_sent link Responder run)) (output_due o link Responder run) (server_due o link run typed)
 
 output_typed : (link : ℕ) (side : Side) (bytes : List ℕ) (d : Drill) → IsBytes bytes → IsTypedDrill d → IsTypedDrill (after_output link side bytes d)
 output_typed link side [] d b h = h
@@ -135,14 +144,14 @@ pub data AddsQuiet (s : Setting) (old new : Drill) : Type 0 where
   Same : new.marks ≡ old.marks → AddsQuiet s old new
   More : (mark : Mark) → entries_added (plain_of s.server) mark ≡ [] → ExecutedMark old.marks mark → new.marks ≡ old.marks ++ mark ∷ [] → AddsQuiet s old new
 
-abbrev pub executed : Setting → ℕ → ReadyCall → List ℕ → Drill → Drill
-executed s link call reply d = with_mark (marks.Execute link call.xid (now d) call.payload (length (journal (plain_of s.server) d.marks)) reply) d
+abbrev pub executed : ℕ → ReadyCall → GivenReply → Drill → Drill
+executed link call g d = with_mark (marks.Execute link call.xid g.moment call.payload g.place g.reply) d
 
--- what steps of a drill keep: each that executes no call and keeps types, and each execution
+-- What steps of a drill keep on links that were not reopened: each that executes no call and keeps types, and each execution.
 pub record KeptBySteps (s : Setting) (P : Drill → Type 0) : Type 0 where
+  pub first : AreFirst s
   pub quiet : (old new : Drill) → AddsQuiet s old new → (IsTypedDrill old → IsTypedDrill new) → P old → P new
-  pub executes : (link : ℕ) (call : ReadyCall) (reply : List ℕ) (d : Drill) → waiting_call s link d.marks ≡ Some call →
-      s.server.reply_to (journal (plain_of s.server) d.marks) (now d) call.payload ≡ Some reply → P d → P (executed s link call reply d)
+  pub executes : (link : ℕ) (call : ReadyCall) (g : GivenReply) (d : Drill) → waiting_call s link d.marks ≡ Some call → reply_given s link d call ≡ Some g → P d → P (executed link call g d)
 
 output_quiet : (s : Setting) (link : ℕ) (side : Side) (bytes : List ℕ) (d : Drill) → AddsQuiet s d (after_output link side bytes d)
 output_quiet s link side [] d = Same refl
@@ -159,7 +168,7 @@ handing_quiet s link (Some c) d = More (marks.Done link c.xid c.outcome) refl tt
 all_output_keeps : (s : Setting) (P : Drill → Type 0) → KeptBySteps s P → (link : ℕ) (side : Side) (d : Drill) → P d → P (after_all_output s link side d)
 all_output_keeps s P k link side d h =
     let bytes = unwritten (s.opened link) link side d.marks in
-    k.quiet d (after_all_output s link side d) (output_quiet s link side bytes d) (λ t. output_typed link side bytes d (unwritten_bytes (s.opened link) link side d.marks t.typed) t) h
+    k.quiet d (after_all_output s link side d) (output_quiet s link side bytes d) (λ t. output_typed link side bytes d (unwritten_bytes (s.opened link) link side d.marks (k.first.on link) t.typed) t) h
 
 settled_keeps : (s : Setting) (P : Drill → Type 0) → KeptBySteps s P → (link : ℕ) (d : Drill) → P d → P (settled s link d)
 unfolding settled
@@ -180,22 +189,31 @@ dones_keep s P k link (suc n) d h =
     dones_keep s P k link n (after_done s link d) (k.quiet d (after_handing link c d) (handing_quiet s link c d) (handed_typed link c d) h)
 
 pub down_keeps : (s : Setting) (P : Drill → Type 0) → KeptBySteps s P → (link n : ℕ) (d : Drill) → P d → P (after_down s link n d)
-unfolding after_down after_outcomes
+unfolding after_outcomes
 down_keeps s P k link n d h =
     let pipes = pipes_of link d in
     let fed = after_feeding_down link n d in
-    settled_keeps s P k link (after_outcomes s link fed)
+    subst P (sym (down_is s link n d (k.first.on link)))
+    (settled_keeps s P k link (after_outcomes s link fed)
     (dones_keep s P k link (length (outcomes_due (s.opened link) link fed.marks)) fed
-    (k.quiet d fed (fed_quiet s link Initiator (take n pipes.down) (record pipes { down = drop n pipes.down }) d) (fed_down_typed link n d) h))
+    (k.quiet d fed (fed_quiet s link Initiator (take n pipes.down) (record pipes { down = drop n pipes.down }) d) (fed_down_typed link n d) h)))
 
-answer_keeps : (s : Setting) (P : Drill → Type 0) → KeptBySteps s P → (link : ℕ) (call : ReadyCall) (reply : Option (List ℕ)) (d : Drill) → waiting_call s link d.marks ≡ Some call →
-    s.server.reply_to (journal (plain_of s.server) d.marks) (now d) call.payload ≡ reply → P d → P (after_answer s link call reply d)
+answer_keeps : (s : Setting) (P : Drill → Type 0) → KeptBySteps s P → (link : ℕ) (call : ReadyCall) (answer : Option GivenReply) (d : Drill) → waiting_call s link d.marks ≡ Some call →
+    reply_given s link d call ≡ answer → P d → P (after_answer s link call answer d)
 answer_keeps s P k link call None d next is h = h
-answer_keeps s P k link call (Some reply) d next is h = settled_keeps s P k link (executed s link call reply d) (k.executes link call reply d next is h)
+answer_keeps s P k link call (Some g) d next is h = settled_keeps s P k link (executed link call g d) (k.executes link call g d next is h)
+
+call_keeps : (s : Setting) (P : Drill → Type 0) → KeptBySteps s P → (link : ℕ) (call : ReadyCall) (is : Standing) (answer : Option GivenReply) (d : Drill) → waiting_call s link d.marks ≡ Some call →
+    reply_given s link d call ≡ answer → P d → P (after_call s link call is answer d)
+call_keeps s P k link call (Old top) answer d next is h =
+    let mark = marks.Told link (told.Old call.xid (last_frame_at link d.marks)) in
+    settled_keeps s P k link (with_mark mark d) (k.quiet d (with_mark mark d) (More mark refl tt refl) (marked mark d tt) h)
+call_keeps s P k link call (Kept place) answer d next is h = answer_keeps s P k link call answer d next is h
+call_keeps s P k link call New answer d next is h = answer_keeps s P k link call answer d next is h
 
 execution_keeps : (s : Setting) (P : Drill → Type 0) → KeptBySteps s P → (link : ℕ) (call : Option ReadyCall) (d : Drill) → waiting_call s link d.marks ≡ call → P d → P (after_execution s link call d)
 execution_keeps s P k link None d next h = h
-execution_keeps s P k link (Some call) d next h = answer_keeps s P k link call (s.server.reply_to (journal (plain_of s.server) d.marks) (now d) call.payload) d next refl h
+execution_keeps s P k link (Some call) d next h = call_keeps s P k link call (standing_of s link d call) (reply_given s link d call) d next refl h
 
 pub work_keeps : (s : Setting) (P : Drill → Type 0) → KeptBySteps s P → (link : ℕ) (d : Drill) → P d → P (after_work s link d)
 unfolding after_work
@@ -211,7 +229,7 @@ giving_up_keeps s P k link (Some xid) d h = k.quiet d (with_mark (marks.Forget l
 
 forget_keeps : (s : Setting) (P : Drill → Type 0) → KeptBySteps s P → (link number : ℕ) (d : Drill) → P d → P (after_forget s link number d)
 unfolding after_forget
-forget_keeps s P k link number d h = giving_up_keeps s P k link (open_xid s link d.marks (answer_of_line link number d.marks)) d h
+forget_keeps s P k link number d h = giving_up_keeps s P k link (open_xid s link d.marks (answer_of_line s (client_of s link) number d.marks)) d h
 
 taking_back_keeps : (s : Setting) (P : Drill → Type 0) → KeptBySteps s P → (link : ℕ) (xid : Option ℕ) (d : Drill) → P d → P (after_taking_back s link xid d)
 taking_back_keeps s P k link None d h = h
@@ -221,7 +239,7 @@ taking_back_keeps s P k link (Some xid) d h =
 
 revoke_keeps : (s : Setting) (P : Drill → Type 0) → KeptBySteps s P → (link number : ℕ) (d : Drill) → P d → P (after_revoke s link number d)
 unfolding after_revoke
-revoke_keeps s P k link number d h = taking_back_keeps s P k link (open_xid s link d.marks (answer_of_line link number d.marks)) d h
+revoke_keeps s P k link number d h = taking_back_keeps s P k link (open_xid s link d.marks (answer_of_line s (client_of s link) number d.marks)) d h
 
 submit_quiet : (s : Setting) (link : ℕ) (call : Call) (form : Form) (answer : Submission) (d : Drill) → AddsQuiet s d (with_mark (marks.Submit link call form answer) d)
 submit_quiet s link call form answer d = More (marks.Submit link call form answer) refl tt refl
@@ -234,7 +252,7 @@ raw_typed : (link : ℕ) (side : Side) (bytes : List ℕ) (dropped : Bool) (d : 
 raw_typed link side bytes true d b h = h
 raw_typed link side bytes false d b h = piped link (appended side bytes (pipes_of link d)) d (behind_bytes side bytes (pipes_of link d) b (pipes_at d.pipes (link - 1) h.pipes)) h
 
-line_keeps : (s : Setting) (P : Drill → Type 0) → KeptBySteps s P → (line : Line) (d : Drill) → IsTypedLine line → P d → P (after_line s line d)
+line_keeps : (s : Setting) (P : Drill → Type 0) → KeptBySteps s P → (line : Line) (d : Drill) → IsTypedLine line → P d → P (first_line s line d)
 unfolding after_submit
 line_keeps s P k (lines.Cred client cred) d l h =
     k.quiet d (with_cred client cred d) (Same refl) (λ t. record { typed = t.typed; pipes = t.pipes; creds = with_cred_at_lem d.creds (client - 1) cred t.creds l }) h
@@ -254,6 +272,7 @@ line_keeps s P k (lines.Forget client number) d l h = forget_keeps s P k client 
 line_keeps s P k (lines.Revoke client number) d l h = revoke_keeps s P k client number d h
 line_keeps s P k (lines.Drop client) d l h =
     k.quiet d (after_drop client d) (More (marks.Drop client) refl tt refl) (λ t. piped client empty_pipes (with_mark (marks.Drop client) d) (no_bytes_lem, no_bytes_lem) (marked (marks.Drop client) d tt t)) h
+line_keeps s P k (lines.Rejoin client) d l h = h
 line_keeps s P k (lines.Raw client side bytes) d l h =
     let dropped = is_dropped client d.marks in
     k.quiet d (after_raw client side bytes dropped d) (raw_quiet s client side bytes dropped d) (raw_typed client side bytes dropped d l) h
@@ -278,7 +297,7 @@ pub drain_keeps : (s : Setting) (P : Drill → Type 0) → KeptBySteps s P → (
 drain_keeps s P k links zero old new drains h = subst P (sym drains.1) h
 drain_keeps s P k links (suc rounds) old new drains h = drain_keeps s P k links rounds (after_round s links old) new drains.1 (round_keeps s P k links old h)
 
-made_keeps : (s : Setting) (P : Drill → Type 0) → KeptBySteps s P → (clients : ℕ) (line : Line) (old new : Drill) → IsTypedLine line → Makes s clients line old new → P old → P new
+made_keeps : (s : Setting) (P : Drill → Type 0) → KeptBySteps s P → (clients : ℕ) (line : Line) (old new : Drill) → IsTypedLine line → FirstMakes s clients line old new → P old → P new
 made_keeps s P k clients (lines.Cred client cred) old new l e h = subst P (sym e) (line_keeps s P k (lines.Cred client cred) old l h)
 made_keeps s P k clients (lines.Call client form prog vers proc args) old new l e h = subst P (sym e) (line_keeps s P k (lines.Call client form prog vers proc args) old l h)
 made_keeps s P k clients (lines.Up client most) old new l e h = subst P (sym e) (line_keeps s P k (lines.Up client most) old l h)
@@ -288,11 +307,12 @@ made_keeps s P k clients (lines.Tick seconds) old new l e h = subst P (sym e) (l
 made_keeps s P k clients (lines.Forget client number) old new l e h = subst P (sym e) (line_keeps s P k (lines.Forget client number) old l h)
 made_keeps s P k clients (lines.Revoke client number) old new l e h = subst P (sym e) (line_keeps s P k (lines.Revoke client number) old l h)
 made_keeps s P k clients (lines.Drop client) old new l e h = subst P (sym e) (line_keeps s P k (lines.Drop client) old l h)
+made_keeps s P k clients (lines.Rejoin client) old new l e h = subst P (sym e) (line_keeps s P k (lines.Rejoin client) old l h)
 made_keeps s P k clients (lines.Raw client side bytes) old new l e h = subst P (sym e) (line_keeps s P k (lines.Raw client side bytes) old l h)
 made_keeps s P k clients (lines.Grant client credits) old new l e h = subst P (sym e) (line_keeps s P k (lines.Grant client credits) old l h)
 made_keeps s P k clients lines.Drain old new l e h = drain_keeps s P k (links_of clients) e.0 old new e.1 h
 
-pub lines_keep : (s : Setting) (P : Drill → Type 0) → KeptBySteps s P → (clients : ℕ) (all : List Line) (old new : Drill) → AllByRecursion IsTypedLine all → MakeAll s clients all old new → P old → P new
+pub lines_keep : (s : Setting) (P : Drill → Type 0) → KeptBySteps s P → (clients : ℕ) (all : List Line) (old new : Drill) → AllByRecursion IsTypedLine all → FirstMakeAll s clients all old new → P old → P new
 lines_keep s P k clients [] old new l e h = subst P (sym e) h
 lines_keep s P k clients (line ∷ others) old new l e h = lines_keep s P k clients others e.0 new l.1 e.2 (made_keeps s P k clients line old e.0 l.0 e.1 h)
 
@@ -306,13 +326,14 @@ openings_keep s P k (link ∷ links) d h =
     (down_keeps s P k link (length (pipes_of link two).down) two (up_keeps s P k link (length (pipes_of link one).up) one (settled_keeps s P k link d h)))
 
 -- what holds of a drill before anything happened holds of it at the end of a script
-pub follows_keeps_by_steps : (server : SerialServer) (script : ScriptLines) (run : List Mark) (P : Drill → Type 0) → IsScript script → (follows : Follows server script run) → KeptBySteps (setting_of server script.opening) P →
-    P (start script.opening.clients) → P follows.last
+pub follows_keeps_by_steps : (server : SerialServer) (script : ScriptLines) (run : List Mark) (P : Drill → Type 0) → IsScript script → IsUnnumbered script → (follows : Follows server script run) → KeptBySteps (setting_of server script.opening) P →
+    P (start (setting_of server script.opening) script.opening.clients) → P follows.last
 unfolding opened_drill
-follows_keeps_by_steps server script run P is follows k h =
+follows_keeps_by_steps server script run P is none follows k h =
     let s = setting_of server script.opening in
     let clients = script.opening.clients in
-    lines_keep s P k clients script.lines (opened_drill server script.opening) follows.last is.typed follows.makes (openings_keep s P k (links_of clients) (start clients) h)
+    lines_keep s P k clients script.lines (opened_drill server script.opening) follows.last is.typed (follows_made server script run is none follows)
+    (openings_keep s P k (links_of clients) (start s clients) h)
 
 -- ===== before anything happened
 
@@ -324,8 +345,8 @@ no_creds : (clients : ℕ) → AllByRecursion IsTypedCred (replicate clients cre
 no_creds zero = tt
 no_creds (suc n) = (tt, no_creds n)
 
-pub start_typed : (clients : ℕ) → IsTypedDrill (start clients)
-start_typed clients = record { typed = tt; pipes = none_wait clients; creds = no_creds clients }
+pub start_typed : (s : Setting) (clients : ℕ) → IsTypedDrill (start s clients)
+start_typed s clients = record { typed = tt; pipes = none_wait clients; creds = no_creds clients }
 
 -- ===== if replies are bytes
 
@@ -337,16 +358,19 @@ quiet_replied s old new (Same is) h = subst RepliedInBytes is h
 quiet_replied s old new (More mark none other is) h = first_replied old.marks mark (subst RepliedInBytes is h)
 
 -- once all replies so far are bytes, a drill is of its types
-typed_if : (s : Setting) → KeptBySteps s (λ d. RepliedInBytes d.marks → IsTypedDrill d)
-typed_if s = record {
+typed_if : (s : Setting) → AreFirst s → KeptBySteps s (λ d. RepliedInBytes d.marks → IsTypedDrill d)
+typed_if s first = record {
+  first = first;
   quiet = λ old new adds keeps h replied. keeps (h (quiet_replied s old new adds replied));
-  executes = λ link call reply d next is h replied.
-      (let mark = marks.Execute link call.xid (now d) call.payload (length (journal (plain_of s.server) d.marks)) reply in
+  executes = λ link call g d next is h replied.
+      (let mark = marks.Execute link call.xid g.moment call.payload g.place g.reply in
       marked mark d (AtEachMark_at RepliedMark [] d.marks mark [] replied) (h (first_replied d.marks mark replied)));
 }
 
 -- The run of a drill is of its types, if each reply is bytes.
-pub follows_is_typed : (server : SerialServer) (script : ScriptLines) (run : List Mark) → IsScript script → RepliedInBytes run → Follows server script run → IsTyped run
-follows_is_typed server script run is replied follows =
-    let last = follows_keeps_by_steps server script run (λ d. RepliedInBytes d.marks → IsTypedDrill d) is follows (typed_if (setting_of server script.opening)) (λ none. start_typed script.opening.clients) in
+pub follows_is_typed : (server : SerialServer) (script : ScriptLines) (run : List Mark) → IsScript script → IsUnnumbered script → RepliedInBytes run → Follows server script run → IsTyped run
+follows_is_typed server script run is none replied follows =
+    let s = setting_of server script.opening in
+    let last = follows_keeps_by_steps server script run (λ d. RepliedInBytes d.marks → IsTypedDrill d) is none follows
+    (typed_if s (opened_firsts server script.opening none)) (λ replied. start_typed s script.opening.clients) in
     subst IsTyped (sym follows.marks_are) (last (subst RepliedInBytes follows.marks_are replied)).typed

@@ -5,7 +5,7 @@ use Rattle.nr_reduce.specs.Run.{server}
 use Rattle.nr_script.specs.declared.script.Line.{Line}
 use Rattle.nr_script.specs.declared.script.Line.TheVariants as lines
 use Rattle.nr_script.specs.Script.{ScriptLines}
-use Rattle.nr_drill.specs.Drill.{SerialServer, Setting, Drill, pipes_of, links_of, after_all_up, after_calls, after_all_work, after_work, after_round}
+use Rattle.nr_drill.specs.Drill.{SerialServer, Setting, Drill, pipes_of, after_all_up, after_calls, after_all_work, after_work, after_round, client_of, setting_now}
 use Rattle.nr_drill.specs.Follows.{is_still, MakeAll, setting_of, opened_drill}
 use Rattle.nr_drill.specs.Lines.{HasNoRaw}
 use Rattle.nr_drill.specs.WorkLeft.{DrainStep, after_step, work_left, IsLess}
@@ -39,15 +39,19 @@ pub record IsDrainStep (server : SerialServer) (script : ScriptLines) (link : �
   pub made : MakeAll (setting_of server script.opening) script.opening.clients before (opened_drill server script.opening) old
   pub rounds : ℕ
   pub round : Drill
-  pub makes_rounds : MakesRounds (setting_of server script.opening) (links_of script.opening.clients) rounds old round
-  pub moves : list_all (is_still (setting_of server script.opening) round) (links_of script.opening.clients) ≡ false
+  pub makes_rounds : MakesRounds (setting_now (setting_of server script.opening) old) old.last_links rounds old round
+  pub moves : list_all (is_still (setting_now (setting_of server script.opening) old) round) old.last_links ≡ false
   pub earlier : List ℕ
   pub later : List ℕ
-  pub is_turn : links_of script.opening.clients ≡ earlier ++ link ∷ later
-  pub is_before : IsBeforeStep (setting_of server script.opening) link (after_round (setting_of server script.opening) earlier round) step d
+  pub is_turn : old.last_links ≡ earlier ++ link ∷ later
+  pub is_before : IsBeforeStep (setting_now (setting_of server script.opening) old) link (after_round (setting_now (setting_of server script.opening) old) earlier round) step d
+
+-- what the links of the drain were opened with
+abbrev pub setting_then : {server : SerialServer} {script : ScriptLines} {link : ℕ} {step : DrainStep} {d : Drill} → IsDrainStep server script link step d → Setting
+setting_then {server = server} {script = script} x = setting_now (setting_of server script.opening) x.old
 
 -- Each step of the link in a drain of the script leaves less work, if it moves something, and no line before the drain puts bytes into the pipes
--- of the link.
+-- of its client's links.
 abbrev pub DrainStepsLeaveLess : SerialServer → ScriptLines → ℕ → Type 0
-DrainStepsLeaveLess server script link = (step : DrainStep) (d : Drill) → (x : IsDrainStep server script link step d) → HasNoRaw x.before link → Moves (setting_of server script.opening) link step d →
-    IsLess (work_left (setting_of server script.opening) (after_step (setting_of server script.opening) link step d) link) (work_left (setting_of server script.opening) d link)
+DrainStepsLeaveLess server script link = (step : DrainStep) (d : Drill) → (x : IsDrainStep server script link step d) → HasNoRaw x.before (client_of (setting_then x) link) → Moves (setting_then x) link step d →
+    IsLess (work_left (setting_then x) (after_step (setting_then x) link step d) link) (work_left (setting_then x) d link)

@@ -1,5 +1,5 @@
 -- What a drill promises: its run follows the script, both ends of each link keep their laws, and what these mean to callers.
-use Rattle.std.specs.Prelude.{◌≡◌, ◌≢◌, ℕ, ◌≤◌, false, List, [], ◌∷◌, ◌++◌, None, ◌↔◌}
+use Rattle.std.specs.Prelude.{◌≡◌, ◌≢◌, ℕ, ◌≤◌, false, List, [], ◌∷◌, ◌++◌, slice_get, None, Some, ◌↔◌}
 use Rattle.nr_wire.specs.declared.hello.Side.TheVariants.{Initiator, Responder}
 use Rattle.nr_reduce.specs.declared.call.Call.{Call}
 use Rattle.nr_reduce.specs.declared.call.Form.{Form}
@@ -8,13 +8,15 @@ use Rattle.nr_reduce.specs.declared.call.Outcome.{Outcome}
 use Rattle.nr_reduce.specs.declared.call.Outcome.TheVariants as outcomes
 use Rattle.nr_reduce.specs.declared.call.Submission.TheVariants as submissions
 use Rattle.nr_reduce.specs.declared.mark.Entry.{Entry}
+use Rattle.nr_reduce.specs.declared.mark.TaggedEntry.{TaggedEntry}
 use Rattle.nr_outside.specs.declared.moment.Moment.{Moment}
 use Rattle.nr_reduce.specs.declared.mark.Mark.{Mark}
 use Rattle.nr_reduce.specs.declared.mark.Mark.TheVariants as marks
 use Rattle.nr_reduce.specs.declared.mark.LinkParameters.{LinkParameters}
 use Rattle.nr_reduce.specs.declared.outline.Plan.{Plan}
-use Rattle.nr_reduce.specs.PlainJournal.{PlainServer, journal}
-use Rattle.nr_reduce.specs.Journal.{Journaled, AnsweredByPlainServer}
+use Rattle.nr_reduce.specs.PlainJournal.{PlainServer}
+use Rattle.nr_reduce.specs.NumberedJournal.{JournaledByNumber, entries_alone, number_heard}
+use Rattle.nr_reduce.specs.ClientState.{call_payload}
 use Rattle.nr_reduce.specs.History.{AcceptedCall, completed_calls, bytes_sent, bytes_received, is_dropped}
 use Rattle.nr_reduce.specs.OutcomesDue.{outcomes_due}
 use Rattle.nr_reduce.specs.Run.{end_of_side}
@@ -25,7 +27,8 @@ use Rattle.nr_reduce.specs.Credits.{KeepsGrant}
 use Rattle.nr_laws.specs.MarkAt.{MarkAt}
 use Rattle.nr_laws.specs.Typed.{IsTyped}
 use Rattle.nr_laws.specs.Grant.{AcceptsByRule}
-use Rattle.nr_laws.specs.Payloads.{HasPlan}
+use Rattle.nr_laws.specs.Payloads.{HasPlan, form_conveyed}
+use Rattle.nr_laws.specs.OnceEach.{IsAskedFor, HasEntry}
 use Rattle.nr_laws.specs.PlainReplies.{HasPlainReply}
 use Rattle.nr_laws.specs.ChunkOutcomes.{HasChunkCause, IsAnswered}
 use Rattle.nr_laws.specs.Completion.{HaveCompleted, HasOutcome, IsAwaitedStill, NothingInTransit}
@@ -33,9 +36,9 @@ use Rattle.nr_laws.specs.Stays.{HasNoRevoke, AreConveyedOrRefused}
 use Rattle.nr_drill.specs.declared.report.Report.{Report}
 use Rattle.nr_drill.specs.declared.report.LinkLog.{LinkLog}
 use Rattle.nr_script.specs.Script.{ScriptLines}
-use Rattle.nr_drill.specs.Drill.{SerialServer, plain_of}
-use Rattle.nr_drill.specs.Follows.{Follows, parameters_of, setting_of}
-use Rattle.nr_drill.specs.Lines.{HasNoRaw, EndsWithDrain, IsLink}
+use Rattle.nr_drill.specs.Drill.{SerialServer, Setting, IsLink, plain_of, client_of, is_sent_again, journal_of}
+use Rattle.nr_drill.specs.Follows.{Follows, last_setting}
+use Rattle.nr_drill.specs.Lines.{HasNoRaw, EndsWithDrain}
 use Rattle.nr_drill.specs.Memory.{KeepsMemory}
 use Rattle.nr_drill.specs.DrainSteps.{DrainStepsLeaveLess}
 use Rattle.nr_drill.specs.Reports.{call_reports, link_reports}
@@ -43,14 +46,15 @@ use Rattle.nr_drill.specs.Reports.{call_reports, link_reports}
 -- ===== one link
 
 -- Whatever the script, hostile bytes too: both ends keep their laws in full; each call is accepted by the client's rule, so within the grant;
--- each outcome that is due has been handed over; and if no line puts bytes into its pipes, each side receives what the other sent.
-pub record KeepsLaws (script : ScriptLines) (opened : LinkParameters) (link : ℕ) (run : List Mark) : Type 0 where
+-- each outcome that is due has been handed over; and if no line puts bytes into the pipes of its client's links, each side receives what the other
+-- sent.
+pub record KeepsLaws (script : ScriptLines) (opened : LinkParameters) (client link : ℕ) (run : List Mark) : Type 0 where
   pub asked : Asked opened link run
   pub served : Served opened link run
   pub accepts : AcceptsByRule opened link run
   pub grant : KeepsGrant opened link run
   pub handed : outcomes_due opened link run ≡ []
-  pub matched : HasNoRaw script.lines link → Matched link run
+  pub matched : HasNoRaw script.lines client → Matched link run
 
 -- A call that completes: with the plain server's reply at its place in the one journal; else with Chunk, if its message is refused or its
 -- offer doesn't hold the reply; never with another version.
@@ -68,37 +72,64 @@ AnswersChanges server opened link run = (before : List Mark) (xid : ℕ) (moment
     MarkAt run before (marks.Execute link xid moment payload place reply) → server.adds moment payload reply ≢ [] → IsAnswered opened link before xid moment payload place reply
 
 -- neither side ends, and after a last drain all calls have completed, each that wasn't given up with its Done
-pub record Stays (script : ScriptLines) (opened : LinkParameters) (link : ℕ) (run : List Mark) : Type 0 where
-  pub client : end_of_side opened link Initiator run ≡ None
-  pub server : end_of_side opened link Responder run ≡ None
-  pub complete : EndsWithDrain script link → NothingInTransit opened link run × HaveCompleted opened link run
-  pub done : EndsWithDrain script link → (a : AcceptedCall) → IsAwaitedStill link run a → HasOutcome (completed_calls link run) a.xid
+pub record Stays (script : ScriptLines) (opened : LinkParameters) (client link : ℕ) (run : List Mark) : Type 0 where
+  pub client_stays : end_of_side opened link Initiator run ≡ None
+  pub server_stays : end_of_side opened link Responder run ≡ None
+  pub complete : EndsWithDrain script client → NothingInTransit opened link run × HaveCompleted opened link run
+  pub done : EndsWithDrain script client → (a : AcceptedCall) → IsAwaitedStill link run a → HasOutcome (completed_calls link run) a.xid
 
 -- ===== the run
 
--- A call that is submitted after the outcome of another has a place that isn't smaller, whatever their links, if these are matched.
-abbrev pub PlacesRise : ℕ → ℕ → List Mark → Type 0
-PlacesRise link other_link run = (before between before_first before_second : List Mark) (call : Call) (form : Form) (xid other_xid : ℕ) (outcome : Outcome)
+-- A link is matched, and so is each link that its client had before.
+abbrev pub IsMatchedFromFirst : Setting → List Mark → ℕ → Type 0
+IsMatchedFromFirst s run link = (earlier : ℕ) → 1 ≤ earlier → earlier ≤ link → client_of s earlier ≡ client_of s link → Matched earlier run
+
+-- A call is submitted on a link for the first time, after the outcome of another was handed over. Its place isn't smaller, on whichever of its
+-- client's links it is executed.
+abbrev pub PlacesRise : Setting → (link other_link executing : ℕ) → List Mark → Type 0
+PlacesRise s link other_link executing run = (before between before_first before_second : List Mark) (call : Call) (form : Form) (xid other_xid : ℕ) (outcome : Outcome)
     (moment other_moment : Moment) (payload other_payload : List ℕ) (place other_place : ℕ) (reply other_reply : List ℕ) →
     MarkAt run (before ++ marks.Done link xid outcome ∷ between) (marks.Submit other_link call form (submissions.Accepted other_xid)) →
+    is_sent_again s other_link (submissions.Accepted other_xid) ≡ false →
     MarkAt run before_first (marks.Execute link xid moment payload place reply) →
-    MarkAt run before_second (marks.Execute other_link other_xid other_moment other_payload other_place other_reply) → place ≤ other_place
+    MarkAt run before_second (marks.Execute executing other_xid other_moment other_payload other_place other_reply) → place ≤ other_place
 
--- What is promised of the run of a drill. The ends of each link are opened with what the first line of the script says. A link is matched if no
--- line puts bytes into its pipes (`laws`); it may be if one does, as after it was dropped.
+-- ===== each change once
+
+-- no two entries are of one call of a client that has a number
+abbrev pub HasNoEntryTwice : List TaggedEntry → Type 0
+HasNoEntryTwice T = (place other : ℕ) (t u : TaggedEntry) → slice_get T place ≡ Some t → slice_get T other ≡ Some u →
+    t.client ≢ 0 → t.client ≡ u.client → t.xid ≡ u.xid → place ≡ other
+
+-- a call that completes on a link of such a client, with a reply that adds an entry, has its entry
+abbrev pub ChangesHaveEntries : SerialServer → List TaggedEntry → (ℕ → LinkParameters) → ℕ → List Mark → Type 0
+ChangesHaveEntries server T opened link run = (before : List Mark) (xid : ℕ) (call : Call) (form : Form) (moment : Moment) (payload reply : List ℕ) →
+    IsAskedFor opened link run xid call form → MarkAt run before (marks.Done link xid (outcomes.Reply reply)) →
+    form_conveyed form (call_payload xid call) ≡ Some payload → server.adds moment payload reply ≢ [] →
+    HasEntry (plain_of server) T (opened link).client.number xid payload reply
+
+-- What is promised of the run of a drill. `last_setting follows` says what its links were opened with: the first link of each client as the first
+-- line of the script says, and a later one as it was reopened from the one before. A link is matched if no line puts bytes into its pipes (`laws`); it
+-- may be if one does, as after it was dropped.
 pub record IsDrillRun (server : SerialServer) (script : ScriptLines) (run : List Mark) : Type 0 where
   pub follows : Follows server script run
   pub typed : IsTyped run
-  pub journaled : Journaled (plain_of server) (journal (plain_of server) run) run
-  pub plain_replies : AnsweredByPlainServer (plain_of server) run
-  pub laws : (link : ℕ) → IsLink script link → KeepsLaws script (parameters_of script.opening link) link run
-  pub memory : (link : ℕ) → IsLink script link → KeepsMemory (parameters_of script.opening link) link run
-  pub outcomes : (link : ℕ) → IsLink script link → Matched link run → Completes (plain_of server) (journal (plain_of server) run) (parameters_of script.opening link) link run
-  pub changes : (link : ℕ) → IsLink script link → AnswersChanges server (parameters_of script.opening link) link run
-  pub places : (link other_link : ℕ) → IsLink script link → IsLink script other_link → Matched link run → Matched other_link run → PlacesRise link other_link run
-  pub staying : (link : ℕ) → IsLink script link → Matched link run → is_dropped link run ≡ false → HasNoRevoke link run → AreConveyedOrRefused (parameters_of script.opening link) link run →
-      Stays script (parameters_of script.opening link) link run
-  pub drains : (link : ℕ) → IsLink script link → DrainStepsLeaveLess server script link
+  pub journaled : JournaledByNumber (plain_of server) (number_heard run) (journal_of (last_setting follows) run) run
+  pub numbers : (link : ℕ) → IsLink follows.last link → number_heard run link ≡ ((last_setting follows).opened link).client.number
+  pub laws : (link : ℕ) → IsLink follows.last link → KeepsLaws script ((last_setting follows).opened link) (client_of (last_setting follows) link) link run
+  pub memory : (link : ℕ) → IsLink follows.last link → KeepsMemory ((last_setting follows).opened link) link run
+  pub outcomes : (link : ℕ) → IsLink follows.last link → IsMatchedFromFirst (last_setting follows) run link →
+      Completes (plain_of server) (entries_alone (journal_of (last_setting follows) run)) ((last_setting follows).opened link) link run
+  pub changes : (link : ℕ) → IsLink follows.last link → AnswersChanges server ((last_setting follows).opened link) link run
+  pub places : (link other_link executing : ℕ) → IsLink follows.last link → IsLink follows.last other_link → IsLink follows.last executing →
+      client_of (last_setting follows) other_link ≡ client_of (last_setting follows) executing → IsMatchedFromFirst (last_setting follows) run link →
+      IsMatchedFromFirst (last_setting follows) run other_link → IsMatchedFromFirst (last_setting follows) run executing → PlacesRise (last_setting follows) link other_link executing run
+  pub once : HasNoEntryTwice (journal_of (last_setting follows) run)
+  pub entries : (link : ℕ) → IsLink follows.last link → ((last_setting follows).opened link).client.number ≢ 0 → IsMatchedFromFirst (last_setting follows) run link →
+      ChangesHaveEntries server (journal_of (last_setting follows) run) (last_setting follows).opened link run
+  pub staying : (link : ℕ) → IsLink follows.last link → IsMatchedFromFirst (last_setting follows) run link → is_dropped link run ≡ false → HasNoRevoke link run →
+      AreConveyedOrRefused ((last_setting follows).opened link) link run → Stays script ((last_setting follows).opened link) (client_of (last_setting follows) link) link run
+  pub drains : (link : ℕ) → IsLink follows.last link → DrainStepsLeaveLess server script link
 
 -- ===== the report
 
@@ -114,6 +145,6 @@ log_of run link = record {
 -- what a report says beside its marks is what the marks say
 pub record Reports (server : SerialServer) (script : ScriptLines) (report : Report) : Type 0 where
   pub drill : IsDrillRun server script report.marks
-  pub journal : report.journal ≡ journal (plain_of server) report.marks
-  pub calls : report.calls ≡ call_reports (setting_of server script.opening) report.marks
-  pub links : report.links ≡ link_reports (setting_of server script.opening) script.opening.clients report.marks
+  pub journal : report.journal ≡ entries_alone (journal_of (last_setting drill.follows) report.marks)
+  pub calls : report.calls ≡ call_reports (last_setting drill.follows) drill.follows.last.last_links report.marks
+  pub links : report.links ≡ link_reports (last_setting drill.follows) drill.follows.last.last_links report.marks

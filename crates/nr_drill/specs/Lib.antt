@@ -1,6 +1,7 @@
 pub mod Drill
 pub mod Follows
 pub mod Lines
+pub mod Unnumbered
 pub mod WorkLeft
 pub mod DrainSteps
 pub mod Reports

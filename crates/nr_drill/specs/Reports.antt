@@ -1,5 +1,5 @@
 -- What became of each call and of each link, by the marks of a run.
-use Rattle.std.specs.Prelude.{ℕ, ◌+◌, Bool, false, ◌==◌, ◌&&◌, ◌||◌, if◌then◌else◌, List, [], ◌∷◌, ◌++◌, length, map, count_by, fold, Option, None, Some, is_some}
+use Rattle.std.specs.Prelude.{ℕ, ◌+◌, ◌-◌, slice_index_or, Bool, true, false, ◌==◌, ◌&&◌, ◌||◌, if◌then◌else◌, List, [], ◌∷◌, ◌++◌, length, map, count_by, fold, Option, None, Some, is_some}
 use Rattle.std.specs.List.{flat_map}
 use Rattle.nr_wire.specs.declared.hello.Side.{Side}
 use Rattle.nr_wire.specs.declared.hello.Side.TheVariants.{Initiator, Responder}
@@ -10,7 +10,6 @@ use Rattle.nr_reduce.specs.declared.call.Submission.{Submission}
 use Rattle.nr_reduce.specs.declared.call.Submission.TheVariants as submissions
 use Rattle.nr_reduce.specs.declared.mark.Mark.{Mark}
 use Rattle.nr_reduce.specs.declared.mark.Mark.TheVariants as marks
-use Rattle.nr_reduce.specs.PlainJournal.{PlainServer, journal}
 use Rattle.nr_reduce.specs.History.{ExecutedCall, executed_calls, is_dropped}
 use Rattle.nr_reduce.specs.Run.{end_of_side}
 use Rattle.nr_drill.specs.declared.report.CallState.{CallState}
@@ -18,7 +17,7 @@ use Rattle.nr_drill.specs.declared.report.CallState.TheVariants as states
 use Rattle.nr_drill.specs.declared.report.CallReport.{CallReport}
 use Rattle.nr_drill.specs.declared.report.LinkState.TheVariants as links
 use Rattle.nr_drill.specs.declared.report.LinkReport.{LinkReport}
-use Rattle.nr_drill.specs.Drill.{Setting, plain_of, links_of}
+use Rattle.nr_drill.specs.Drill.{Setting, client_of, is_sent_again, journal_of}
 
 -- ===== places
 
@@ -40,8 +39,8 @@ place_shown entries place (outcomes.Reply payload) = place_or entries place
 place_shown entries place outcomes.Chunk = place
 place_shown entries place (outcomes.Version low high) = None
 
-unfoldable pub done_state : PlainServer → ℕ → ℕ → Outcome → List Mark → CallState
-done_state plain link xid outcome before = states.Done (place_shown (length (journal plain before)) (last_place link xid before) outcome) outcome
+unfoldable pub done_state : Setting → ℕ → ℕ → Outcome → List Mark → CallState
+done_state s link xid outcome before = states.Done (place_shown (length (journal_of s before)) (last_place link xid before) outcome) outcome
 
 -- ===== calls
 
@@ -67,27 +66,30 @@ becomes link xid state r = if r.client == link && is_open_as xid r.state then re
 abbrev pub number_of : ℕ → List CallReport → ℕ
 number_of client reports = count_by (λ (r : CallReport). r.client == client) reports + 1
 
-abbrev pub reports_with : PlainServer → List Mark → Mark → List CallReport → List CallReport
-reports_with plain before (marks.Submit l call form answer) reports =
-    reports ++ record { client = l; number = number_of l reports; state = submitted_state answer } ∷ []
-reports_with plain before (marks.Done l xid outcome) reports = map (becomes l xid (done_state plain l xid outcome before)) reports
-reports_with plain before (marks.Lost l xid) reports = map (becomes l xid states.Lost) reports
-reports_with plain before (marks.Forget l xid) reports = map (becomes l xid states.Forgotten) reports
-reports_with plain before (marks.Revoke l xid bytes) reports = map (becomes l xid (states.Revoked bytes)) reports
-reports_with plain before (marks.Wrote l side bytes) reports = reports
-reports_with plain before (marks.Fed l side bytes) reports = reports
-reports_with plain before (marks.Execute l xid moment payload place reply) reports = reports
-reports_with plain before (marks.Drop l) reports = reports
-reports_with plain before (marks.Told l what) reports = reports
+abbrev pub with_call_line : Bool → ℕ → Submission → List CallReport → List CallReport
+with_call_line true client answer reports = reports
+with_call_line false client answer reports = reports ++ record { client = client; number = number_of client reports; state = submitted_state answer } ∷ []
 
-abbrev pub reports_from : PlainServer → List CallReport → List Mark → List Mark → List CallReport
-reports_from plain reports before [] = reports
-reports_from plain reports before (mark ∷ others) = reports_from plain (reports_with plain before mark reports) (before ++ mark ∷ []) others
+abbrev pub reports_with : Setting → List Mark → Mark → List CallReport → List CallReport
+reports_with s before (marks.Submit l call form answer) reports = with_call_line (is_sent_again s l answer) (client_of s l) answer reports
+reports_with s before (marks.Done l xid outcome) reports = map (becomes (client_of s l) xid (done_state s l xid outcome before)) reports
+reports_with s before (marks.Lost l xid) reports = map (becomes (client_of s l) xid states.Lost) reports
+reports_with s before (marks.Forget l xid) reports = map (becomes (client_of s l) xid states.Forgotten) reports
+reports_with s before (marks.Revoke l xid bytes) reports = map (becomes (client_of s l) xid (states.Revoked bytes)) reports
+reports_with s before (marks.Wrote l side bytes) reports = reports
+reports_with s before (marks.Fed l side bytes) reports = reports
+reports_with s before (marks.Execute l xid moment payload place reply) reports = reports
+reports_with s before (marks.Drop l) reports = reports
+reports_with s before (marks.Told l what) reports = reports
 
-unfoldable pub reports_after : PlainServer → List Mark → List CallReport
-reports_after plain run = reports_from plain [] [] run
+abbrev pub reports_from : Setting → List CallReport → List Mark → List Mark → List CallReport
+reports_from s reports before [] = reports
+reports_from s reports before (mark ∷ others) = reports_from s (reports_with s before mark reports) (before ++ mark ∷ []) others
 
--- In the end a call that is open on a link that was dropped, or whose client ended, is lost.
+unfoldable pub reports_after : Setting → List Mark → List CallReport
+reports_after s run = reports_from s [] [] run
+
+-- In the end a call that is open is lost if the last link of its client was dropped, or its client ended there. `links` are these links.
 abbrev pub is_gone : Setting → List Mark → ℕ → Bool
 is_gone s run link = is_dropped link run || is_some (end_of_side (s.opened link) link Initiator run)
 
@@ -100,11 +102,11 @@ lost_if gone (states.Revoked bytes) = states.Revoked bytes
 lost_if gone (states.Refused why) = states.Refused why
 lost_if gone states.Dropped = states.Dropped
 
-abbrev pub at_last : Setting → List Mark → CallReport → CallReport
-at_last s run r = record r { state = lost_if (is_gone s run r.client) r.state }
+abbrev pub at_last : Setting → List ℕ → List Mark → CallReport → CallReport
+at_last s links run r = record r { state = lost_if (is_gone s run (slice_index_or links (r.client - 1) r.client)) r.state }
 
-unfoldable pub call_reports : Setting → List Mark → List CallReport
-call_reports s run = map (at_last s run) (reports_after (plain_of s.server) run)
+unfoldable pub call_reports : Setting → List ℕ → List Mark → List CallReport
+call_reports s links run = map (at_last s links run) (reports_after s run)
 
 -- ===== links
 
@@ -114,8 +116,8 @@ side_report link side (Some end) = record { client = link; state = links.Ended s
 
 abbrev pub link_report : Setting → List Mark → ℕ → List LinkReport
 link_report s run link =
-    if is_dropped link run then record { client = link; state = links.Dropped } ∷ []
-    else side_report link Initiator (end_of_side (s.opened link) link Initiator run) ++ side_report link Responder (end_of_side (s.opened link) link Responder run)
+    if is_dropped link run then record { client = client_of s link; state = links.Dropped } ∷ []
+    else side_report (client_of s link) Initiator (end_of_side (s.opened link) link Initiator run) ++ side_report (client_of s link) Responder (end_of_side (s.opened link) link Responder run)
 
-unfoldable pub link_reports : Setting → ℕ → List Mark → List LinkReport
-link_reports s clients run = flat_map (link_report s run) (links_of clients)
+unfoldable pub link_reports : Setting → List ℕ → List Mark → List LinkReport
+link_reports s links run = flat_map (link_report s run) links

@@ -8,7 +8,7 @@ use Rattle.nr_link.specs.declared.end.End.{End}
 use Rattle.nr_link.specs.Frames.{Frame, frames_completed, is_hello}
 use Rattle.nr_link.specs.Ending.{frame_segment}
 use Rattle.nr_reduce.specs.History.{bytes_received}
-use Rattle.nr_reduce.specs.Run.{server, end_of_side}
+use Rattle.nr_reduce.specs.Run.{client, server, end_of_side}
 use Rattle.nr_drill.specs.Drill.{Setting, Drill, pipes_of, unwritten, after_all_up, after_work, after_all_down}
 
 -- the last segment of a Send (RFC 5040 section 4)
@@ -32,12 +32,13 @@ send_bytes_left s d link =
 abbrev pub stays : Option End → ℕ
 stays end = if is_none end then 1 else 0
 
--- Of a link: the sides that haven't ended; the bytes of the last frames of Sends still to go up; the Read Requests that are open or
--- owed; the calls that are complete and not executed; the bytes that wait for the client; those that wait for the server.
+-- Of a link: the sides that haven't ended; the calls that wait to be sent again; the bytes of the last frames of Sends still to go up; the Read
+-- Requests that are open or owed; the calls that are complete and not executed; the bytes that wait for the client; those that wait for the server.
 unfoldable pub work_left : Setting → Drill → ℕ → List ℕ
 work_left s d link =
     let opened = s.opened link in
     (stays (end_of_side opened link Initiator d.marks) + stays (end_of_side opened link Responder d.marks))
+    ∷ length (client opened link d.marks).state.waiting
     ∷ send_bytes_left s d link
     ∷ length (server opened link d.marks).state.reads
     ∷ length (server opened link d.marks).state.ready

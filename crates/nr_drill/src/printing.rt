@@ -113,6 +113,9 @@ fn push_refused(text: &mut String, refused: &Refused) -> Result<(), Memory>
         Refused::NoCredit { out, grant } => {
             push_words(text, " refused credit ", u128::from(out), u64::from(grant))
         }
+        Refused::Window { oldest, next } => {
+            push_words(text, " refused window ", u128::from(oldest), next)
+        }
         Refused::Spent { left, need } => {
             push_words(text, " refused spent ", u128::from(left), need)
         }

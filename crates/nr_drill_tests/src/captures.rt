@@ -13,7 +13,7 @@ use std::process::Abort;
 
 /// A text that is read and written again, and how many marks it has.
 static TEXTS: [(&[u8], usize); 4] = [
-    (b"clients 1 credits 64 invalidate\n", 0),
+    (b"clients 1 credits 64 numbered invalidate\n", 0),
     (
         b"clients 2 credits 4\nsubmit 1 1 auto 100003.3 0 none -\nout 1 client 4d5041\nin 2 server 00ff\n",
         3,
@@ -57,10 +57,11 @@ fn captures_are_written_as_they_were_read(rt: HostRuntime) {
 }
 
 /// A text, and the number of its first invalid line.
-static INVALID: [(&[u8], u64); 9] = [
+static INVALID: [(&[u8], u64); 10] = [
     (b"", 1),
     (b"clients 1 credits 1", 1),
     (b"clients 17 credits 1\n", 1),
+    (b"clients 1 credits 1 invalidate numbered\n", 1),
     (b"clients 1 credits 1\ndrop 1\n\n", 3),
     (b"clients 1 credits 1\ndrop 2\n", 2),
     (b"clients 1 credits 1\ngrant 2 1\n", 2),
@@ -113,6 +114,7 @@ const OPENING: Opening = Opening {
     capacity: 9,
     client_units: 1,
     server_units: 1,
+    numbered: false,
     invalidates: false,
 };
 

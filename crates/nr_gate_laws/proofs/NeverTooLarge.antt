@@ -1,5 +1,5 @@
 -- A gateway's call isn't refused as too large: it has at most the bytes of its record, and each Send of the remote link has room for its header.
-use Rattle.std.proofs.Common.{◌≡◌, ◌⊎◌, ⊎_elim, ℕ, ◌≤◌, Bool, true, false, cond, List, [], ◌∷◌, ◌++◌, length, Option, None, Some, Result, Ok, Err, sym, subst, ap, arith}
+use Rattle.std.proofs.Common.{◌≡◌, ◌⊎◌, ⊎_elim, ℕ, ◌≤◌, Bool, true, false, cond, eqb, List, [], ◌∷◌, ◌++◌, length, Option, None, Some, Result, Ok, Err, sym, subst, ap, arith}
 use Rattle.std.specs.Prelude.{◌-◌, nat_le, nat_lt}
 use Rattle.std.specs.List.{AllByRecursion}
 use Rattle.nr_xdr.specs.Item.{IsBytes}
@@ -22,15 +22,15 @@ use Rattle.nr_reduce.specs.declared.mark.LinkParameters.{LinkParameters}
 use Rattle.nr_reduce.specs.declared.mark.Mark.{Mark}
 use Rattle.nr_reduce.specs.declared.outline.Plan.{Plan}
 use Rattle.nr_reduce.specs.Client.{client_end, client_rules, client_segment, client_state_after, due_with_response, initial_client, with_hello, with_message, with_request, with_segment}
-use Rattle.nr_reduce.specs.ClientState.{ClientState, call_payload, plan_for}
+use Rattle.nr_reduce.specs.ClientState.{ClientState, WaitingCall, call_payload, first_of, plan_for, plan_unless}
 use Rattle.nr_reduce.specs.EndRules.{EndState, end_state_after, next_end_state, next_end_state_by, next_end_state_in}
 use Rattle.nr_reduce.specs.Events.{RunEvent, events}
 use Rattle.nr_reduce.specs.Events.RunEvent.{FrameReceived, CallSubmitted, MemoryRevoked, CallExecuted, QueueWritten, ServerTold}
 use Rattle.nr_reduce.specs.Hellos.{client_agreement, client_private, private_of}
-use Rattle.nr_reduce.specs.Limits.{numbers_end}
-use Rattle.nr_reduce.specs.Plans.{TooLarge, plan_in_form, regions_needed}
+use Rattle.nr_reduce.specs.Limits.{numbers_end, window}
+use Rattle.nr_reduce.specs.Plans.{TooLarge, plan_in_form, plan_of, regions_needed}
 use Rattle.nr_reduce.specs.Run.{client}
-use Rattle.nr_reduce.specs.SubmitAnswer.{answer_by, by_plan, submit_answer}
+use Rattle.nr_reduce.specs.SubmitAnswer.{answer_by, by_plan, calls_counted, least_xid, submit_answer, unless_far, unless_far_from, unless_spent}
 use Rattle.nr_turnstile.specs.declared.turnstile.Pass.{Pass}
 use Rattle.nr_turnstile.specs.Passes.{seen_by}
 use Rattle.nr_record_loop.specs.Connections.{Unanswered, calls as exchanged_calls, loop_at}
@@ -103,25 +103,41 @@ abbrev IsTooLarge : Submission → Type 0
 IsTooLarge (submissions.Refused (refusals.TooLarge need room)) = Unit {0}
 IsTooLarge answer = ⊥
 
+refused : (b : Bool) (why : Refused) (answer : Submission) → (IsTooLarge (submissions.Refused why) → ⊥) → (IsTooLarge answer → ⊥) → IsTooLarge (cond b (submissions.Refused why) answer) → ⊥
+refused true why answer first rest h = first h
+refused false why answer first rest h = rest h
+
+-- nor for an xid that is too far above the least one
+far : (k : ClientState) (answer : Submission) → (IsTooLarge answer → ⊥) → IsTooLarge (unless_far k answer) → ⊥
+far k answer rest h = by (eqb k.terms.number 0) h where
+  by_least : (least : Option ℕ) → IsTooLarge (unless_far_from k.next_xid least answer) → ⊥
+  by_least None is = rest is
+  by_least (Some oldest) is = refused (nat_le window (k.next_xid - oldest)) (refusals.Window oldest k.next_xid) answer (λ x. x) rest is
+
+  by : (b : Bool) → IsTooLarge (cond b answer (unless_far_from k.next_xid (least_xid k.outstanding k.waiting) answer)) → ⊥
+  by true is = rest is
+  by false is = by_least (least_xid k.outstanding k.waiting) is
+
 planned : (k : ClientState) (plan : Plan) → IsTooLarge (by_plan k (Ok plan)) → ⊥
 planned k plan =
-    by (nat_le k.grant (length k.outstanding)) (nat_lt (numbers_end - k.next_xid) 1) (nat_lt (numbers_end - k.stag) (regions_needed plan))
-    (refusals.NoCredit (length k.outstanding) k.grant) (refusals.Spent (numbers_end - k.next_xid) 1) (refusals.Spent (numbers_end - k.stag) (regions_needed plan))
-    (λ h. h) (λ h. h) (λ h. h) where
-      by : (b c d : Bool) (credit xids stags : Refused) → (IsTooLarge (submissions.Refused credit) → ⊥) → (IsTooLarge (submissions.Refused xids) → ⊥) → (IsTooLarge (submissions.Refused stags) → ⊥)
-          → IsTooLarge (cond b (submissions.Refused credit) (cond c (submissions.Refused xids) (cond d (submissions.Refused stags) (submissions.Accepted k.next_xid)))) → ⊥
-      by true c d credit xids stags x y z h = x h
-      by false true d credit xids stags x y z h = y h
-      by false false true credit xids stags x y z h = z h
-      by false false false credit xids stags x y z h = h
+    let in_stags : Submission = unless_spent (numbers_end - k.stag) (regions_needed plan) (submissions.Accepted k.next_xid) in
+    let in_numbers : Submission = unless_spent (numbers_end - k.next_xid) 1 in_stags in
+    refused (nat_le k.grant (calls_counted k)) (refusals.NoCredit (calls_counted k) k.grant) (unless_far k in_numbers) (λ h. h)
+    (far k in_numbers
+    (refused (nat_lt (numbers_end - k.next_xid) 1) (refusals.Spent (numbers_end - k.next_xid) 1) in_stags (λ h. h)
+    (refused (nat_lt (numbers_end - k.stag) (regions_needed plan)) (refusals.Spent (numbers_end - k.stag) (regions_needed plan)) (submissions.Accepted k.next_xid) (λ h. h) (λ h. h))))
 
 answered : (k : ClientState) (call : Call) (ended : Option End) → HasUnit k → length (call_payload k.next_xid call) ≤ PAYLOAD_MAX → IsTooLarge (answer_by k call forms.Auto ended) → ⊥
 unfolding plan_for
 answered k call (Some end) room short h = h
-answered k call None room short h =
-    let payload : List ℕ = call_payload k.next_xid call in
-    planned k (plan_in_form payload forms.Auto k.up_max k.down_max)
-    (subst (λ (r : Result Plan TooLarge). IsTooLarge (by_plan k r)) (auto_fits payload k.up_max k.down_max short room) h)
+answered k call None room short h = by (first_of k.waiting k.next_xid) h
+  where
+    by : (w : Option WaitingCall) → IsTooLarge (by_plan k (plan_unless w (plan_of (call_payload k.next_xid call) forms.Auto k.up_max k.down_max))) → ⊥
+    by None is =
+        let payload : List ℕ = call_payload k.next_xid call in
+        planned k (plan_in_form payload forms.Auto k.up_max k.down_max)
+        (subst (λ (r : Result Plan TooLarge). IsTooLarge (by_plan k r)) (auto_fits payload k.up_max k.down_max short room) is)
+    by (Some w) is = planned k w.plan is
 
 not_refused : (r : EndState ClientState) (call : Call) (need room : ℕ) → HasUnit r.state → length (call_payload r.state.next_xid call) ≤ PAYLOAD_MAX
     → submit_answer r call forms.Auto ≡ submissions.Refused (refusals.TooLarge need room) → ⊥

@@ -71,7 +71,7 @@ quiet_at opened link run left ends.Memory other cause = absurd (other refl)
 
 -- parameters of a link whose server has these limits
 abbrev pub with_limits : ConnectionLimits → LinkParameters
-with_limits limits = record { first_xid = 1; first_stag = 1; wished = 1; granted = limits.credits; low = limits.low; receives = limits.credits; client = default_terms; server = terms_with limits.units limits.invalidates }
+with_limits limits = record { first_xid = 1; first_stag = 1; wished = 1; granted = limits.credits; low = limits.low; receives = limits.credits; client = default_terms; server = terms_with limits.units limits.invalidates; resumed = []; agreed = None }
 
 module _ (limits : ConnectionLimits) (read link : ℕ) (before now : Outside) (ahead : List ℕ) (more : List Moment) (run : List Mark) (r : Runs limits read link before now ahead more run)
     (all : (opened : LinkParameters) → IsOpenedWith limits opened → IsQuiet opened link run) where

@@ -152,7 +152,7 @@ pub connections_are_typed_lem : ConnectionsAreTyped
 unfolding bytes_received answers_of
 connections_are_typed_lem limits read link before after end first J left ended is =
     let over = ended.runs.over first J is.history in
-    let opened : LinkParameters = record { first_xid = 1; first_stag = 1; wished = 1; granted = limits.credits; low = limits.low; receives = limits.credits; client = default_terms; server = terms_with limits.units limits.invalidates } in
+    let opened : LinkParameters = record { first_xid = 1; first_stag = 1; wished = 1; granted = limits.credits; low = limits.low; receives = limits.credits; client = default_terms; server = terms_with limits.units limits.invalidates; resumed = []; agreed = None } in
     let all : IsBytes (flat_map (fed_at link Responder) ended.run ++ ended.ahead) =
     given_bytes left after.left (flat_map (fed_at link Responder) ended.run ++ ended.ahead)
     (subst (λ (o : Option (List ℕ)). Consumes o after.left (flat_map (fed_at link Responder) ended.run ++ ended.ahead)) is.known ended.runs.handed.from_left) is.bytes in

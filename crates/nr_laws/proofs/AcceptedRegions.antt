@@ -13,7 +13,7 @@ use Rattle.nr_reduce.specs.Events.{RunEvent, events, if_own}
 use Rattle.nr_reduce.specs.Events.RunEvent.{CallSubmitted}
 use Rattle.nr_reduce.specs.Plans.{TooLarge, buffers}
 use Rattle.nr_reduce.specs.EndRules.{EndState, next_end_state}
-use Rattle.nr_reduce.specs.ClientState.{ClientState, OutstandingCall, call_payload}
+use Rattle.nr_reduce.specs.ClientState.{ClientState, OutstandingCall, call_payload, stag_for}
 use Rattle.nr_reduce.specs.Client.{client_rules, outstanding_of, plan_or}
 use Rattle.nr_reduce.specs.Run.{client}
 use Rattle.nr_reduce.specs.Asked.{AskedSoFar, IsAccepted}
@@ -45,7 +45,7 @@ split_events link run earlier later call form xid is =
     }
 
 pub accepted_regions : (opened : LinkParameters) (link : ℕ) (run earlier later : List Mark) (call : Call) (form : Form) (xid : ℕ) → IsTyped run → AskedSoFar opened link run → run ≡ earlier ++ marks.Submit link call form (submissions.Accepted xid) ∷ later
-    → (h : IsAccepted opened link earlier call form xid) → HasBuffers (client opened link run).state.regions (buffers (client opened link earlier).state.stag h.plan)
+    → (h : IsAccepted opened link earlier call form xid) → HasBuffers (client opened link run).state.regions (buffers (stag_for (client opened link earlier).state xid) h.plan)
 unfolding client
 accepted_regions opened link run earlier later call form xid typed asked is h =
     let a : AcceptedCall = record { xid = xid; call = call; form = form } in
@@ -59,4 +59,4 @@ accepted_regions opened link run earlier later call form xid typed asked is h =
     let calls : asked_in opened (events link Initiator run) ≡ asked_in opened es ++ o ∷ more = ap (λ (xs : List RunEvent). asked_in opened xs) s.is ∙ asked_append opened es (CallSubmitted s.place a ∷ s.rest) in
     let own = backed_at (client opened link run).state.regions (asked_in opened es) o more (subst (λ (os : List OutstandingCall). AllBacked (client opened link run).state.regions os) calls all.backed) in
     let plan : o.plan ≡ h.plan = ap (λ (x : Result Plan TooLarge). plan_or (call_payload xid call) x) h.planned in
-    subst (λ (p : Plan). HasBuffers (client opened link run).state.regions (buffers r.state.stag p)) plan own
+    subst (λ (p : Plan). HasBuffers (client opened link run).state.regions (buffers (stag_for r.state xid) p)) plan own

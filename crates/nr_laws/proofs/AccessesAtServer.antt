@@ -26,12 +26,13 @@ use Rattle.nr_laws.proofs.FrameContents.{FrameContent, tagged_frames, write_fram
 use Rattle.nr_laws.proofs.FrameContents.FrameContent.{HelloFrame, PartFrame, SendFrame, RequestFrame, TaggedFrame}
 use Rattle.nr_laws.proofs.LinkInvariants.{AreWhole}
 use Rattle.nr_laws.proofs.AgreeingEnds.{says_hello, says_frame, after_hello}
-use Rattle.nr_laws.proofs.CallNumbers.{IsNumbered}
+use Rattle.nr_laws.proofs.CallNumbers.{IsNumbered, Rise, one_send}
 use Rattle.nr_laws.proofs.AnsweredCalls.{message_xids, times, call_xids, xids_append, times_append}
 use Rattle.nr_laws.proofs.AnsweredSteps.{given_to}
 use Rattle.nr_laws.proofs.EffectsOffered.{EffectOffered, read_kept}
 use Rattle.nr_laws.proofs.OfferedAccesses.{IsOffered, PartOffered, ListsOffered, CallOffered, ReadOffered, IsAccess, AreAccesses, AccessesAgree, offered_less, accesses_append, accesses_each, accesses_messages, accesses_message}
 use Rattle.nr_laws.proofs.Basics.{each_append, each_drop, each_kept}
+use Rattle.nr_reduce.specs.StandingLaws.{xid_of_send}
 
 -- ---- What the server says more
 
@@ -42,6 +43,7 @@ says_more opened k s t d all_up all_down said place h calls waiting says = recor
   lives = h.lives;
   up_said = h.up_said;
   asked = h.asked;
+  resent = h.resent;
   calls = calls;
   waiting = waiting;
   down_said = accesses_append k.regions [] all_down said h.down_said says;
@@ -184,15 +186,15 @@ found_offered regions xid (c ∷ calls) h = by (eqb c.xid xid) refl (found_offer
     by false e rest = rest
 
 -- the call that is executed has no read that waits
-any_numbered : (first number xid : ℕ) (calls : List PendingCall) → AllByRecursion (IsNumbered first) calls → list_any (λ (c : PendingCall). eqb c.number number && eqb c.xid xid) calls ≡ true → xid + 1 ≡ first + number
-any_numbered first number xid [] h e = absurd cc
-any_numbered first number xid (c ∷ calls) h e = by (eqb c.number number) (eqb c.xid xid) refl refl e (any_numbered first number xid calls h.1)
+any_numbered : (at : ℕ → ℕ) (number xid : ℕ) (calls : List PendingCall) → AllByRecursion (IsNumbered at) calls → list_any (λ (c : PendingCall). eqb c.number number && eqb c.xid xid) calls ≡ true → (n : ℕ) × (number ≡ n + 1) × (xid ≡ at n)
+any_numbered at number xid [] h e = absurd cc
+any_numbered at number xid (c ∷ calls) h e = by (eqb c.number number) (eqb c.xid xid) refl refl e (any_numbered at number xid calls h.1)
   where
     rest : Bool
     rest = list_any (λ (y : PendingCall). eqb y.number number && eqb y.xid xid) calls
 
-    by : (a b : Bool) → eqb c.number number ≡ a → eqb c.xid xid ≡ b → ((a && b) || rest) ≡ true → (rest ≡ true → xid + 1 ≡ first + number) → xid + 1 ≡ first + number
-    by true true n x e more = omega (arith, h.0, eqb-true c.number number n, eqb-true c.xid xid x)
+    by : (a b : Bool) → eqb c.number number ≡ a → eqb c.xid xid ≡ b → ((a && b) || rest) ≡ true → (rest ≡ true → (n : ℕ) × (number ≡ n + 1) × (xid ≡ at n)) → (n : ℕ) × (number ≡ n + 1) × (xid ≡ at n)
+    by true true n x e more = (let own = h.0 in (own.0, sym (eqb-true c.number number n) ∙ own.1, sym (eqb-true c.xid xid x) ∙ own.2))
     by true false n x e more = more e
     by false b n x e more = more e
 
@@ -208,26 +210,26 @@ unread reads number n e = each_drop (λ (r : PendingRead). r.number ≢ number) 
         by true is e more = absurd cc
         by false is e more = ((λ same. absurd (let wrong : true ≡ false = sym (eq-eqb r.number number same) ∙ is in cc)), more e)
 
-waiting_kept : (regions : List Region) (first number xid : ℕ) (calls : List PendingCall) (reads : List PendingRead) → AllByRecursion (IsNumbered first) calls → xid + 1 ≡ first + number → AllByRecursion (λ (r : PendingRead). r.number ≢ number) reads
+waiting_kept : (regions : List Region) (at : ℕ → ℕ) (number xid n : ℕ) (calls : List PendingCall) (reads : List PendingRead) → Rise at → AllByRecursion (IsNumbered at) calls → number ≡ n + 1 → xid ≡ at n → AllByRecursion (λ (r : PendingRead). r.number ≢ number) reads
     → AllByRecursion (ReadOffered regions calls) reads → AllByRecursion (ReadOffered regions (filter (λ (c : PendingCall). not (eqb c.xid xid)) calls)) reads
-waiting_kept regions first number xid calls [] numbers own others h = tt
-waiting_kept regions first number xid calls (r ∷ reads) numbers own others h = (
-  read_kept regions (IsNumbered first) (λ (c : PendingCall). not (eqb c.xid xid)) calls r numbers
-      (λ c n same. ap (λ (b : Bool). not b) (ne_eqb c.xid xid (λ e. others.0 (omega (arith, n, own, same, e))))) h.0,
-  waiting_kept regions first number xid calls reads numbers own others.1 h.1,
+waiting_kept regions at number xid n calls [] rise numbers counted own others h = tt
+waiting_kept regions at number xid n calls (r ∷ reads) rise numbers counted own others h = (
+  read_kept regions (IsNumbered at) (λ (c : PendingCall). not (eqb c.xid xid)) calls r numbers
+      (λ c is same. ap (λ (b : Bool). not b) (ne_eqb c.xid xid (λ e. others.0 (let sends : is.0 ≡ n = one_send at is.0 n rise (sym is.2 ∙ e ∙ own) in let number_is = is.1 in omega (arith, sends, number_is, counted, same))))) h.0,
+  waiting_kept regions at number xid n calls reads rise numbers counted own others.1 h.1,
 )
 
 pub accessed_execute : (opened : LinkParameters) (k : ClientState) (s : ServerState) (d all_up all_down : List FrameContent) (place : ℕ) (e : ExecutedCall) (r : ReadyCall) (rest : List ReadyCall) → AccessesAgree opened k s d all_up all_down place → s.ready ≡ r ∷ rest → e.xid ≡ r.xid
-    → AreWhole s.reads s.calls s.ready → AllByRecursion (IsNumbered opened.first_xid) s.calls → times e.xid (message_xids all_down) ≡ 0
+    → AreWhole s.reads s.calls s.ready → Rise (xid_of_send opened) → AllByRecursion (IsNumbered (xid_of_send opened)) s.calls → times e.xid (message_xids all_down) ≡ 0
     → AccessesAgree opened k (server_state_after opened s (CallExecuted e)) d all_up (all_down ++ server_frames opened s (CallExecuted e)) place
 unfolding server_state_after server_frames
-accessed_execute opened k s d all_up all_down place e r rest h first own whole numbers none =
+accessed_execute opened k s d all_up all_down place e r rest h first own whole rise numbers none =
     let w : AreWhole s.reads s.calls (r ∷ rest) = subst (AreWhole s.reads s.calls) first whole in
-    let numbered : e.xid + 1 ≡ opened.first_xid + r.number = omega (arith, own, any_numbered opened.first_xid r.number r.xid s.calls numbers w.0) in
+    let numbered = any_numbered (xid_of_send opened) r.number r.xid s.calls numbers w.0 in
     let answer = answer_of_target (offer_of s e.xid) s.down_max e.reply (target_of (call_of e.payload)) in
     says_more opened k s (server_state_after opened s (CallExecuted e)) d all_up all_down (answer_frames s e.xid (offer_of s e.xid) answer) place h
     (each_kept (CallOffered k.regions) (λ (c : PendingCall). not (eqb c.xid e.xid)) s.calls h.calls)
-    (waiting_kept k.regions opened.first_xid r.number e.xid s.calls (drop open_reads_max s.reads) numbers numbered (unread s.reads r.number open_reads_max w.1) h.waiting)
+    (waiting_kept k.regions (xid_of_send opened) r.number e.xid numbered.0 s.calls (drop open_reads_max s.reads) rise numbers numbered.1 (own ∙ numbered.2) (unread s.reads r.number open_reads_max w.1) h.waiting)
     (answer_access k.regions all_down s e.xid (offer_of s e.xid) answer none (found_offered k.regions e.xid s.calls h.calls))
 
 -- ---- A queue is written
@@ -235,11 +237,11 @@ accessed_execute opened k s d all_up all_down place e r rest h first own whole n
 pub accessed_written_down : (taken : ℕ) (opened : LinkParameters) (k : ClientState) (s : ServerState) (d all_up all_down : List FrameContent) (place : ℕ) → AccessesAgree opened k s d all_up all_down place
     → AccessesAgree opened k (server_state_after opened s (QueueWritten taken)) d all_up all_down place
 unfolding server_state_after
-accessed_written_down taken opened k s d all_up all_down place h = record { early = h.early; lives = h.lives; up_said = h.up_said; asked = h.asked; calls = h.calls; waiting = h.waiting; down_said = h.down_said }
+accessed_written_down taken opened k s d all_up all_down place h = record { early = h.early; lives = h.lives; up_said = h.up_said; asked = h.asked; resent = h.resent; calls = h.calls; waiting = h.waiting; down_said = h.down_said }
 
 -- ---- It is told something
 
 pub accessed_told : (opened : LinkParameters) (k : ClientState) (s : ServerState) (d all_up all_down : List FrameContent) (place : ℕ) (what : Told) → AccessesAgree opened k s d all_up all_down place
     → AccessesAgree opened k (server_state_after opened s (ServerTold what)) d all_up all_down place
 unfolding server_state_after
-accessed_told opened k s d all_up all_down place what h = record { early = h.early; lives = h.lives; up_said = h.up_said; asked = h.asked; calls = h.calls; waiting = h.waiting; down_said = h.down_said }
+accessed_told opened k s d all_up all_down place what h = record { early = h.early; lives = h.lives; up_said = h.up_said; asked = h.asked; resent = h.resent; calls = h.calls; waiting = h.waiting; down_said = h.down_said }

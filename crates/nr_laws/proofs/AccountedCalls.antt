@@ -1,5 +1,5 @@
 -- Each call that a client accepted is outstanding, has an outcome, or was given up: whatever is received, while the client doesn't end.
-use Rattle.std.proofs.Common.{◌≡◌, ℕ, Bool, true, false, cond, not, ◌&&◌, ◌||◌, eqb, List, [], ◌∷◌, ◌++◌, map, drop, filter, Option, Some, None, Result, Ok, Err, refl, sym, ap, subst, ◌∙◌}
+use Rattle.std.proofs.Common.{◌≡◌, ℕ, ◌+◌, Bool, true, false, cond, not, ◌&&◌, ◌||◌, eqb, List, [], ◌∷◌, ◌++◌, map, drop, filter, Option, Some, None, Result, Ok, Err, refl, sym, ap, subst, ◌∙◌}
 use Rattle.std.specs.List.{list_any, find, AllByRecursion}
 use Rattle.std.proofs.lemmas.Bool.{eqb-true, eq-eqb}
 use Rattle.nr_header.specs.declared.fault.HeaderFault.{HeaderFault}
@@ -20,12 +20,14 @@ use Rattle.nr_reduce.specs.declared.call.Outcome.TheVariants as outcomes
 use Rattle.nr_reduce.specs.declared.mark.LinkParameters.{LinkParameters}
 use Rattle.nr_reduce.specs.History.{AcceptedCall, CompletedCall}
 use Rattle.nr_reduce.specs.Events.RunEvent.{FrameReceived, CallSubmitted, MemoryRevoked, QueueWritten}
-use Rattle.nr_reduce.specs.Plans.{lists_of}
+use Rattle.nr_reduce.specs.Plans.{lists_of, regions_needed}
 use Rattle.nr_reduce.specs.Chunks.{answers_offer, reply_conveyed}
-use Rattle.nr_reduce.specs.ClientState.{ClientState, OutstandingCall, client_memory_at, is_sent}
+use Rattle.nr_reduce.specs.ClientState.{ClientState, OutstandingCall, WaitingCall, waiting_call, waiting_from, client_memory_at, is_sent}
+use Rattle.nr_reduce.specs.declared.mark.ResumedCall.{ResumedCall}
+use Rattle.nr_laws.proofs.WaitingCalls.{sent_again, first_there, others_there}
 use Rattle.nr_reduce.specs.ClientMessages.{ReplyVerdict, reply_verdict, reply_by_head, reply_by_payload, by_lists, reply_by_body, by_call, answered_call, reply_by_header, reply_xid}
 use Rattle.nr_reduce.specs.ClientMessages.ReplyVerdict.{EndsLink, GivesOutcome}
-use Rattle.nr_reduce.specs.Client.{client_segment, client_end, client_state_after, end_of_verdict, outstanding_of, outcomes_of, revoked_call, with_message, with_request, with_segment, segment_message, client_message_end, with_hello, due_with_response, segment_names}
+use Rattle.nr_reduce.specs.Client.{client_segment, client_end, client_state_after, end_of_verdict, outstanding_of, outcomes_of, revoked_call, revoked_waiting, is_revoked_waiting, with_message, with_request, with_segment, segment_message, client_message_end, with_hello, due_with_response, segment_names}
 use Rattle.nr_laws.proofs.DistinctKeys.{any_append, or_left_lem, or_right_lem}
 use Rattle.nr_laws.proofs.TotalsAtClient.{taken}
 use Rattle.nr_laws.proofs.Basics.{some_not, each_all, each_kept}
@@ -42,6 +44,9 @@ record GivenOutcome (gone : ℕ → Bool) (xid : ℕ) (v : ReplyVerdict) : Type 
 -- the memory of a call is revoked only if it was given up
 abbrev pub RevokedGone : (ℕ → Bool) → OutstandingCall → Type 0
 RevokedGone gone o = o.is_revoked ≡ true → gone o.xid ≡ true
+
+abbrev pub RevokedWaits : (ℕ → Bool) → WaitingCall → Type 0
+RevokedWaits gone w = w.is_revoked ≡ true → gone w.xid ≡ true
 
 given_head : (gone : ℕ → Bool) (f : Frame) (xid : ℕ) (payload : List ℕ) (r : Result ReplyHead ℕ) → end_of_verdict f (reply_by_head xid payload r) ≡ None → GivenOutcome gone xid (reply_by_head xid payload r)
 given_head gone f xid payload (Err at) e = absurd cc
@@ -124,6 +129,7 @@ IsAccounted gone k xid = (is_outstanding k.outstanding xid || (has_outcome k.out
 pub record CallsAccounted (gone : ℕ → Bool) (xids : List ℕ) (k : ClientState) : Type 0 where
   pub each : AllByRecursion (IsAccounted gone k) xids
   pub revoked : AllByRecursion (RevokedGone gone) k.outstanding
+  pub waits : AllByRecursion (RevokedWaits gone) k.waiting
 
 either : (a b c d e f : Bool) → (a ≡ true → d ≡ true) → (b ≡ true → e ≡ true) → (c ≡ true → f ≡ true) → (a || (b || c)) ≡ true → (d || (e || f)) ≡ true
 either true b c d e f p q r h = or_left_lem d (e || f) (p refl)
@@ -179,7 +185,7 @@ message_each gone k place message g x h = by (eqb x (word_at 0 message)) refl
 
 request_accounts : (gone : ℕ → Bool) (xids : List ℕ) (k : ClientState) (due : ℕ) (q : Option ReadRequest) → CallsAccounted gone xids k → CallsAccounted gone xids (with_request k due q)
 request_accounts gone xids k due None h = h
-request_accounts gone xids k due (Some r) h = record { each = h.each; revoked = h.revoked }
+request_accounts gone xids k due (Some r) h = record { each = h.each; revoked = h.revoked; waits = h.waits }
 
 message_accounts : (gone : ℕ → Bool) (xids : List ℕ) (k : ClientState) (f : Frame) (m : Option (List ℕ)) → ((message : List ℕ) → m ≡ Some message → end_of_verdict f (reply_verdict k f.end message) ≡ None) → CallsAccounted gone xids k → CallsAccounted gone xids (with_message k f.end m)
 message_accounts gone xids k f None stays h = h
@@ -188,20 +194,21 @@ message_accounts gone xids k f (Some message) stays h =
     record {
       each = each_all (IsAccounted gone k) (IsAccounted gone (with_message k f.end (Some message))) xids (message_each gone k f.end message g) h.each;
       revoked = each_kept (RevokedGone gone) (λ (o : OutstandingCall). not (eqb o.xid (word_at 0 message))) k.outstanding h.revoked;
+      waits = h.waits;
     }
 
 segment_accounts : (gone : ℕ → Bool) (xids : List ℕ) (k : ClientState) (f : Frame) (r : Result Segment ℕ) → ((message : List ℕ) → segment_message k r ≡ Some message → end_of_verdict f (reply_verdict k f.end message) ≡ None) → CallsAccounted gone xids k → CallsAccounted gone xids (with_segment k f r)
 segment_accounts gone xids k f (Err reason) stays h = h
 segment_accounts gone xids k f (Ok segment) stays h =
     let m = request_accounts gone xids (with_message k f.end (message_completed k.received segment)) (due_with_response k f segment) (read_request_of segment) (message_accounts gone xids k f (message_completed k.received segment) stays h) in
-    record { each = m.each; revoked = m.revoked }
+    record { each = m.each; revoked = m.revoked; waits = m.waits }
 
 pub frame_accounts : (opened : LinkParameters) (gone : ℕ → Bool) (xids : List ℕ) (k : ClientState) (f : Frame) → client_end k (FrameReceived f) ≡ None → CallsAccounted gone xids k → CallsAccounted gone xids (client_state_after opened k (FrameReceived f))
 unfolding client_state_after
 frame_accounts opened gone xids k f e h = by (is_hello f) refl
   where
     by : (b : Bool) → is_hello f ≡ b → CallsAccounted gone xids (cond b (with_hello opened k f) (with_segment k f (client_segment k f)))
-    by true is = record { each = h.each; revoked = h.revoked }
+    by true is = record { each = h.each; revoked = h.revoked; waits = h.waits }
     by false is =
         let unended = taken k f is e in
         segment_accounts gone xids k f (client_segment k f)
@@ -226,11 +233,20 @@ pub accounts_gone : (gone later : ℕ → Bool) (xids : List ℕ) (k : ClientSta
 accounts_gone gone later xids k more h = record {
   each = each_all (IsAccounted gone k) (IsAccounted later k) xids (λ x. either (is_outstanding k.outstanding x) (has_outcome k.outcomes x) (gone x) (is_outstanding k.outstanding x) (has_outcome k.outcomes x) (later x) (λ z. z) (λ z. z) (more x)) h.each;
   revoked = revoked_to gone later k.outstanding more h.revoked;
+  waits = each_all (RevokedWaits gone) (RevokedWaits later) k.waiting (λ w is e. more w.xid (is e)) h.waits;
 }
 
 pub written_accounts : (taken : ℕ) (opened : LinkParameters) (gone : ℕ → Bool) (xids : List ℕ) (k : ClientState) → CallsAccounted gone xids k → CallsAccounted gone xids (client_state_after opened k (QueueWritten taken))
 unfolding client_state_after
-written_accounts taken opened gone xids k h = record { each = h.each; revoked = h.revoked }
+written_accounts taken opened gone xids k h = record { each = h.each; revoked = h.revoked; waits = h.waits }
+
+waits_revoked : (gone : ℕ → Bool) (xid : ℕ) → gone xid ≡ true → (ws : List WaitingCall) → AllByRecursion (RevokedWaits gone) ws → AllByRecursion (RevokedWaits gone) (map (revoked_waiting xid) ws)
+waits_revoked gone xid is [] h = tt
+waits_revoked gone xid is (w ∷ ws) h = (by (eqb w.xid xid) refl, waits_revoked gone xid is ws h.1)
+  where
+    by : (b : Bool) → eqb w.xid xid ≡ b → RevokedWaits gone (cond b (record w { is_revoked = true }) w)
+    by true e = λ z. ap gone (eqb-true w.xid xid e) ∙ is
+    by false e = h.0
 
 pub revoked_accounts : (opened : LinkParameters) (gone : ℕ → Bool) (xids : List ℕ) (k : ClientState) (place xid : ℕ) → gone xid ≡ true → CallsAccounted gone xids k → CallsAccounted gone xids (client_state_after opened k (MemoryRevoked place xid))
 unfolding client_state_after
@@ -238,6 +254,7 @@ revoked_accounts opened gone xids k place xid is h = record {
   each = each_all (IsAccounted gone k) (IsAccounted gone (client_state_after opened k (MemoryRevoked place xid))) xids
       (λ x h. ap (λ (b : Bool). b || (has_outcome k.outcomes x || gone x)) (any_map (revoked_call xid) k.outstanding x same) ∙ h) h.each;
   revoked = revoked_map gone (revoked_call xid) k.outstanding kept h.revoked;
+  waits = waits_revoked gone xid is k.waiting h.waits;
 }
   where
     same : (o : OutstandingCall) → (revoked_call xid o).xid ≡ o.xid
@@ -261,6 +278,7 @@ submit_accounts opened gone xids k place a h = record {
       (λ x. either (is_outstanding k.outstanding x) (has_outcome k.outcomes x) (gone x) (is_outstanding (k.outstanding ++ outstanding_of k a ∷ []) x) (has_outcome k.outcomes x) (gone x)
       (λ e. any_append (λ (o : OutstandingCall). eqb o.xid x) k.outstanding (outstanding_of k a ∷ []) ∙ or_left_lem (is_outstanding k.outstanding x) (is_outstanding (outstanding_of k a ∷ []) x) e) (λ z. z) (λ z. z)) h.each);
   revoked = more k.outstanding h.revoked;
+  waits = others_there (RevokedWaits gone) k.waiting a.xid h.waits;
 }
   where
     own : IsAccounted gone (client_state_after opened k (CallSubmitted place a)) a.xid
@@ -269,10 +287,20 @@ submit_accounts opened gone xids k place a h = record {
         (any_append (λ (o : OutstandingCall). eqb o.xid a.xid) k.outstanding (outstanding_of k a ∷ [])
         ∙ or_right_lem (is_outstanding k.outstanding a.xid) (is_outstanding (outstanding_of k a ∷ []) a.xid) (or_left_lem (eqb a.xid a.xid) false (eq-eqb a.xid a.xid refl)))
 
+    -- a call that is sent again is revoked if it was as it waited
+    revoked_again : (x : Option WaitingCall) → waiting_call k a.xid ≡ x → is_revoked_waiting x ≡ true → gone a.xid ≡ true
+    revoked_again None is e = absurd cc
+    revoked_again (Some w) is e = ap gone (sent_again k a w is).xid ∙ first_there (RevokedWaits gone) k.waiting a.xid w h.waits is e
+
     push : (xs : List ℕ) → AllByRecursion (IsAccounted gone (client_state_after opened k (CallSubmitted place a))) xs → AllByRecursion (IsAccounted gone (client_state_after opened k (CallSubmitted place a))) (xs ++ a.xid ∷ [])
     push [] h = (own, tt)
     push (x ∷ xs) h = (h.0, push xs h.1)
 
     more : (os : List OutstandingCall) → AllByRecursion (RevokedGone gone) os → AllByRecursion (RevokedGone gone) (os ++ outstanding_of k a ∷ [])
-    more [] h = ((λ e. absurd cc), tt)
+    more [] h = (revoked_again (waiting_call k a.xid) refl, tt)
     more (o ∷ os) h = (h.0, more os h.1)
+
+-- none that waits from the start is revoked
+pub waits_first : (gone : ℕ → Bool) (stag : ℕ) (rs : List ResumedCall) → AllByRecursion (RevokedWaits gone) (waiting_from stag rs)
+waits_first gone stag [] = tt
+waits_first gone stag (r ∷ rs) = ((λ e. absurd cc), waits_first gone (stag + regions_needed r.plan) rs)

@@ -22,7 +22,7 @@ use Rattle.nr_laws.proofs.ServerFrames.{lives}
 use Rattle.nr_laws.proofs.AgreeingRuns.{other_events}
 use Rattle.nr_laws.proofs.AgreeingMarks.{client_event}
 use Rattle.nr_laws.proofs.EachRun.{client_unended, no_events_lem}
-use Rattle.nr_laws.proofs.AccountedCalls.{CallsAccounted, frame_accounts, accounts_gone, written_accounts, revoked_accounts, submit_accounts}
+use Rattle.nr_laws.proofs.AccountedCalls.{CallsAccounted, frame_accounts, accounts_gone, written_accounts, revoked_accounts, submit_accounts, waits_first}
 use Rattle.nr_reduce.proofs.Waiting.{accepted_one}
 
 abbrev pub gone_in : ℕ → List Mark → ℕ → Bool
@@ -190,7 +190,7 @@ accounts_from opened link (m ∷ run) before e h =
 
 accounts_first : (opened : LinkParameters) (link : ℕ) → CallsAccounted (gone_in link []) (xids_in link []) (client opened link []).state
 unfolding client events accepted_calls
-accounts_first opened link = record { each = tt; revoked = tt }
+accounts_first opened link = record { each = tt; revoked = tt; waits = waits_first (gone_in link []) opened.first_stag opened.resumed }
 
 pub accounts : (opened : LinkParameters) (link : ℕ) (run : List Mark) → (client opened link run).ended ≡ None → CallsAccounted (gone_in link run) (xids_in link run) (client opened link run).state
 accounts opened link run e = accounts_from opened link run [] e (accounts_first opened link)

@@ -77,6 +77,16 @@ segment_sizes k f (Ok s) =
     let q = request_sizes (with_message k f.end (message_completed k.received s)) (due_with_response k f s) (read_request_of s) in
     (q.0 ∙ m.0, q.1 ∙ m.1, q.2 ∙ m.2)
 
+pub segment_hello : (k : ClientState) (f : Frame) (r : Result Segment ℕ) → (with_segment k f r).has_hello ≡ k.has_hello
+segment_hello k f (Err reason) = refl
+segment_hello k f (Ok s) = by (message_completed k.received s) (read_request_of s)
+  where
+    by : (m : Option (List ℕ)) (q : Option ReadRequest) → (with_request (with_message k f.end m) (due_with_response k f s) q).has_hello ≡ k.has_hello
+    by None None = refl
+    by None (Some q) = refl
+    by (Some m) None = refl
+    by (Some m) (Some q) = refl
+
 pub client_keeps_sizes : (opened : LinkParameters) (k t : ClientState) (s : ServerState) (u : List FrameContent) (f : Frame) (r : Result Segment ℕ) → t ≡ with_segment k f r → k.has_hello ≡ true → SizesAgree opened k s u → SizesAgree opened t s u
 client_keeps_sizes opened k t s u f r is hello z =
     let same = segment_sizes k f r in

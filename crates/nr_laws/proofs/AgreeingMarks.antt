@@ -20,18 +20,18 @@ use Rattle.nr_reduce.specs.History.{AcceptedCall, ExecutedCall, bytes_sent, byte
 use Rattle.nr_reduce.specs.Events.{RunEvent, events_at}
 use Rattle.nr_reduce.specs.Events.RunEvent.{FrameReceived, CallSubmitted, MemoryRevoked, CallExecuted, QueueWritten, ServerTold}
 use Rattle.nr_reduce.specs.EndRules.{EndMachine, EndState, live, next_end_state_by, end_state_after, output_for_by, output_for_all}
-use Rattle.nr_reduce.specs.ClientState.{ClientState, plan_for}
+use Rattle.nr_reduce.specs.ClientState.{ClientState, plan_for, stag_for}
 use Rattle.nr_reduce.specs.Limits.{numbers_end}
 use Rattle.nr_reduce.specs.Plans.{regions_needed}
 use Rattle.nr_reduce.specs.ServerState.{ServerState, ReadyCall}
 use Rattle.nr_reduce.specs.Client.{client_rules, client_end, client_state_after, client_output}
-use Rattle.nr_reduce.specs.Server.{server_rules, server_end, server_state_after, server_output}
+use Rattle.nr_reduce.specs.Server.{server_rules, server_end, server_state_after, server_output, told_end}
 use Rattle.nr_reduce.specs.Run.{client, server, output_due}
 use Rattle.nr_reduce.proofs.WholeWrotes.{ClientEnds, ServerEnds}
 use Rattle.nr_reduce.proofs.CountedBytes.{client_bytes_written, client_bytes_due, client_ends_within, server_bytes_written, server_bytes_due, server_ends_within}
 use Rattle.nr_reduce.specs.Opening.{IsOpened}
 use Rattle.nr_reduce.specs.Credits.{WithinGrant, calls_outstanding, credits_granted}
-use Rattle.nr_reduce.specs.Asked.{IsAccepted}
+use Rattle.nr_reduce.specs.Asked.{IsAccepted, IsResent}
 use Rattle.nr_reduce.specs.Served.{IsExecuted, ToldInRange, first_ready, next_call}
 use Rattle.nr_laws.proofs.FrameContents.{FrameContent, output_bytes, total_of, sends_in, requests_in, hellos_in}
 use Rattle.nr_laws.proofs.FrameContents.FrameContent.{HelloFrame, PartFrame, SendFrame, RequestFrame, TaggedFrame}
@@ -50,6 +50,9 @@ use Rattle.nr_laws.proofs.AccessesAtServer.{accessed_execute, accessed_written_d
 use Rattle.nr_laws.proofs.AccessSteps.{pending_unanswered}
 use Rattle.nr_laws.proofs.GuardsAtEvents.{guards_submit, guards_revoke, guards_written_up, guards_execute, guards_written_down, guards_told}
 use Rattle.nr_laws.proofs.AgreeingRuns.{RunAgrees, MarkAgrees, place_of, guards_up, guards_down, same_up_lem, same_down_lem, accesses_up, accesses_down, own_bytes, other_bytes, own_events, other_events}
+use Rattle.nr_reduce.specs.SubmitAnswer.{next_sent_xid}
+use Rattle.nr_laws.proofs.WaitingCalls.{accepted_stags}
+use Rattle.nr_reduce.proofs.Steps.{server_one}
 
 pub record OneEvent {S : Type 0} (rules : EndMachine S) (s : S) (event : RunEvent) : Type 0 where
   pub state : end_state_after rules (live s) (event ∷ []) ≡ live (rules.state_after s event)
@@ -70,14 +73,23 @@ client_event opened k (CallExecuted call) other = one_event (client_rules opened
 client_event opened k (QueueWritten taken) other = one_event (client_rules opened) k (QueueWritten taken) refl
 client_event opened k (ServerTold what) other = one_event (client_rules opened) k (ServerTold what) refl
 
-pub server_event : (opened : LinkParameters) (s : ServerState) (event : RunEvent) → ((f : Frame) → event ≢ FrameReceived f) → OneEvent (server_rules opened) s event
+-- what a server is told doesn't end it
+abbrev pub IsQuietFor : ServerState → RunEvent → Type 0
+IsQuietFor s (FrameReceived f) = Unit {0}
+IsQuietFor s (CallSubmitted place a) = Unit {0}
+IsQuietFor s (MemoryRevoked place xid) = Unit {0}
+IsQuietFor s (CallExecuted call) = Unit {0}
+IsQuietFor s (QueueWritten taken) = Unit {0}
+IsQuietFor s (ServerTold what) = told_end s what ≡ None
+
+pub server_event : (opened : LinkParameters) (s : ServerState) (event : RunEvent) → ((f : Frame) → event ≢ FrameReceived f) → IsQuietFor s event → OneEvent (server_rules opened) s event
 unfolding server_end
-server_event opened s (FrameReceived f) other = absurd (other f refl)
-server_event opened s (CallSubmitted place a) other = one_event (server_rules opened) s (CallSubmitted place a) refl
-server_event opened s (MemoryRevoked place xid) other = one_event (server_rules opened) s (MemoryRevoked place xid) refl
-server_event opened s (CallExecuted call) other = one_event (server_rules opened) s (CallExecuted call) refl
-server_event opened s (QueueWritten taken) other = one_event (server_rules opened) s (QueueWritten taken) refl
-server_event opened s (ServerTold what) other = one_event (server_rules opened) s (ServerTold what) refl
+server_event opened s (FrameReceived f) other quiet = absurd (other f refl)
+server_event opened s (CallSubmitted place a) other quiet = one_event (server_rules opened) s (CallSubmitted place a) refl
+server_event opened s (MemoryRevoked place xid) other quiet = one_event (server_rules opened) s (MemoryRevoked place xid) refl
+server_event opened s (CallExecuted call) other quiet = one_event (server_rules opened) s (CallExecuted call) refl
+server_event opened s (QueueWritten taken) other quiet = one_event (server_rules opened) s (QueueWritten taken) refl
+server_event opened s (ServerTold what) other quiet = one_event (server_rules opened) s (ServerTold what) quiet
 
 -- ---- A mark of which one side has one event, and that brings no bytes
 
@@ -117,7 +129,7 @@ client_preserves opened link run mark j event said w other linked output own the
       accessed = λ o typed kept g h. accesses_up opened (client_state_after opened j.k event) j.s j.d (j.all_up ++ said) j.all_down (length (bytes_received link Initiator run)) (accessed typed kept h);
     }
 
-server_preserves : (opened : LinkParameters) (link : ℕ) (run : List Mark) (mark : Mark) (j : RunAgrees opened link run) (event : RunEvent) (said : List FrameContent) (w : Transit) → ((f : Frame) → event ≢ FrameReceived f)
+server_preserves : (opened : LinkParameters) (link : ℕ) (run : List Mark) (mark : Mark) (j : RunAgrees opened link run) (event : RunEvent) (said : List FrameContent) (w : Transit) → ((f : Frame) → event ≢ FrameReceived f) → IsQuietFor j.s event
     → EndsAgree opened j.k (server_state_after opened j.s event) j.u j.d j.all_up (j.all_down ++ said) w → server_output opened j.s event ≡ output_bytes opened Responder (total_of sends_in j.all_down) (total_of requests_in j.all_down) said
     → events_at link Initiator run mark ≡ [] → events_at link Responder run mark ≡ event ∷ [] → fed_at link Initiator mark ≡ [] → fed_at link Responder mark ≡ [] → written_at link Initiator mark ≡ []
     → bytes_sent link Responder run ++ written_at link Responder mark ≡ output_bytes opened Responder 0 0 (j.d ++ w.down) → w.up ≡ j.w.up
@@ -125,8 +137,8 @@ server_preserves : (opened : LinkParameters) (link : ℕ) (run : List Mark) (mar
     → (Guards opened j.k j.s j.u j.d j.all_up j.all_down j.w (place_of opened j.u) → AccessesAgree opened j.k j.s j.d j.all_up j.all_down (length (bytes_received link Initiator run))
     → AccessesAgree opened j.k (server_state_after opened j.s event) j.d j.all_up (j.all_down ++ said) (length (bytes_received link Initiator run)))
     → MarkAgrees opened link run mark j
-server_preserves opened link run mark j event said w other linked output theirs own fed_i fed_r wrote_i sent same guarded accessed =
-    let one = server_event opened j.s event other in
+server_preserves opened link run mark j event said w other quiet linked output theirs own fed_i fed_r wrote_i sent same guarded accessed =
+    let one = server_event opened j.s event other quiet in
     record {
       k = j.k;
       s = server_state_after opened j.s event;
@@ -161,21 +173,22 @@ pub submit_preserves : (opened : LinkParameters) (link : ℕ) (run : List Mark) 
 submit_preserves opened link run call form xid j h =
     let a : AcceptedCall = record { xid = xid; call = call; form = form } in
     let place = length (bytes_received link Initiator run) in
-    let own : xid ≡ j.k.next_xid = h.next ∙ ap (λ (r : EndState ClientState). r.state.next_xid) j.client_is in
+    let own : xid ≡ next_sent_xid j.k = h.next ∙ ap (λ (r : EndState ClientState). next_sent_xid r.state) j.client_is in
+    let again : IsResent j.k.has_hello j.k.next_xid j.k.waiting call form = subst (λ (r : EndState ClientState). IsResent r.state.has_hello r.state.next_xid r.state.waiting call form) j.client_is h.resent in
     let planned = ap (λ (r : EndState ClientState). plan_for r.state xid call form) (sym j.client_is) ∙ h.planned in
     let limits : ClientLimits j.k = subst (λ (r : EndState ClientState). ClientLimits r.state) j.client_is (client_limits_of opened link run) in
-    let m = submitted opened j.k j.s j.u j.d j.all_up j.all_down j.w place a h.plan j.linked own planned limits in
+    let m = submitted opened j.k j.s j.u j.d j.all_up j.all_down j.w place a h.plan j.linked own again planned limits in
     client_preserves opened link run (marks.Submit link call form (submissions.Accepted xid)) j (CallSubmitted place a) m.said (up_more j.w m.said) (λ f e. absurd cc) m.linked m.output
     (own_events link (CallSubmitted place a ∷ [])) (other_events (eqb link link) (CallSubmitted (length (bytes_received link Responder run)) a ∷ [])) refl refl refl
     (append-nil (bytes_sent link Initiator run) ∙ j.sent_up) refl
     (λ o within g.
     let room : length j.k.outstanding < j.k.grant = room_of opened link run j (within refl) in
     subst (λ (ps : List FrameContent). Guards opened (client_state_after opened j.k (CallSubmitted place a)) j.s j.u j.d (j.all_up ++ ps) j.all_down (up_more j.w ps) (place_of opened j.u)) (sym m.said_is)
-    (guards_submit opened j.k j.s j.u j.d j.all_up j.all_down j.w (place_of opened j.u) place a h.plan j.linked g planned own h.xids room))
+    (guards_submit opened j.k j.s j.u j.d j.all_up j.all_down j.w (place_of opened j.u) place a h.plan j.linked g planned own again h.xids room))
     (λ typed kept agree.
-    let stags : j.k.stag + regions_needed h.plan ≤ numbers_end = subst (λ (r : EndState ClientState). r.state.stag + regions_needed h.plan ≤ numbers_end) j.client_is h.stags in
+    let stags : stag_for j.k xid + regions_needed h.plan ≤ numbers_end = subst (λ (r : EndState ClientState). stag_for r.state xid + regions_needed h.plan ≤ numbers_end) j.client_is (accepted_stags opened link run call form xid h) in
     subst (λ (ps : List FrameContent). AccessesAgree opened (client_state_after opened j.k (CallSubmitted place a)) j.s j.d (j.all_up ++ ps) j.all_down place) (sym m.said_is)
-    (accessed_submit opened j.k j.s j.d j.all_up j.all_down place a h.plan agree planned h.xids stags typed.0 typed.1 limits))
+    (accessed_submit opened j.k j.s j.d j.all_up j.all_down place a h.plan agree planned own again h.xids stags typed.0 typed.1 limits))
 
 -- a Wrote of all that is due
 takes_all_up : (opened : LinkParameters) (link : ℕ) (run : List Mark) (bytes : List ℕ) (k : ClientState) → client opened link run ≡ live k → bytes_sent link Initiator run ++ bytes ≡ output_due opened link Initiator run → k.written + length bytes ≡ k.due
@@ -233,7 +246,7 @@ wrote_down_preserves opened link run bytes j all =
     let ends : ServerEnds j.s = subst (λ (r : EndState ServerState). ServerEnds r.state) j.server_is (server_ends_within opened link run) in
     let l = subst (λ (ps : List FrameContent). EndsAgree opened j.k (server_state_after opened j.s (QueueWritten (length bytes))) j.u j.d j.all_up ps (record { queued_up = j.w.queued_up; up = j.w.up; queued_down = []; down = j.w.down ++ j.w.queued_down }))
     (sym (append-nil j.all_down)) (written_down opened j.k j.s j.u j.d j.all_up j.all_down j.w n takes ends j.linked) in
-    server_preserves opened link run (marks.Wrote link Responder bytes) j (QueueWritten (length bytes)) [] (record { queued_up = j.w.queued_up; up = j.w.up; queued_down = []; down = j.w.down ++ j.w.queued_down }) (λ f e. absurd cc) l refl
+    server_preserves opened link run (marks.Wrote link Responder bytes) j (QueueWritten (length bytes)) [] (record { queued_up = j.w.queued_up; up = j.w.up; queued_down = []; down = j.w.down ++ j.w.queued_down }) (λ f e. absurd cc) tt l refl
     (other_events (eqb link link) (QueueWritten (length bytes) ∷ [])) (own_events link (QueueWritten (length bytes) ∷ [])) refl refl (other_bytes (eqb link link) bytes)
     (ap (λ (xs : List ℕ). bytes_sent link Responder run ++ xs) (own_bytes link bytes) ∙ all ∙ j.due_down ∙ ap (λ (ps : List FrameContent). output_bytes opened Responder 0 0 ps) (sym j.linked.parts_down)) refl
     (λ o g.
@@ -267,7 +280,7 @@ execute_preserves opened link run xid moment payload place reply j h =
     let sends : 0 < total_of sends_in j.u = omega (arith, some_calls xid j.s.calls there, j.linked.counts.waiting, j.linked.sends_up) in
     let hellos = begun j.u (stream_left j.u (j.w.up ++ j.w.queued_up) (subst IsOutput (sym j.linked.parts_up) j.linked.stream_up)) sends in
     let m = executed opened j.k j.s j.u j.d j.all_up j.all_down j.w e h.call first.0 j.linked first.1 h.own (omega (arith, hellos, j.linked.hellos_down)) (subst (λ (r : EndState ServerState). ServerLimits r.state) j.server_is (server_limits_of opened link run)) in
-    server_preserves opened link run (marks.Execute link xid moment payload place reply) j (CallExecuted e) m.said (record { queued_up = j.w.queued_up; up = j.w.up; queued_down = j.w.queued_down ++ m.said; down = j.w.down }) (λ f x. absurd cc) m.linked m.output
+    server_preserves opened link run (marks.Execute link xid moment payload place reply) j (CallExecuted e) m.said (record { queued_up = j.w.queued_up; up = j.w.up; queued_down = j.w.queued_down ++ m.said; down = j.w.down }) (λ f x. absurd cc) tt m.linked m.output
     (other_events (eqb link link) (CallExecuted e ∷ [])) (own_events link (CallExecuted e ∷ [])) refl refl refl
     (append-nil (bytes_sent link Responder run) ∙ j.sent_down) refl
     (λ o g.
@@ -275,15 +288,24 @@ execute_preserves opened link run xid moment payload place reply j h =
     (guards_execute opened j.k j.s j.u j.d j.all_up j.all_down j.w (place_of opened j.u) e h.call first.0 o j.linked g j.linked.fits first.1 h.own))
     (λ g agree.
     subst (λ (ps : List FrameContent). AccessesAgree opened j.k (server_state_after opened j.s (CallExecuted e)) j.d j.all_up (j.all_down ++ ps) (length (bytes_received link Initiator run))) (sym m.said_is)
-    (accessed_execute opened j.k j.s j.d j.all_up j.all_down (length (bytes_received link Initiator run)) e h.call first.0 agree first.1 h.own j.linked.waits.whole_calls g.numbers
+    (accessed_execute opened j.k j.s j.d j.all_up j.all_down (length (bytes_received link Initiator run)) e h.call first.0 agree first.1 h.own j.linked.waits.whole_calls g.answered.rise g.numbers
     (pending_unanswered xid j.all_down j.s.calls g.answered.once there)))
 
-pub told_preserves : (opened : LinkParameters) (link : ℕ) (run : List Mark) (what : Told) (j : RunAgrees opened link run) → ToldInRange opened what → MarkAgrees opened link run (marks.Told link what) j
-unfolding server_output
-told_preserves opened link run what j granted =
+told_stays : (opened : LinkParameters) (s : ServerState) (what : Told) → (next_end_state_by (server_rules opened) s (ServerTold what) (told_end s what)).ended ≡ None → told_end s what ≡ None
+told_stays opened s what h = by (told_end s what) h
+  where
+    by : (o : Option End) → (next_end_state_by (server_rules opened) s (ServerTold what) o).ended ≡ None → o ≡ None
+    by None h = refl
+    by (Some end) h = absurd cc
+
+pub told_preserves : (opened : LinkParameters) (link : ℕ) (run : List Mark) (what : Told) (j : RunAgrees opened link run) → ToldInRange opened what → (server opened link (run ++ marks.Told link what ∷ [])).ended ≡ None → MarkAgrees opened link run (marks.Told link what) j
+unfolding server_output server_end
+told_preserves opened link run what j granted down =
+    let stays : (next_end_state_by (server_rules opened) j.s (ServerTold what) (told_end j.s what)).ended ≡ None =
+    ap (λ (x : EndState ServerState). x.ended) (sym (server_one opened link run (marks.Told link what) ∙ (λ i. end_state_after (server_rules opened) (j.server_is i) (own_events link (ServerTold what ∷ []) i)))) ∙ down in
     let l = subst (λ (ps : List FrameContent). EndsAgree opened j.k (server_state_after opened j.s (ServerTold what)) j.u j.d j.all_up ps j.w) (sym (append-nil j.all_down))
     (told_linked opened j.k j.s j.u j.d j.all_up j.all_down j.w what j.linked) in
-    server_preserves opened link run (marks.Told link what) j (ServerTold what) [] j.w (λ f e. absurd cc) l refl
+    server_preserves opened link run (marks.Told link what) j (ServerTold what) [] j.w (λ f e. absurd cc) (told_stays opened j.s what stays) l refl
     (other_events (eqb link link) (ServerTold what ∷ [])) (own_events link (ServerTold what ∷ [])) refl refl refl
     (append-nil (bytes_sent link Responder run) ∙ j.sent_down) refl
     (λ o g.

@@ -179,7 +179,7 @@ Brings (CallExecuted e ∷ es) outs = Brings es outs
 Brings (QueueWritten taken ∷ es) outs = Brings es outs
 Brings (ServerTold what ∷ es) outs = Brings es outs
 
-abbrev frames_in : List RunEvent → List Frame
+abbrev pub frames_in : List RunEvent → List Frame
 frames_in [] = []
 frames_in (FrameReceived f ∷ es) = f ∷ frames_in es
 frames_in (CallSubmitted p a ∷ es) = frames_in es

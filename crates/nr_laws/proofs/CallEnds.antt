@@ -1,5 +1,5 @@
 -- The frame at which a server ends for a call.
-use Rattle.std.proofs.Common.{◌≡◌, ℕ, Bool, false, cond, List, ◌∷◌, ◌++◌, Option, None, Some, Ok, refl, sym, ap, subst, ◌∙◌, inl, inr}
+use Rattle.std.proofs.Common.{◌≡◌, ℕ, Bool, false, cond, List, ◌∷◌, ◌++◌, Option, None, Some, Ok, refl, sym, ap, subst, ◌∙◌, arith, inl, inr}
 use Rattle.nr_regions.specs.Access.{Grant}
 use Rattle.nr_wire.specs.declared.hello.Side.TheVariants.{Initiator, Responder}
 use Rattle.nr_wire.specs.Hello.{hello_of}
@@ -27,7 +27,8 @@ use Rattle.nr_laws.proofs.CallRefusals.{RefusedBy, refused_by, frame_other}
 use Rattle.nr_laws.proofs.EndingEvents.{ends_at_lem}
 use Rattle.nr_laws.proofs.HeldChunks.{server_good}
 use Rattle.nr_laws.proofs.ServerAlong.{ServerGood, FrameGood}
-use Rattle.nr_laws.proofs.ServerEnds.{hello_goes}
+use Rattle.nr_laws.proofs.ServerEnds.{hello_goes, ends_as_old}
+use Rattle.nr_link.specs.Reasons.{REASON_OLD}
 use Rattle.nr_laws.proofs.Basics.{none_some_lem}
 
 -- ---- The frame that ends a server for a call
@@ -46,6 +47,13 @@ pub record RefusedAt (opened : LinkParameters) (link : ℕ) (run : List Mark) (r
 
 reason_same : (a b n m : ℕ) → Some (ends.Bad a n) ≡ Some (ends.Bad b m) → n ≡ m
 reason_same a b n m e = cc
+
+not_old : (a reason b : ℕ) → IsCallReason reason → ends.Bad a reason ≡ ends.Bad b REASON_OLD → ⊥
+not_old a reason b own e = by own (let same : reason ≡ REASON_OLD = cc in same)
+  where
+    by : IsCallReason reason → reason ≡ REASON_OLD → ⊥
+    by (inl head) is = omega (arith, head, is)
+    by (inr xid) is = omega (arith, xid, is)
 
 refused_frame : (opened : LinkParameters) (link : ℕ) (run : List Mark) (es : List RunEvent) (f : Frame) (more : List RunEvent) (at reason : ℕ) → events link Responder run ≡ es ++ FrameReceived f ∷ more
     → (end_state_after (server_rules opened) (initial_server opened) es).ended ≡ None → FrameGood f → IsCallReason reason → server_end opened (server_by opened es) (FrameReceived f) ≡ Some (ends.Bad at reason) → RefusedAt opened link run reason
@@ -98,4 +106,4 @@ refused_at_lem opened link run typed far at reason own e =
     by es (MemoryRevoked p xid) more is live good e = absurd cc
     by es (CallExecuted x) more is live good e = absurd cc
     by es (QueueWritten taken) more is live good e = absurd cc
-    by es (ServerTold what) more is live good e = absurd cc
+    by es (ServerTold what) more is live good e = (let old = ends_as_old (server_by opened es) what (ends.Bad at reason) e in absurd (not_old at reason old.at own old.is))

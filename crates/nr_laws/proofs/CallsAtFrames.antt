@@ -1,6 +1,6 @@
 -- What is conveyed of a call at the frame that completes it, whether that ends the server or not: what its form conveys of its own
 -- payload.
-use Rattle.std.proofs.Common.{◌≡◌, ℕ, ◌+◌, zero, suc, ◌<◌, true, false, eqb, List, [], ◌∷◌, ◌++◌, Option, None, Some, Ok, refl, sym, ap, subst, ◌∙◌, arith}
+use Rattle.std.proofs.Common.{◌≡◌, ℕ, ◌+◌, zero, suc, ◌<◌, ◌≤◌, true, false, eqb, List, [], ◌∷◌, ◌++◌, Option, None, Some, Ok, refl, sym, ap, subst, ◌∙◌, arith}
 use Rattle.std.specs.Prelude.{IfSome}
 use Rattle.std.specs.List.{list_any}
 use Rattle.nr_xdr.specs.Item.{IsBytes}
@@ -18,10 +18,10 @@ use Rattle.nr_reduce.specs.declared.mark.Mark.{Mark}
 use Rattle.nr_reduce.specs.declared.mark.Mark.TheVariants as marks
 use Rattle.nr_reduce.specs.declared.mark.LinkParameters.{LinkParameters}
 use Rattle.nr_reduce.specs.declared.outline.Plan.{Plan}
-use Rattle.nr_reduce.specs.Plans.{plan_of, entries_from, read_list, lists_of, HasWordPosition}
+use Rattle.nr_reduce.specs.Plans.{entries_from, read_list, lists_of, regions_needed, HasWordPosition}
 use Rattle.nr_reduce.specs.Chunks.{total_at, call_conveyed}
 use Rattle.nr_reduce.specs.OfferedRegions.{Region, region_grants}
-use Rattle.nr_reduce.specs.ClientState.{call_payload}
+use Rattle.nr_reduce.specs.ClientState.{call_payload, stag_for}
 use Rattle.nr_reduce.specs.Events.{RunEvent, events}
 use Rattle.nr_reduce.specs.Events.RunEvent.{FrameReceived}
 use Rattle.nr_reduce.specs.ServerState.{PendingCall, PendingRead}
@@ -32,7 +32,7 @@ use Rattle.nr_link.specs.ReceiveState.{message_completed}
 use Rattle.nr_reduce.specs.ServerFrames.{call_of_number, with_access}
 use Rattle.nr_reduce.specs.Server.{server_rules, initial_server}
 use Rattle.nr_reduce.specs.Matched.{Matched}
-use Rattle.nr_reduce.specs.Asked.{AskedSoFar}
+use Rattle.nr_reduce.specs.Asked.{AskedSoFar, IsPlannedAs}
 use Rattle.nr_reduce.specs.Served.{ServedSoFar}
 use Rattle.nr_reduce.specs.EndRules.{end_state_after}
 use Rattle.nr_reduce.specs.Run.{client}
@@ -50,7 +50,8 @@ use Rattle.nr_laws.proofs.ConveyedCalls.{planned_fits, plan_reads}
 use Rattle.nr_laws.proofs.ConveyedForms.{HasChunk, no_bytes_lem, planned_chunk, received_conveys}
 use Rattle.nr_laws.proofs.EmptyChunks.{new_empty, pending_empty}
 use Rattle.nr_laws.proofs.ExecutedCalls.{frame_message, received_message}
-use Rattle.nr_laws.proofs.ExecutedPayloads.{IsOfPlan, planned_by, sizes_up, sizes_down, up_limit}
+use Rattle.nr_laws.proofs.ExecutedPayloads.{IsOfPlan}
+use Rattle.nr_laws.proofs.WaitingCalls.{accepted_stags, accepted_plan}
 use Rattle.nr_laws.proofs.HeaderXid.{header_xid, call_xid_lem}
 use Rattle.nr_laws.proofs.HeldChunks.{sink_holds}
 use Rattle.nr_laws.proofs.JudgedCalls.{pending_fine, read_fine}
@@ -64,6 +65,7 @@ use Rattle.nr_laws.proofs.SuitedCalls.{HasNoBytes, calls_suit_lem, IsSuited}
 use Rattle.nr_laws.proofs.TotalsAtServer.{found_has}
 use Rattle.std.proofs.lemmas.Bool.{not-true}
 use Rattle.nr_laws.proofs.SinksKept.{total_nil}
+use Rattle.nr_reduce.specs.Limits.{numbers_end}
 
 -- ---- The chunks of a plan
 
@@ -105,32 +107,35 @@ module _ (opened : LinkParameters) (link : ℕ) (run : List Mark) (typed : IsTyp
   pub submit_typed : IsBytes (call_payload w.xid w.call) × HasWordPosition w.form × IsTypedCall w.call
   submit_typed = at_mark TypedMark run w.earlier (marks.Submit link w.call w.form (submissions.Accepted w.xid)) w.later w.is typed
 
-  submit_plan : plan_of (call_payload w.xid w.call) w.form (sizes_up opened link w.earlier) (sizes_down opened link w.earlier) ≡ Ok w.accepted.plan
-  submit_plan = planned_by opened link w.earlier w.xid w.call w.form w.accepted.plan w.accepted.planned
+  submit_plan : IsPlannedAs w.xid w.call w.form w.accepted.plan
+  submit_plan = accepted_plan opened link w.earlier w.call w.form w.xid w.accepted.plan w.accepted w.accepted.planned
 
-  submit_reads : (header : Header) → header_of m ≡ Ok header → ReadsLists (client opened link w.earlier).state.stag w.accepted.plan m header
+  submit_stags : stag_for (client opened link w.earlier).state w.xid + regions_needed w.accepted.plan ≤ numbers_end
+  submit_stags = accepted_stags opened link w.earlier w.call w.form w.xid w.accepted
+
+  submit_reads : (header : Header) → header_of m ≡ Ok header → ReadsLists (stag_for (client opened link w.earlier).state w.xid) w.accepted.plan m header
   submit_reads header is =
-      let k = (client opened link w.earlier).state in
+      let stag : ℕ = stag_for (client opened link w.earlier).state w.xid in
       let p : Plan = w.accepted.plan in
-      let fine = planned_fits (call_payload w.xid w.call) w.form (sizes_up opened link w.earlier) (sizes_down opened link w.earlier) k.stag p (up_limit opened link w.earlier) submit_plan submit_typed.0 submit_typed.1 w.accepted.stags in
-      subst (λ (x : List ℕ). ReadsLists k.stag p x header) (sym w.message_is)
-      (plan_reads w.xid opened.wished k.stag p header fine.0 fine.1 w.accepted.xids (ap header_of (sym w.message_is) ∙ is))
+      let fine = planned_fits (call_payload w.xid w.call) w.form submit_plan.up submit_plan.down stag p submit_plan.up_fits submit_plan.planned submit_typed.0 submit_typed.1 submit_stags in
+      subst (λ (x : List ℕ). ReadsLists stag p x header) (sym w.message_is)
+      (plan_reads w.xid opened.wished stag p header fine.0 fine.1 w.accepted.xids (ap header_of (sym w.message_is) ∙ is))
 
   pub submit_xid : word_at 0 m ≡ w.xid
   submit_xid =
       let fits = w.accepted.xids in
-      ap (λ (x : List ℕ). word_at 0 x) w.message_is ∙ call_xid_lem w.xid opened.wished (client opened link w.earlier).state.stag w.accepted.plan (omega (arith, fits))
+      ap (λ (x : List ℕ). word_at 0 x) w.message_is ∙ call_xid_lem w.xid opened.wished (stag_for (client opened link w.earlier).state w.xid) w.accepted.plan (omega (arith, fits))
 
   -- if its chunks hold the plan's region
   submit_conveys : (c : PendingCall) (chunk : ℕ → List ℕ) (header : Header) → header_of m ≡ Ok header → c.lists ≡ lists_by header.body → c.inline ≡ known_stream m header.body
-      → ((position : ℕ) → c.lists.read ≡ entries_from position (client opened link w.earlier).state.stag 0 w.accepted.plan.read → chunk position ≡ w.accepted.plan.region)
+      → ((position : ℕ) → c.lists.read ≡ entries_from position (stag_for (client opened link w.earlier).state w.xid) 0 w.accepted.plan.read → chunk position ≡ w.accepted.plan.region)
       → call_conveyed c.inline c.lists.read chunk ≡ form_conveyed w.form (call_payload w.xid w.call)
   submit_conveys c chunk header is lists stream held =
       let p : Plan = w.accepted.plan in
-      let stag : ℕ = (client opened link w.earlier).state.stag in
+      let stag : ℕ = (stag_for (client opened link w.earlier).state w.xid) in
       let reading = submit_reads header is in
       let of_plan : IsOfPlan stag p c = record { lists = lists ∙ reading.lists; stream = stream ∙ reading.known } in
-      received_conveys (call_payload w.xid w.call) w.form (sizes_up opened link w.earlier) (sizes_down opened link w.earlier) stag p c chunk submit_typed.0 submit_typed.1 (up_limit opened link w.earlier) submit_plan w.accepted.stags of_plan (plan_holds_lem c stag p chunk (ap (λ (x : ChunkLists). x.read) of_plan.lists) held)
+      received_conveys (call_payload w.xid w.call) w.form submit_plan.up submit_plan.down stag p c chunk submit_typed.0 submit_typed.1 submit_plan.up_fits submit_plan.planned submit_stags of_plan (plan_holds_lem c stag p chunk (ap (λ (x : ChunkLists). x.read) of_plan.lists) held)
 
 -- ---- At a frame
 
@@ -156,9 +161,10 @@ module _ (opened : LinkParameters) (link : ℕ) (run : List Mark) (typed : IsTyp
       let l = verdict_lists k message c v in
       let new = (verdict_new k message c v).0 in
       let p : Plan = w.accepted.plan in
-      let stag : ℕ = (client opened link w.earlier).state.stag in
+      let stag : ℕ = (stag_for (client opened link w.earlier).state w.xid) in
       let chunk = chunk_bytes k f.end c in
-      let region = planned_chunk (call_payload w.xid w.call) w.form (sizes_up opened link w.earlier) (sizes_down opened link w.earlier) p (submit_plan opened link run typed w) in
+      let formed = submit_plan opened link run typed w in
+      let region = planned_chunk (call_payload w.xid w.call) w.form formed.up formed.down p formed.planned in
       let lists = l.lists ∙ (submit_reads opened link run typed w l.header l.is).lists in
       let none : added_up p.read ≡ 0 = nothing_read (k.regions ++ regions_of k f.end c) k.reads c stag p region (ap (λ (x : ChunkLists). x.read) lists) read in
       record {
@@ -182,10 +188,10 @@ module _ (opened : LinkParameters) (link : ℕ) (run : List Mark) (typed : IsTyp
       let own = each_found (IsReceivedCall opened es) q.number k.calls c known.calls found in
       let w = received_message opened link run typed asked matched c (FrameReceived f ∷ more) es all own live in
       let p : Plan = w.accepted.plan in
-      let stag : ℕ = (client opened link w.earlier).state.stag in
+      let stag : ℕ = (stag_for (client opened link w.earlier).state w.xid) in
       let chunk = chunk_bytes (with_access k f segment) f.end c in
-      let planned = submit_plan opened link run typed w in
-      let region = planned_chunk (call_payload w.xid w.call) w.form (sizes_up opened link w.earlier) (sizes_down opened link w.earlier) p planned in
+      let formed = submit_plan opened link run typed w in
+      let region = planned_chunk (call_payload w.xid w.call) w.form formed.up formed.down p formed.planned in
       let regions : List Region = (client opened link run).state.regions in
       let reading = submit_reads opened link run typed w own.header own.is_header in
       let suits : IsSuited k.received.sends k.reads c = each_found (IsSuited k.received.sends k.reads) q.number k.calls c (calls_suit_lem opened es).calls_suit found in
@@ -195,7 +201,7 @@ module _ (opened : LinkParameters) (link : ℕ) (run : List Mark) (typed : IsTyp
       λ position lists bytes.
       let backed = read_region regions stag p bytes (accepted_regions opened link run w.earlier w.later w.call w.form w.xid typed asked w.is w.accepted) in
       sink_holds opened link run typed asked served matched es f more segment q rest c all behind is live allowed ends reads found read
-      (record { position = position; handle = stag; lengths = p.read; lists = lists; some = bytes; region = p.region; size = region.size; region_fits = region_small (call_payload w.xid w.call) w.form (sizes_up opened link w.earlier) (sizes_down opened link w.earlier) p planned; handle_fits = stag_small stag p bytes w.accepted.stags; holds = region_holds regions stag p.region backed }) in
+      (record { position = position; handle = stag; lengths = p.read; lists = lists; some = bytes; region = p.region; size = region.size; region_fits = region_small (call_payload w.xid w.call) w.form formed.up formed.down p formed.planned; handle_fits = stag_small stag p bytes (submit_stags opened link run typed w); holds = region_holds regions stag p.region backed }) in
       let held : (position : ℕ) → c.lists.read ≡ entries_from position stag 0 p.read → chunk position ≡ p.region =
       λ position lists.
       none_or_some (added_up p.read) (chunk position ≡ p.region)

@@ -36,6 +36,7 @@ use Rattle.nr_laws.proofs.ExecutedPayloads.{executes_have_plans}
 use Rattle.nr_laws.proofs.PlannedOffers.{offers_are_planned}
 use Rattle.nr_laws.proofs.LaterMarks.{mark_later, plan_later}
 use Rattle.nr_laws.proofs.RefusedMessages.{refused_message, refused_not_executed}
+use Rattle.nr_reduce.specs.ClientState.{stag_for}
 
 -- ---- Of two Executes under one xid there is one
 
@@ -109,7 +110,7 @@ chunk_caused opened link run before after xid typed far is = by (outcome_cause o
 -- what the offer holds which the server keeps is what the plan's offer holds
 pub held_by_plan : (opened : LinkParameters) (link : ℕ) (run before : List Mark) (xid : ℕ) (plan : Plan) (moment : Moment) (payload : List ℕ) (place : ℕ) (reply : List ℕ) → IsTyped run → MatchedSoFar opened link run
     → (has : HasPlan opened link run xid plan) → MarkAt run before (marks.Execute link xid moment payload place reply)
-    → answer_held opened link before xid payload reply ≡ answer_of_target (lists_of (client opened link has.before).state.stag plan) (server opened link before).state.down_max reply (target_of (call_of payload))
+    → answer_held opened link before xid payload reply ≡ answer_of_target (lists_of (stag_for (client opened link has.before).state xid) plan) (server opened link before).state.down_max reply (target_of (call_of payload))
 held_by_plan opened link run before xid plan moment payload place reply typed far has at =
     let offer = offers_are_planned opened link run before xid plan moment payload place reply typed far has at in
     ap (λ (o : ChunkLists). answer_of_target o (server opened link before).state.down_max reply (target_of (call_of payload))) offer

@@ -19,9 +19,11 @@ use Rattle.nr_reduce.specs.Events.{RunEvent}
 use Rattle.nr_reduce.specs.Events.RunEvent.{FrameReceived, CallSubmitted, MemoryRevoked, CallExecuted, QueueWritten, ServerTold}
 use Rattle.nr_reduce.specs.EndRules.{next_end_state_by, next_end_state_in}
 use Rattle.nr_reduce.specs.OfferedRegions.{region_grants}
-use Rattle.nr_reduce.specs.ClientState.{ClientState, OutstandingCall, plan_for, client_memory_at}
-use Rattle.nr_reduce.specs.Client.{client_segment, client_rules, client_end, client_state_after, client_readiness, segment_request, outstanding_of, with_message, with_request, with_segment, with_hello, due_with_response}
+use Rattle.nr_reduce.specs.ClientState.{ClientState, OutstandingCall, WaitingCall, plan_for, client_memory_at, first_of}
+use Rattle.nr_reduce.specs.Client.{client_segment, client_rules, client_end, client_state_after, client_readiness, segment_request, outstanding_of, is_revoked_waiting, with_message, with_request, with_segment, with_hello, due_with_response}
 use Rattle.nr_reduce.specs.RunLaws.{as_submitted}
+use Rattle.nr_reduce.specs.SubmitAnswer.{next_sent_xid}
+use Rattle.nr_reduce.specs.Asked.{IsResent}
 use Rattle.nr_laws.proofs.PlannedSizes.{short_call}
 use Rattle.nr_laws.proofs.EventOutputs.{IsNext, place_after, outputs_by, outputs_in}
 use Rattle.nr_laws.proofs.Outputs.{Output, IsShort, CallsShort, message_of_call, message_outputs, call_sends, client_says, response_outputs, response_segments, final_outputs, terminate_segment, CallShort}
@@ -171,21 +173,34 @@ hello_step opened es place k outs f first at goes p =
 
 -- ---- A call
 
-call_step : (opened : LinkParameters) (es : List RunEvent) (place p : ℕ) (k : ClientState) (outs : List Output) (a : AcceptedCall) (plan : Plan) → k ≡ (client_after opened es).state → plan_for k a.xid a.call a.form ≡ Ok plan → ClientLimits k → ClientSays opened es place k None outs
+-- before the hello no call is sent again, so a new one isn't revoked
+new_unrevoked : (k : ClientState) (a : AcceptedCall) → k.has_hello ≡ false → IsResent k.has_hello k.next_xid k.waiting a.call a.form → as_submitted (outstanding_of k a) ≡ outstanding_of k a
+new_unrevoked k a no_hello resent = λ i. record own { is_revoked = sym (by k.waiting resent) i }
+  where
+    own : OutstandingCall
+    own = outstanding_of k a
+
+    by : (ws : List WaitingCall) → IsResent k.has_hello k.next_xid ws a.call a.form → is_revoked_waiting (first_of ws a.xid) ≡ false
+    by [] again = refl
+    by (w ∷ ws) again = absurd (let wrong : true ≡ false = sym again.greeted ∙ no_hello in cc)
+
+call_step : (opened : LinkParameters) (es : List RunEvent) (place p : ℕ) (k : ClientState) (outs : List Output) (a : AcceptedCall) (plan : Plan) → k ≡ (client_after opened es).state → a.xid ≡ next_sent_xid k → IsResent k.has_hello k.next_xid k.waiting a.call a.form → plan_for k a.xid a.call a.form ≡ Ok plan → ClientLimits k → ClientSays opened es place k None outs
     → ClientSays opened (es ++ CallSubmitted p a ∷ []) place (client_state_after opened k (CallSubmitted p a)) None
     (outs ++ cond k.has_hello (message_outputs (k.sends + 1) (message_of_call opened (outstanding_of k a))) [])
 unfolding client_state_after
-call_step opened es place p k outs a plan at planned l h =
+call_step opened es place p k outs a plan at next resent planned l h =
     let own : OutstandingCall = outstanding_of k a in
     let before : List AcceptedCall = accepted_in es in
     let more : accepted_in (es ++ CallSubmitted p a ∷ []) ≡ before ++ a ∷ [] = accepted_append es (CallSubmitted p a ∷ []) in
     let all : asked opened (es ++ CallSubmitted p a ∷ []) ≡ asked opened es ++ own ∷ [] = asked_submit opened es p a k at in
-    let short : IsShort (message_of_call opened own) = short_call opened k a plan planned l in
+    let short : IsShort (message_of_call opened own) = short_call opened k a plan next resent planned l in
     record {
       short = each_append (CallShort opened) k.outstanding (own ∷ []) h.short (short, tt);
       count = (let c = h.count in let l = ap (λ (xs : List AcceptedCall). length xs) more in let n = length-append before (a ∷ []) in omega (arith, c, l, n));
       greeted = h.greeted;
-      waits = λ no_hello. submitted_append k.outstanding (own ∷ []) ∙ ap (λ (os : List OutstandingCall). os ++ own ∷ []) (h.waits no_hello) ∙ sym all;
+      waits = λ no_hello. submitted_append k.outstanding (own ∷ [])
+          ∙ (λ i. h.waits no_hello i ++ new_unrevoked k a no_hello resent i ∷ [])
+          ∙ sym all;
       words = from_append outs (says k.has_hello) h.words (words_by k.has_hello short);
       completes = completes_by k.has_hello refl all;
     }
@@ -258,7 +273,7 @@ told_says opened es place k outs what p =
 
 submitted_says : (opened : LinkParameters) (es : List RunEvent) (place : ℕ) (k : ClientState) (outs : List Output) (q : ℕ) (a : AcceptedCall) → k ≡ (client_after opened es).state → IsGoodCall opened (record { state = k; ended = None }) a → ClientSays opened es place k None outs → Next opened es place k None outs (CallSubmitted q a)
 unfolding client_says client_end
-submitted_says opened es place k outs q a at good p = call_step opened es place q k outs a good.plan at good.planned good.limits p
+submitted_says opened es place k outs q a at good p = call_step opened es place q k outs a good.plan at good.next good.resent good.planned good.limits p
 
 ended_says : (opened : LinkParameters) (es : List RunEvent) (place later : ℕ) (k : ClientState) (outs : List Output) (e : RunEvent) (end : Stop) → accepted_in (e ∷ []) ≡ [] → ClientSays opened es place k (Some end) outs → ClientSays opened (es ++ e ∷ []) later k (Some end) (outs ++ [])
 ended_says opened es place later k outs e end none p = quiet_step opened es e place later k k (Some end) (Some end) outs [] none (stays_step opened later k end) quiet_none p

@@ -20,7 +20,7 @@ use Rattle.nr_reduce.specs.Events.RunEvent.{FrameReceived}
 use Rattle.nr_reduce.specs.OfferedRegions.{region_grants}
 use Rattle.nr_reduce.specs.ClientState.{ClientState, OutstandingCall, client_memory_at}
 use Rattle.nr_reduce.specs.ServerState.{ServerState}
-use Rattle.nr_reduce.specs.Client.{client_segment, client_end, client_state_after, client_output, client_readiness, or_message_end, segment_request, calls_output, response_output, with_segment, with_hello}
+use Rattle.nr_reduce.specs.Client.{client_segment, client_end, client_state_after, client_output, client_readiness, or_message_end, segment_request, calls_output, response_output, with_segment, with_hello, or_other_sizes}
 use Rattle.nr_laws.proofs.FrameContents.{FrameContent, frame_bytes, output_bytes, total_of, sends_in, requests_in, hellos_in, client_frames, response_frames, tagged_frames, Carries, part_segment, last_segment, send_frames, calls_frames, written_segment, IsSent}
 use Rattle.nr_laws.proofs.FrameContents.FrameContent.{HelloFrame, PartFrame, SendFrame, RequestFrame, TaggedFrame}
 use Rattle.nr_laws.proofs.LinkInvariants.{Transit, TotalsAgree, calls_sent, hello_bit}
@@ -79,7 +79,7 @@ request_ends k f n payload behind is e =
     let segment : Segment = Untagged true OPCODE_READ_REQUEST 0 QUEUE_READ_REQUEST n 0 payload in
     let grants = region_grants f.end k.regions in
     let found : frame_end_by (client_readiness k) grants f (client_segment k f) ≡ None =
-    by_end k f (frame_end_by (client_readiness k) grants f (client_segment k f)) ((λ i. cond (sym behind i) (hello_end (hello_of Responder f.bytes)) (or_message_end k f (frame_end_by (client_readiness k) grants f (client_segment k f)))) ∙ e) in
+    by_end k f (frame_end_by (client_readiness k) grants f (client_segment k f)) ((λ i. cond (sym behind i) (or_other_sizes k f (hello_end (hello_of Responder f.bytes))) (or_message_end k f (frame_end_by (client_readiness k) grants f (client_segment k f)))) ∙ e) in
     let none : end_of_fault f segment (segment_reason (client_readiness k (missing_access grants f segment)) segment) ≡ None =
     ap (λ (r : Result Segment ℕ). frame_end_by (client_readiness k) grants f r) (sym is) ∙ found in
     let malformed = not_malformed (client_readiness k (missing_access grants f segment)) n payload (no_flaw f segment _ none) in

@@ -19,7 +19,7 @@ use Rattle.nr_laws.proofs.LinkInvariants.{Transit}
 use Rattle.nr_laws.proofs.Totals.{total_append}
 use Rattle.nr_laws.proofs.StreamFrames.{frames_at, spelled_append}
 use Rattle.nr_laws.proofs.TotalsAtClient.{down_one}
-use Rattle.nr_laws.specs.EndCauses.{IsDenied}
+use Rattle.nr_laws.specs.EndCauses.{IsDenied, AgreesAgain}
 use Rattle.nr_laws.proofs.EndReasons.{EndsForMessage}
 use Rattle.nr_laws.proofs.Guards.{Guards}
 use Rattle.nr_laws.proofs.ClientStep.{LacksAccess, step_down}
@@ -100,23 +100,23 @@ client_runs opened s u all_down left (p ∷ new) k d all_up w n r place l first 
 
 -- ---- If the client ends by them, it does so for what it makes of a message, or for what its memory denies
 
-pub client_ends : (opened : LinkParameters) (s : ServerState) (u all_down left : List FrameContent) (o : IsOpened opened) (end : End) (up : ℕ) (new : List FrameContent) (k : ClientState) (d all_up : List FrameContent) (w : Transit) (n r place : ℕ) → EndsAgree opened k s u d all_up all_down w → Guards opened k s u d all_up all_down w up → w.down ≡ new ++ left
+pub client_ends : (opened : LinkParameters) (s : ServerState) (u all_down left : List FrameContent) (o : IsOpened opened) (again : AgreesAgain opened) (end : End) (up : ℕ) (new : List FrameContent) (k : ClientState) (d all_up : List FrameContent) (w : Transit) (n r place : ℕ) → EndsAgree opened k s u d all_up all_down w → Guards opened k s u d all_up all_down w up → w.down ≡ new ++ left
     → n ≡ total_of sends_in d → r ≡ total_of requests_in d → IsPlace d place → IsBytes (concat (frames_at opened Responder n r new)) → AreSome (frames_at opened Responder n r new)
     → (end_state_after (client_rules opened) (live k) (events_of place (frames_at opened Responder n r new))).ended ≡ Some end → EndsForMessage end ⊎ IsDenied end
-client_ends opened s u all_down left o end up [] k d all_up w n r place l g first sends requests at bytes some e = absurd (let wrong : None ≡ Some end = e in cc)
-client_ends opened s u all_down left o end up (p ∷ new) k d all_up w n r place l g first sends requests at bytes some e =
+client_ends opened s u all_down left o again end up [] k d all_up w n r place l g first sends requests at bytes some e = absurd (let wrong : None ≡ Some end = e in cc)
+client_ends opened s u all_down left o again end up (p ∷ new) k d all_up w n r place l g first sends requests at bytes some e =
     let rules = client_rules opened in
     let frame = frame_bytes opened Responder (written_segment n r p) in
     let later = frames_at opened Responder (n + sends_in p) (r + requests_in p) new in
     let event = FrameReceived (frame_of frame place) in
     let es = events_of (place + length frame) later in
     let step = step_down opened k s u d all_up all_down w up p (new ++ left) n r place o l g first sends requests at in
-    (ends_first rules k event es end (EndsForMessage end ⊎ IsDenied end) e).first (λ now. by (step.only end now))
+    (ends_first rules k event es end (EndsForMessage end ⊎ IsDenied end) e).first (λ now. by (step.only again end now))
     (λ stays rest.
     let t = client_took opened k s u d all_up all_down w p (new ++ left) n r place l first sends requests at (IsBytes_left frame (concat later) bytes) stays in
     let after = client_state_after opened k event in
     let one = subst (λ (ps : List FrameContent). Guards opened after s u (d ++ p ∷ []) (all_up ++ ps) all_down (down_one w ps (new ++ left)) up) (sym t.said_is) (step.kept stays) in
-    client_ends opened s u all_down left o end up new after (d ++ p ∷ []) (all_up ++ t.said) (down_one w t.said (new ++ left)) (n + sends_in p) (r + requests_in p) (place + length frame) t.linked one refl
+    client_ends opened s u all_down left o again end up new after (d ++ p ∷ []) (all_up ++ t.said) (down_one w t.said (new ++ left)) (n + sends_in p) (r + requests_in p) (place + length frame) t.linked one refl
     (omega (arith, sends, total_append sends_in d (p ∷ []))) (omega (arith, requests, total_append requests_in d (p ∷ []))) (place_next_lem d p frame place at some.0)
     (IsBytes_right frame (concat later) bytes) some.1 rest)
   where

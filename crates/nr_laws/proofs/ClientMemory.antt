@@ -1,7 +1,7 @@
 -- What a client keeps along its events: its outstanding calls are calls that it accepted, their regions are there, and each access is
 -- allowed.
-use Rattle.std.proofs.Common.{◌≡◌, ℕ, ◌+◌, ◌≤◌, Bool, true, false, cond, not, eqb, List, [], ◌∷◌, ◌++◌, length, map, Option, None, Some, Result, Ok, Err, refl, sym, ap, subst, ◌∙◌, arith, append_assoc, append-nil, eq-eqb, ne_eqb}
-use Rattle.std.specs.List.{filter, find}
+use Rattle.std.proofs.Common.{◌≡◌, ℕ, ◌+◌, ◌≤◌, Bool, true, false, cond, not, eqb, List, [], ◌∷◌, ◌++◌, length, map, Option, None, Some, Result, Ok, Err, refl, sym, ap, subst, ◌∙◌, arith, append_assoc, append-nil, eq-eqb, ne_eqb, length-append}
+use Rattle.std.specs.List.{filter, find, AllByRecursion}
 use Rattle.nr_wire.specs.Segment.{Segment, segment_of}
 use Rattle.nr_wire.specs.Segment.Segment.{Tagged, Untagged}
 use Rattle.nr_regions.specs.Access.{TaggedSegment}
@@ -15,17 +15,19 @@ use Rattle.nr_reduce.specs.Events.{RunEvent}
 use Rattle.nr_reduce.specs.Events.RunEvent.{FrameReceived, CallSubmitted, MemoryRevoked, CallExecuted, QueueWritten, ServerTold}
 use Rattle.nr_reduce.specs.EndRules.{EndState, next_end_state, next_end_state_by, next_end_state_in, end_state_after}
 use Rattle.nr_reduce.specs.OfferedRegions.{Region, region_grants, closed_if, regions_closed}
-use Rattle.nr_reduce.specs.Plans.{Buffer, buffers}
-use Rattle.nr_reduce.specs.ClientState.{ClientState, OutstandingCall, plan_for}
-use Rattle.nr_reduce.specs.Client.{client_segment, client_rules, client_end, client_state_after, outstanding_of, region_of, with_message, with_request, with_segment, revoked_call, initial_client, with_hello, due_with_response}
+use Rattle.nr_reduce.specs.Plans.{Buffer, buffers, regions_needed}
+use Rattle.nr_reduce.specs.ClientState.{ClientState, OutstandingCall, region_of, WaitingCall, others_than, waiting_call, waiting_from, waiting_regions, stag_unless}
+use Rattle.nr_reduce.specs.Client.{client_segment, client_rules, client_end, client_state_after, outstanding_of, with_message, with_request, with_segment, revoked_call, initial_client, with_hello, due_with_response, revoked_waiting, regions_unless_waiting}
 use Rattle.nr_reduce.specs.Server.{tagged_accesses}
 use Rattle.nr_reduce.proofs.Touches.{client_touched}
-use Rattle.nr_reduce.proofs.OwnStags.{AreNumbered, numbered_buffers, ClientNumbers, client_numbers}
+use Rattle.nr_reduce.proofs.OwnStags.{AreNumbered, numbered_buffers, ClientNumbers, client_numbers, kept_after, buffers_length, numbered_append}
 use Rattle.nr_laws.proofs.EventOutputs.{IsNext, GoesOn, along, place_after, places_after}
 use Rattle.nr_reduce.proofs.Steps.{end_state_after_append}
 use Rattle.nr_laws.proofs.ClientSays.{ClientGood, accepted_in, asked, asked_quiet, asked_submit, client_after}
 use Rattle.nr_laws.proofs.ReadFrames.{client_read}
 use Rattle.nr_laws.proofs.Memory.{Gathering, Settled, settled_later, settled_closed, settled_append, settled_more, revoked_settled}
+use Rattle.nr_laws.proofs.WaitingCalls.{first_there, sent_again, others_there}
+use Rattle.nr_reduce.specs.declared.mark.ResumedCall.{ResumedCall}
 
 -- ---- Regions
 
@@ -249,22 +251,97 @@ segment_keeps opened es place k f next behind stays (Ok s) is p =
     (λ h. subst (λ (os : List OutstandingCall). EachAsked opened es os) (sym q.1) (g.owns h))
     (λ h. subst (λ (rs : List Region). AllBacked rs (asked opened es)) (sym q.0) (g.backed (asked opened es) h)) p
 
-call_keeps : (opened : LinkParameters) (es : List RunEvent) (place q : ℕ) (k : ClientState) (a : AcceptedCall) → AreNumbered opened.first_stag k.regions → k.stag ≡ opened.first_stag + length k.regions → k ≡ (client_after opened es).state → ClientKeeps opened es place k
+-- ---- What waits to be sent again has its regions
+
+abbrev WaitBacked : List Region → WaitingCall → Type 0
+WaitBacked regions w = HasBuffers regions (buffers w.stag w.plan)
+
+abbrev WaitsBacked : List Region → List WaitingCall → Type 0
+WaitsBacked regions ws = AllByRecursion (WaitBacked regions) ws
+
+waits_closed : (test : Region → Bool) (place : ℕ) (regions : List Region) (ws : List WaitingCall) → WaitsBacked regions ws → WaitsBacked (regions_closed test place regions) ws
+waits_closed test place regions [] h = tt
+waits_closed test place regions (w ∷ ws) h = (buffers_closed test place regions (buffers w.stag w.plan) h.0, waits_closed test place regions ws h.1)
+
+waits_left : (xs ys : List Region) (ws : List WaitingCall) → WaitsBacked xs ws → WaitsBacked (xs ++ ys) ws
+waits_left xs ys [] h = tt
+waits_left xs ys (w ∷ ws) h = (buffers_left xs ys (buffers w.stag w.plan) h.0, waits_left xs ys ws h.1)
+
+waits_revoked : (regions : List Region) (xid : ℕ) (ws : List WaitingCall) → WaitsBacked regions ws → WaitsBacked regions (map (revoked_waiting xid) ws)
+waits_revoked regions xid [] h = tt
+waits_revoked regions xid (w ∷ ws) h = (by (eqb w.xid xid), waits_revoked regions xid ws h.1)
+  where
+    by : (b : Bool) → WaitBacked regions (cond b (record w { is_revoked = true }) w)
+    by true = h.0
+    by false = h.0
+
+waits_frame : (k : ClientState) (f : Frame) (r : Result Segment ℕ) → WaitsBacked k.regions k.waiting → WaitsBacked (with_segment k f r).regions (with_segment k f r).waiting
+waits_frame k f (Err reason) h = h
+waits_frame k f (Ok s) h = by (message_completed k.received s) (read_request_of s)
+  where
+    by : (o : Option (List ℕ)) (q : Option ReadRequest) → WaitsBacked (with_request (with_message k f.end o) (due_with_response k f s) q).regions (with_request (with_message k f.end o) (due_with_response k f s) q).waiting
+    by None None = h
+    by None (Some q) = h
+    by (Some message) None = waits_closed (λ r. eqb r.call (Rattle.nr_xdr.specs.Fields.word_at 0 message)) f.end k.regions k.waiting h
+    by (Some message) (Some q) = waits_closed (λ r. eqb r.call (Rattle.nr_xdr.specs.Fields.word_at 0 message)) f.end k.regions k.waiting h
+
+waits_event : (opened : LinkParameters) (k : ClientState) (e : RunEvent) → WaitsBacked k.regions k.waiting → WaitsBacked (client_state_after opened k e).regions (client_state_after opened k e).waiting
+unfolding client_state_after
+waits_event opened k (FrameReceived f) h = by (is_hello f)
+  where
+    by : (b : Bool) → WaitsBacked (cond b (with_hello opened k f) (with_segment k f (client_segment k f))).regions (cond b (with_hello opened k f) (with_segment k f (client_segment k f))).waiting
+    by true = h
+    by false = waits_frame k f (client_segment k f) h
+waits_event opened k (CallSubmitted q a) h = waits_left k.regions (regions_unless_waiting (waiting_call k a.xid) q (outstanding_of k a)) (others_than k.waiting a.xid) (others_there (WaitBacked k.regions) k.waiting a.xid h)
+waits_event opened k (MemoryRevoked q xid) h = waits_revoked (regions_closed (λ r. eqb r.call xid) q k.regions) xid k.waiting (waits_closed (λ r. eqb r.call xid) q k.regions k.waiting h)
+waits_event opened k (CallExecuted x) h = h
+waits_event opened k (QueueWritten taken) h = h
+waits_event opened k (ServerTold what) h = h
+
+waits_first : (first stag : ℕ) (low : List Region) (rs : List ResumedCall) → AreNumbered first low → stag ≡ first + length low → WaitsBacked (low ++ waiting_regions (waiting_from stag rs)) (waiting_from stag rs)
+waits_first first stag low [] numbered next = tt
+waits_first first stag low (r ∷ rs) numbered next =
+    let more : ℕ = stag + regions_needed r.plan in
+    let bs : List Buffer = buffers stag r.plan in
+    let own : List Region = map (region_of r.xid 0) bs in
+    let later : List Region = waiting_regions (waiting_from more rs) in
+    let here : HasBuffers (low ++ own) bs = new_buffers r.xid 0 stag low bs (λ s le. none_from first s low (omega (arith, next, le)) numbered) (numbered_buffers r.xid 0 stag r.plan) in
+    let count = buffers_length r.xid 0 stag r.plan in
+    let rest = waits_first first more (low ++ own) rs (numbered_append first stag low own numbered next (numbered_buffers r.xid 0 stag r.plan)) (let l = length-append low own in omega (arith, l, next, count)) in (
+      subst (λ (regions : List Region). HasBuffers regions bs) (append_assoc low own later) (buffers_left (low ++ own) later bs here),
+      subst (λ (regions : List Region). WaitsBacked regions (waiting_from more rs)) (append_assoc low own later) rest,
+    )
+
+waits_known : (opened : LinkParameters) (es : List RunEvent) → WaitsBacked (client_after opened es).state.regions (client_after opened es).state.waiting
+waits_known opened es =
+    kept_after (client_rules opened) (λ (k : ClientState). WaitsBacked k.regions k.waiting) (waits_event opened) (initial_client opened) es
+    (waits_first opened.first_stag opened.first_stag [] opened.resumed tt (let s : opened.first_stag ≡ opened.first_stag + 0 = omega arith in s))
+
+call_keeps : (opened : LinkParameters) (es : List RunEvent) (place q : ℕ) (k : ClientState) (a : AcceptedCall) → AreNumbered opened.first_stag k.regions → k.stag ≡ opened.first_stag + length k.regions → k ≡ (client_after opened es).state → WaitsBacked k.regions k.waiting → ClientKeeps opened es place k
     → ClientKeeps opened (es ++ CallSubmitted q a ∷ []) place (client_state_after opened k (CallSubmitted q a))
-unfolding client_state_after plan_for
-call_keeps opened es place q k a numbers next at p =
-    let own : OutstandingCall = outstanding_of k a in
+unfolding client_state_after
+call_keeps opened es place q k a numbers next at waits p =
     let all : asked opened (es ++ CallSubmitted q a ∷ []) ≡ asked opened es ++ own ∷ [] = asked_submit opened es q a k at in
-    let new : List Region = map (region_of a.xid q) (buffers k.stag own.plan) in
-    let none : (s : ℕ) → k.stag ≤ s → find (λ x. eqb x.stag s) k.regions ≡ None = λ s le. none_from opened.first_stag s k.regions (omega (arith, next, le)) numbers in
-    let there : HasBuffers (k.regions ++ new) (buffers k.stag own.plan) = new_buffers a.xid q k.stag k.regions (buffers k.stag own.plan) none (numbered_buffers a.xid q k.stag own.plan) in
+    let new : List Region = regions_unless_waiting (waiting_call k a.xid) q own in
     record {
       settled = settled_append place k.regions new k.accesses_received p.settled;
       owns = asked_append opened (es ++ CallSubmitted q a ∷ []) k.outstanding (own ∷ []) (asked_longer opened es (es ++ CallSubmitted q a ∷ []) own k.outstanding all p.owns)
           (record { front = asked opened es; own = own; back = []; is = all; own_xid = refl; own_call = refl; own_plan = refl; own_stag = refl }, tt);
       backed = subst (λ (os : List OutstandingCall). AllBacked (k.regions ++ new) os) (sym all)
-          (backed_append (k.regions ++ new) (asked opened es) (own ∷ []) (backed_left k.regions new (asked opened es) p.backed) (there, tt));
+          (backed_append (k.regions ++ new) (asked opened es) (own ∷ []) (backed_left k.regions new (asked opened es) p.backed) (there (waiting_call k a.xid) refl, tt));
     }
+  where
+    own : OutstandingCall
+    own = outstanding_of k a
+
+    there : (w : Option WaitingCall) → waiting_call k a.xid ≡ w → HasBuffers (k.regions ++ regions_unless_waiting w q own) (buffers own.stag own.plan)
+    there None is =
+        let stag : own.stag ≡ k.stag = ap (λ (w : Option WaitingCall). stag_unless w k.stag) is in
+        new_buffers a.xid q own.stag k.regions (buffers own.stag own.plan) (λ s le. none_from opened.first_stag s k.regions (omega (arith, next, le, stag)) numbers) (numbered_buffers a.xid q own.stag own.plan)
+    there (Some w) is =
+        let same = sent_again k a w is in
+        buffers_left k.regions [] (buffers own.stag own.plan)
+        (subst (λ (bs : List Buffer). HasBuffers k.regions bs) (λ i. buffers (sym same.stag i) (sym same.plan i)) (first_there (WaitBacked k.regions) k.waiting a.xid w waits is))
 
 -- a state among those of a client's events
 pub record KeepsAt (opened : LinkParameters) (es : List RunEvent) (place : ℕ) (r : EndState ClientState) : Type 0 where
@@ -289,7 +366,8 @@ pub keeps_step : (opened : LinkParameters) (es : List RunEvent) (place : ℕ) (k
     → ClientKeeps opened (es ++ e ∷ []) (place_after place e) (next_end_state_in (client_rules opened) k e ended).state
 unfolding client_end client_state_after
 keeps_step opened es place k None (FrameReceived f) next good numbers after at p = frame_keeps opened es place k f next p (client_end k (FrameReceived f)) refl
-keeps_step opened es place k None (CallSubmitted q a) next good numbers after at p = call_keeps opened es place q k a numbers after at p
+keeps_step opened es place k None (CallSubmitted q a) next good numbers after at p =
+    call_keeps opened es place q k a numbers after at (subst (λ (x : ClientState). WaitsBacked x.regions x.waiting) (sym at) (waits_known opened es)) p
 keeps_step opened es place k None (MemoryRevoked q xid) next good numbers after at p =
     quiet_keeps opened es (MemoryRevoked q xid) place place k (client_state_after opened k (MemoryRevoked q xid)) refl
     (revoked_settled place q k.regions k.accesses_received (λ r. eqb r.call xid) next p.settled) (λ h. asked_revoked opened es xid k.outstanding h) (λ h. backed_closed (λ r. eqb r.call xid) q k.regions (asked opened es) h) p

@@ -22,9 +22,8 @@ use Rattle.nr_reduce.specs.OfferedRegions.{Region, closed_if, regions_closed, re
 use Rattle.nr_reduce.specs.Events.{RunEvent}
 use Rattle.nr_reduce.specs.Events.RunEvent.{FrameReceived, CallSubmitted, MemoryRevoked, CallExecuted, QueueWritten, ServerTold}
 use Rattle.nr_reduce.specs.EndRules.{EndState, next_end_state, next_end_state_by, next_end_state_in, end_state_after}
-use Rattle.nr_reduce.specs.ClientState.{ClientState, OutstandingCall, client_memory_at}
-use Rattle.nr_reduce.specs.Client.{client_segment, client_rules, client_end, client_state_after, initial_client, with_message, with_segment, outstanding_of, region_of, segment_request, with_hello, due_with_response}
-use Rattle.nr_reduce.specs.Plans.{buffers}
+use Rattle.nr_reduce.specs.ClientState.{ClientState, OutstandingCall, client_memory_at, waiting_call}
+use Rattle.nr_reduce.specs.Client.{client_segment, client_rules, client_end, client_state_after, initial_client, with_message, with_segment, outstanding_of, segment_request, with_hello, due_with_response, regions_unless_waiting}
 use Rattle.nr_reduce.proofs.OwnStags.{ClientNumbers, own_stags, client_numbers}
 use Rattle.nr_reduce.proofs.Steps.{end_state_after_append}
 use Rattle.nr_reduce.proofs.Touches.{client_touched}
@@ -283,7 +282,7 @@ answers_event opened es k outs e own h (Some end) stops = ended_answers opened e
 answers_event opened es k outs (FrameReceived f) own h None stays = frame_answers opened es k outs f (own f.end) stays h
 answers_event opened es k outs (CallSubmitted p a) own h None stays =
     quiet_answers opened es (CallSubmitted p a) k (client_state_after opened k (CallSubmitted p a)) None None outs (client_says opened k (CallSubmitted p a)) (by k.has_hello) (λ n. (refl, refl))
-    (data_left k.regions (map (region_of a.xid p) (buffers k.stag (outstanding_of k a).plan))) h
+    (data_left k.regions (regions_unless_waiting (waiting_call k a.xid) p (outstanding_of k a))) h
   where
     by : (b : Bool) → tagged_in (cond b (message_outputs (k.sends + 1) (message_of_call opened (outstanding_of k a))) []) ≡ []
     by true = tagged_message (k.sends + 1) (message_of_call opened (outstanding_of k a))

@@ -1,5 +1,5 @@
 -- What the client of a run wrote: its hello, and the message of each call that it accepted.
-use Rattle.std.proofs.Common.{◌≡◌, ℕ, suc, ◌+◌, Bool, true, false, cond, ◌&&◌, eqb, List, [], ◌∷◌, ◌++◌, length, drop, map, Option, None, Some, Result, refl, sym, ap, subst, ◌∙◌, arith, append_assoc, append-nil, length-append, inl, eqb-true}
+use Rattle.std.proofs.Common.{◌≡◌, ℕ, suc, Bool, true, false, cond, ◌&&◌, eqb, List, [], ◌∷◌, ◌++◌, length, drop, map, Option, None, Some, Result, refl, sym, ap, subst, ◌∙◌, arith, append_assoc, append-nil, length-append, inl, eqb-true}
 use Rattle.nr_wire.specs.declared.hello.Side.TheVariants.{Initiator, Responder}
 use Rattle.nr_link.specs.declared.end.End.{End as Stop}
 use Rattle.nr_link.specs.Frames.{Frame, frames_completed}
@@ -19,7 +19,7 @@ use Rattle.nr_reduce.specs.Events.{RunEvent, events, events_at, if_own}
 use Rattle.nr_reduce.specs.Events.RunEvent.{FrameReceived, CallSubmitted, MemoryRevoked, CallExecuted, QueueWritten, ServerTold}
 use Rattle.nr_reduce.specs.EndRules.{EndState, next_end_state, end_state_after, output_for, output_for_by, output_for_in, output_for_all}
 use Rattle.nr_reduce.specs.Plans.{TooLarge, call_message}
-use Rattle.nr_reduce.specs.ClientState.{ClientState, OutstandingCall, call_payload}
+use Rattle.nr_reduce.specs.ClientState.{ClientState, OutstandingCall, call_payload, stag_for}
 use Rattle.nr_reduce.specs.Client.{client_rules, client_end, initial_client, outstanding_of, plan_or}
 use Rattle.nr_reduce.specs.Run.{client, output_due}
 use Rattle.nr_reduce.specs.Asked.{AskedMark, AskedSoFar, IsAccepted}
@@ -50,7 +50,7 @@ first_good opened link before (marks.Submit l call form (submissions.Accepted xi
     by false is = tt
     by true is =
         let goes = h.0 (eqb-true l link is) in
-        record { stays = goes.stays; next = goes.next; plan = goes.plan; planned = goes.planned; xids = goes.xids; stags = goes.stags; writable = goes.writable; bytes = h.1.0; form = h.1.1; limits = client_limits_of opened link before }
+        record { stays = goes.stays; next = goes.next; resent = goes.resent; plan = goes.plan; planned = goes.planned; xids = goes.xids; stags = goes.stags; writable = goes.writable; bytes = h.1.0; form = h.1.1; limits = client_limits_of opened link before }
 first_good opened link before (marks.Submit l call form (submissions.Refused why)) h = tt
 first_good opened link before (marks.Submit l call form submissions.Dropped) h = tt
 first_good opened link before (marks.Fed l s bytes) h = by (eqb l link && same_side s Initiator) (frames_completed Responder (bytes_received link Initiator before) bytes)
@@ -158,7 +158,7 @@ pub record SubmittedCall (opened : LinkParameters) (link : ℕ) (run : List Mark
   pub own_xid : o.xid ≡ xid
   pub own_call : o.call ≡ call
   pub own_plan : o.plan ≡ accepted.plan
-  pub own_stag : o.stag ≡ (client opened link earlier).state.stag
+  pub own_stag : o.stag ≡ stag_for (client opened link earlier).state xid
 
 pub record WasSubmitted (opened : LinkParameters) (link : ℕ) (run : List Mark) (index : ℕ) (message : List ℕ) : Type 0 where
   pub earlier : List Mark
@@ -169,7 +169,7 @@ pub record WasSubmitted (opened : LinkParameters) (link : ℕ) (run : List Mark)
   pub is : run ≡ earlier ++ marks.Submit link call form (submissions.Accepted xid) ∷ later
   pub accepted : IsAccepted opened link earlier call form xid
   pub counted : (client opened link earlier).state.sends ≡ index
-  pub message_is : message ≡ call_message xid opened.wished (client opened link earlier).state.stag accepted.plan
+  pub message_is : message ≡ call_message xid opened.wished (stag_for (client opened link earlier).state xid) accepted.plan
 
 submitted_later : (opened : LinkParameters) (link : ℕ) (run : List Mark) (mark : Mark) (index : ℕ) (o : OutstandingCall) → SubmittedCall opened link run index o → SubmittedCall opened link (run ++ mark ∷ []) index o
 submitted_later opened link run mark index o w = record {

@@ -27,25 +27,28 @@ use Rattle.nr_reduce.specs.Events.{RunEvent}
 use Rattle.nr_reduce.specs.Events.RunEvent.{FrameReceived, CallSubmitted, MemoryRevoked, CallExecuted, QueueWritten, ServerTold}
 use Rattle.nr_reduce.specs.EndRules.{EndState, next_end_state, end_state_after}
 use Rattle.nr_reduce.specs.OfferedRegions.{region_grants}
-use Rattle.nr_reduce.specs.Plans.{regions_needed, HasWordPosition}
-use Rattle.nr_reduce.specs.ClientState.{ClientState, OutstandingCall, call_payload, plan_for, client_memory_at}
-use Rattle.nr_reduce.specs.Client.{client_segment, client_rules, client_end, client_readiness, initial_client, or_message_end, outstanding_of, revoked_call}
+use Rattle.nr_reduce.specs.Plans.{HasWordPosition}
+use Rattle.nr_reduce.specs.ClientState.{ClientState, OutstandingCall, call_payload, plan_for, client_memory_at, stags_taken}
+use Rattle.nr_reduce.specs.Client.{client_segment, client_rules, client_end, client_readiness, initial_client, or_message_end, outstanding_of, revoked_call, or_other_sizes}
 use Rattle.nr_reduce.specs.RunLaws.{as_submitted}
 use Rattle.nr_laws.proofs.Outputs.{Output, IsShort, CallsShort, message_of_call, response_outputs}
 use Rattle.nr_laws.proofs.Brought.{AreFrom}
 use Rattle.nr_laws.proofs.Words.{responses_words, RangeEnds, word_below_lem, hyper_below_lem, payload_by}
 use Rattle.nr_laws.proofs.Completions.{Completes}
 use Rattle.nr_reduce.proofs.Touches.{AreNone, all_none, no_flaw}
+use Rattle.nr_reduce.specs.SubmitAnswer.{next_sent_xid}
+use Rattle.nr_reduce.specs.Asked.{IsResent}
 
 -- ---- A call that is accepted
 
 pub record IsGoodCall (opened : LinkParameters) (r : EndState ClientState) (a : AcceptedCall) : Type 0 where
   pub stays : r.ended ≡ None
-  pub next : a.xid ≡ r.state.next_xid
+  pub next : a.xid ≡ next_sent_xid r.state
+  pub resent : IsResent r.state.has_hello r.state.next_xid r.state.waiting a.call a.form
   pub plan : Plan
   pub planned : plan_for r.state a.xid a.call a.form ≡ Ok plan
   pub xids : a.xid < numbers_end
-  pub stags : r.state.stag + regions_needed plan ≤ numbers_end
+  pub stags : r.state.stag + stags_taken r.state a.xid plan ≤ numbers_end
   pub writable : CanWriteCred a.call.cred
   pub bytes : IsBytes (call_payload a.xid a.call)
   pub form : HasWordPosition a.form
@@ -214,7 +217,7 @@ pub client_has_no_fault : (k : ClientState) (f : Frame) (segment : Segment) → 
 unfolding client_end
 client_has_no_fault k f segment behind is e =
     let others : or_message_end k f (frame_end_by (client_readiness k) (region_grants f.end k.regions) f (client_segment k f)) ≡ None =
-    ap (λ (b : Bool). cond b (hello_end (hello_of Responder f.bytes)) (or_message_end k f (frame_end_by (client_readiness k) (region_grants f.end k.regions) f (client_segment k f)))) (sym behind) ∙ e in
+    ap (λ (b : Bool). cond b (or_other_sizes k f (hello_end (hello_of Responder f.bytes))) (or_message_end k f (frame_end_by (client_readiness k) (region_grants f.end k.regions) f (client_segment k f)))) (sym behind) ∙ e in
     let none : frame_end_by (client_readiness k) (region_grants f.end k.regions) f (client_segment k f) ≡ None = by_end (frame_end_by (client_readiness k) (region_grants f.end k.regions) f (client_segment k f)) others in
     let by_segment : end_of_fault f segment (segment_reason (client_readiness k (missing_access (region_grants f.end k.regions) f segment)) segment) ≡ None =
     ap (λ (r : Result Segment ℕ). frame_end_by (client_readiness k) (region_grants f.end k.regions) f r) (sym is) ∙ none in

@@ -4,7 +4,6 @@ use Rattle.std.proofs.Common.{◌≡◌, ℕ, ◌+◌, ◌≤◌, ◌<◌, ◌^�
 use Rattle.nr_xdr.specs.Fields.{word_at}
 use Rattle.nr_wire.specs.Constants.{OPCODE_WRITE, OPCODE_READ_REQUEST, QUEUE_READ_REQUEST}
 use Rattle.nr_wire.specs.declared.hello.Side.TheVariants.{Responder}
-use Rattle.nr_wire.specs.Hello.{hello_of}
 use Rattle.nr_wire.specs.Segment.{Segment}
 use Rattle.nr_wire.specs.Segment.Segment.{Tagged, Untagged}
 use Rattle.nr_header.specs.declared.fault.HeaderFault.{HeaderFault}
@@ -23,7 +22,7 @@ use Rattle.nr_link.specs.Output.{msn_word}
 use Rattle.nr_link.specs.Reasons.{REASON_INVALIDATED}
 use Rattle.nr_link.specs.ReceiveState.{ReadRequest, read_request_in, begun_bytes}
 use Rattle.nr_link.specs.SegmentFaults.{SegmentReason, first_fault, missing_fault}
-use Rattle.nr_link.specs.Ending.{frame_end, frame_end_by, end_of_fault, denied_at, access_of, hello_end, missing_access}
+use Rattle.nr_link.specs.Ending.{frame_end, frame_end_by, end_of_fault, denied_at, access_of, missing_access}
 use Rattle.nr_reduce.specs.declared.mark.LinkParameters.{LinkParameters}
 use Rattle.nr_reduce.specs.Opening.{IsOpened}
 use Rattle.nr_reduce.specs.declared.call.Outcome.TheVariants as outcomes
@@ -36,8 +35,9 @@ use Rattle.nr_reduce.specs.ClientMessages.{ReplyVerdict, reply_verdict, reply_by
 use Rattle.nr_reduce.specs.ClientMessages.ReplyVerdict.{EndsLink, GivesOutcome}
 use Rattle.nr_reduce.specs.Client.{client_segment, client_end, client_state_after, client_readiness, or_message_end, end_of_verdict, segment_names}
 use Rattle.nr_reduce.specs.ServerState.{ServerState}
-use Rattle.nr_laws.proofs.FirstHellos.{first_hello_is}
-use Rattle.nr_laws.specs.EndCauses.{IsDenied}
+use Rattle.nr_laws.proofs.FirstHellos.{first_hello}
+use Rattle.nr_laws.proofs.SizesAgain.{hello_stays, reached_opening}
+use Rattle.nr_laws.specs.EndCauses.{IsDenied, AgreesAgain}
 use Rattle.nr_laws.proofs.EndReasons.{IsMessageReason, IsVerdictReason, EndsForMessage}
 use Rattle.nr_laws.proofs.FrameContents.{FrameContent, written_segment, frame_bytes, total_of, sends_in, requests_in, hellos_in, client_frames, IsSent, Carries, last_segment}
 use Rattle.nr_laws.proofs.FrameContents.FrameContent.{HelloFrame, PartFrame, SendFrame, RequestFrame, TaggedFrame}
@@ -174,12 +174,8 @@ or_message_some k f (Some x) end none e = e
 -- ---- The frame of a frame
 
 pub record ClientStep (opened : LinkParameters) (k : ClientState) (s : ServerState) (u d all_up all_down : List FrameContent) (w : Transit) (place : ℕ) (p : FrameContent) (rest : List FrameContent) (f : Frame) : Type 0 where
-  pub only : (end : End) → client_end k (FrameReceived f) ≡ Some end → EndsForMessage end ⊎ LacksAccess k f end
+  pub only : AgreesAgain opened → (end : End) → client_end k (FrameReceived f) ≡ Some end → EndsForMessage end ⊎ LacksAccess k f end
   pub kept : client_end k (FrameReceived f) ≡ None → Guards opened (client_state_after opened k (FrameReceived f)) s u (d ++ p ∷ []) (all_up ++ client_frames opened k (FrameReceived f)) all_down (down_one w (client_frames opened k (FrameReceived f)) rest) place
-
-hello_none : (k : ClientState) (f : Frame) (private : List ℕ) → is_hello f ≡ true → hello_of Responder f.bytes ≡ Ok (record { side = Responder; flags = 0; private = private }) → client_end k (FrameReceived f) ≡ None
-unfolding client_end
-hello_none k f private is says = (λ i. cond (is i) (hello_end (says i)) (or_message_end k f (frame_end_by (client_readiness k) (region_grants f.end k.regions) f (client_segment k f))))
 
 step_piece : (opened : LinkParameters) (k : ClientState) (s : ServerState) (u d all_up all_down : List FrameContent) (w : Transit) (place : ℕ) (p : FrameContent) (rest : List FrameContent) (f : Frame) → IsOpened opened → EndsAgree opened k s u d all_up all_down w → Guards opened k s u d all_up all_down w place → w.down ≡ p ∷ rest
     → IsWritable p → Carries k.invalidates k.received.sends k.received.requests f p → k.has_hello ≡ true → ClientStep opened k s u d all_up all_down w place p rest f
@@ -188,7 +184,7 @@ step_piece opened k s u d all_up all_down w place HelloFrame rest f o l g first 
 step_piece opened k s u d all_up all_down w place (PartFrame named offset payload) rest f o l g first proper piece hello =
     let none = client_part k s w f named offset payload rest l.counts first piece in
     record {
-      only = λ end e. absurd (some_not end (sym e ∙ none));
+      only = λ again end e. absurd (some_not end (sym e ∙ none));
       kept = λ stays. guards_part_down opened k s u d all_up all_down w place named offset payload rest f g first piece hello stays;
     }
 step_piece opened k s u d all_up all_down w place (SendFrame message) rest f o l g first proper piece hello =
@@ -198,7 +194,7 @@ step_piece opened k s u d all_up all_down w place (SendFrame message) rest f o l
     let whole : List ℕ = begun_bytes k.received.begun ++ message.payload in
     let same : whole ≡ message.bytes = (at_front k.received.begun w.down w.queued_down (SendFrame message) rest first l.counts.whole_down).1 in
     let sent = calls_said opened k s u d all_up all_down w l in
-    let answers = answers_one opened.first_xid k s u d all_down w message (rest ++ w.queued_down) (sym l.parts_down ∙ ap (λ (ps : List FrameContent). d ++ (ps ++ w.queued_down)) first)
+    let answers = answers_one opened k s u d all_down w message (rest ++ w.queued_down) (sym l.parts_down ∙ ap (λ (ps : List FrameContent). d ++ (ps ++ w.queued_down)) first)
     (omega (arith, sent, sent_most k, l.sends_up, ap (total_of sends_in) l.parts_up, total_append sends_in u (w.up ++ w.queued_up)))
     l.outs.follow.1
     (omega (arith, l.counts.calls_up, l.counts.sends, l.counts.all_sends, left_waiting k.written k.send_ends)) g.answered in
@@ -206,7 +202,7 @@ step_piece opened k s u d all_up all_down w place (SendFrame message) rest f o l
     let ends : client_end k (FrameReceived f) ≡ end_of_verdict f (message_verdict k f.end named whole) =
     client_send opened k s w f message rest l.counts first piece reply.least (omega (arith, reply.size, g.sizes.client_down hello)) ∙ message_end_is k f segment reads in
     record {
-      only = λ end e. inl (reply_end f (message_verdict k f.end named whole) end
+      only = λ again end e. inl (reply_end f (message_verdict k f.end named whole) end
           (reason_named k f.end named whole (reason_verdict k f.end whole (subst IsRead (sym same) reply.read) answers.0 (ap (λ (xs : List ℕ). answered_call k (word_at 0 xs)) same ∙ answers.1))) (sym ends ∙ e));
       kept = λ stays. guards_send_down opened k s u d all_up all_down w place message rest f o l g first piece hello stays;
     }
@@ -225,7 +221,7 @@ step_piece opened k s u d all_up all_down w place (RequestFrame sink at size sta
     let ends = client_by_lem k f (end_of_fault f segment (first_fault (missing_fault (missing_access grants f segment) ∷ []))) piece.behind found in
     let none : message_end_in k f (client_segment k f) ≡ None = message_end_is k f segment reads in
     record {
-      only = λ end e. inr (lacks_end k f segment (missing_access grants f segment) end piece.behind reads refl (or_message_some k f (end_of_fault f segment (first_fault (missing_fault (missing_access grants f segment) ∷ []))) end none (sym ends ∙ e)));
+      only = λ again end e. inr (lacks_end k f segment (missing_access grants f segment) end piece.behind reads refl (or_message_some k f (end_of_fault f segment (first_fault (missing_fault (missing_access grants f segment) ∷ []))) end none (sym ends ∙ e)));
       kept = λ stays. guards_read_down opened k s u d all_up all_down w place sink at size stag to rest f l g first piece hello stays;
     }
 step_piece opened k s u d all_up all_down w place (TaggedFrame last opcode stag to payload) rest f o l g first proper piece hello =
@@ -239,7 +235,7 @@ step_piece opened k s u d all_up all_down w place (TaggedFrame last opcode stag 
     let ends = client_by_lem k f (end_of_fault f segment (first_fault (missing_fault (missing_access grants f segment) ∷ []))) piece.behind found in
     let none : message_end_in k f (client_segment k f) ≡ None = message_end_is k f segment reads in
     record {
-      only = λ end e. inr (lacks_end k f segment (missing_access grants f segment) end piece.behind reads refl (or_message_some k f (end_of_fault f segment (first_fault (missing_fault (missing_access grants f segment) ∷ []))) end none (sym ends ∙ e)));
+      only = λ again end e. inr (lacks_end k f segment (missing_access grants f segment) end piece.behind reads refl (or_message_some k f (end_of_fault f segment (first_fault (missing_fault (missing_access grants f segment) ∷ []))) end none (sym ends ∙ e)));
       kept = λ stays. guards_tagged_down opened k s u d all_up all_down w place last opcode stag to payload rest f g first piece hello stays;
     }
 
@@ -290,11 +286,10 @@ step_down opened k s u [] all_up all_down w up p rest n r place o l g first send
     let hello : p ≡ HelloFrame = stream_first p (rest ++ w.queued_down) stream in
     let f = frame_of (frame_bytes opened Responder (written_segment n r p)) place in
     let is : is_hello f ≡ true = ap (λ (x : ℕ). eqb x 0) at in
-    let says = ap (λ (q : FrameContent). hello_of Responder (frame_bytes opened Responder (written_segment n r q))) hello ∙ (first_hello_is opened Responder).says in
-    let none = hello_none k f (first_hello_is opened Responder).private is says in
+    let own : f.bytes ≡ first_hello opened Responder = ap (λ (q : FrameContent). frame_bytes opened Responder (written_segment n r q)) hello in
     subst (λ (q : FrameContent). ClientStep opened k s u [] all_up all_down w up q rest f) (sym hello) (record {
-      only = λ end e. absurd (some_not end (sym e ∙ none));
-      kept = λ stays. guards_hello_down opened k s u [] all_up all_down w up rest f l g (first ∙ ap (λ (q : FrameContent). q ∷ rest) hello) is (ap (λ (q : FrameContent). frame_bytes opened Responder (written_segment n r q)) hello) stays;
+      only = λ again end e. absurd (some_not end (sym e ∙ hello_stays opened k f (reached_opening opened k g.reached) is own again));
+      kept = λ stays. guards_hello_down opened k s u [] all_up all_down w up rest f l g (first ∙ ap (λ (q : FrameContent). q ∷ rest) hello) is own stays;
     })
 step_down opened k s u (q ∷ d) all_up all_down w up p rest n r place o l g first sends requests at =
     let stream : IsOutput (q ∷ d ++ p ∷ (rest ++ w.queued_down)) = subst IsOutput (sym l.parts_down ∙ ap (λ (ps : List FrameContent). q ∷ d ++ (ps ++ w.queued_down)) first) l.stream_down in

@@ -15,8 +15,8 @@ use Rattle.nr_reduce.specs.Events.{RunEvent, events}
 use Rattle.nr_reduce.specs.Events.RunEvent.{FrameReceived, CallSubmitted, MemoryRevoked, CallExecuted, QueueWritten, ServerTold}
 use Rattle.nr_reduce.specs.EndRules.{EndState, next_end_state, next_end_state_by, next_end_state_in}
 use Rattle.nr_reduce.specs.OfferedRegions.{Region, until_at, closed_if, regions_closed}
-use Rattle.nr_reduce.specs.ClientState.{ClientState}
-use Rattle.nr_reduce.specs.Client.{client_segment, client_rules, client_end, client_state_after, initial_client, outstanding_of, region_of, with_message, with_segment, with_hello, due_with_response}
+use Rattle.nr_reduce.specs.ClientState.{ClientState, region_of, WaitingCall, waiting_call, waiting_from, waiting_regions}
+use Rattle.nr_reduce.specs.Client.{client_segment, client_rules, client_end, client_state_after, initial_client, outstanding_of, with_message, with_segment, with_hello, due_with_response, regions_unless_waiting}
 use Rattle.nr_reduce.specs.Run.{client}
 use Rattle.nr_reduce.proofs.Steps.{end_state_after_append}
 use Rattle.nr_laws.proofs.Outcomes.{client_by}
@@ -24,6 +24,7 @@ use Rattle.nr_laws.specs.ClientRegions.{IsMessageOf, IsClosedForCall, ClientRegi
 use Rattle.nr_laws.proofs.Revoked.{request_regions}
 use Rattle.nr_laws.proofs.Basics.{each_all, each_append, some_is_lem}
 use Rattle.nr_laws.proofs.SendRegions.{region_of_list}
+use Rattle.nr_reduce.specs.History.{AcceptedCall}
 
 abbrev IsClosed : LinkParameters → List RunEvent → Region → Type 0
 IsClosed opened es r = (place : ℕ) → r.until ≡ Some place → IsClosedForCall opened es r place
@@ -94,6 +95,10 @@ one_event opened es e h = by_ended (client_by opened es).ended refl
     all : AllByRecursion (Contains k.regions) k.regions
     all = recursion_from_All (Contains k.regions) k.regions (All-contains_itself k.regions)
 
+    new_or_none : (place : ℕ) (a : AcceptedCall) (w : Option WaitingCall) → AllByRecursion P (regions_unless_waiting w place (outstanding_of k a))
+    new_or_none place a None = new_open opened (es ++ e ∷ []) a.xid place (buffers (outstanding_of k a).stag (outstanding_of k a).plan)
+    new_or_none place a (Some w) = tt
+
     by_event : Stays opened es e → (x : RunEvent) → e ≡ x → AllByRecursion P (client_state_after opened k x).regions
     by_event stays (FrameReceived f) is = by_hello (is_hello f) refl
       where
@@ -110,7 +115,7 @@ one_event opened es e h = by_ended (client_by opened es).ended refl
         by_hello : (b : Bool) → is_hello f ≡ b → AllByRecursion P (cond b (with_hello opened k f) (with_segment k f (client_segment k f))).regions
         by_hello true behind = same
         by_hello false behind = by_segment (client_segment k f) refl behind
-    by_event stays (CallSubmitted place a) is = each_append P k.regions (map (region_of a.xid place) (buffers k.stag (outstanding_of k a).plan)) same (new_open opened (es ++ e ∷ []) a.xid place (buffers k.stag (outstanding_of k a).plan))
+    by_event stays (CallSubmitted place a) is = each_append P k.regions (regions_unless_waiting (waiting_call k a.xid) place (outstanding_of k a)) same (new_or_none place a (waiting_call k a.xid))
     by_event stays (MemoryRevoked place xid) is = close_all opened es e place xid stays (inr is) k.regions same all
     by_event stays (CallExecuted call) is = same
     by_event stays (QueueWritten taken) is = same
@@ -131,10 +136,15 @@ all_events opened front (e ∷ es) h =
     let one = subst (λ (r : EndState ClientState). AllByRecursion (IsClosed opened (front ++ e ∷ [])) r.state.regions) (sym (end_state_after_append (client_rules opened) (initial_client opened) front (e ∷ []))) (one_event opened front e h) in
     subst (λ (xs : List RunEvent). AllByRecursion (IsClosed opened xs) (client_by opened xs).state.regions) (append_assoc front (e ∷ []) es) (all_events opened (front ++ e ∷ []) es one)
 
+-- those of calls that wait to be sent again are open at first
+waiting_open : (opened : LinkParameters) (es : List RunEvent) (ws : List WaitingCall) → AllByRecursion (IsClosed opened es) (waiting_regions ws)
+waiting_open opened es [] = tt
+waiting_open opened es (w ∷ ws) = each_append (IsClosed opened es) (map (region_of w.xid 0) (buffers w.stag w.plan)) (waiting_regions ws) (new_open opened es w.xid 0 (buffers w.stag w.plan)) (waiting_open opened es ws)
+
 pub client_regions_close_with_calls : ClientRegionsCloseWithCalls
 unfolding client
 client_regions_close_with_calls opened link run r place there is =
-    region_of_list (IsClosed opened (events link Initiator run)) _ r (all_events opened [] (events link Initiator run) tt) there place is
+    region_of_list (IsClosed opened (events link Initiator run)) _ r (all_events opened [] (events link Initiator run) (waiting_open opened [] (waiting_from opened.first_stag opened.resumed))) there place is
 
 pub calls_add_chunks : CallsAddChunks
 unfolding client_state_after client_end

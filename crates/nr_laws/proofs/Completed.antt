@@ -18,7 +18,7 @@ use Rattle.nr_reduce.specs.declared.outline.Plan.{Plan}
 use Rattle.nr_reduce.specs.Plans.{call_message, lists_of}
 use Rattle.nr_reduce.specs.Plans as plans
 use Rattle.nr_reduce.specs.Events.{events}
-use Rattle.nr_reduce.specs.ClientState.{ClientState, OutstandingCall}
+use Rattle.nr_reduce.specs.ClientState.{ClientState, OutstandingCall, stag_for}
 use Rattle.nr_reduce.specs.ClientMessages as client_messages
 use Rattle.nr_reduce.specs.ClientMessages.ReplyVerdict.{GivesOutcome}
 use Rattle.nr_reduce.specs.Limits.{numbers_end}
@@ -179,7 +179,7 @@ outcome_cause opened link run before after xid outcome typed far is = by d.said.
     refused s (ByVersion message whole bad own) =
         let w = frame_message opened link before d.typed d.far.asked d.far.matched s.earlier s.frame s.later s.segment message s.is s.behind s.is_segment whole s.live in
         absurd (version_not (server_by opened s.earlier) message
-        (ap (λ (y : List ℕ). word_at 4 y) w.message_is ∙ (call_is_server_message w.xid opened.wished (client opened link w.earlier).state.stag w.accepted.plan).version) bad)
+        (ap (λ (y : List ℕ). word_at 4 y) w.message_is ∙ (call_is_server_message w.xid opened.wished (stag_for (client opened link w.earlier).state w.xid) w.accepted.plan).version) bad)
     refused s (ByChunks message whole bad own) =
         let r = refused_submit opened link before d.typed d.far.asked d.far.matched m s in
         OfChunk (chunk_brings k place m xid outcome (word_at 0 message) (credit_word (server_by opened s.earlier)) own d.said.given.given) (SendRefused s r (sym r.xid ∙ sym own_xid))

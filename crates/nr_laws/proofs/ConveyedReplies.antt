@@ -17,7 +17,7 @@ use Rattle.nr_reduce.specs.Plans.{Buffer, buffers, lists_of, read_list, write_st
 use Rattle.nr_reduce.specs.Chunks.{Bytes, reply_conveyed}
 use Rattle.nr_reduce.specs.Holds.{Answer, answer_for, answer_lists, answer_message}
 use Rattle.nr_reduce.specs.ChunkBytes.{after, answer_segments}
-use Rattle.nr_reduce.specs.ClientState.{ClientState, client_memory_at}
+use Rattle.nr_reduce.specs.ClientState.{ClientState, client_memory_at, stag_for}
 use Rattle.nr_reduce.specs.Client.{client_rules, initial_client}
 use Rattle.nr_reduce.specs.Run.{client}
 use Rattle.nr_reduce.specs.ServerState.{ServerState, credit_word}
@@ -89,10 +89,10 @@ both_conveyed opened link run before xid plan reply typed far has at r = by offe
     own = (let w = s.submit.submit in own_submit opened link run before done at.after xid plan far.asked at.is has w.earlier w.later w.call w.form w.xid w.is w.accepted (sym s.submit.own_xid ∙ g.call_xid))
 
     stag : ℕ
-    stag = (client opened link has.before).state.stag
+    stag = stag_for (client opened link has.before).state xid
 
     stag_is : g.call.stag ≡ stag
-    stag_is = s.submit.own_stag ∙ ap (λ (b : List Mark). (client opened link b).state.stag) own.place
+    stag_is = (let xid_is : s.submit.submit.xid ≡ xid = sym s.submit.own_xid ∙ g.call_xid in s.submit.own_stag ∙ (λ i. stag_for (client opened link (own.place i)).state (xid_is i)))
 
     plan_is : g.call.plan ≡ plan
     plan_is = s.submit.own_plan ∙ own.plan_is

@@ -17,13 +17,12 @@ use Rattle.nr_reduce.specs.Events.{RunEvent, events}
 use Rattle.nr_reduce.specs.Events.RunEvent.{FrameReceived, CallSubmitted, MemoryRevoked, CallExecuted, QueueWritten, ServerTold}
 use Rattle.nr_reduce.specs.EndRules.{EndState, next_end_state, next_end_state_by, next_end_state_in, end_state_after}
 use Rattle.nr_reduce.specs.OfferedRegions.{Region, until_at, closed_if, regions_closed}
-use Rattle.nr_reduce.specs.ClientState.{ClientState, OutstandingCall, client_memory_at}
-use Rattle.nr_reduce.specs.Client.{client_segment, client_rules, client_end, client_state_after, initial_client, outstanding_of, region_of, revoked_call, with_message, with_segment, with_hello, due_with_response}
+use Rattle.nr_reduce.specs.ClientState.{ClientState, OutstandingCall, client_memory_at, region_of, WaitingCall, waiting_call}
+use Rattle.nr_reduce.specs.Client.{client_segment, client_rules, client_end, client_state_after, initial_client, outstanding_of, with_message, with_segment, with_hello, due_with_response, regions_unless_waiting}
 use Rattle.nr_reduce.specs.Matched.{IsPrefixOf}
 use Rattle.nr_reduce.specs.Asked.{AskedMark, AskedSoFar, IsCompleted}
 use Rattle.nr_reduce.specs.Run.{client, placed_bytes}
-use Rattle.nr_reduce.proofs.Placing.{segment_next}
-use Rattle.nr_reduce.proofs.XidsFollow.{both_first, both_after}
+use Rattle.nr_reduce.proofs.Placing.{segment_next, sent_after, submit_rises, revoked_first, segment_waiting}
 use Rattle.nr_reduce.proofs.Steps.{end_state_after_append}
 use Rattle.nr_laws.specs.Typed.{TypedMark, IsTyped}
 use Rattle.nr_laws.specs.ClientRegions.{IsMessageOf, IsClosedForCall}
@@ -34,36 +33,22 @@ use Rattle.nr_laws.proofs.ClientRun.{client_goes}
 use Rattle.nr_laws.proofs.DoneCalls.{GivesBy, gives_by, verdict_xid}
 use Rattle.nr_laws.proofs.ClosedForCalls.{client_regions_close_with_calls}
 use Rattle.nr_laws.proofs.HandedBack.{closed_regions_stand, closed_regions_hold_what_stood}
-use Rattle.nr_laws.proofs.LinkInvariants.{IsUnused, AreDistinct, AreAtMost}
+use Rattle.nr_laws.proofs.LinkInvariants.{AreAtMost}
 use Rattle.nr_laws.proofs.OnceByXid.{at_mark, before_mark}
 use Rattle.nr_laws.proofs.Outcomes.{client_by, WasGiven, outcome_given}
-use Rattle.nr_laws.proofs.OwnXids.{OwnXids, below_next, own_xids_came, own_xids_accepts, own_xids_writes}
+use Rattle.nr_laws.proofs.OwnXids.{OwnXids, own_xids_begin, own_xids_came, own_xids_accepts, own_xids_revokes, own_xids_writes}
 use Rattle.nr_laws.proofs.RevokedEvents.{NoRevoke, no_revoke, revoke_at}
 use Rattle.nr_laws.proofs.Revoked.{frame_regions, request_regions}
 use Rattle.nr_laws.proofs.ReadFrames.{client_read}
+use Rattle.nr_reduce.specs.SubmitAnswer.{first_xid_or, next_sent_xid}
 
--- ---- The xids of outstanding calls are below the one that is given next
-
-xid_revoked : (w : ℕ) (o : OutstandingCall) → (revoked_call w o).xid ≡ o.xid
-xid_revoked w o = by (eqb o.xid w)
-  where
-    by : (b : Bool) → (cond b (record o { is_revoked = true }) o).xid ≡ o.xid
-    by true = refl
-    by false = refl
-
-absent_revoked : (w n : ℕ) (os : List OutstandingCall) → IsUnused (λ (o : OutstandingCall). o.xid) n os → IsUnused (λ (o : OutstandingCall). o.xid) n (map (revoked_call w) os)
-absent_revoked w n [] h = tt
-absent_revoked w n (o ∷ os) h = ((λ e. h.0 (sym (xid_revoked w o) ∙ e)), absent_revoked w n os h.1)
-
-apart_revoked : (w : ℕ) (os : List OutstandingCall) → AreDistinct (λ (o : OutstandingCall). o.xid) os → AreDistinct (λ (o : OutstandingCall). o.xid) (map (revoked_call w) os)
-apart_revoked w [] h = tt
-apart_revoked w (o ∷ os) h = (subst (λ (n : ℕ). IsUnused (λ (x : OutstandingCall). x.xid) n (map (revoked_call w) os)) (sym (xid_revoked w o)) (absent_revoked w o.xid os h.0), apart_revoked w os h.1)
+-- ---- The xids of outstanding calls are below the one that is sent next
 
 own_event : (opened : LinkParameters) (k : ClientState) (ended : Option Stop) (e : RunEvent) → ClientGood opened (record { state = k; ended = ended }) e → OwnXids opened k → OwnXids opened (client_state_after opened k e)
 unfolding client_state_after
 own_event opened k ended (FrameReceived f) good h = own_xids_came opened k f h
-own_event opened k ended (CallSubmitted p a) good h = own_xids_accepts opened k p a good.next h
-own_event opened k ended (MemoryRevoked p xid) good h = record { apart = apart_revoked xid k.outstanding h.apart; follow = both_after opened k (MemoryRevoked p xid) tt h.follow }
+own_event opened k ended (CallSubmitted p a) good h = own_xids_accepts opened k p a good.next good.resent h
+own_event opened k ended (MemoryRevoked p xid) good h = own_xids_revokes opened k p xid h
 own_event opened k ended (CallExecuted e) good h = h
 own_event opened k ended (QueueWritten taken) good h = own_xids_writes taken opened k h
 own_event opened k ended (ServerTold what) good h = h
@@ -132,9 +117,13 @@ closed_new : (x xid place : ℕ) (bs : List Buffer) → x < xid → AreClosed x 
 closed_new x xid place [] lt = tt
 closed_new x xid place (b ∷ bs) lt = ((λ own. absurd (omega (arith, own, lt))), closed_new x xid place bs lt)
 
+-- a frame leaves the xid that is sent next
+next_stays : (k : ClientState) (f : Frame) (r : Result Segment ℕ) → next_sent_xid (with_segment k f r) ≡ next_sent_xid k
+next_stays k f r = λ i. first_xid_or (segment_next k f r i) (segment_waiting k f r i)
+
 record HasClosedRegions (opened : LinkParameters) (x : ℕ) (k : ClientState) : Type 0 where
   regions : AreClosed x k.regions
-  low : x < k.next_xid
+  low : x < next_sent_xid k
 
 closed_event : (opened : LinkParameters) (x : ℕ) (k : ClientState) (ended : Option Stop) (e : RunEvent) → ClientGood opened (record { state = k; ended = ended }) e → HasClosedRegions opened x k → HasClosedRegions opened x (client_state_after opened k e)
 unfolding client_state_after
@@ -142,18 +131,23 @@ closed_event opened x k ended (FrameReceived f) good h = by (is_hello f)
   where
     by : (b : Bool) → HasClosedRegions opened x (cond b (with_hello opened k f) (with_segment k f (client_segment k f)))
     by true = record { regions = h.regions; low = h.low }
-    by false = (let same = segment_next k f (client_segment k f) in let low = h.low in record {
+    by false = (let same : next_sent_xid (with_segment k f (client_segment k f)) ≡ next_sent_xid k = next_stays k f (client_segment k f) in let low = h.low in record {
       regions = frame_regions (λ (rs : List Region). AreClosed x rs) k f (λ test. closed_again test f.end x k.regions) h.regions (client_segment k f);
       low = omega (arith, same, low);
     })
 closed_event opened x k ended (CallSubmitted p a) good h =
     let low = h.low in
     let next = good.next in
+    let rises : a.xid < sent_after a.xid k.next_xid k.waiting = submit_rises k.has_hello a.xid k.next_xid k.waiting a.call a.form good.next good.resent in
     record {
-      regions = closed_append x k.regions (map (region_of a.xid p) (buffers k.stag (outstanding_of k a).plan)) h.regions (closed_new x a.xid p (buffers k.stag (outstanding_of k a).plan) (omega (arith, low, next)));
-      low = omega (arith, low);
+      regions = closed_append x k.regions (regions_unless_waiting (waiting_call k a.xid) p (outstanding_of k a)) h.regions (by (waiting_call k a.xid));
+      low = omega (arith, low, next, rises);
     }
-closed_event opened x k ended (MemoryRevoked p xid) good h = record { regions = closed_again (λ r. eqb r.call xid) p x k.regions h.regions; low = h.low }
+  where
+    by : (w : Option WaitingCall) → AreClosed x (regions_unless_waiting w p (outstanding_of k a))
+    by None = (let low = h.low in let next = good.next in closed_new x a.xid p (buffers (outstanding_of k a).stag (outstanding_of k a).plan) (omega (arith, low, next)))
+    by (Some w) = tt
+closed_event opened x k ended (MemoryRevoked p xid) good h = (let same = revoked_first xid k.next_xid k.waiting in let low = h.low in record { regions = closed_again (λ r. eqb r.call xid) p x k.regions h.regions; low = omega (arith, same, low) })
 closed_event opened x k ended (CallExecuted e) good h = h
 closed_event opened x k ended (QueueWritten taken) good h = record { regions = h.regions; low = h.low }
 closed_event opened x k ended (ServerTold what) good h = record { regions = h.regions; low = h.low }
@@ -164,16 +158,13 @@ closed_message k f s message x whole own =
     (subst (λ (o : Option (List ℕ)). AreClosed x (with_message k f.end o).regions) (sym whole)
     (subst (λ (n : ℕ). AreClosed x (regions_closed (λ r. eqb r.call n) f.end k.regions)) own (closed_now f.end x k.regions)))
 
-closed_frame : (opened : LinkParameters) (k : ClientState) (f : Frame) (s : Segment) (message : List ℕ) (x : ℕ) → is_hello f ≡ false → client_segment k f ≡ Ok s → message_completed k.received s ≡ Some message → x ≡ word_at 0 message → x < k.next_xid
+closed_frame : (opened : LinkParameters) (k : ClientState) (f : Frame) (s : Segment) (message : List ℕ) (x : ℕ) → is_hello f ≡ false → client_segment k f ≡ Ok s → message_completed k.received s ≡ Some message → x ≡ word_at 0 message → x < next_sent_xid k
     → HasClosedRegions opened x (client_state_after opened k (FrameReceived f))
 unfolding client_state_after
 closed_frame opened k f s message x behind is whole own low =
     subst (λ (b : Bool). HasClosedRegions opened x (cond b (with_hello opened k f) (with_segment k f (client_segment k f)))) (sym behind)
     (subst (λ (r : Result Segment ℕ). HasClosedRegions opened x (with_segment k f r)) (sym is)
-    (let same = segment_next k f (Ok s) in record { regions = closed_message k f s message x whole own; low = omega (arith, same, low) }))
-
-start_own : (opened : LinkParameters) → OwnXids opened (initial_client opened).state
-start_own opened = record { apart = tt; follow = both_first opened }
+    (let same : next_sent_xid (with_segment k f (Ok s)) ≡ next_sent_xid k = next_stays k f (Ok s) in record { regions = closed_message k f s message x whole own; low = omega (arith, same, low) }))
 
 closed_by_outcome : (opened : LinkParameters) (link : ℕ) (run : List Mark) (c : CompletedCall) → IsTyped run → AskedSoFar opened link run → WasGiven opened (events link Initiator run) c → HasClosedRegions opened c.xid (client opened link run).state
 unfolding client
@@ -184,9 +175,9 @@ closed_by_outcome opened link run c typed asked w =
     let g = client_goes opened link run typed asked in
     let all : GoesOn rules (ClientGood opened) 0 (initial_client opened) (w.earlier ++ FrameReceived w.frame ∷ w.later) = subst (λ (es : List RunEvent). GoesOn rules (ClientGood opened) 0 (initial_client opened) es) w.is g.goes in
     let rest = later_preserve rules (ClientGood opened) 0 (initial_client opened) w.earlier (FrameReceived w.frame ∷ w.later) all in
-    let numbers : OwnXids opened k = keeps_all opened (λ (t : ClientState). OwnXids opened t) (own_event opened) 0 (initial_client opened) w.earlier (first_preserve rules (ClientGood opened) 0 (initial_client opened) w.earlier (FrameReceived w.frame ∷ w.later) all) (start_own opened) in
+    let numbers : OwnXids opened k = keeps_all opened (λ (t : ClientState). OwnXids opened t) (own_event opened) 0 (initial_client opened) w.earlier (first_preserve rules (ClientGood opened) 0 (initial_client opened) w.earlier (FrameReceived w.frame ∷ w.later) all) (own_xids_begin opened) in
     let by : GivesBy k w.frame.end w.message c.xid (Some c.outcome) = gives_by k w.frame.end w.message c.xid (Some c.outcome) w.given in
-    let under = found_below _ k.next_xid k.outstanding by.call by.is_call (below_next opened k numbers.follow) in
+    let under = found_below _ (next_sent_xid k) k.outstanding by.call by.is_call numbers.below in
     let same = by.call_xid in
     let now : HasClosedRegions opened c.xid (client_state_after opened k (FrameReceived w.frame)) =
     closed_frame opened k w.frame w.segment w.message c.xid w.behind (client_read k w.frame w.behind w.stays ∙ w.is_segment) w.whole (verdict_xid k w.frame.end w.message c.xid (Some c.outcome) w.given) (omega (arith, under, same)) in

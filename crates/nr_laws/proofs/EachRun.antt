@@ -1,5 +1,5 @@
 -- After each run of a matched link in which each side kept its law in full, and of which no side has ended, both ends agree.
-use Rattle.std.proofs.Common.{◌≡◌, ℕ, Bool, true, false, cond, ◌&&◌, eqb, List, [], ◌∷◌, ◌++◌, length, None, refl, sym, ap, subst, ◌∙◌, arith, append_assoc, append-nil, lit<}
+use Rattle.std.proofs.Common.{◌≡◌, ℕ, ◌+◌, Bool, true, false, cond, ◌&&◌, eqb, List, [], ◌∷◌, ◌++◌, length, None, refl, sym, ap, subst, ◌∙◌, arith, append_assoc, append-nil, lit<}
 use Rattle.std.proofs.lemmas.Bool.{eqb-true}
 use Rattle.nr_wire.specs.declared.hello.Side.TheVariants.{Initiator, Responder}
 use Rattle.nr_wire.specs.Stream.{split}
@@ -10,7 +10,7 @@ use Rattle.nr_reduce.specs.declared.mark.LinkParameters.{LinkParameters}
 use Rattle.nr_reduce.specs.History.{bytes_sent, bytes_received}
 use Rattle.nr_reduce.specs.Events.{RunEvent, if_own, events_at, events}
 use Rattle.nr_reduce.specs.EndRules.{EndState, EndMachine, end_state_after}
-use Rattle.nr_reduce.specs.ClientState.{initial_client_state as client_initial_state}
+use Rattle.nr_reduce.specs.ClientState.{initial_client_state as client_initial_state, waiting_from}
 use Rattle.nr_reduce.specs.ServerState.{initial_server_state as server_initial_state}
 use Rattle.nr_reduce.specs.Client.{client_rules}
 use Rattle.nr_reduce.specs.Server.{server_rules}
@@ -21,16 +21,22 @@ use Rattle.nr_reduce.specs.Asked.{AskedMark, IsAll}
 use Rattle.nr_reduce.specs.Served.{ServedMark}
 use Rattle.nr_reduce.proofs.Steps.{client_one, server_one}
 use Rattle.nr_laws.specs.Typed.{TypedMark}
-use Rattle.nr_reduce.proofs.XidsFollow.{both_first}
 use Rattle.nr_laws.proofs.AgreedSizes.{up_limited, down_limited}
 use Rattle.nr_laws.proofs.FrameContents.FrameContent.{HelloFrame}
 use Rattle.nr_laws.proofs.TotalsAtClient.{totals_first}
-use Rattle.nr_reduce.specs.Opening.{IsOpened}
-use Rattle.nr_laws.proofs.Guards.{Guards}
+use Rattle.nr_reduce.specs.Opening.{IsOpened, AreResumed, lengths_before}
+use Rattle.nr_laws.proofs.Guards.{Guards, AreSizedResends}
 use Rattle.nr_laws.proofs.OfferedAccesses.{AccessesAgree}
+use Rattle.nr_laws.proofs.AccessesAtClient.{first_early, first_live, first_offered}
 use Rattle.nr_laws.proofs.AgreeingRuns.{place_of, RunAgrees, MarkAgrees, preserved, none_preserve, fed_up_preserves, fed_down_preserves}
 use Rattle.nr_laws.proofs.AgreeingMarks.{submit_preserves, wrote_up_preserves, wrote_down_preserves, execute_preserves, revoke_preserves, told_preserves}
 use Rattle.nr_laws.proofs.ReceivedMessages.{was_live_lem}
+use Rattle.nr_reduce.specs.declared.mark.ResumedCall.{ResumedCall}
+use Rattle.nr_laws.proofs.PlannedSizes.{planned_message}
+use Rattle.nr_reduce.specs.Plans.{regions_needed}
+use Rattle.nr_reduce.proofs.RisingXids.{xids_rise}
+use Rattle.nr_laws.proofs.OwnXids.{own_xids_begin}
+use Rattle.nr_reduce.proofs.ToldCredits.{told_in_range}
 
 -- ---- A side that has ended stays so
 
@@ -55,6 +61,15 @@ pub record BothOpened (opened : LinkParameters) (link : ℕ) : Type 0 where
   pub guards : IsOpened opened → Guards opened joined.k joined.s joined.u joined.d joined.all_up joined.all_down joined.w (place_of opened joined.u)
   pub accessed : AccessesAgree opened joined.k joined.s joined.d joined.all_up joined.all_down (length (bytes_received link Initiator []))
 
+-- the messages of the calls that wait have the sizes by which they were planned
+resends_from : (opened : LinkParameters) (first stag : ℕ) (rs : List ResumedCall) (next : ℕ) → AreResumed (lengths_before opened.agreed) first rs next → AreSizedResends opened (waiting_from stag rs)
+resends_from opened first stag [] next h = tt
+resends_from opened first stag (r ∷ rs) next h =
+    let own = h.1.0 in (
+      λ wished at. (let size = planned_message r.xid wished at r.call r.form r.plan own.planned in (size.0, (let most = size.1 in let up = own.up in omega (arith, most, up)))),
+      resends_from opened (r.xid + 1) (stag + regions_needed r.plan) rs next h.1.1,
+    )
+
 pub starts : (opened : LinkParameters) (link : ℕ) → BothOpened opened link
 unfolding client server events output_due bytes_received bytes_sent split
 starts opened link = record {
@@ -73,7 +88,7 @@ starts opened link = record {
       parts_down = refl;
       counts = totals_first opened;
       waits = record { numbers = tt; xids = tt; calls_below = tt; reads_below = tt; ready_apart = tt; ready_calls = tt; whole_calls = tt };
-      outs = record { apart = tt; follow = both_first opened };
+      outs = own_xids_begin opened;
       fits = tt;
       short = tt;
       stream_up = tt;
@@ -113,15 +128,26 @@ starts opened link = record {
     names = tt;
     credit = omega arith;
     calls = tt;
+    resends = resends_from opened 1 opened.first_stag opened.resumed opened.first_xid o.resumed;
+    again = λ e. absurd cc;
     within = record { fit = tt; few = lit< tt; small = tt };
     sinks = omega arith;
     xids = tt;
     no_hello_numbered = λ e. tt;
     numbers = tt;
-    answered = record { once = λ x. omega arith; later = λ x le. omega arith; earlier = λ x lt. omega arith; open_calls = λ x le lt. absurd (omega (arith, le, lt)); room = omega (arith, o.xid_fits) };
+    answered = record { rise = λ n m lt. xids_rise opened n m o lt; once = λ x. omega arith; given = λ x some. absurd (omega (arith, some)); open_calls = λ n lt. absurd (omega (arith, lt)); room = λ n lt. absurd (omega (arith, lt)) };
     reached = ([], refl);
   };
-  accessed = record { early = tt; lives = tt; up_said = (tt, tt); asked = tt; calls = tt; waiting = tt; down_said = tt };
+  accessed = record {
+    early = first_early 0 (waiting_from opened.first_stag opened.resumed);
+    lives = first_live (waiting_from opened.first_stag opened.resumed);
+    up_said = (tt, tt);
+    asked = tt;
+    resent = first_offered (waiting_from opened.first_stag opened.resumed);
+    calls = tt;
+    waiting = tt;
+    down_said = tt;
+  };
 }
 
 -- ---- Each mark
@@ -196,7 +222,7 @@ mark_preserves opened link run (marks.Told l what) j asked served matched typed 
     by : (b : Bool) → eqb l link ≡ b → MarkAgrees opened link run (marks.Told l what) j
     by true e =
         let same = eqb-true l link e in
-        subst (λ (n : ℕ). MarkAgrees opened link run (marks.Told n what) j) (sym same) (told_preserves opened link run what j (served same))
+        subst (λ (n : ℕ). MarkAgrees opened link run (marks.Told n what) j) (sym same) (told_preserves opened link run what j (told_in_range opened link run what (served same)) (ap (λ (n : ℕ). (server opened link (run ++ marks.Told n what ∷ [])).ended) (sym same) ∙ down))
     by false e = none_preserve opened link run (marks.Told l what) j (no_events_lem (eqb l link) false _ e) (no_events_lem (eqb l link) true _ e) refl refl refl refl
 
 -- ---- Each run

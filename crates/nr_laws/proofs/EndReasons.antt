@@ -8,7 +8,7 @@ use Rattle.nr_reduce.specs.declared.mark.Mark.{Mark}
 use Rattle.nr_reduce.specs.declared.mark.LinkParameters.{LinkParameters}
 use Rattle.nr_reduce.specs.Opening.{IsOpened}
 use Rattle.nr_reduce.specs.Run.{end_of_side}
-use Rattle.nr_laws.specs.EndCauses.{KeepLaws, IsReplyReason, IsDenied}
+use Rattle.nr_laws.specs.EndCauses.{KeepLaws, IsReplyReason, IsDenied, AgreesAgain, HasNoOldCall}
 use Rattle.nr_laws.specs.Typed.{IsTyped}
 
 -- a call's payload without an RPC call head, or a head with another xid
@@ -31,9 +31,9 @@ EndsForMessage end = (at : ℕ) × (reason : ℕ) × (end ≡ ends.Bad at reason
 
 -- of a matched link the side that ends first ends so
 abbrev pub FirstServerEnd : Type 0
-FirstServerEnd = (opened : LinkParameters) (link : ℕ) (run : List Mark) → IsOpened opened → IsTyped run → KeepLaws opened link run →
+FirstServerEnd = (opened : LinkParameters) (link : ℕ) (run : List Mark) → IsOpened opened → IsTyped run → KeepLaws opened link run → HasNoOldCall link run →
     end_of_side opened link Initiator run ≡ None → (end : End) → end_of_side opened link Responder run ≡ Some end → EndsForCall end
 
 abbrev pub FirstClientEnd : Type 0
-FirstClientEnd = (opened : LinkParameters) (link : ℕ) (run : List Mark) → IsOpened opened → IsTyped run → KeepLaws opened link run →
+FirstClientEnd = (opened : LinkParameters) (link : ℕ) (run : List Mark) → IsOpened opened → AgreesAgain opened → IsTyped run → KeepLaws opened link run →
     end_of_side opened link Responder run ≡ None → (end : End) → end_of_side opened link Initiator run ≡ Some end → EndsForMessage end ⊎ IsDenied end

@@ -15,7 +15,7 @@ use Rattle.nr_link.specs.Ending.{frame_end, frame_end_by, missing_access, end_of
 use Rattle.nr_reduce.specs.OfferedRegions.{region_grants}
 use Rattle.nr_reduce.specs.Events.RunEvent.{FrameReceived}
 use Rattle.nr_reduce.specs.ClientState.{ClientState}
-use Rattle.nr_reduce.specs.Client.{client_segment, client_readiness, client_end, or_message_end}
+use Rattle.nr_reduce.specs.Client.{client_segment, client_readiness, client_end, or_message_end, or_other_sizes}
 use Rattle.nr_reduce.specs.ServerState.{ServerState, PendingRead}
 use Rattle.nr_reduce.specs.Server.{server_readiness, server_end, or_refusal, refusal_end}
 use Rattle.nr_reduce.specs.ServerFrames.{frame_effect}
@@ -86,7 +86,7 @@ server_response opened s w f last stag to payload rest c head p allowed =
 
 pub client_by_lem : (k : ClientState) (f : Frame) (found : Option End) → is_hello f ≡ false → frame_end_by (client_readiness k) (region_grants f.end k.regions) f (client_segment k f) ≡ found → client_end k (FrameReceived f) ≡ or_message_end k f found
 unfolding client_end
-client_by_lem k f found behind is = λ i. cond (behind i) (hello_end (hello_of Responder f.bytes)) (or_message_end k f (is i))
+client_by_lem k f found behind is = λ i. cond (behind i) (or_other_sizes k f (hello_end (hello_of Responder f.bytes))) (or_message_end k f (is i))
 
 or_true : (b : Bool) → (b || true) ≡ true
 or_true true = refl

@@ -33,6 +33,7 @@ use Rattle.nr_laws.proofs.ReceivedMessages.{hears, server_receives, brings_at, o
 use Rattle.nr_laws.proofs.PlainOutputs.{ArePlain, plain_first, client_plain}
 use Rattle.nr_laws.proofs.ClientRun.{client_outputs, client_outs, WasSubmitted, message_submitted}
 use Rattle.nr_laws.proofs.HeaderXid.{header_xid, call_xid_lem}
+use Rattle.nr_reduce.specs.ClientState.{stag_for}
 
 -- ---- What the server has of the client's output
 
@@ -113,7 +114,7 @@ executed_submit opened link before xid payload typed asked matched h =
       was = was;
       submitted = sub;
       number = was.number ∙ was.own.number ∙ ap (λ (n : ℕ). n + 1) (sym sub.counted);
-      own_xid = sym (call_xid_lem sub.xid opened.wished (client opened link sub.earlier).state.stag sub.accepted.plan (omega (arith, fits)))
+      own_xid = sym (call_xid_lem sub.xid opened.wished (stag_for (client opened link sub.earlier).state sub.xid) sub.accepted.plan (omega (arith, fits)))
           ∙ ap (λ (m : List ℕ). Rattle.nr_xdr.specs.Fields.word_at 0 m) (sym sub.message_is)
           ∙ sym (header_xid was.own.message was.own.header was.own.is_header) ∙ sym was.own.xid ∙ sym was.xid;
     }

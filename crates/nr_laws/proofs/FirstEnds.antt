@@ -1,6 +1,6 @@
 -- Of the two sides of a matched link the one that ends first ends for what it makes of a message, or for what its memory denies.
 use Rattle.std.proofs.Common.{◌≡◌, ◌≢◌, ℕ, ◌+◌, Bool, true, false, ◌&&◌, eqb, List, [], ◌∷◌, ◌++◌, length, map, Option, Some, None, refl, sym, ap, subst, ◌∙◌, arith, append_assoc, append-nil, ◌⊎◌}
-use Rattle.std.proofs.lemmas.Bool.{eqb-true}
+use Rattle.std.proofs.lemmas.Bool.{eqb-true, ne_eqb}
 use Rattle.std.specs.List.{concat}
 use Rattle.nr_xdr.specs.Item.{IsBytes}
 use Rattle.nr_wire.specs.declared.hello.Side.TheVariants.{Initiator, Responder}
@@ -27,7 +27,7 @@ use Rattle.nr_reduce.specs.Asked.{AskedMark, IsAll}
 use Rattle.nr_reduce.specs.Served.{ServedMark}
 use Rattle.nr_reduce.proofs.Steps.{client_one, server_one, ended_stays}
 use Rattle.nr_laws.specs.Typed.{TypedMark}
-use Rattle.nr_laws.specs.EndCauses.{IsDenied}
+use Rattle.nr_laws.specs.EndCauses.{IsDenied, NotOldMark, AgreesAgain}
 use Rattle.nr_laws.proofs.EndReasons.{EndsForCall, EndsForMessage, FirstServerEnd, FirstClientEnd}
 use Rattle.nr_laws.proofs.FrameContents.{total_of, sends_in, requests_in}
 use Rattle.nr_laws.proofs.Bytes.{bytes_both}
@@ -37,8 +37,9 @@ use Rattle.nr_laws.proofs.Guards.{Guards}
 use Rattle.nr_laws.proofs.ServerFrames.{events_of, server_ends}
 use Rattle.nr_laws.proofs.ClientFrames.{client_ends}
 use Rattle.nr_laws.proofs.AgreeingRuns.{RunAgrees, MarkAgrees, place_of, preserved, arrives, other_events}
-use Rattle.nr_laws.proofs.AgreeingMarks.{client_event, server_event}
+use Rattle.nr_laws.proofs.AgreeingMarks.{client_event, server_event, IsQuietFor}
 use Rattle.nr_laws.proofs.EachRun.{starts, mark_preserves, no_events_lem, client_unended, server_unended}
+use Rattle.nr_reduce.specs.declared.mark.Told.TheVariants.{Granted, Old}
 
 -- ---- With guards, from mark to mark
 
@@ -70,10 +71,10 @@ server_last opened link before more end e = lasts (server_rules opened) (λ run.
 not_by_none : (opened : LinkParameters) (s : ServerState) (es : List RunEvent) (end : End) → es ≡ [] → (end_state_after (server_rules opened) (live s) es).ended ≡ Some end → EndsForCall end
 not_by_none opened s es end none e = absurd (let wrong : None ≡ Some end = ap (λ (xs : List RunEvent). (end_state_after (server_rules opened) (live s) xs).ended) (sym none) ∙ e in cc)
 
-not_by_one : (opened : LinkParameters) (s : ServerState) (es : List RunEvent) (event : RunEvent) (b : Bool) (end : End) → ((f : Frame) → event ≢ FrameReceived f) → es ≡ if_own b (event ∷ []) → (end_state_after (server_rules opened) (live s) es).ended ≡ Some end → EndsForCall end
-not_by_one opened s es event true end other is e =
-    absurd (let wrong : None ≡ Some end = sym (ap (λ (xs : List RunEvent). (end_state_after (server_rules opened) (live s) xs).ended) is ∙ ap (λ (x : EndState ServerState). x.ended) (server_event opened s event other).state) ∙ e in cc)
-not_by_one opened s es event false end other is e = not_by_none opened s es end is e
+not_by_one : (opened : LinkParameters) (s : ServerState) (es : List RunEvent) (event : RunEvent) (b : Bool) (end : End) → ((f : Frame) → event ≢ FrameReceived f) → IsQuietFor s event → es ≡ if_own b (event ∷ []) → (end_state_after (server_rules opened) (live s) es).ended ≡ Some end → EndsForCall end
+not_by_one opened s es event true end other quiet is e =
+    absurd (let wrong : None ≡ Some end = sym (ap (λ (xs : List RunEvent). (end_state_after (server_rules opened) (live s) xs).ended) is ∙ ap (λ (x : EndState ServerState). x.ended) (server_event opened s event other quiet).state) ∙ e in cc)
+not_by_one opened s es event false end other quiet is e = not_by_none opened s es end is e
 
 by_fed : (opened : LinkParameters) (link : ℕ) (run : List Mark) (bytes : List ℕ) (g : Guarded opened link run) → IsOpened opened → IsPrefixOf (bytes_received link Responder run ++ bytes) (bytes_sent link Initiator run) → IsBytes bytes
     → (end : End) → (end_state_after (server_rules opened) (live g.joined.s) (map FrameReceived (frames_completed Initiator (bytes_received link Responder run) bytes))).ended ≡ Some end → EndsForCall end
@@ -89,15 +90,15 @@ by_fed opened link run bytes g o prefix typed end e =
     server_ends opened j.k j.d j.all_up a.left o end a.new j.s j.u j.all_down j.w n r (place_of opened j.u) j.linked g.guards a.parts (omega arith) (omega arith) a.place a.bytes_are a.some
     (ap (λ (xs : List RunEvent). (end_state_after (server_rules opened) (live j.s) xs).ended) (sym same) ∙ e)
 
-server_mark : (opened : LinkParameters) (link : ℕ) (run : List Mark) (mark : Mark) (g : Guarded opened link run) → IsOpened opened → MatchedMark link run mark → TypedMark run mark → (end : End)
+server_mark : (opened : LinkParameters) (link : ℕ) (run : List Mark) (mark : Mark) (g : Guarded opened link run) → IsOpened opened → MatchedMark link run mark → TypedMark run mark → NotOldMark link run mark → (end : End)
     → (end_state_after (server_rules opened) (live g.joined.s) (events_at link Responder run mark)).ended ≡ Some end → EndsForCall end
-server_mark opened link run (marks.Submit l call form (submissions.Accepted xid)) g o matched typed end e = not_by_none opened g.joined.s _ end (other_events (eqb l link) _) e
-server_mark opened link run (marks.Submit l call form (submissions.Refused why)) g o matched typed end e = not_by_none opened g.joined.s _ end refl e
-server_mark opened link run (marks.Submit l call form submissions.Dropped) g o matched typed end e = not_by_none opened g.joined.s _ end refl e
-server_mark opened link run (marks.Wrote l Initiator bytes) g o matched typed end e = not_by_none opened g.joined.s _ end (other_events (eqb l link) _) e
-server_mark opened link run (marks.Wrote l Responder bytes) g o matched typed end e = not_by_one opened g.joined.s _ (QueueWritten (length bytes)) (eqb l link && true) end (λ f x. absurd cc) refl e
-server_mark opened link run (marks.Fed l Initiator bytes) g o matched typed end e = not_by_none opened g.joined.s _ end (other_events (eqb l link) _) e
-server_mark opened link run (marks.Fed l Responder bytes) g o matched typed end e = by (eqb l link) refl
+server_mark opened link run (marks.Submit l call form (submissions.Accepted xid)) g o matched typed fresh end e = not_by_none opened g.joined.s _ end (other_events (eqb l link) _) e
+server_mark opened link run (marks.Submit l call form (submissions.Refused why)) g o matched typed fresh end e = not_by_none opened g.joined.s _ end refl e
+server_mark opened link run (marks.Submit l call form submissions.Dropped) g o matched typed fresh end e = not_by_none opened g.joined.s _ end refl e
+server_mark opened link run (marks.Wrote l Initiator bytes) g o matched typed fresh end e = not_by_none opened g.joined.s _ end (other_events (eqb l link) _) e
+server_mark opened link run (marks.Wrote l Responder bytes) g o matched typed fresh end e = not_by_one opened g.joined.s _ (QueueWritten (length bytes)) (eqb l link && true) end (λ f x. absurd cc) tt refl e
+server_mark opened link run (marks.Fed l Initiator bytes) g o matched typed fresh end e = not_by_none opened g.joined.s _ end (other_events (eqb l link) _) e
+server_mark opened link run (marks.Fed l Responder bytes) g o matched typed fresh end e = by (eqb l link) refl
   where
     fs : List Frame
     fs = frames_completed Initiator (bytes_received link Responder run) bytes
@@ -105,21 +106,22 @@ server_mark opened link run (marks.Fed l Responder bytes) g o matched typed end 
     by : (b : Bool) → eqb l link ≡ b → EndsForCall end
     by true is = by_fed opened link run bytes g o (matched (eqb-true l link is)) typed end (ap (λ (b : Bool). (end_state_after (server_rules opened) (live g.joined.s) (if_own (b && true) (map FrameReceived fs))).ended) (sym is) ∙ e)
     by false is = not_by_none opened g.joined.s _ end (no_events_lem (eqb l link) true (map FrameReceived fs) is) e
-server_mark opened link run (marks.Execute l xid moment payload place reply) g o matched typed end e =
-    not_by_one opened g.joined.s _ (CallExecuted (record { xid = xid; moment = moment; payload = payload; place = place; reply = reply })) (eqb l link && true) end (λ f x. absurd cc) refl e
-server_mark opened link run (marks.Done l xid outcome) g o matched typed end e = not_by_none opened g.joined.s _ end refl e
-server_mark opened link run (marks.Lost l xid) g o matched typed end e = not_by_none opened g.joined.s _ end refl e
-server_mark opened link run (marks.Forget l xid) g o matched typed end e = not_by_none opened g.joined.s _ end refl e
-server_mark opened link run (marks.Revoke l xid bytes) g o matched typed end e = not_by_none opened g.joined.s _ end (other_events (eqb l link) _) e
-server_mark opened link run (marks.Drop l) g o matched typed end e = not_by_none opened g.joined.s _ end refl e
-server_mark opened link run (marks.Told l what) g o matched typed end e = not_by_one opened g.joined.s _ (ServerTold what) (eqb l link && true) end (λ f x. absurd cc) refl e
+server_mark opened link run (marks.Execute l xid moment payload place reply) g o matched typed fresh end e =
+    not_by_one opened g.joined.s _ (CallExecuted (record { xid = xid; moment = moment; payload = payload; place = place; reply = reply })) (eqb l link && true) end (λ f x. absurd cc) tt refl e
+server_mark opened link run (marks.Done l xid outcome) g o matched typed fresh end e = not_by_none opened g.joined.s _ end refl e
+server_mark opened link run (marks.Lost l xid) g o matched typed fresh end e = not_by_none opened g.joined.s _ end refl e
+server_mark opened link run (marks.Forget l xid) g o matched typed fresh end e = not_by_none opened g.joined.s _ end refl e
+server_mark opened link run (marks.Revoke l xid bytes) g o matched typed fresh end e = not_by_none opened g.joined.s _ end (other_events (eqb l link) _) e
+server_mark opened link run (marks.Drop l) g o matched typed fresh end e = not_by_none opened g.joined.s _ end refl e
+server_mark opened link run (marks.Told l (Granted credits)) g o matched typed fresh end e = not_by_one opened g.joined.s _ (ServerTold (Granted credits)) (eqb l link && true) end (λ f x. absurd cc) refl refl e
+server_mark opened link run (marks.Told l (Old xid at)) g o matched typed fresh end e = not_by_none opened g.joined.s _ end (no_events_lem (eqb l link) true _ (ne_eqb l link fresh)) e
 
 server_from : (opened : LinkParameters) (link : ℕ) (o : IsOpened opened) (end : End) (run before : List Mark) → Guarded opened link before → AtEachMark (AskedMark IsAll opened link) before run → AtEachMark (ServedMark IsAll opened link) before run → AtEachMark (MatchedMark link) before run
-    → AtEachMark (WithinGrant opened link) before run → AtEachMark TypedMark before run → (client opened link (before ++ run)).ended ≡ None → (server opened link (before ++ run)).ended ≡ Some end → EndsForCall end
-server_from opened link o end [] before g asked served matched grant typed up down =
+    → AtEachMark (WithinGrant opened link) before run → AtEachMark TypedMark before run → AtEachMark (NotOldMark link) before run → (client opened link (before ++ run)).ended ≡ None → (server opened link (before ++ run)).ended ≡ Some end → EndsForCall end
+server_from opened link o end [] before g asked served matched grant typed fresh up down =
     absurd (let wrong : None ≡ Some end = sym (ap (λ (r : List Mark). (server opened link r).ended) (append-nil before) ∙ ap (λ (x : EndState ServerState). x.ended) g.joined.server_is) ∙ down in cc)
-server_from opened link o end (m ∷ run) before g asked served matched grant typed up down =
-    by (server opened link (before ++ m ∷ [])).ended refl (λ next. server_from opened link o end run (before ++ m ∷ []) next asked.1 served.1 matched.1 grant.1 typed.1 up_all down_all)
+server_from opened link o end (m ∷ run) before g asked served matched grant typed fresh up down =
+    by (server opened link (before ++ m ∷ [])).ended refl (λ next. server_from opened link o end run (before ++ m ∷ []) next asked.1 served.1 matched.1 grant.1 typed.1 fresh.1 up_all down_all)
   where
     assoc : (before ++ m ∷ []) ++ run ≡ before ++ m ∷ run
     assoc = append_assoc before (m ∷ []) run
@@ -138,13 +140,13 @@ server_from opened link o end (m ∷ run) before g asked served matched grant ty
         later (guarded_more opened link before m g.joined (mark_preserves opened link before m g.joined asked.0 served.0 matched.0 typed.0 (client_unended opened link (before ++ m ∷ []) run up_all) is) o grant.0 g.guards)
     by (Some x) is later =
         let same : Some x ≡ Some end = sym (server_last opened link (before ++ m ∷ []) run x is) ∙ down_all in
-        server_mark opened link before m g o matched.0 typed.0 end (ap (λ (r : EndState ServerState). r.ended) (sym one) ∙ is ∙ same)
+        server_mark opened link before m g o matched.0 typed.0 fresh.0 end (ap (λ (r : EndState ServerState). r.ended) (sym one) ∙ is ∙ same)
 
 pub first_server_end : FirstServerEnd
 unfolding end_of_side
-first_server_end opened link run o typed laws up end down =
+first_server_end opened link run o typed laws fresh up end down =
     let start = starts opened link in
-    server_from opened link o end run [] (record { joined = start.joined; guards = start.guards o }) laws.client laws.server laws.matched laws.grant typed up down
+    server_from opened link o end run [] (record { joined = start.joined; guards = start.guards o }) laws.client laws.server laws.matched laws.grant typed fresh up down
 
 -- ---- The client
 
@@ -192,9 +194,9 @@ fed_ends opened link run (marks.Revoke l xid bytes) k end Lasting matched typed 
 fed_ends opened link run (marks.Drop l) k end Lasting matched typed fed e = absurd (none_ends opened k _ end refl e)
 fed_ends opened link run (marks.Told l what) k end Lasting matched typed fed e = absurd (none_ends opened k _ end (other_events (eqb l link) _) e)
 
-client_fed : (opened : LinkParameters) (link : ℕ) (run : List Mark) (bytes : List ℕ) (g : Guarded opened link run) → IsOpened opened → IsPrefixOf (bytes_received link Initiator run ++ bytes) (bytes_sent link Responder run) → IsBytes bytes
+client_fed : (opened : LinkParameters) (link : ℕ) (run : List Mark) (bytes : List ℕ) (g : Guarded opened link run) → IsOpened opened → AgreesAgain opened → IsPrefixOf (bytes_received link Initiator run ++ bytes) (bytes_sent link Responder run) → IsBytes bytes
     → (end : End) → (end_state_after (client_rules opened) (live g.joined.k) (map FrameReceived (frames_completed Responder (bytes_received link Initiator run) bytes))).ended ≡ Some end → IsClientEnd end
-client_fed opened link run bytes g o prefix typed end e =
+client_fed opened link run bytes g o again prefix typed end e =
     let j = g.joined in
     let got = bytes_received link Initiator run in
     let stream : IsOutput (j.d ++ (j.w.down ++ j.w.queued_down)) = subst IsOutput (sym j.linked.parts_down) j.linked.stream_down in
@@ -204,7 +206,7 @@ client_fed opened link run bytes g o prefix typed end e =
     let place = length (concat (frames_at opened Responder 0 0 j.d)) in
     let es = events_of place (frames_at opened Responder n r a.new) in
     let same : map FrameReceived (frames_completed Responder got bytes) ≡ es = ap (λ (fs : List Frame). map FrameReceived fs) a.frames in
-    client_ends opened j.s j.u j.all_down a.left o end (place_of opened j.u) a.new j.k j.d j.all_up j.w n r place j.linked g.guards a.parts (omega arith) (omega arith) a.place a.bytes_are a.some
+    client_ends opened j.s j.u j.all_down a.left o again end (place_of opened j.u) a.new j.k j.d j.all_up j.w n r place j.linked g.guards a.parts (omega arith) (omega arith) a.place a.bytes_are a.some
     (ap (λ (xs : List RunEvent). (end_state_after (client_rules opened) (live j.k) xs).ended) (sym same) ∙ e)
 
 -- along a run, what is kept while neither side ends decides why the client ends
@@ -243,7 +245,7 @@ client_first opened link State joined Kept end Lasting more fed (m ∷ run) befo
 
 pub first_client_end : FirstClientEnd
 unfolding end_of_side
-first_client_end opened link run o typed laws down end up =
+first_client_end opened link run o again typed laws down end up =
     let start = starts opened link in
     client_first opened link (Guarded opened link) (λ before g. g.joined) (WithinGrant opened link) end (IsClientEnd end) (λ before m g agrees typed within. guarded_more opened link before m g.joined agrees o within g.guards)
-    (λ before bytes g prefix typed e. client_fed opened link before bytes g o prefix typed end e) run [] (record { joined = start.joined; guards = start.guards o }) laws.client laws.server laws.matched laws.grant typed down up
+    (λ before bytes g prefix typed e. client_fed opened link before bytes g o again prefix typed end e) run [] (record { joined = start.joined; guards = start.guards o }) laws.client laws.server laws.matched laws.grant typed down up

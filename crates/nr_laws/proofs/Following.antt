@@ -2,8 +2,6 @@
 use Rattle.std.proofs.Common.{◌≡◌, ℕ, ◌+◌, List, [], ◌∷◌, ◌++◌, Some, refl, sym, ap, ◌∙◌, arith, append_assoc}
 use Rattle.nr_xdr.specs.Fields.{word_at}
 use Rattle.nr_wire.specs.declared.hello.Side.TheVariants.{Responder}
-use Rattle.nr_reduce.specs.declared.call.Call.{Call}
-use Rattle.nr_reduce.specs.declared.call.Form.{Form}
 use Rattle.nr_reduce.specs.declared.call.Outcome.{Outcome}
 use Rattle.nr_reduce.specs.declared.call.Submission.TheVariants as submissions
 use Rattle.nr_outside.specs.declared.moment.Moment.{Moment}
@@ -22,21 +20,21 @@ use Rattle.nr_reduce.specs.RunLaws.{server_by}
 use Rattle.nr_reduce.specs.Server.{offer_of}
 use Rattle.nr_reduce.specs.ServerState.{credit_word}
 use Rattle.nr_reduce.proofs.Refusals.{refused_never}
-use Rattle.nr_reduce.proofs.Placing.{places_rise, xids_differ}
+use Rattle.nr_reduce.proofs.Placing.{places_rise}
 use Rattle.nr_reduce.proofs.Steps.{events_one}
 use Rattle.nr_laws.specs.Typed.{TypedMark, IsTyped}
 use Rattle.nr_laws.specs.Places.{PlacesFollow}
-use Rattle.nr_reduce.proofs.XidsFollow.{accepted_follows}
 use Rattle.nr_laws.proofs.HeaderXid.{answer_xid, chunk_error_xid}
 use Rattle.nr_laws.proofs.ServerAlong.{Said}
 use Rattle.nr_laws.proofs.ServerAlong.Said.{IsRefusal, IsAnswer, IsNoAnswer}
 use Rattle.nr_laws.proofs.Outcomes.{client_by, OutcomeSaid, outcome_said}
 use Rattle.nr_laws.proofs.ExecuteMarks.{execute_mark}
-use Rattle.nr_laws.proofs.OnceByXid.{at_mark, before_mark, executed_at_lem, no_xid_twice}
+use Rattle.nr_laws.proofs.OnceByXid.{at_mark, before_mark, executed_at_lem, no_xid_twice, one_submit}
 use Rattle.nr_laws.proofs.RefusedCalls.{refused_submit}
 use Rattle.nr_laws.proofs.DoneCalls.{AnsweredBy, answered_by_lem, verdict_xid}
 use Rattle.nr_laws.proofs.Ordered.{Order, order}
 use Rattle.nr_laws.proofs.Ordered.Order.{Behind, Here, Before}
+use Rattle.nr_reduce.specs.Run.{client}
 
 pub far_before : (opened : LinkParameters) (link : ℕ) (run before : List Mark) (mark : Mark) (after : List Mark) → run ≡ before ++ mark ∷ after → MatchedSoFar opened link run → MatchedSoFar opened link before
 far_before opened link run before mark after is far = record {
@@ -71,58 +69,68 @@ events_more link side run (mark ∷ more) =
           ∙ ap (λ (es : List RunEvent). es ++ next.0) (events_one link side run mark) ∙ append_assoc (events link side run) one next.0,
     )
 
--- A call whose outcome was handed over isn't executed after that.
-not_after : (opened : LinkParameters) (link : ℕ) (run before after mid rest : List Mark) (xid : ℕ) (outcome : Outcome) (moment : Moment) (payload : List ℕ) (place : ℕ) (reply : List ℕ) → IsTyped run → MatchedSoFar opened link run
-    → run ≡ before ++ marks.Done link xid outcome ∷ (mid ++ marks.Execute link xid moment payload place reply ∷ rest) → ⊥
-not_after opened link run before after mid rest xid outcome moment payload place reply typed far is =
-    by d.said.said
+-- A call whose outcome was received isn't executed after that.
+pub not_after_outcome : (opened : LinkParameters) (link : ℕ) (run before mid rest : List Mark) (xid : ℕ) (outcome : Outcome) (moment : Moment) (payload : List ℕ) (place : ℕ) (reply : List ℕ) → IsTyped run → MatchedSoFar opened link run
+    → IsTyped before → MatchedSoFar opened link before → OutcomeSaid opened link before (record { xid = xid; outcome = outcome })
+    → run ≡ before ++ (mid ++ marks.Execute link xid moment payload place reply ∷ rest) → ⊥
+not_after_outcome opened link run before mid rest xid outcome moment payload place reply typed far first_typed first_far d is =
+    by d.said
   where
-    done : Mark
-    done = marks.Done link xid outcome
-
     execute : Mark
     execute = marks.Execute link xid moment payload place reply
 
-    d : DoneAt opened link before xid outcome
-    d = done_at opened link run before (mid ++ execute ∷ rest) xid outcome typed far is
+    own_xid : xid ≡ word_at 0 d.given.message
+    own_xid = verdict_xid (client_by opened d.given.earlier).state d.given.frame.end d.given.message xid (Some outcome) d.given.given
 
-    own_xid : xid ≡ word_at 0 d.said.given.message
-    own_xid = verdict_xid (client_by opened d.said.given.earlier).state d.said.given.frame.end d.said.given.message xid (Some outcome) d.said.given.given
-
-    whole : run ≡ (before ++ done ∷ mid) ++ execute ∷ rest
-    whole = is ∙ sym (append_assoc before (done ∷ mid) (execute ∷ rest))
+    whole : run ≡ (before ++ mid) ++ execute ∷ rest
+    whole = is ∙ sym (append_assoc before mid (execute ∷ rest))
 
     again : (es : List RunEvent) (e : ExecutedCall) → AnsweredBy opened link before e es → e.xid ≡ xid → ⊥
     again es e a same =
         let m = a.mark in
-        let all : run ≡ (m.earlier ++ execute_mark link e ∷ (m.later ++ done ∷ mid)) ++ execute ∷ rest =
-        whole ∙ ap (λ (b : List Mark). (b ++ done ∷ mid) ++ execute ∷ rest) m.is ∙ ap (λ (b : List Mark). b ++ execute ∷ rest) (append_assoc m.earlier (execute_mark link e ∷ m.later) (done ∷ mid)) in
-        no_xid_twice opened link run m.earlier (m.later ++ done ∷ mid) e.xid xid e.moment moment e.payload payload e.place place e.reply reply typed far (record { after = rest; is = all }) same
+        let all : run ≡ (m.earlier ++ execute_mark link e ∷ (m.later ++ mid)) ++ execute ∷ rest =
+        whole ∙ ap (λ (b : List Mark). (b ++ mid) ++ execute ∷ rest) m.is ∙ ap (λ (b : List Mark). b ++ execute ∷ rest) (append_assoc m.earlier (execute_mark link e ∷ m.later) mid) in
+        no_xid_twice opened link run m.earlier (m.later ++ mid) e.xid xid e.moment moment e.payload payload e.place place e.reply reply typed far (record { after = rest; is = all }) same
 
-    by : Said opened (events link Responder before) d.said.before d.said.given.message → ⊥
+    by : Said opened (events link Responder before) d.before d.given.message → ⊥
     by (IsAnswer s) =
-        let a = answered_by_lem opened link before d.typed d.far s.earlier s.call s.later s.is in
+        let a = answered_by_lem opened link before first_typed first_far s.earlier s.call s.later s.is in
         let f = a.fits in
         again s.earlier s.call a (sym (answer_xid s.call.xid (credit_word (server_by opened s.earlier)) (offer_of (server_by opened s.earlier) s.call.xid) s.answer (omega (arith, f)))
         ∙ ap (λ (x : List ℕ). word_at 0 x) (sym s.message) ∙ sym own_xid)
     by (IsNoAnswer s) =
-        let a = answered_by_lem opened link before d.typed d.far s.earlier s.call s.later s.is in
+        let a = answered_by_lem opened link before first_typed first_far s.earlier s.call s.later s.is in
         let f = a.fits in
         again s.earlier s.call a (sym (chunk_error_xid s.call.xid (credit_word (server_by opened s.earlier)) (omega (arith, f))) ∙ ap (λ (x : List ℕ). word_at 0 x) (sym s.message) ∙ sym own_xid)
     by (IsRefusal s) =
-        let r = refused_submit opened link before d.typed d.far.asked d.far.matched d.said.given.message s in
-        let x = executed_at_lem opened link run (before ++ done ∷ mid) rest xid moment payload place reply typed far whole in
-        let more = events_more link Responder before (done ∷ mid) in
-        let all : events link Responder (before ++ done ∷ mid) ≡ s.earlier ++ FrameReceived s.frame ∷ (s.later ++ more.0) =
+        let r = refused_submit opened link before first_typed first_far.asked first_far.matched d.given.message s in
+        let x = executed_at_lem opened link run (before ++ mid) rest xid moment payload place reply typed far whole in
+        let more = events_more link Responder before mid in
+        let all : events link Responder (before ++ mid) ≡ s.earlier ++ FrameReceived s.frame ∷ (s.later ++ more.0) =
         more.1 ∙ ap (λ (es : List RunEvent). es ++ more.0) s.is ∙ append_assoc s.earlier (FrameReceived s.frame ∷ s.later) more.0 in
-        let p = accepted_follows opened link r.submitted.earlier _ _ _ r.submitted.accepted in
-        let q = accepted_follows opened link x.submit.submitted.earlier _ _ _ x.submit.submitted.accepted in
-        let m = r.submitted.counted in
-        let n = x.submit.number in
+        let w = r.submitted in
+        let y = x.submit.submitted in
+        let first : run ≡ w.earlier ++ marks.Submit link w.call w.form (submissions.Accepted w.xid) ∷ ((w.later ++ mid) ++ execute ∷ rest) =
+        whole ∙ ap (λ (b : List Mark). (b ++ mid) ++ execute ∷ rest) w.is
+        ∙ ap (λ (b : List Mark). b ++ execute ∷ rest) (append_assoc w.earlier (marks.Submit link w.call w.form (submissions.Accepted w.xid) ∷ w.later) mid)
+        ∙ append_assoc w.earlier (marks.Submit link w.call w.form (submissions.Accepted w.xid) ∷ (w.later ++ mid)) (execute ∷ rest) in
+        let second : run ≡ y.earlier ++ marks.Submit link y.call y.form (submissions.Accepted y.xid) ∷ (y.later ++ execute ∷ rest) =
+        whole ∙ ap (λ (b : List Mark). b ++ execute ∷ rest) y.is ∙ append_assoc y.earlier (marks.Submit link y.call y.form (submissions.Accepted y.xid) ∷ y.later) (execute ∷ rest) in
         let u = r.xid in
         let v = x.submit.own_xid in
-        let equal : x.executed.call.number ≡ r.index + 1 = omega (arith, p, q, m, n, u, v, own_xid) in
-        refused_never opened link (before ++ done ∷ mid) s.earlier (s.later ++ more.0) s.frame s.segment (r.index + 1) all s.behind s.is_segment r.refuses xid payload x.executed equal
+        let place : w.earlier ≡ y.earlier = one_submit opened link run w.earlier y.earlier ((w.later ++ mid) ++ execute ∷ rest) (y.later ++ execute ∷ rest) w.call y.call w.form y.form w.xid y.xid far (omega (arith, u, v, own_xid)) first second in
+        let sends = ap (λ (b : List Mark). (client opened link b).state.sends) place in
+        let m = w.counted in
+        let n = x.submit.number in
+        let equal : x.executed.call.number ≡ r.index + 1 = omega (arith, m, n, sends) in
+        refused_never opened link (before ++ mid) s.earlier (s.later ++ more.0) s.frame s.segment (r.index + 1) all s.behind s.is_segment r.refuses xid payload x.executed equal
+
+-- So one whose outcome was handed over isn't.
+not_after : (opened : LinkParameters) (link : ℕ) (run before mid rest : List Mark) (xid : ℕ) (outcome : Outcome) (moment : Moment) (payload : List ℕ) (place : ℕ) (reply : List ℕ) → IsTyped run → MatchedSoFar opened link run
+    → run ≡ before ++ marks.Done link xid outcome ∷ (mid ++ marks.Execute link xid moment payload place reply ∷ rest) → ⊥
+not_after opened link run before mid rest xid outcome moment payload place reply typed far is =
+    let d = done_at opened link run before (mid ++ marks.Execute link xid moment payload place reply ∷ rest) xid outcome typed far is in
+    not_after_outcome opened link run before (marks.Done link xid outcome ∷ mid) rest xid outcome moment payload place reply typed far d.typed d.far d.said is
 
 pub executed_before : (opened : LinkParameters) (link : ℕ) (run before after first last : List Mark) (xid : ℕ) (outcome : Outcome) (moment : Moment) (payload : List ℕ) (place : ℕ) (reply : List ℕ) → IsTyped run → MatchedSoFar opened link run
     → run ≡ before ++ marks.Done link xid outcome ∷ after → run ≡ first ++ marks.Execute link xid moment payload place reply ∷ last
@@ -131,23 +139,9 @@ executed_before opened link run before after first last xid outcome moment paylo
     by (order before (marks.Done link xid outcome) after first (marks.Execute link xid moment payload place reply) last (sym here ∙ there))
   where
     by : Order before (marks.Done link xid outcome) after first (marks.Execute link xid moment payload place reply) last → (mid : List Mark) × (before ≡ first ++ marks.Execute link xid moment payload place reply ∷ mid)
-    by (Behind between is then) = absurd (not_after opened link run before after between last xid outcome moment payload place reply typed far (here ∙ ap (λ (t : List Mark). before ++ marks.Done link xid outcome ∷ t) then))
+    by (Behind between is then) = absurd (not_after opened link run before between last xid outcome moment payload place reply typed far (here ∙ ap (λ (t : List Mark). before ++ marks.Done link xid outcome ∷ t) then))
     by (Here same wrong) = absurd (let e = wrong in cc)
     by (Before between is then) = (between, is)
-
--- of two Submits under one xid there is one
-pub one_submit : (opened : LinkParameters) (link : ℕ) (run early late rest others : List Mark) (call other : Call) (form way : Form) (xid yid : ℕ) → MatchedSoFar opened link run → xid ≡ yid
-    → run ≡ early ++ marks.Submit link call form (submissions.Accepted xid) ∷ rest → run ≡ late ++ marks.Submit link other way (submissions.Accepted yid) ∷ others → early ≡ late
-one_submit opened link run early late rest others call other form way xid yid far same here again =
-    by (order early (marks.Submit link call form (submissions.Accepted xid)) rest late (marks.Submit link other way (submissions.Accepted yid)) others (sym here ∙ again))
-  where
-    by : Order early (marks.Submit link call form (submissions.Accepted xid)) rest late (marks.Submit link other way (submissions.Accepted yid)) others → early ≡ late
-    by (Here e m) = e
-    by (Behind gap e then) =
-        absurd (let lt = xids_differ IsPrefixOf opened link run early gap others call other form way xid yid (here ∙ ap (λ (t : List Mark). early ++ marks.Submit link call form (submissions.Accepted xid) ∷ t) then) far.asked in omega (arith, lt, same))
-    by (Before gap e then) =
-        absurd (let lt = xids_differ IsPrefixOf opened link run late gap rest other call way form yid xid
-        (again ∙ ap (λ (t : List Mark). late ++ marks.Submit link other way (submissions.Accepted yid) ∷ t) then) far.asked in omega (arith, lt, same))
 
 pub places_follow : PlacesFollow
 places_follow adds J one two link other run before between first second call form xid yid outcome moment now payload asked place later reply answer typed far away journaled submit h g =

@@ -20,13 +20,12 @@ use Rattle.nr_reduce.specs.Events.{RunEvent, events, events_at, if_own}
 use Rattle.nr_reduce.specs.Events.RunEvent.{FrameReceived, CallSubmitted, MemoryRevoked, CallExecuted, QueueWritten, ServerTold}
 use Rattle.nr_reduce.specs.EndRules.{EndState, next_end_state, next_end_state_by, next_end_state_in, end_state_after}
 use Rattle.nr_reduce.specs.OfferedRegions.{Region, region_grant, region_grants, closed_if, regions_closed}
-use Rattle.nr_reduce.specs.Plans.{buffers}
-use Rattle.nr_reduce.specs.ClientState.{ClientState}
-use Rattle.nr_reduce.specs.Client.{client_segment, client_rules, client_end, client_state_after, outstanding_of, region_of, with_message, with_segment, with_hello, due_with_response}
+use Rattle.nr_reduce.specs.ClientState.{ClientState, WaitingCall, waiting_call}
+use Rattle.nr_reduce.specs.Client.{client_segment, client_rules, client_end, client_state_after, outstanding_of, with_message, with_segment, with_hello, due_with_response, regions_unless_waiting}
 use Rattle.nr_reduce.specs.Asked.{AskedSoFar}
 use Rattle.nr_reduce.specs.Run.{client, grants_of, placed_bytes}
 use Rattle.nr_reduce.proofs.Touches.{client_touched}
-use Rattle.nr_reduce.proofs.OwnStags.{AreNumbered, numbered_buffers, client_known}
+use Rattle.nr_reduce.proofs.OwnStags.{AreNumbered, numbered_buffers, client_known, NewStag, stag_is}
 use Rattle.nr_reduce.proofs.Steps.{client_one, ended_stays}
 use Rattle.nr_laws.specs.Typed.{IsTyped}
 use Rattle.nr_laws.specs.Touches.{RevokedMemoryIsFinal}
@@ -122,17 +121,20 @@ frozen_event opened stag p bytes old k (FrameReceived f) by stays h = by_hello (
     by_hello true is = record { only = h.only; low = h.low; has = h.has; more = h.more; accesses = h.accesses; none = h.none }
     by_hello false is = frozen_segment stag p bytes old k f by is stays (client_segment k f) refl h
 frozen_event opened stag p bytes old k (CallSubmitted q a) by stays h =
-    let plan = (outstanding_of k a).plan in
-    let new : List Region = map (region_of a.xid q) (buffers k.stag plan) in
+    let new : List Region = regions_unless_waiting (waiting_call k a.xid) q (outstanding_of k a) in
     let low = h.low in
     record {
-      only = only_append stag p k.regions new h.only (only_above stag k.stag p new h.low (numbered_buffers a.xid q k.stag plan));
+      only = only_append stag p k.regions new h.only (new_only (waiting_call k a.xid) (stag_is k a));
       low = omega (arith, low);
       has = has_left k.regions new stag bytes h.has;
       more = h.more;
       accesses = h.accesses;
       none = h.none;
     }
+  where
+    new_only : (w : Option WaitingCall) → NewStag k w (outstanding_of k a) → OnlyClosed stag p (regions_unless_waiting w q (outstanding_of k a))
+    new_only None own = only_above stag (outstanding_of k a).stag p _ (let low = h.low in omega (arith, low, own)) (numbered_buffers a.xid q (outstanding_of k a).stag (outstanding_of k a).plan)
+    new_only (Some w) own = tt
 frozen_event opened stag p bytes old k (MemoryRevoked q xid) by stays h =
     record { only = only_closed (λ r. eqb r.call xid) q stag p k.regions h.only; low = h.low; has = has_closed (λ r. eqb r.call xid) q k.regions stag bytes h.has; more = h.more; accesses = h.accesses; none = h.none }
 frozen_event opened stag p bytes old k (CallExecuted e) by stays h = h

@@ -13,13 +13,13 @@ use Rattle.nr_link.specs.Output.{segment_count}
 use Rattle.nr_reduce.proofs.OwnLimits.{ServerLimits}
 use Rattle.nr_reduce.specs.declared.mark.LinkParameters.{LinkParameters}
 use Rattle.nr_reduce.specs.declared.mark.Told.{Told}
-use Rattle.nr_reduce.specs.declared.mark.Told.TheVariants.{Granted}
+use Rattle.nr_reduce.specs.declared.mark.Told.TheVariants.{Granted, Old}
 use Rattle.nr_reduce.specs.Served.{ToldInRange}
 use Rattle.nr_reduce.specs.Holds.{Answer, answer_message, first_chunk, no_segments, chunk_error}
 use Rattle.nr_reduce.specs.History.{ExecutedCall}
 use Rattle.nr_reduce.specs.Events.{RunEvent}
 use Rattle.nr_reduce.specs.EndRules.{live, end_state_after}
-use Rattle.nr_reduce.specs.ClientState.{ClientState, OutstandingCall}
+use Rattle.nr_reduce.specs.ClientState.{ClientState, OutstandingCall, WaitingCall}
 use Rattle.nr_reduce.specs.Client.{client_rules, initial_client}
 use Rattle.nr_reduce.specs.ServerState.{ServerState, PendingRead, credit_word, credit_told, is_busy}
 use Rattle.nr_reduce.specs.ServerFrames.{FrameEffect}
@@ -39,6 +39,9 @@ use Rattle.nr_laws.proofs.Basics.{each_append}
 use Rattle.nr_laws.proofs.AgreedSizes.{SizesAgree, matched_up, matched_down, matched_invalidates}
 use Rattle.nr_laws.proofs.Outputs.{message_of_call}
 use Rattle.nr_laws.proofs.SendFrames.{each_send}
+use Rattle.nr_reduce.specs.StandingLaws.{xid_of_send}
+use Rattle.nr_reduce.specs.Plans.{call_message}
+use Rattle.nr_reduce.specs.Opening.{lengths_before}
 
 -- a message of a client has the size of one, by what both sides agree on, version 1, a kind that a client sends, and at most one read chunk;
 -- and it names no STag
@@ -75,6 +78,13 @@ IsAsked opened o = ClientMessage opened (message_of_call opened o) × HasOwnXid 
 abbrev pub AreSized : LinkParameters → List OutstandingCall → Type 0
 AreSized opened os = AllByRecursion (IsAsked opened) os
 
+-- the message of a call that waits to be sent again has the size of one too, whatever its STags are, by what an earlier hello agreed on
+abbrev pub IsSizedResend : LinkParameters → WaitingCall → Type 0
+IsSizedResend opened w = (wished stag : ℕ) → (16 ≤ length (call_message w.xid wished stag w.plan)) × (length (call_message w.xid wished stag w.plan) ≤ (lengths_before opened.agreed).up)
+
+abbrev pub AreSizedResends : LinkParameters → List WaitingCall → Type 0
+AreSizedResends opened ws = AllByRecursion (IsSizedResend opened) ws
+
 pub record Guards (opened : LinkParameters) (k : ClientState) (s : ServerState) (u d all_up all_down : List FrameContent) (w : Transit) (up : ℕ) : Type 0 where
   pub server : ServerAgrees opened k s w up
   pub window : WithinWindow opened k
@@ -84,12 +94,14 @@ pub record Guards (opened : LinkParameters) (k : ClientState) (s : ServerState) 
   pub names : AllByRecursion (IsTaken (matched_invalidates opened)) all_down
   pub credit : s.credit ≤ opened.granted
   pub calls : AreSized opened k.outstanding
+  pub resends : AreSizedResends opened k.waiting
+  pub again : k.has_hello ≡ true → (lengths_before opened.agreed).up ≤ matched_up opened
   pub within : AreWithin s.reads s.regions
   pub sinks : length s.regions ≤ s.received.sends
-  pub xids : XidsFrom opened.first_xid all_up
-  pub no_hello_numbered : k.has_hello ≡ false → NumberedCalls opened.first_xid k.outstanding
-  pub numbers : AllByRecursion (IsNumbered opened.first_xid) s.calls
-  pub answered : Answered opened.first_xid k s u d all_down w
+  pub xids : XidsFrom (xid_of_send opened) 0 all_up
+  pub no_hello_numbered : k.has_hello ≡ false → NumberedCalls (xid_of_send opened) 0 k.outstanding
+  pub numbers : AllByRecursion (IsNumbered (xid_of_send opened)) s.calls
+  pub answered : Answered (xid_of_send opened) k s u d all_down w
   pub reached : (es : List RunEvent) × (end_state_after (client_rules opened) (initial_client opened) es ≡ live k)
 
 -- ---- What is granted
@@ -103,8 +115,9 @@ word_most k = by (is_busy k)
     by true = min-le_right k.low k.credit
     by false = omega arith
 
-pub told_most : (opened : LinkParameters) (what : Told) → ToldInRange opened what → credit_told what ≤ opened.granted
-told_most opened (Granted credits) h = h.1
+pub told_most : (opened : LinkParameters) (credits : ℕ) (what : Told) → ToldInRange opened what → credits ≤ opened.granted → credit_told credits what ≤ opened.granted
+told_most opened credits (Granted granted) h le = h.1
+told_most opened credits (Old xid at) h le = le
 
 one_less : (most n m : ℕ) → n ≤ m → (p : FrameContent) → ServerContent most n p → ServerContent most m p
 one_less most n m le HelloFrame h = tt

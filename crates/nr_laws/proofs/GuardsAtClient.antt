@@ -13,7 +13,7 @@ use Rattle.nr_link.specs.Frames.{Frame, is_hello}
 use Rattle.nr_link.specs.Output.{msn_word, segment_count}
 use Rattle.nr_link.specs.ReceiveState.{begun_bytes, ReadRequest, message_completed, read_request_of}
 use Rattle.nr_reduce.specs.declared.mark.LinkParameters.{LinkParameters}
-use Rattle.nr_reduce.specs.Opening.{IsOpened}
+use Rattle.nr_reduce.specs.Opening.{IsOpened, lengths_before}
 use Rattle.nr_reduce.specs.Limits.{credits_max}
 use Rattle.nr_reduce.specs.Events.{RunEvent}
 use Rattle.nr_reduce.specs.Events.RunEvent.{FrameReceived}
@@ -43,8 +43,9 @@ use Rattle.nr_laws.proofs.ClientFrame.{calls_said}
 use Rattle.nr_laws.proofs.AnsweredSteps.{Answered, answered_message_lem, answered_same}
 use Rattle.nr_wire.specs.declared.hello.Side.TheVariants.{Responder}
 use Rattle.nr_laws.proofs.FirstHellos.{first_hello}
-use Rattle.nr_laws.proofs.AgreedSizes.{SizesAgree, matched_down, client_keeps_sizes, client_takes_sizes, matched_invalidates}
-use Rattle.nr_laws.proofs.Guards.{ClientContent, ServerContent, IsAsked, AreSized, Guards}
+use Rattle.nr_laws.proofs.SizesAgain.{hello_agrees, lengths_again, reached_opening}
+use Rattle.nr_laws.proofs.AgreedSizes.{SizesAgree, matched_up, matched_down, client_keeps_sizes, client_takes_sizes, matched_invalidates}
+use Rattle.nr_laws.proofs.Guards.{ClientContent, ServerContent, IsAsked, AreSized, Guards, AreSizedResends}
 use Rattle.nr_laws.proofs.GuardsAtServer.{each_at}
 use Rattle.nr_laws.proofs.Basics.{each_append, each_right, each_take, each_kept, each_all}
 use Rattle.nr_laws.proofs.Sinks.{sinks_taken}
@@ -53,6 +54,8 @@ use Rattle.nr_laws.proofs.Outputs.{message_of_call}
 use Rattle.nr_laws.proofs.ExpectedResponses.{sends_answers}
 use Rattle.nr_laws.proofs.ReadContents.{plain_is, own_is}
 use Rattle.nr_laws.proofs.PlainSegments.{plain_segment}
+use Rattle.nr_reduce.specs.StandingLaws.{xid_of_send}
+use Rattle.nr_reduce.proofs.Placing.{segment_waiting}
 
 pub front_down : (opened : LinkParameters) (k : ClientState) (s : ServerState) (u d all_up all_down : List FrameContent) (w : Transit) (place : ℕ) (p : FrameContent) (rest : List FrameContent) → EndsAgree opened k s u d all_up all_down w → Guards opened k s u d all_up all_down w place → w.down ≡ p ∷ rest → ServerContent (matched_down opened) opened.granted p
 front_down opened k s u d all_up all_down w place p rest l g first =
@@ -120,9 +123,9 @@ asked_of s w place sink at size stag to rest c first sinks stags within =
 -- ---- What is kept
 
 guards_down : (opened : LinkParameters) (k t : ClientState) (s : ServerState) (u d all_up all_down : List FrameContent) (w : Transit) (place : ℕ) (p : FrameContent) (rest said : List FrameContent) (event : RunEvent) → Guards opened k s u d all_up all_down w place
-    → ServerAgrees opened t s (down_one w said rest) place → WithinWindow opened t → AllByRecursion (ClientContent opened) said → SizesAgree opened t s u → AreSized opened t.outstanding → XidsFrom (opened.first_xid + total_of sends_in all_up) said → t.has_hello ≡ true → Answered opened.first_xid t s u (d ++ p ∷ []) all_down (down_one w said rest) → client_end k event ≡ None → t ≡ client_state_after opened k event
+    → ServerAgrees opened t s (down_one w said rest) place → WithinWindow opened t → AllByRecursion (ClientContent opened) said → SizesAgree opened t s u → AreSized opened t.outstanding → AreSizedResends opened t.waiting → XidsFrom (xid_of_send opened) (0 + total_of sends_in all_up) said → t.has_hello ≡ true → (lengths_before opened.agreed).up ≤ matched_up opened → Answered (xid_of_send opened) t s u (d ++ p ∷ []) all_down (down_one w said rest) → client_end k event ≡ None → t ≡ client_state_after opened k event
     → Guards opened t s u (d ++ p ∷ []) (all_up ++ said) all_down (down_one w said rest) place
-guards_down opened k t s u d all_up all_down w place p rest said event g server window up sizes calls xids hello answered stays is = record {
+guards_down opened k t s u d all_up all_down w place p rest said event g server window up sizes calls resends xids hello again answered stays is = record {
   server = server;
   window = window;
   sizes = sizes;
@@ -131,9 +134,11 @@ guards_down opened k t s u d all_up all_down w place p rest said event g server 
   names = g.names;
   credit = g.credit;
   calls = calls;
+  resends = resends;
+  again = λ e. again;
   within = g.within;
   sinks = g.sinks;
-  xids = xids_append opened.first_xid all_up said g.xids xids;
+  xids = xids_append (xid_of_send opened) 0 all_up said g.xids xids;
   no_hello_numbered = λ e. absurd (let wrong : true ≡ false = sym hello ∙ e in cc);
   numbers = g.numbers;
   answered = answered;
@@ -151,6 +156,9 @@ sized_frame opened k t f r is h = subst (λ (x : ClientState). AreSized opened x
     by : ((with_segment k f r).outstanding ≡ k.outstanding) ⊎ ((p : OutstandingCall → Bool) × ((with_segment k f r).outstanding ≡ filter p k.outstanding)) → AreSized opened (with_segment k f r).outstanding
     by (inl same) = subst (AreSized opened) (sym same) h
     by (inr left) = subst (AreSized opened) (sym left.1) (each_kept (IsAsked opened) left.0 k.outstanding h)
+
+resends_frame : (opened : LinkParameters) (k t : ClientState) (f : Frame) (r : Result Segment ℕ) → t ≡ with_segment k f r → AreSizedResends opened k.waiting → AreSizedResends opened t.waiting
+resends_frame opened k t f r is h = subst (λ (x : ClientState). AreSizedResends opened x.waiting) (sym is) (subst (AreSizedResends opened) (sym (segment_waiting k f r)) h)
 
 own_xids : (opened : LinkParameters) (os : List OutstandingCall) → AreSized opened os → AllByRecursion (HasOwnXid opened) os
 own_xids opened [] h = tt
@@ -199,9 +207,9 @@ guards_hello_down opened k s u d all_up all_down w place rest f l g first is own
     let none : hello_bit k.has_hello ≡ 0 = omega (arith, l.counts.hello, ap (total_of hellos_in) first) in
     let no_hello_numbered : k.has_hello ≡ false = bit_of k.has_hello none in
     let sends : total_of sends_in all_up ≡ 0 = calls_said opened k s u d all_up all_down w l ∙ ap (λ (b : Bool). cond b k.sends 0) no_hello_numbered in
-    let asked : XidsFrom (opened.first_xid + total_of sends_in all_up) said =
-    subst (λ (n : ℕ). XidsFrom n said) (let same : opened.first_xid ≡ opened.first_xid + total_of sends_in all_up = omega (arith, sends) in same)
-    (xids_asked opened opened.first_xid k.outstanding (g.no_hello_numbered no_hello_numbered) (own_xids opened k.outstanding g.calls)) in
+    let asked : XidsFrom (xid_of_send opened) (0 + total_of sends_in all_up) said =
+    subst (λ (n : ℕ). XidsFrom (xid_of_send opened) n said) (let same : 0 ≡ 0 + total_of sends_in all_up = omega (arith, sends) in same)
+    (xids_asked opened (xid_of_send opened) 0 k.outstanding (g.no_hello_numbered no_hello_numbered) (own_xids opened k.outstanding g.calls)) in
     let server : ServerAgrees opened t s (down_one w said rest) place = record {
       counts = subst (λ (ps : List FrameContent). TotalsAgree t s (down_one w ps rest)) says (totals_hello_down opened k s w f rest g.server.counts first is);
       reads = reads_says_up s w said rest g.server.reads (none_asks opened k.outstanding) (ap requests_of first);
@@ -211,8 +219,8 @@ guards_hello_down opened k s u d all_up all_down w place rest f l g first is own
       limits = g.server.limits;
     } in
     subst (λ (ps : List FrameContent). Guards opened t s u (d ++ HelloFrame ∷ []) (all_up ++ ps) all_down (down_one w ps rest) place) (sym says)
-    (guards_down opened k t s u d all_up all_down w place HelloFrame rest said (FrameReceived f) g server (subst (WithinWindow opened) (sym after) (record { window = g.window.window; grant = g.window.grant; receives = g.window.receives })) (asks_up opened k.outstanding g.calls) (subst (λ (x : ClientState). SizesAgree opened x s u) (sym after) (client_takes_sizes opened k s u f own g.sizes)) (subst (λ (x : ClientState). AreSized opened x.outstanding) (sym after) g.calls) asked (ap (λ (x : ClientState). x.has_hello) after)
-    (answered_same opened.first_xid k t s u d all_down w (down_one w said rest) HelloFrame (ap (λ (x : ClientState). x.outstanding) after) (ap (λ (x : ClientState). x.sends) after) refl g.answered) stays refl)
+    (guards_down opened k t s u d all_up all_down w place HelloFrame rest said (FrameReceived f) g server (subst (WithinWindow opened) (sym after) (record { window = g.window.window; grant = g.window.grant; receives = g.window.receives })) (asks_up opened k.outstanding g.calls) (subst (λ (x : ClientState). SizesAgree opened x s u) (sym after) (client_takes_sizes opened k s u f own g.sizes)) (subst (λ (x : ClientState). AreSized opened x.outstanding) (sym after) g.calls) (subst (λ (x : ClientState). AreSizedResends opened x.waiting) (sym after) g.resends) asked (ap (λ (x : ClientState). x.has_hello) after) (lengths_again opened (hello_agrees opened k f (reached_opening opened k g.reached) is own stays)).0
+    (answered_same (xid_of_send opened) k t s u d all_down w (down_one w said rest) HelloFrame (ap (λ (x : ClientState). x.outstanding) after) (ap (λ (x : ClientState). x.sends) after) refl g.answered) stays refl)
 
 pub guards_send_down : (opened : LinkParameters) (k : ClientState) (s : ServerState) (u d all_up all_down : List FrameContent) (w : Transit) (place : ℕ) (message : SentMessage) (rest : List FrameContent) (f : Frame) → IsOpened opened → EndsAgree opened k s u d all_up all_down w → Guards opened k s u d all_up all_down w place → w.down ≡ SendFrame message ∷ rest
     → Carries k.invalidates k.received.sends k.received.requests f (SendFrame message) → k.has_hello ≡ true → client_end k (FrameReceived f) ≡ None
@@ -243,8 +251,8 @@ guards_send_down opened k s u d all_up all_down w place message rest f o l g fir
       limits = g.server.limits;
     } in
     subst (λ (ps : List FrameContent). Guards opened t s u (d ++ SendFrame message ∷ []) (all_up ++ ps) all_down (down_one w ps rest) place) (sym says)
-    (guards_down opened k t s u d all_up all_down w place (SendFrame message) rest [] (FrameReceived f) g server (subst (WithinWindow opened) (sym after) window) tt (client_keeps_sizes opened k t s u f (Ok segment) after hello g.sizes) (sized_frame opened k t f (Ok segment) after g.calls) tt (behind_hello_lem opened k t s u d all_up all_down w f (Ok segment) after hello)
-    (answered_message_lem opened.first_xid k t s u d all_down w (down_one w [] rest) message
+    (guards_down opened k t s u d all_up all_down w place (SendFrame message) rest [] (FrameReceived f) g server (subst (WithinWindow opened) (sym after) window) tt (client_keeps_sizes opened k t s u f (Ok segment) after hello g.sizes) (sized_frame opened k t f (Ok segment) after g.calls) (resends_frame opened k t f (Ok segment) after g.resends) tt (behind_hello_lem opened k t s u d all_up all_down w f (Ok segment) after hello) (g.again hello)
+    (answered_message_lem (xid_of_send opened) k t s u d all_down w (down_one w [] rest) message
     (ap (λ (x : ClientState). x.outstanding) after ∙ ap (λ (xs : List ℕ). filter (λ (o : OutstandingCall). not (eqb o.xid (word_at 0 xs))) k.outstanding) same) (ap (λ (x : ClientState). x.sends) after) g.answered) stays refl)
   where
     filter_less : (p : OutstandingCall → Bool) (os : List OutstandingCall) → length (filter p os) ≤ length os
@@ -268,15 +276,15 @@ tagged_up opened k f r behind is = subst (AllByRecursion (ClientContent opened))
     by None = tt
     by (Some q) = cuts _ q.sink q.sink_to _ _
 
-tagged_xids : (x : ℕ) (opened : LinkParameters) (k : ClientState) (f : Frame) (r : Result Segment ℕ) → is_hello f ≡ false → plain_segment k f ≡ r → XidsFrom x (client_frames opened k (FrameReceived f))
+tagged_xids : (xid : ℕ → ℕ) (x : ℕ) (opened : LinkParameters) (k : ClientState) (f : Frame) (r : Result Segment ℕ) → is_hello f ≡ false → plain_segment k f ≡ r → XidsFrom xid x (client_frames opened k (FrameReceived f))
 unfolding tagged_frames
-tagged_xids x opened k f r behind is = subst (XidsFrom x) (sym (says_is opened k f r behind is)) (by (segment_request r))
+tagged_xids xid x opened k f r behind is = subst (XidsFrom xid x) (sym (says_is opened k f r behind is)) (by (segment_request r))
   where
-    cuts : (opcode stag to : ℕ) (bytes : List ℕ) (is : List ℕ) → XidsFrom x (map (tagged_frame opcode stag to bytes) is)
+    cuts : (opcode stag to : ℕ) (bytes : List ℕ) (is : List ℕ) → XidsFrom xid x (map (tagged_frame opcode stag to bytes) is)
     cuts opcode stag to bytes [] = tt
     cuts opcode stag to bytes (i ∷ is) = cuts opcode stag to bytes is
 
-    by : (q : Option ReadRequest) → XidsFrom x (response_frames k f.end q)
+    by : (q : Option ReadRequest) → XidsFrom xid x (response_frames k f.end q)
     by None = tt
     by (Some q) =
         let bytes = take q.size (drop q.to (client_memory_at k f.end q.stag)) in
@@ -305,8 +313,8 @@ guards_read_down opened k s u d all_up all_down w place sink at size stag to res
       limits = g.server.limits;
     } in
     guards_down opened k t s u d all_up all_down w place (RequestFrame sink at size stag to) rest said (FrameReceived f) g server (subst (WithinWindow opened) (sym after) (record { window = g.window.window; grant = g.window.grant; receives = g.window.receives }))
-    (tagged_up opened k f (Ok segment) piece.behind reads) (client_keeps_sizes opened k t s u f (Ok segment) after hello g.sizes) (sized_frame opened k t f (Ok segment) after g.calls) (tagged_xids (opened.first_xid + total_of sends_in all_up) opened k f (Ok segment) piece.behind reads) (behind_hello_lem opened k t s u d all_up all_down w f (Ok segment) after hello)
-    (answered_same opened.first_xid k t s u d all_down w (down_one w said rest) (RequestFrame sink at size stag to) (ap (λ (x : ClientState). x.outstanding) after) (ap (λ (x : ClientState). x.sends) after) refl g.answered) stays refl
+    (tagged_up opened k f (Ok segment) piece.behind reads) (client_keeps_sizes opened k t s u f (Ok segment) after hello g.sizes) (sized_frame opened k t f (Ok segment) after g.calls) (resends_frame opened k t f (Ok segment) after g.resends) (tagged_xids (xid_of_send opened) (0 + total_of sends_in all_up) opened k f (Ok segment) piece.behind reads) (behind_hello_lem opened k t s u d all_up all_down w f (Ok segment) after hello) (g.again hello)
+    (answered_same (xid_of_send opened) k t s u d all_down w (down_one w said rest) (RequestFrame sink at size stag to) (ap (λ (x : ClientState). x.outstanding) after) (ap (λ (x : ClientState). x.sends) after) refl g.answered) stays refl
   where
     ap_regions : (opened : LinkParameters) (k : ClientState) (es : List RunEvent) → end_state_after (client_rules opened) (initial_client opened) es ≡ live k
         → AreNumbered opened.first_stag (end_state_after (client_rules opened) (initial_client opened) es).state.regions → AreNumbered opened.first_stag k.regions
@@ -331,8 +339,8 @@ guards_part_down opened k s u d all_up all_down w place named offset payload res
       limits = g.server.limits;
     } in
     subst (λ (ps : List FrameContent). Guards opened t s u (d ++ PartFrame named offset payload ∷ []) (all_up ++ ps) all_down (down_one w ps rest) place) (sym says)
-    (guards_down opened k t s u d all_up all_down w place (PartFrame named offset payload) rest [] (FrameReceived f) g server (subst (WithinWindow opened) (sym after) (record { window = g.window.window; grant = g.window.grant; receives = g.window.receives })) tt (client_keeps_sizes opened k t s u f (Ok segment) after hello g.sizes) (sized_frame opened k t f (Ok segment) after g.calls) tt (behind_hello_lem opened k t s u d all_up all_down w f (Ok segment) after hello)
-    (answered_same opened.first_xid k t s u d all_down w (down_one w [] rest) (PartFrame named offset payload) (ap (λ (x : ClientState). x.outstanding) after) (ap (λ (x : ClientState). x.sends) after) refl g.answered) stays refl)
+    (guards_down opened k t s u d all_up all_down w place (PartFrame named offset payload) rest [] (FrameReceived f) g server (subst (WithinWindow opened) (sym after) (record { window = g.window.window; grant = g.window.grant; receives = g.window.receives })) tt (client_keeps_sizes opened k t s u f (Ok segment) after hello g.sizes) (sized_frame opened k t f (Ok segment) after g.calls) (resends_frame opened k t f (Ok segment) after g.resends) tt (behind_hello_lem opened k t s u d all_up all_down w f (Ok segment) after hello) (g.again hello)
+    (answered_same (xid_of_send opened) k t s u d all_down w (down_one w [] rest) (PartFrame named offset payload) (ap (λ (x : ClientState). x.outstanding) after) (ap (λ (x : ClientState). x.sends) after) refl g.answered) stays refl)
 
 pub guards_tagged_down : (opened : LinkParameters) (k : ClientState) (s : ServerState) (u d all_up all_down : List FrameContent) (w : Transit) (place : ℕ) (last : Bool) (opcode stag to : ℕ) (payload : List ℕ) (rest : List FrameContent) (f : Frame) → Guards opened k s u d all_up all_down w place
     → w.down ≡ TaggedFrame last opcode stag to payload ∷ rest → Carries k.invalidates k.received.sends k.received.requests f (TaggedFrame last opcode stag to payload) → k.has_hello ≡ true → client_end k (FrameReceived f) ≡ None
@@ -352,5 +360,5 @@ guards_tagged_down opened k s u d all_up all_down w place last opcode stag to pa
       limits = g.server.limits;
     } in
     subst (λ (ps : List FrameContent). Guards opened t s u (d ++ TaggedFrame last opcode stag to payload ∷ []) (all_up ++ ps) all_down (down_one w ps rest) place) (sym says)
-    (guards_down opened k t s u d all_up all_down w place (TaggedFrame last opcode stag to payload) rest [] (FrameReceived f) g server (subst (WithinWindow opened) (sym after) (record { window = g.window.window; grant = g.window.grant; receives = g.window.receives })) tt (client_keeps_sizes opened k t s u f (Ok segment) after hello g.sizes) (sized_frame opened k t f (Ok segment) after g.calls) tt (behind_hello_lem opened k t s u d all_up all_down w f (Ok segment) after hello)
-    (answered_same opened.first_xid k t s u d all_down w (down_one w [] rest) (TaggedFrame last opcode stag to payload) (ap (λ (x : ClientState). x.outstanding) after) (ap (λ (x : ClientState). x.sends) after) refl g.answered) stays refl)
+    (guards_down opened k t s u d all_up all_down w place (TaggedFrame last opcode stag to payload) rest [] (FrameReceived f) g server (subst (WithinWindow opened) (sym after) (record { window = g.window.window; grant = g.window.grant; receives = g.window.receives })) tt (client_keeps_sizes opened k t s u f (Ok segment) after hello g.sizes) (sized_frame opened k t f (Ok segment) after g.calls) (resends_frame opened k t f (Ok segment) after g.resends) tt (behind_hello_lem opened k t s u d all_up all_down w f (Ok segment) after hello) (g.again hello)
+    (answered_same (xid_of_send opened) k t s u d all_down w (down_one w [] rest) (TaggedFrame last opcode stag to payload) (ap (λ (x : ClientState). x.outstanding) after) (ap (λ (x : ClientState). x.sends) after) refl g.answered) stays refl)

@@ -1,7 +1,7 @@
 -- A server of a matched link ends at a frame only by a refusal of the frame's effect; else the guards are kept.
 use Rattle.std.specs.Prelude.{length}
 use Rattle.nr_laws.proofs.SinkCount.{count_send, count_tagged}
-use Rattle.std.proofs.Common.{◌≡◌, ℕ, ◌+◌, ◌≤◌, ◌<◌, ◌^◌, Bool, true, List, [], ◌∷◌, ◌++◌, None, Result, Ok, refl, sym, ap, subst, ◌∙◌, arith, cond, eqb, ◌||◌, false, Some, ◌⊎◌, inl, inr, map}
+use Rattle.std.proofs.Common.{◌≡◌, ℕ, ◌+◌, ◌≤◌, ◌<◌, ◌^◌, Bool, true, List, [], ◌∷◌, ◌++◌, None, Result, Ok, refl, sym, ap, subst, ◌∙◌, arith, cond, eqb, ◌||◌, false, Some, map}
 use Rattle.std.specs.List.{AllByRecursion}
 use Rattle.nr_xdr.specs.Item.{IsBytes}
 use Rattle.nr_xdr.specs.Fields.{word_at}
@@ -31,7 +31,7 @@ use Rattle.nr_laws.proofs.CallNumbers.{XidsFrom, IsNumbered, xids_at, numbered_s
 use Rattle.nr_reduce.specs.Plans.{one_if}
 use Rattle.nr_reduce.specs.ServerState.{PendingCall}
 use Rattle.std.specs.List.{find, list_any}
-use Rattle.std.proofs.lemmas.Bool.{eq-eqb, cases_lt}
+use Rattle.std.proofs.lemmas.Bool.{eq-eqb}
 use Rattle.nr_laws.proofs.LinkInvariants.{calls_sent}
 use Rattle.nr_laws.proofs.FrameContents.{total_of, sends_in}
 use Rattle.nr_laws.proofs.Totals.{total_append}
@@ -50,6 +50,7 @@ use Rattle.nr_laws.proofs.SendFrames.{at_front}
 use Rattle.nr_laws.proofs.EachEffect.{part_effect}
 use Rattle.nr_laws.proofs.ReadContents.{segment_is}
 use Rattle.nr_laws.proofs.NamedFrames.{effect_taken, is_taken}
+use Rattle.nr_reduce.specs.StandingLaws.{xid_of_send}
 
 pub each_at : {X : Type 0} (P : X → Type 0) (xs : List X) (y : X) (ys : List X) → AllByRecursion P (xs ++ y ∷ ys) → P y
 each_at P [] y ys h = h.0
@@ -61,13 +62,13 @@ front_up opened k s u d all_up all_down w place p rest l g first =
     each_at (ClientContent opened) u p (rest ++ w.queued_up) (subst (AllByRecursion (ClientContent opened)) (sym l.parts_up ∙ ap (λ (ps : List FrameContent). u ++ (ps ++ w.queued_up)) first) g.up_said)
 
 -- and its xid, if it is a message
-pub front_xid : (opened : LinkParameters) (k : ClientState) (s : ServerState) (u d all_up all_down : List FrameContent) (w : Transit) (place : ℕ) (message : SentMessage) (rest : List FrameContent) → EndsAgree opened k s u d all_up all_down w → Guards opened k s u d all_up all_down w place → w.up ≡ SendFrame message ∷ rest → word_at 0 message.bytes ≡ opened.first_xid + s.received.sends
+pub front_xid : (opened : LinkParameters) (k : ClientState) (s : ServerState) (u d all_up all_down : List FrameContent) (w : Transit) (place : ℕ) (message : SentMessage) (rest : List FrameContent) → EndsAgree opened k s u d all_up all_down w → Guards opened k s u d all_up all_down w place → w.up ≡ SendFrame message ∷ rest → word_at 0 message.bytes ≡ xid_of_send opened s.received.sends
 front_xid opened k s u d all_up all_down w place message rest l g first =
-    xids_at opened.first_xid u message (rest ++ w.queued_up) (subst (XidsFrom opened.first_xid) (sym l.parts_up ∙ ap (λ (ps : List FrameContent). u ++ (ps ++ w.queued_up)) first) g.xids)
-    ∙ ap (λ (n : ℕ). opened.first_xid + n) (sym l.sends_up)
+    xids_at (xid_of_send opened) 0 u message (rest ++ w.queued_up) (subst (XidsFrom (xid_of_send opened) 0) (sym l.parts_up ∙ ap (λ (ps : List FrameContent). u ++ (ps ++ w.queued_up)) first) g.xids)
+    ∙ ap (xid_of_send opened) (let sends = l.sends_up in omega (arith, sends))
 
 guards_up : (opened : LinkParameters) (k : ClientState) (s t : ServerState) (u d all_up all_down : List FrameContent) (w : Transit) (place end : ℕ) (p : FrameContent) (rest said : List FrameContent) → Guards opened k s u d all_up all_down w place
-    → ServerAgrees opened k t (taken_up w rest said) end → AllByRecursion (ServerContent (matched_down opened) opened.granted) said → AllByRecursion (IsTaken (matched_invalidates opened)) said → SizesAgree opened k t (u ++ p ∷ []) → t.credit ≡ s.credit → AreWithin t.reads t.regions → length t.regions ≤ t.received.sends → AllByRecursion (IsNumbered opened.first_xid) t.calls → Answered opened.first_xid k t (u ++ p ∷ []) d (all_down ++ said) (taken_up w rest said)
+    → ServerAgrees opened k t (taken_up w rest said) end → AllByRecursion (ServerContent (matched_down opened) opened.granted) said → AllByRecursion (IsTaken (matched_invalidates opened)) said → SizesAgree opened k t (u ++ p ∷ []) → t.credit ≡ s.credit → AreWithin t.reads t.regions → length t.regions ≤ t.received.sends → AllByRecursion (IsNumbered (xid_of_send opened)) t.calls → Answered (xid_of_send opened) k t (u ++ p ∷ []) d (all_down ++ said) (taken_up w rest said)
     → Guards opened k t (u ++ p ∷ []) d all_up (all_down ++ said) (taken_up w rest said) end
 guards_up opened k s t u d all_up all_down w place end p rest said g server down names sizes credit within sinks numbers answered = record {
   server = server;
@@ -78,6 +79,8 @@ guards_up opened k s t u d all_up all_down w place end p rest said g server down
   names = each_append (IsTaken (matched_invalidates opened)) all_down said g.names names;
   credit = omega (arith, credit, g.credit);
   calls = g.calls;
+  resends = g.resends;
+  again = g.again;
   within = within;
   sinks = sinks;
   xids = g.xids;
@@ -110,11 +113,11 @@ counted_word : (opened : LinkParameters) (k : ClientState) (s : ServerState) (u 
     → xid < 2 ^ 32
 counted_word opened k s u d all_up all_down w place xid l g some =
     let sent = calls_said opened k s u d all_up all_down w l in
-    by (cases_lt xid (opened.first_xid + s.received.sends)) (omega (arith, sent, sent_most k, l.sends_up, ap (total_of sends_in) l.parts_up, total_append sends_in u (w.up ++ w.queued_up)))
-  where
-    by : (xid < opened.first_xid + s.received.sends) ⊎ (opened.first_xid + s.received.sends ≤ xid) → s.received.sends ≤ k.sends → xid < 2 ^ 32
-    by (inl lt) few = omega (arith, lt, few, g.answered.room)
-    by (inr le) few = absurd (omega (arith, some, g.answered.later xid le))
+    let few : s.received.sends ≤ k.sends = omega (arith, sent, sent_most k, l.sends_up, ap (total_of sends_in) l.parts_up, total_append sends_in u (w.up ++ w.queued_up)) in
+    let own = g.answered.given xid (omega (arith, some)) in
+    let same : xid ≡ xid_of_send opened own.0 = own.2 in
+    let below : own.0 < s.received.sends = own.1 in
+    omega (arith, same, g.answered.room own.0 (omega (arith, below, few)))
 
 pub small_xid_lem : (opened : LinkParameters) (k : ClientState) (s : ServerState) (u d all_up all_down : List FrameContent) (w : Transit) (place n : ℕ) (c : PendingCall) → EndsAgree opened k s u d all_up all_down w → Guards opened k s u d all_up all_down w place
     → find (λ (y : PendingCall). eqb y.number n) s.calls ≡ Some c → c.xid < 2 ^ 32
@@ -162,15 +165,16 @@ takes_send opened k s u d all_up all_down w place message rest f o l g received 
     let own = front_xid opened k s u d all_up all_down w place message rest l g first in
     let some : 0 < total_of sends_in w.up = omega (arith, ap (total_of sends_in) first) in
     let sent = calls_said opened k s u d all_up all_down w l in
-    let small_xid : word_at 0 message.bytes < 2 ^ 32 =
-    omega (arith, own, g.answered.room, some, sent, sent_most k, l.sends_up, ap (total_of sends_in) l.parts_up, total_append sends_in u (w.up ++ w.queued_up), total_append sends_in w.up w.queued_up) in
+    let fewer : s.received.sends < k.sends =
+    omega (arith, some, sent, sent_most k, l.sends_up, ap (total_of sends_in) l.parts_up, total_append sends_in u (w.up ++ w.queued_up), total_append sends_in w.up w.queued_up) in
+    let small_xid : word_at 0 message.bytes < 2 ^ 32 = omega (arith, own, g.answered.room s.received.sends fewer) in
     let pending = pending_send s f message completes small_xid reads in
     let effect = step_is s f (Ok segment) reads in
     let calls_are : call_xids (server_state_after opened s (FrameReceived f)).calls ≡ call_xids (frame_effect s f).calls = ap (λ (x : ServerState). call_xids x.calls) after ∙ ap (λ (e : FrameEffect). call_xids e.calls) (sym effect) in
-    let answered = answered_send opened.first_xid k s (server_state_after opened s (FrameReceived f)) u d all_down w (SendFrame message) rest (effect_frames (frame_effect s f)) (ap (λ (x : ServerState). x.received.sends) after)
+    let answered = answered_send (xid_of_send opened) k s (server_state_after opened s (FrameReceived f)) u d all_down w (SendFrame message) rest (effect_frames (frame_effect s f)) (ap (λ (x : ServerState). x.received.sends) after)
     (λ x. omega (arith, pending x, ap (λ (xs : List ℕ). times x xs) (effect_xids (frame_effect s f)), ap (λ (xs : List ℕ). times x xs) calls_are, ap (λ (n : ℕ). one_if (eqb n x)) own)) g.answered in
-    let numbered = numbered_send opened.first_xid s f message completes own g.numbers reads in
-    let numbers = subst (AllByRecursion (IsNumbered opened.first_xid)) (ap (λ (e : FrameEffect). e.calls) (step_is s f (Ok segment) reads) ∙ ap (λ (x : ServerState). x.calls) (sym after)) numbered in
+    let numbered = numbered_send (xid_of_send opened) s f message completes own g.numbers reads in
+    let numbers = subst (AllByRecursion (IsNumbered (xid_of_send opened))) (ap (λ (e : FrameEffect). e.calls) (step_is s f (Ok segment) reads) ∙ ap (λ (x : ServerState). x.calls) (sym after)) numbered in
     let chunk = count_send s f message completes are_bytes size.4 reads in
     let sinks = sinks_after s f (Ok segment) reads (s.received.sends + 1) (omega (arith, chunk, g.sinks)) in
     let within = within_after s f (Ok segment) reads (within_send s f message completes are_bytes g.within reads) in
@@ -195,9 +199,9 @@ takes_part opened k s u d all_up all_down w place named offset payload rest f o 
     let effect = step_is s f (Ok segment) reads in
     let calls_are : call_xids (server_state_after opened s (FrameReceived f)).calls ≡ call_xids s.calls = ap (λ (x : ServerState). call_xids x.calls) after in
     let none : message_xids (effect_frames (frame_effect s f)) ≡ [] = effect_xids (frame_effect s f) ∙ ap (λ (e : FrameEffect). map (λ (m : List ℕ). word_at 0 m) e.errors) effect in
-    let answered = answered_other opened.first_xid k s (server_state_after opened s (FrameReceived f)) u d all_down w (PartFrame named offset payload) rest (effect_frames (frame_effect s f)) (ap (λ (x : ServerState). x.received.sends) after)
+    let answered = answered_other (xid_of_send opened) k s (server_state_after opened s (FrameReceived f)) u d all_down w (PartFrame named offset payload) rest (effect_frames (frame_effect s f)) (ap (λ (x : ServerState). x.received.sends) after)
     (λ x. omega (arith, ap (λ (xs : List ℕ). times x xs) none, ap (λ (xs : List ℕ). times x xs) calls_are)) g.answered in
-    let numbers = subst (AllByRecursion (IsNumbered opened.first_xid)) (ap (λ (x : ServerState). x.calls) (sym after)) g.numbers in
+    let numbers = subst (AllByRecursion (IsNumbered (xid_of_send opened))) (ap (λ (x : ServerState). x.calls) (sym after)) g.numbers in
     let sinks = sinks_after s f (Ok segment) reads s.received.sends (omega (arith, ap (λ (e : FrameEffect). length e.regions) effect, g.sinks)) in
     let within = within_after s f (Ok segment) reads (part_effect s (λ e. AreWithin e.reads e.regions) g.within f offset payload reads) in
     record {
@@ -221,10 +225,10 @@ takes_tagged opened k s u d all_up all_down w place last opcode stag to payload 
     let pending = pending_tagged s f last opcode stag to payload (λ n c found. small_xid_lem opened k s u d all_up all_down w place n c l g found) reads in
     let effect = step_is s f (Ok segment) reads in
     let calls_are : call_xids (server_state_after opened s (FrameReceived f)).calls ≡ call_xids (frame_effect s f).calls = ap (λ (x : ServerState). call_xids x.calls) after ∙ ap (λ (e : FrameEffect). call_xids e.calls) (sym effect) in
-    let answered = answered_other opened.first_xid k s (server_state_after opened s (FrameReceived f)) u d all_down w (TaggedFrame last opcode stag to payload) rest (effect_frames (frame_effect s f)) (ap (λ (x : ServerState). x.received.sends) after)
+    let answered = answered_other (xid_of_send opened) k s (server_state_after opened s (FrameReceived f)) u d all_down w (TaggedFrame last opcode stag to payload) rest (effect_frames (frame_effect s f)) (ap (λ (x : ServerState). x.received.sends) after)
     (λ x. omega (arith, pending x, ap (λ (xs : List ℕ). times x xs) (effect_xids (frame_effect s f)), ap (λ (xs : List ℕ). times x xs) calls_are)) g.answered in
-    let numbered = numbered_tagged opened.first_xid s f last opcode stag to payload g.numbers reads in
-    let numbers = subst (AllByRecursion (IsNumbered opened.first_xid)) (ap (λ (e : FrameEffect). e.calls) (step_is s f (Ok segment) reads) ∙ ap (λ (x : ServerState). x.calls) (sym after)) numbered in
+    let numbered = numbered_tagged (xid_of_send opened) s f last opcode stag to payload g.numbers reads in
+    let numbers = subst (AllByRecursion (IsNumbered (xid_of_send opened))) (ap (λ (e : FrameEffect). e.calls) (step_is s f (Ok segment) reads) ∙ ap (λ (x : ServerState). x.calls) (sym after)) numbered in
     let sinks = sinks_after s f (Ok segment) reads s.received.sends (omega (arith, count_tagged s f last opcode stag to payload reads, g.sinks)) in
     let within = within_after s f (Ok segment) reads (within_tagged s f last opcode stag to payload g.within reads) in
     record {
@@ -263,4 +267,4 @@ hello_guards opened k s u d all_up all_down w place rest f g first is own le =
     subst (λ (said : List FrameContent). Guards opened k (server_state_after opened s (FrameReceived f)) (u ++ HelloFrame ∷ []) d all_up (all_down ++ said) (taken_up w rest said) f.end) (sym says)
     (subst (λ (t : ServerState). Guards opened k t (u ++ HelloFrame ∷ []) d all_up (all_down ++ HelloFrame ∷ []) (taken_up w rest (HelloFrame ∷ [])) f.end) (sym after)
     (guards_up opened k s t u d all_up all_down w place f.end HelloFrame rest (HelloFrame ∷ []) g server (tt, tt) (is_taken (matched_invalidates opened) HelloFrame tt, tt) (server_takes_sizes opened k s u HelloFrame f own g.sizes) refl g.within g.sinks g.numbers
-    (answered_other opened.first_xid k s t u d all_down w HelloFrame rest (HelloFrame ∷ []) refl (λ x. omega arith) g.answered)))
+    (answered_other (xid_of_send opened) k s t u d all_down w HelloFrame rest (HelloFrame ∷ []) refl (λ x. omega arith) g.answered)))

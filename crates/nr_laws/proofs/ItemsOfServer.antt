@@ -21,7 +21,9 @@ use Rattle.nr_reduce.specs.Events.{RunEvent, events}
 use Rattle.nr_reduce.specs.Events.RunEvent.{FrameReceived, CallSubmitted, MemoryRevoked, CallExecuted, QueueWritten, ServerTold}
 use Rattle.nr_reduce.specs.EndRules.{EndState, live, next_end_state, next_end_state_by, end_state_after, output_for_by, output_for, output_for_in, output_for_all}
 use Rattle.nr_reduce.specs.ServerState.{ServerState, ReadyCall, credit_told}
-use Rattle.nr_reduce.specs.Server.{server_rules, server_end, server_output, server_state_after, initial_server, server_readiness, or_refusal}
+use Rattle.nr_reduce.specs.declared.mark.Told.{Told}
+use Rattle.nr_reduce.specs.declared.mark.Told.TheVariants.{Granted, Old}
+use Rattle.nr_reduce.specs.Server.{server_rules, server_end, server_output, server_state_after, initial_server, server_readiness, or_refusal, old_end}
 use Rattle.nr_reduce.specs.Run.{server, output_due}
 use Rattle.nr_reduce.specs.DueItems.{server_items_at, server_hello_at, due_for_by, due_for_in, due_for, due_for_all, items_due, hello_due}
 use Rattle.nr_reduce.proofs.Steps.{ended_stays}
@@ -34,7 +36,7 @@ use Rattle.nr_laws.specs.Typed.{IsTyped}
 use Rattle.nr_laws.specs.ServerItems.{ServerOutputIsItems, ServerCountsItems}
 use Rattle.nr_laws.proofs.EventOutputs.{IsNext, GoesOn, place_after}
 use Rattle.nr_laws.proofs.ServerAlong.{ServerPlain}
-use Rattle.nr_laws.proofs.ServerEnds.{BigEnd, segment_ends}
+use Rattle.nr_laws.proofs.ServerEnds.{BigEnd, segment_ends, told_big}
 use Rattle.nr_laws.proofs.ServerSide.{server_goes}
 
 -- ---- Only a hello is rejected
@@ -118,7 +120,7 @@ event_big opened place k (CallSubmitted p a) next some = tt
 event_big opened place k (MemoryRevoked p xid) next some = tt
 event_big opened place k (CallExecuted e) next some = tt
 event_big opened place k (QueueWritten taken) next some = tt
-event_big opened place k (ServerTold what) next some = tt
+event_big opened place k (ServerTold what) next some = told_big k what
 
 place_some : (place : ℕ) (e : RunEvent) → IsNext place e → 0 < place → 0 < place_after place e
 place_some place (FrameReceived f) next some = omega (arith, next.1)
@@ -189,6 +191,30 @@ behind_ends opened place k (e ∷ es) g some stays = by (λ next live_still. beh
 none_ready : (k : ServerState) (call : ReadyCall) (others : List ReadyCall) → k.ready ≡ [] → k.ready ≡ call ∷ others → ⊥
 none_ready k call others none some = (let e : [] ≡ call ∷ others = sym none ∙ some in absurd cc)
 
+-- no call is old before a call is ready
+told_none : (opened : LinkParameters) (k : ServerState) (what : Told) → k.ready ≡ [] → server_end opened k (ServerTold what) ≡ None
+unfolding server_end
+told_none opened k (Granted n) none = refl
+told_none opened k (Old xid at) none = ap (old_end at) none
+
+told_output : (opened : LinkParameters) (k : ServerState) (what : Told) (es : List RunEvent) → k.ready ≡ []
+    → (let t : ServerState = record k { credit = credit_told k.credit what } in
+    (GoesOn (server_rules opened) ServerPlain 0 (live t) es → output_for_all (server_rules opened) (live t) es ≡ hellos_of opened (live t) es ++ items_encoding (items_of opened (live t) es)))
+    → GoesOn (server_rules opened) ServerPlain 0 (next_end_state (server_rules opened) (live k) (ServerTold what)) es
+    → output_for_all (server_rules opened) (live k) (ServerTold what ∷ es) ≡ hellos_of opened (live k) (ServerTold what ∷ es) ++ items_encoding (items_of opened (live k) (ServerTold what ∷ es))
+unfolding server_output server_state_after server_items_at
+told_output opened k what es none rest g = by (server_end opened k e) (told_none opened k what none) g
+  where
+    e : RunEvent
+    e = ServerTold what
+
+    by : (o : Option End) → o ≡ None → GoesOn (server_rules opened) ServerPlain 0 (next_end_state_by (server_rules opened) k e o) es
+        → output_for_by (server_rules opened) k e o ++ output_for_all (server_rules opened) (next_end_state_by (server_rules opened) k e o) es
+        ≡ (due_for_by (server_rules opened) (λ k event. server_hello_at opened event) (rejection Responder) k e o ++ hellos_of opened (next_end_state_by (server_rules opened) k e o) es)
+        ++ items_encoding (due_for_by (server_rules opened) (server_items_at opened) (λ end. LastItem end ∷ []) k e o ++ items_of opened (next_end_state_by (server_rules opened) k e o) es)
+    by None is next = rest next
+    by (Some end) is next = absurd (some_none end is)
+
 frame_output : (opened : LinkParameters) (k : ServerState) (f : Frame) (es : List RunEvent) → 0 < f.end → GoesOn (server_rules opened) ServerPlain f.end (next_end_state (server_rules opened) (live k) (FrameReceived f)) es
     → output_for_all (server_rules opened) (live k) (FrameReceived f ∷ es) ≡ hellos_of opened (live k) (FrameReceived f ∷ es) ++ items_encoding (items_of opened (live k) (FrameReceived f ∷ es))
 frame_output opened k f es some g = by (server_end opened k (FrameReceived f)) g
@@ -222,7 +248,7 @@ start_output opened k (CallSubmitted p a ∷ es) g none = start_output opened k 
 start_output opened k (MemoryRevoked p xid ∷ es) g none = start_output opened k es g.2 none
 start_output opened k (CallExecuted e ∷ es) g none = absurd (none_ready k g.1.call g.1.others none g.1.is_next)
 start_output opened k (QueueWritten taken ∷ es) g none = start_output opened (record k { written = k.written + taken }) es g.2 none
-start_output opened k (ServerTold what ∷ es) g none = start_output opened (record k { credit = credit_told what }) es g.2 none
+start_output opened k (ServerTold what ∷ es) g none = told_output opened k what es none (λ next. start_output opened (record k { credit = credit_told k.credit what }) es next none) g.2
 start_output opened k (FrameReceived f ∷ es) g none = frame_output opened k f es g.0.1 g.2
 
 frame_ends : (opened : LinkParameters) (k : ServerState) (f : Frame) (es : List RunEvent) → f.at ≡ 0 → 0 < f.end → GoesOn (server_rules opened) ServerPlain f.end (next_end_state (server_rules opened) (live k) (FrameReceived f)) es → k.due ≡ 0 → k.message_ends ≡ []
@@ -255,6 +281,25 @@ frame_ends opened k f es first some g zero empty stays = by (server_end opened k
         ∙ ap (λ (xs : List OutputItem). item_ends is_send_item (length (hello ++ hellos_of opened (live t) es)) (xs ++ rest)) (sym no_items)
     by (Some end) next ended = absurd (some_none end (sym (ap (λ (r : EndState ServerState). r.ended) (ended_stays (server_rules opened) k end es).0) ∙ ended))
 
+told_ends : (opened : LinkParameters) (k : ServerState) (what : Told) (es : List RunEvent) → k.ready ≡ []
+    → (let t : ServerState = record k { credit = credit_told k.credit what } in
+    (GoesOn (server_rules opened) ServerPlain 0 (live t) es → (end_state_after (server_rules opened) (live t) es).ended ≡ None
+    → (end_state_after (server_rules opened) (live t) es).state.message_ends ≡ item_ends is_send_item (length (hellos_of opened (live t) es)) (items_of opened (live t) es)))
+    → GoesOn (server_rules opened) ServerPlain 0 (next_end_state (server_rules opened) (live k) (ServerTold what)) es → (end_state_after (server_rules opened) (live k) (ServerTold what ∷ es)).ended ≡ None
+    → (end_state_after (server_rules opened) (live k) (ServerTold what ∷ es)).state.message_ends ≡ item_ends is_send_item (length (hellos_of opened (live k) (ServerTold what ∷ es))) (items_of opened (live k) (ServerTold what ∷ es))
+unfolding server_state_after server_items_at
+told_ends opened k what es none rest g stays = by (server_end opened k e) (told_none opened k what none) g stays
+  where
+    e : RunEvent
+    e = ServerTold what
+
+    by : (o : Option End) → o ≡ None → GoesOn (server_rules opened) ServerPlain 0 (next_end_state_by (server_rules opened) k e o) es → (end_state_after (server_rules opened) (next_end_state_by (server_rules opened) k e o) es).ended ≡ None
+        → (end_state_after (server_rules opened) (next_end_state_by (server_rules opened) k e o) es).state.message_ends
+        ≡ item_ends is_send_item (length (due_for_by (server_rules opened) (λ k event. server_hello_at opened event) (rejection Responder) k e o ++ hellos_of opened (next_end_state_by (server_rules opened) k e o) es))
+        (due_for_by (server_rules opened) (server_items_at opened) (λ end. LastItem end ∷ []) k e o ++ items_of opened (next_end_state_by (server_rules opened) k e o) es)
+    by None is next live_still = rest next live_still
+    by (Some end) is next live_still = absurd (some_none end is)
+
 start_ends : (opened : LinkParameters) (k : ServerState) (es : List RunEvent) → GoesOn (server_rules opened) ServerPlain 0 (live k) es → k.ready ≡ [] → k.due ≡ 0 → k.message_ends ≡ [] → (end_state_after (server_rules opened) (live k) es).ended ≡ None
     → (end_state_after (server_rules opened) (live k) es).state.message_ends ≡ item_ends is_send_item (length (hellos_of opened (live k) es)) (items_of opened (live k) es)
 unfolding server_end server_state_after server_items_at
@@ -263,7 +308,7 @@ start_ends opened k (CallSubmitted p a ∷ es) g none zero empty stays = start_e
 start_ends opened k (MemoryRevoked p xid ∷ es) g none zero empty stays = start_ends opened k es g.2 none zero empty stays
 start_ends opened k (CallExecuted e ∷ es) g none zero empty stays = absurd (none_ready k g.1.call g.1.others none g.1.is_next)
 start_ends opened k (QueueWritten taken ∷ es) g none zero empty stays = start_ends opened (record k { written = k.written + taken }) es g.2 none zero empty stays
-start_ends opened k (ServerTold what ∷ es) g none zero empty stays = start_ends opened (record k { credit = credit_told what }) es g.2 none zero empty stays
+start_ends opened k (ServerTold what ∷ es) g none zero empty stays = told_ends opened k what es none (λ next live_still. start_ends opened (record k { credit = credit_told k.credit what }) es next none zero empty live_still) g.2 stays
 start_ends opened k (FrameReceived f ∷ es) g none zero empty stays = frame_ends opened k f es g.0.0 g.0.1 g.2 zero empty stays
 
 -- ---- The laws

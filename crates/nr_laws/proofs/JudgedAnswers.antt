@@ -28,7 +28,7 @@ use Rattle.nr_reduce.specs.Plans.{Buffer, buffers, lists_of, read_list, write_st
 use Rattle.nr_reduce.specs.Chunks.{answers_offer, reply_conveyed}
 use Rattle.nr_reduce.specs.Holds.{Answer, answer_for, answer_lists, answer_message}
 use Rattle.nr_reduce.specs.ChunkBytes.{IsOffer, answer_segments, lists_by, inline_by, ReadsAsAnswer}
-use Rattle.nr_reduce.specs.ClientState.{ClientState, OutstandingCall, client_memory_at}
+use Rattle.nr_reduce.specs.ClientState.{ClientState, OutstandingCall, client_memory_at, stag_for}
 use Rattle.nr_reduce.specs.ClientMessages.{reply_by_payload, answered_call}
 use Rattle.nr_reduce.specs.ClientMessages.ReplyVerdict.{EndsLink}
 use Rattle.nr_reduce.specs.Client.{client_rules, initial_client}
@@ -90,8 +90,8 @@ pub record OfferedTo (opened : LinkParameters) (link : ℕ) (run : List Mark) (e
   pub own_xid : call.xid ≡ e.xid
   pub submitted : AnsweredCall opened link run earlier call
   pub same : e.xid ≡ submitted.submit.submit.xid
-  pub fine : IsOffer (lists_of (client opened link submitted.submit.submit.earlier).state.stag submitted.submit.submit.accepted.plan)
-  pub offer : offer_of (server_by opened es) e.xid ≡ lists_of (client opened link submitted.submit.submit.earlier).state.stag submitted.submit.submit.accepted.plan
+  pub fine : IsOffer (lists_of (stag_for (client opened link submitted.submit.submit.earlier).state submitted.submit.submit.xid) submitted.submit.submit.accepted.plan)
+  pub offer : offer_of (server_by opened es) e.xid ≡ lists_of (stag_for (client opened link submitted.submit.submit.earlier).state submitted.submit.submit.xid) submitted.submit.submit.accepted.plan
 
 pub offered_to : (opened : LinkParameters) (link : ℕ) (run : List Mark) → IsTyped run → MatchedSoFar opened link run → (earlier more : List RunEvent) → events link Initiator run ≡ earlier ++ more → (message : List ℕ) (header : Header) → header_of message ≡ Ok header
     → (call : OutstandingCall) → answered_call (client_by opened earlier).state header.xid ≡ Some call → call.xid ≡ header.xid → (xs : List Output) (s : SaidAnswer opened (events link Responder run) xs message) → OfferedTo opened link run earlier call s.earlier s.call
@@ -133,7 +133,7 @@ offered_to opened link run typed far earlier more is_events message header is_he
     plan = u.accepted.plan
 
     stag : ℕ
-    stag = (client opened link u.earlier).state.stag
+    stag = stag_for (client opened link u.earlier).state u.xid
 
     same : e.xid ≡ u.xid
     same = sym own_xid ∙ w.submit.own_xid
@@ -217,7 +217,7 @@ answer_judges opened link run reason opens typed far d j s = record {
     plan = u.accepted.plan
 
     stag : ℕ
-    stag = (client opened link u.earlier).state.stag
+    stag = stag_for (client opened link u.earlier).state u.xid
 
     stag_is : j.call.stag ≡ stag
     stag_is = w.submit.own_stag

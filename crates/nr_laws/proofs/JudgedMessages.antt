@@ -22,7 +22,8 @@ use Rattle.nr_reduce.specs.Events.RunEvent.{FrameReceived, CallSubmitted, Memory
 use Rattle.nr_reduce.specs.ClientState.{ClientState}
 use Rattle.nr_reduce.specs.ClientMessages.{ReplyVerdict, reply_verdict, message_verdict}
 use Rattle.nr_reduce.specs.ClientMessages.ReplyVerdict.{EndsLink, GivesOutcome}
-use Rattle.nr_reduce.specs.Client.{client_segment, client_rules, client_end, initial_client, client_readiness, or_message_end, client_message_end, end_of_verdict}
+use Rattle.nr_reduce.specs.Client.{client_segment, client_rules, client_end, initial_client, client_readiness, or_message_end, client_message_end, end_of_verdict, or_other_sizes, has_same_sizes}
+use Rattle.nr_reduce.specs.Hellos.{agreement_with}
 use Rattle.nr_reduce.specs.Run.{client}
 use Rattle.nr_laws.proofs.EndReasons.{IsMessageReason, IsVerdictReason}
 use Rattle.nr_laws.specs.MatchedSoFar.{MatchedSoFar}
@@ -40,7 +41,7 @@ use Rattle.nr_laws.proofs.OtherReasons.{OtherFault, fault_other}
 use Rattle.nr_laws.proofs.NamedReplies.{message_end_in, ends_as_plain}
 use Rattle.nr_laws.proofs.ReadFrames.{bad_frame}
 use Rattle.nr_link.proofs.TakenSegments.{taken_read, untaken}
-use Rattle.nr_link.specs.Reasons.{REASON_INVALIDATED}
+use Rattle.nr_link.specs.Reasons.{REASON_INVALIDATED, REASON_SIZES}
 use Rattle.nr_wire.specs.Constants.{REASON_OPCODE}
 
 -- ---- A segment that ends a client by such a reason
@@ -84,7 +85,7 @@ segment_judges : (k : ClientState) (f : Frame) (s : Segment) (at reason : ℕ) �
 unfolding client_end
 segment_judges k f s at reason is behind own e =
     by (end_of_fault f s (segment_reason ready s)) (by_fault_lem f s (segment_reason ready s) (fault_other ready s) at reason is)
-    (sym (λ i. cond (behind i) (hello_end (hello_of Responder f.bytes)) (or_message_end k f (frame_end_by (client_readiness k) grants f (own i)))) ∙ e)
+    (sym (λ i. cond (behind i) (or_other_sizes k f (hello_end (hello_of Responder f.bytes))) (or_message_end k f (frame_end_by (client_readiness k) grants f (own i)))) ∙ e)
   where
     grants : List Grant
     grants = region_grants f.end k.regions
@@ -96,12 +97,20 @@ segment_judges k f s at reason is behind own e =
     by (Some end) none e = absurd (none e)
     by None none e = by_message_lem k f s at reason (message_completed k.received s) refl (ap (λ (r : Result Segment ℕ). message_end_in k f r) (sym own) ∙ e)
 
--- the hello of the other side ends no client
-hello_stays : (k : ClientState) (f : Frame) → is_hello f ≡ true → IsHelloFrame Responder f.bytes → client_end k (FrameReceived f) ≡ None
+-- the hello of the other side ends no client, but for the lengths that it agrees on
+hello_reason : (k : ClientState) (f : Frame) (at reason : ℕ) → is_hello f ≡ true → IsHelloFrame Responder f.bytes → client_end k (FrameReceived f) ≡ Some (ends.Bad at reason) → reason ≡ REASON_SIZES
 unfolding client_end
-hello_stays k f first read =
-    ap (λ (b : Bool). cond b (hello_end (hello_of Responder f.bytes)) (or_message_end k f (frame_end_by (client_readiness k) (region_grants f.end k.regions) f (client_segment k f)))) first
-    ∙ ap hello_end read.says
+hello_reason k f at reason first read e = by (has_same_sizes k.agreed (agreement_with k.terms f)) whole
+  where
+    whole : cond (has_same_sizes k.agreed (agreement_with k.terms f)) None (Some (ends.Bad f.at REASON_SIZES)) ≡ Some (ends.Bad at reason)
+    whole =
+        sym (ap (λ (b : Bool). cond b (or_other_sizes k f (hello_end (hello_of Responder f.bytes))) (or_message_end k f (frame_end_by (client_readiness k) (region_grants f.end k.regions) f (client_segment k f)))) first
+        ∙ ap (λ (o : Option Stop). or_other_sizes k f o) (ap hello_end read.says))
+        ∙ e
+
+    by : (b : Bool) → cond b None (Some (ends.Bad f.at REASON_SIZES)) ≡ Some (ends.Bad at reason) → reason ≡ REASON_SIZES
+    by true e = absurd cc
+    by false e = (let same : REASON_SIZES ≡ reason = cc in sym same)
 
 -- ---- The event that ends a client
 
@@ -142,6 +151,12 @@ first_hello_lem (AHello bytes ∷ xs) ys o f from b is = absurd (later xs from.1
     later (AHello bytes ∷ zs) h = h
     later (ASegment s ∷ zs) h = later zs h.1
 first_hello_lem (ASegment s ∷ xs) ys o f from b is = absurd from
+
+not_sizes : (reason : ℕ) → IsVerdictReason reason → reason ≡ REASON_SIZES → ⊥
+not_sizes reason (inl (inl chunks)) is = omega (arith, chunks, is)
+not_sizes reason (inl (inr (inl head))) is = omega (arith, head, is)
+not_sizes reason (inl (inr (inr xid))) is = omega (arith, xid, is)
+not_sizes reason (inr named) is = omega (arith, named, is)
 
 not_opcode : (reason : ℕ) → IsVerdictReason reason → reason ≡ REASON_OPCODE → ⊥
 not_opcode reason (inl (inl chunks)) is = omega (arith, chunks, is)
@@ -198,7 +213,7 @@ ends_by opened link run at reason typed far bad e = by a.event a.is a.ends
         let from : AreFrom (HelloFrom Responder) (b.earlier ++ b.own ∷ b.later) = subst (λ (xs : List Output). AreFrom (HelloFrom Responder) xs) b.parts r.from in
         let parts : outs_of opened (events link Responder run) ≡ b.earlier ++ b.own ∷ (b.later ++ r.left) =
         sym r.parts ∙ ap (λ (xs : List Output). xs ++ r.left) b.parts ∙ append_assoc b.earlier (b.own ∷ b.later) r.left in
-        own b.own b.brought (λ first. absurd (none_some_lem (ends.Bad at reason) (hello_stays k f first (first_hello_lem b.earlier b.later b.own f from b.brought first)) why))
+        own b.own b.brought (λ first. absurd (not_sizes reason bad (hello_reason k f at reason first (first_hello_lem b.earlier b.later b.own f from b.brought first) why)))
         (λ s behind reads same.
         let j = segment_judges k f s at reason bad behind reads why in
         let one : completed_by (begun_from None b.earlier) s ≡ j.message ∷ [] = completed_message k.received (begun_from None b.earlier) s j.message counted.begun j.whole in

@@ -5,7 +5,7 @@ use Rattle.nr_xdr.specs.Item.{IsBytes}
 use Rattle.nr_xdr.specs.Fields.{word_at}
 use Rattle.nr_header.specs.Reading.{header_of}
 use Rattle.nr_wire.specs.declared.hello.Side.TheVariants.{Responder}
-use Rattle.nr_laws.proofs.ExecutedPayloads.{planned_by, sizes_up, sizes_down, up_limit}
+use Rattle.nr_laws.proofs.WaitingCalls.{accepted_stags, accepted_plan}
 use Rattle.nr_reduce.specs.declared.call.Submission.TheVariants as submissions
 use Rattle.nr_reduce.specs.declared.mark.Mark.{Mark}
 use Rattle.nr_reduce.specs.declared.mark.Mark.TheVariants as marks
@@ -16,7 +16,7 @@ use Rattle.nr_reduce.specs.Events.RunEvent.{FrameReceived}
 use Rattle.nr_reduce.specs.EndRules.{end_state_after}
 use Rattle.nr_reduce.specs.Plans.{lists_of}
 use Rattle.nr_reduce.specs.ChunkBytes.{IsOffer, lists_by}
-use Rattle.nr_reduce.specs.ClientState.{call_payload}
+use Rattle.nr_reduce.specs.ClientState.{call_payload, stag_for}
 use Rattle.nr_reduce.specs.Asked.{AskedSoFar}
 use Rattle.nr_reduce.specs.Run.{client}
 use Rattle.nr_reduce.specs.ServerState.{ServerState, PendingCall}
@@ -58,16 +58,17 @@ pub record PendingOffer (c : PendingCall) (stag : ℕ) (plan : Plan) : Type 0 wh
 
 pub pending_offer : (opened : LinkParameters) (link : ℕ) (run before : List Mark) (mark : Mark) (after : List Mark) (xid : ℕ) (plan : Plan) → IsTyped before → MatchedSoFar opened link before → AskedSoFar opened link run → run ≡ before ++ mark ∷ after
     → (h : HasPlan opened link run xid plan) → (es rest : List RunEvent) → events link Responder before ≡ es ++ rest → (end_state_after (server_rules opened) (initial_server opened) es).ended ≡ None
-    → (c : PendingCall) → find (λ (x : PendingCall). eqb x.xid xid) (server_by opened es).calls ≡ Some c → PendingOffer c (client opened link h.before).state.stag plan
+    → (c : PendingCall) → find (λ (x : PendingCall). eqb x.xid xid) (server_by opened es).calls ≡ Some c → PendingOffer c (stag_for (client opened link h.before).state xid) plan
 pending_offer opened link run before mark after xid plan typed far asked_so is h es rest all live c there =
     let known : Known opened es (server_by opened es) = known_from opened [] es (record { calls = tt; ready = tt }) in
     let found = found_call (IsReceivedCall opened es) xid (server_by opened es).calls c known.calls there in
     let own = found.holds in
     let w = received_message opened link before typed far.asked far.matched c rest es all own live in
-    let stag = (client opened link w.earlier).state.stag in
+    let stag = (stag_for (client opened link w.earlier).state w.xid) in
     let p = w.accepted.plan in
     let fits = w.accepted.xids in
-    let stags = w.accepted.stags in
+    let stags = accepted_stags opened link w.earlier w.call w.form w.xid w.accepted in
+    let formed = accepted_plan opened link w.earlier w.call w.form w.xid p w.accepted w.accepted.planned in
     let xid_is : w.xid ≡ xid = sym (call_xid_lem w.xid opened.wished stag p (omega (arith, fits))) ∙ ap (λ (m : List ℕ). word_at 0 m) (sym w.message_is) ∙ sym (header_xid own.message own.header own.is_header) ∙ sym own.xid ∙ found.own in
     let o = own_submit opened link run before mark after xid plan asked_so is h w.earlier w.later w.call w.form w.xid w.is w.accepted xid_is in
     let typed_at : TypedMark w.earlier (marks.Submit link w.call w.form (submissions.Accepted w.xid)) =
@@ -78,16 +79,16 @@ pending_offer opened link run before mark after xid plan typed far asked_so is h
     live_first (server_rules opened) (initial_server opened) own.earlier (FrameReceived own.frame ∷ own.later) (ap (λ (xs : List RunEvent). (end_state_after (server_rules opened) (initial_server opened) xs).ended) (sym own.is_received) ∙ live) in
     let bytes : IsBytes own.message = received_bytes opened link before typed far.asked far.served far.matched own.earlier own.frame (own.later ++ rest) own.segment own.message whole own.behind_hello own.is_segment own.whole not_yet in
     let reads : lists_by own.header.body ≡ lists_of stag p =
-    (let fine = planned_fits (call_payload w.xid w.call) w.form (sizes_up opened link w.earlier) (sizes_down opened link w.earlier) stag p (up_limit opened link w.earlier) (planned_by opened link w.earlier w.xid w.call w.form p w.accepted.planned) typed_at.0 typed_at.1 (omega (arith, stags)) in
+    (let fine = planned_fits (call_payload w.xid w.call) w.form formed.up formed.down stag p formed.up_fits formed.planned typed_at.0 typed_at.1 (omega (arith, stags)) in
     (plan_reads w.xid opened.wished stag p own.header fine.0 fine.1 (omega (arith, fits)) (ap header_of (sym w.message_is) ∙ own.is_header)).lists) in
-    let moved : lists_of stag p ≡ lists_of (client opened link h.before).state.stag plan = (λ i. lists_of (client opened link (o.place i)).state.stag (o.plan_is i)) in
+    let moved : lists_of stag p ≡ lists_of (stag_for (client opened link h.before).state xid) plan = (λ i. lists_of (stag_for (client opened link (o.place i)).state (xid_is i)) (o.plan_is i)) in
     record { lists = own.lists ∙ reads ∙ moved; offer = subst IsOffer (reads ∙ moved) (read_offer own.message own.header bytes own.is_header) }
 
 pub kept_offer : (opened : LinkParameters) (link : ℕ) (run before : List Mark) (mark : Mark) (after : List Mark) (xid : ℕ) (plan : Plan) → IsTyped before → MatchedSoFar opened link before → AskedSoFar opened link run → run ≡ before ++ mark ∷ after
     → (h : HasPlan opened link run xid plan) → (es rest : List RunEvent) → events link Responder before ≡ es ++ rest → (end_state_after (server_rules opened) (initial_server opened) es).ended ≡ None
-    → KeptOffer (server_by opened es) xid (client opened link h.before).state.stag plan
+    → KeptOffer (server_by opened es) xid (stag_for (client opened link h.before).state xid) plan
 kept_offer opened link run before mark after xid plan typed far asked_so is h es rest all live = by (find (λ (c : PendingCall). eqb c.xid xid) (server_by opened es).calls) refl
   where
-    by : (o : Option PendingCall) → find (λ (c : PendingCall). eqb c.xid xid) (server_by opened es).calls ≡ o → KeptOffer (server_by opened es) xid (client opened link h.before).state.stag plan
+    by : (o : Option PendingCall) → find (λ (c : PendingCall). eqb c.xid xid) (server_by opened es).calls ≡ o → KeptOffer (server_by opened es) xid (stag_for (client opened link h.before).state xid) plan
     by None there = NotKept (ap offer_by there)
     by (Some c) there = (let p = pending_offer opened link run before mark after xid plan typed far asked_so is h es rest all live c there in Kept (ap offer_by there ∙ p.lists) p.offer)

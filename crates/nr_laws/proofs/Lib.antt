@@ -14,6 +14,13 @@ pub mod ReceivedMessages
 pub mod Outputs
 pub mod TaggedSegments
 pub mod OnceByXid
+mod OutstandingSubmits
+mod ResumedCalls
+mod EarlierLinks
+mod JournalPlaces
+mod CompletedChanges
+pub mod EntriesApart
+pub mod WaitingCalls
 pub mod ServerOutputs
 pub mod ServerEnds
 pub mod ServerAlong
@@ -63,6 +70,12 @@ pub mod CompletedFrames
 pub mod DistinctKeys
 pub mod OwnXids
 pub mod NothingLeft
+pub mod NumbersHeard
+pub mod KeptEntries
+pub mod NumberedPlaces
+pub mod NoOldCalls
+pub mod ReopenedLinks
+pub mod PlacesByNumber
 pub mod OutputFrames
 pub mod PendingFrames
 pub mod PendingExecuted
@@ -83,6 +96,7 @@ pub mod AgreeingMarks
 pub mod EachRun
 pub mod AccountedCalls
 pub mod AccountedRuns
+mod ResentCalls
 pub mod SettledLinks
 pub mod AllowedResponses
 pub mod FaultlessSegments
@@ -99,6 +113,7 @@ pub mod Replies
 pub mod ReadLimits
 pub mod RequestFields
 mod AgreedSizes
+mod SizesAgain
 pub mod Guards
 pub mod GuardsAtServer
 pub mod GuardsAtClient

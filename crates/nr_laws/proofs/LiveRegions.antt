@@ -197,7 +197,7 @@ live_event opened s (MemoryRevoked place xid) agree good h = h
 live_event opened s (CallExecuted e) agree good h =
     each_all (IsLive s.state) (IsLive (server_state_after opened s.state (CallExecuted e))) s.state.regions (λ r live none. executed_left opened s.state e good.call good.others agree good.is_next good.xid r (live none)) h
 live_event opened s (QueueWritten taken) agree good h = each_all (IsLive s.state) (IsLive (server_state_after opened s.state (QueueWritten taken))) s.state.regions (λ r live none. left_of_same s.state (record s.state { written = s.state.written + taken }) r refl refl (live none)) h
-live_event opened s (ServerTold what) agree good h = each_all (IsLive s.state) (IsLive (server_state_after opened s.state (ServerTold what))) s.state.regions (λ r live none. left_of_same s.state (record s.state { credit = credit_told what }) r refl refl (live none)) h
+live_event opened s (ServerTold what) agree good h = each_all (IsLive s.state) (IsLive (server_state_after opened s.state (ServerTold what))) s.state.regions (λ r live none. left_of_same s.state (record s.state { credit = credit_told s.state.credit what }) r refl refl (live none)) h
 
 -- ---- A run
 

@@ -17,15 +17,15 @@ use Rattle.nr_link.specs.Frames.{Frame, is_hello}
 use Rattle.nr_link.specs.ReceiveState.{ReadRequest, message_completed, read_request_of}
 use Rattle.nr_link.specs.Ending.{frame_end_by, hello_end}
 use Rattle.nr_reduce.specs.declared.mark.LinkParameters.{LinkParameters}
-use Rattle.nr_reduce.specs.Plans.{Buffer, buffers}
+use Rattle.nr_reduce.specs.Plans.{Buffer, buffers, regions_needed}
 use Rattle.nr_reduce.specs.Events.{RunEvent}
 use Rattle.nr_reduce.specs.Events.RunEvent.{FrameReceived, CallSubmitted, MemoryRevoked, CallExecuted, QueueWritten, ServerTold}
 use Rattle.nr_reduce.specs.EndRules.{EndState, next_end_state, next_end_state_by, next_end_state_in, end_state_after}
 use Rattle.nr_reduce.specs.OfferedRegions.{Region, region_grants, until_at, closed_if, regions_closed}
-use Rattle.nr_reduce.specs.ClientState.{ClientState, OutstandingCall, is_sent}
+use Rattle.nr_reduce.specs.ClientState.{ClientState, OutstandingCall, is_sent, region_of, WaitingCall, others_than, waiting_call, waiting_from, waiting_regions}
 use Rattle.nr_reduce.specs.ClientMessages.{reply_verdict, reply_by_header, by_call, answered_call, is_given, call_in, names_another, message_verdict}
 use Rattle.nr_reduce.specs.ClientMessages.ReplyVerdict.{EndsLink}
-use Rattle.nr_reduce.specs.Client.{client_segment, client_rules, client_end, client_readiness, client_state_after, initial_client, outstanding_of, region_of, with_message, with_request, with_segment, with_hello, due_with_response, revoked_call, or_message_end, client_message_end, end_of_verdict, segment_message, segment_names}
+use Rattle.nr_reduce.specs.Client.{client_segment, client_rules, client_end, client_readiness, client_state_after, initial_client, outstanding_of, with_message, with_request, with_segment, with_hello, due_with_response, revoked_call, or_message_end, client_message_end, end_of_verdict, segment_message, segment_names, or_other_sizes, revoked_waiting, regions_unless_waiting}
 use Rattle.nr_reduce.proofs.OwnStags.{AreNumbered, client_numbers, kept_after}
 use Rattle.nr_laws.specs.Invalidated.{IsInvalidated, NamedStagsAreDead}
 use Rattle.nr_laws.proofs.Basics.{each_all, each_append, each_kept}
@@ -36,6 +36,9 @@ use Rattle.nr_laws.proofs.LiveRegions.{SomeOne, some_one}
 use Rattle.nr_laws.proofs.NamedReplies.{stays_as_plain}
 use Rattle.nr_laws.proofs.Revoked.{request_regions}
 use Rattle.nr_laws.proofs.SendRegions.{region_of_list}
+use Rattle.nr_laws.proofs.WaitingCalls.{first_there, sent_again, others_there}
+use Rattle.nr_reduce.specs.History.{AcceptedCall}
+use Rattle.nr_reduce.specs.declared.mark.ResumedCall.{ResumedCall}
 
 -- ---- Each region of an outstanding call is there
 
@@ -49,8 +52,13 @@ IsThere regions xid stag = list_any (IsOwn xid stag) regions ≡ true
 abbrev HasGiven : List Region → OutstandingCall → Type 0
 HasGiven regions o = AllByRecursion (λ (b : Buffer). IsThere regions o.xid b.stag) (buffers o.stag o.plan)
 
-abbrev AllGiven : ClientState → Type 0
-AllGiven k = AllByRecursion (HasGiven k.regions) k.outstanding
+abbrev HasWaitingGiven : List Region → WaitingCall → Type 0
+HasWaitingGiven regions w = AllByRecursion (λ (b : Buffer). IsThere regions w.xid b.stag) (buffers w.stag w.plan)
+
+-- of each, and of each that waits to be sent again
+record AllGiven (k : ClientState) : Type 0 where
+  out : AllByRecursion (HasGiven k.regions) k.outstanding
+  waits : AllByRecursion (HasWaitingGiven k.regions) k.waiting
 
 own_closed : (b : Bool) (place xid stag : ℕ) (r : Region) → IsOwn xid stag (closed_if b place r) ≡ IsOwn xid stag r
 own_closed true place xid stag r = refl
@@ -66,6 +74,18 @@ given_more xs ys o more h = each_all (λ (b : Buffer). IsThere xs o.xid b.stag) 
 
 all_more : (xs ys : List Region) (os : List OutstandingCall) → ((xid stag : ℕ) → IsThere xs xid stag → IsThere ys xid stag) → AllByRecursion (HasGiven xs) os → AllByRecursion (HasGiven ys) os
 all_more xs ys os more h = each_all (HasGiven xs) (HasGiven ys) os (λ o own. given_more xs ys o (more o.xid) own) h
+
+waits_more : (xs ys : List Region) (ws : List WaitingCall) → ((xid stag : ℕ) → IsThere xs xid stag → IsThere ys xid stag) → AllByRecursion (HasWaitingGiven xs) ws → AllByRecursion (HasWaitingGiven ys) ws
+waits_more xs ys ws more h =
+    each_all (HasWaitingGiven xs) (HasWaitingGiven ys) ws (λ w own. each_all (λ (b : Buffer). IsThere xs w.xid b.stag) (λ (b : Buffer). IsThere ys w.xid b.stag) (buffers w.stag w.plan) (λ b there. more w.xid b.stag there) own) h
+
+waits_revoked : (regions : List Region) (xid : ℕ) (ws : List WaitingCall) → AllByRecursion (HasWaitingGiven regions) ws → AllByRecursion (HasWaitingGiven regions) (map (revoked_waiting xid) ws)
+waits_revoked regions xid [] h = tt
+waits_revoked regions xid (w ∷ ws) h = (by (eqb w.xid xid), waits_revoked regions xid ws h.1)
+  where
+    by : (b : Bool) → HasWaitingGiven regions (cond b (record w { is_revoked = true }) w)
+    by true = h.0
+    by false = h.0
 
 all_closed : (test : Region → Bool) (place : ℕ) (regions : List Region) (os : List OutstandingCall) → AllByRecursion (HasGiven regions) os → AllByRecursion (HasGiven (regions_closed test place regions)) os
 all_closed test place regions os h = all_more regions (regions_closed test place regions) os (λ xid stag own. there_closed test place xid stag regions ∙ own) h
@@ -99,39 +119,71 @@ all_revoked regions xid (o ∷ os) h = (revoked_given regions xid o h.0, all_rev
 
 message_given : (k : ClientState) (place : ℕ) (m : Option (List ℕ)) → AllGiven k → AllGiven (with_message k place m)
 message_given k place None h = h
-message_given k place (Some m) h =
-    each_kept (HasGiven (regions_closed (λ r. eqb r.call (word_at 0 m)) place k.regions)) (λ (o : OutstandingCall). not (eqb o.xid (word_at 0 m))) k.outstanding
-    (all_closed (λ r. eqb r.call (word_at 0 m)) place k.regions k.outstanding h)
+message_given k place (Some m) h = record {
+  out = each_kept (HasGiven (regions_closed (λ r. eqb r.call (word_at 0 m)) place k.regions)) (λ (o : OutstandingCall). not (eqb o.xid (word_at 0 m))) k.outstanding
+      (all_closed (λ r. eqb r.call (word_at 0 m)) place k.regions k.outstanding h.out);
+  waits = waits_more k.regions (regions_closed (λ r. eqb r.call (word_at 0 m)) place k.regions) k.waiting (λ xid stag own. there_closed (λ r. eqb r.call (word_at 0 m)) place xid stag k.regions ∙ own) h.waits;
+}
 
 request_given : (k : ClientState) (due : ℕ) (r : Option ReadRequest) → AllGiven k → AllGiven (with_request k due r)
 request_given k due None h = h
-request_given k due (Some r) h = h
+request_given k due (Some r) h = record { out = h.out; waits = h.waits }
 
 segment_given : (k : ClientState) (f : Frame) (r : Result Segment ℕ) → AllGiven k → AllGiven (with_segment k f r)
 segment_given k f (Err reason) h = h
 segment_given k f (Ok s) h =
-    request_given (with_message k f.end (message_completed k.received s)) (due_with_response k f s) (read_request_of s) (message_given k f.end (message_completed k.received s) h)
+    let all = request_given (with_message k f.end (message_completed k.received s)) (due_with_response k f s) (read_request_of s) (message_given k f.end (message_completed k.received s) h) in
+    record { out = all.out; waits = all.waits }
+
+given_submitted : (k : ClientState) (place : ℕ) (a : AcceptedCall) (w : Option WaitingCall) → waiting_call k a.xid ≡ w → AllByRecursion (HasWaitingGiven k.regions) k.waiting → HasGiven (k.regions ++ regions_unless_waiting w place (outstanding_of k a)) (outstanding_of k a)
+given_submitted k place a None is h =
+    let o = outstanding_of k a in
+    let new : List Region = map (region_of a.xid place) (buffers o.stag o.plan) in
+    each_all (λ (b : Buffer). IsThere new a.xid b.stag) (λ (b : Buffer). IsThere (k.regions ++ new) a.xid b.stag) (buffers o.stag o.plan) (λ b own. any_right (IsOwn a.xid b.stag) k.regions new own) (new_there a.xid place [] (buffers o.stag o.plan))
+given_submitted k place a (Some w) is h =
+    let same = sent_again k a w is in
+    let own : HasWaitingGiven k.regions w = first_there (HasWaitingGiven k.regions) k.waiting a.xid w h is in
+    each_all (λ (b : Buffer). IsThere k.regions a.xid b.stag) (λ (b : Buffer). IsThere (k.regions ++ []) a.xid b.stag) (buffers (outstanding_of k a).stag (outstanding_of k a).plan) (λ b there. any_left (IsOwn a.xid b.stag) k.regions [] there)
+    (subst (λ (bs : List Buffer). AllByRecursion (λ (b : Buffer). IsThere k.regions a.xid b.stag) bs) (λ i. buffers (sym same.stag i) (sym same.plan i))
+    (subst (λ (n : ℕ). AllByRecursion (λ (b : Buffer). IsThere k.regions n b.stag) (buffers w.stag w.plan)) (sym same.xid) own))
 
 given_after : (opened : LinkParameters) (k : ClientState) (e : RunEvent) → AllGiven k → AllGiven (client_state_after opened k e)
 unfolding client_state_after
 given_after opened k (FrameReceived f) h = by (is_hello f)
   where
     by : (b : Bool) → AllGiven (cond b (with_hello opened k f) (with_segment k f (client_segment k f)))
-    by true = h
+    by true = record { out = h.out; waits = h.waits }
     by false = segment_given k f (client_segment k f) h
 given_after opened k (CallSubmitted place a) h =
     let o = outstanding_of k a in
-    let new : List Region = map (region_of a.xid place) (buffers k.stag o.plan) in
-    each_append (HasGiven (k.regions ++ new)) k.outstanding (o ∷ []) (all_more k.regions (k.regions ++ new) k.outstanding (λ xid stag own. any_left (IsOwn xid stag) k.regions new own) h)
-    (each_all (λ (b : Buffer). IsThere new a.xid b.stag) (λ (b : Buffer). IsThere (k.regions ++ new) a.xid b.stag) (buffers k.stag o.plan) (λ b own. any_right (IsOwn a.xid b.stag) k.regions new own) (new_there a.xid place [] (buffers k.stag o.plan)), tt)
-given_after opened k (MemoryRevoked place xid) h =
-    all_revoked (regions_closed (λ r. eqb r.call xid) place k.regions) xid k.outstanding (all_closed (λ r. eqb r.call xid) place k.regions k.outstanding h)
+    let new : List Region = regions_unless_waiting (waiting_call k a.xid) place o in
+    let more : (xid stag : ℕ) → IsThere k.regions xid stag → IsThere (k.regions ++ new) xid stag = λ xid stag own. any_left (IsOwn xid stag) k.regions new own in
+    record {
+      out = each_append (HasGiven (k.regions ++ new)) k.outstanding (o ∷ []) (all_more k.regions (k.regions ++ new) k.outstanding more h.out) (given_submitted k place a (waiting_call k a.xid) refl h.waits, tt);
+      waits = waits_more k.regions (k.regions ++ new) (others_than k.waiting a.xid) more (others_there (HasWaitingGiven k.regions) k.waiting a.xid h.waits);
+    }
+given_after opened k (MemoryRevoked place xid) h = record {
+  out = all_revoked (regions_closed (λ r. eqb r.call xid) place k.regions) xid k.outstanding (all_closed (λ r. eqb r.call xid) place k.regions k.outstanding h.out);
+  waits = waits_revoked (regions_closed (λ r. eqb r.call xid) place k.regions) xid k.waiting
+      (waits_more k.regions (regions_closed (λ r. eqb r.call xid) place k.regions) k.waiting (λ x stag own. there_closed (λ r. eqb r.call xid) place x stag k.regions ∙ own) h.waits);
+}
 given_after opened k (CallExecuted call) h = h
-given_after opened k (QueueWritten taken) h = h
-given_after opened k (ServerTold what) h = h
+given_after opened k (QueueWritten taken) h = record { out = h.out; waits = h.waits }
+given_after opened k (ServerTold what) h = record { out = h.out; waits = h.waits }
+
+-- the calls that wait have their regions from the start
+waits_first : (stag : ℕ) (rs : List ResumedCall) → AllByRecursion (HasWaitingGiven (waiting_regions (waiting_from stag rs))) (waiting_from stag rs)
+waits_first stag [] = tt
+waits_first stag (r ∷ rs) =
+    let own : List Region = map (region_of r.xid 0) (buffers stag r.plan) in
+    let ws : List WaitingCall = waiting_from (stag + regions_needed r.plan) rs in
+    let later : List Region = waiting_regions ws in (
+      each_all (λ (b : Buffer). IsThere own r.xid b.stag) (λ (b : Buffer). IsThere (own ++ later) r.xid b.stag) (buffers stag r.plan) (λ b there. any_left (IsOwn r.xid b.stag) own later there) (new_there r.xid 0 [] (buffers stag r.plan)),
+      waits_more later (own ++ later) ws (λ xid s there. any_right (IsOwn xid s) own later there) (waits_first (stag + regions_needed r.plan) rs),
+    )
 
 client_given : (opened : LinkParameters) (es : List RunEvent) → AllGiven (end_state_after (client_rules opened) (initial_client opened) es).state
-client_given opened es = kept_after (client_rules opened) AllGiven (given_after opened) (initial_client opened) es tt
+client_given opened es = kept_after (client_rules opened) AllGiven (given_after opened) (initial_client opened) es (record { out = tt; waits = waits_first opened.first_stag opened.resumed })
 
 -- ---- One region of an STag
 
@@ -255,7 +307,7 @@ invalidated_by opened es k t place message stag at closed g =
     let xid = word_at 0 message in
     let numbers : AreNumbered opened.first_stag k.regions = subst (λ (x : ClientState). AreNumbered opened.first_stag x.regions) (sym at) (client_numbers opened es).regions in
     let all : AllGiven k = subst AllGiven (sym at) (client_given opened es) in
-    let has : HasGiven k.regions g.call = found_each (HasGiven k.regions) (λ o. eqb o.xid xid && is_sent k o) k.outstanding g.call g.there all in
+    let has : HasGiven k.regions g.call = found_each (HasGiven k.regions) (λ o. eqb o.xid xid && is_sent k o) k.outstanding g.call g.there all.out in
     let there : IsThere k.regions xid stag = subst (λ (n : ℕ). IsThere k.regions n stag) g.own (given_there k.regions g.call.xid stag (buffers g.call.stag g.call.plan) has g.given) in
     let one : SomeOne (IsOwn xid stag) k.regions = some_one (IsOwn xid stag) k.regions there in
     let both = and_parts (eqb one.one.stag stag) (eqb one.one.call xid) one.passes in
@@ -298,7 +350,7 @@ named_stags_are_dead opened link run earlier later f segment message stag is liv
         ready = frame_end_by (client_readiness k) (region_grants f.end k.regions) f (client_segment k f)
 
         judged : or_message_end k f ready ≡ None
-        judged = ap (λ (b : Bool). cond b (hello_end (hello_of Responder f.bytes)) (or_message_end k f ready)) (sym behind) ∙ e
+        judged = ap (λ (b : Bool). cond b (or_other_sizes k f (hello_end (hello_of Responder f.bytes))) (or_message_end k f ready)) (sym behind) ∙ e
 
         stays : end_of_verdict f (message_verdict k f.end (Some stag) message) ≡ None
         stays =

@@ -30,7 +30,7 @@ use Rattle.nr_reduce.specs.OfferedRegions.{region_grants}
 use Rattle.nr_reduce.specs.ClientState.{ClientState, OutstandingCall, client_memory_at}
 use Rattle.nr_reduce.specs.ClientMessages.{ReplyVerdict, reply_xid, reply_by_head, reply_by_payload, by_lists, reply_by_body, by_call, answered_call, reply_by_header, reply_verdict, is_given, call_in, names_another, message_verdict}
 use Rattle.nr_reduce.specs.ClientMessages.ReplyVerdict.{EndsLink, GivesOutcome}
-use Rattle.nr_reduce.specs.Client.{client_segment, client_rules, client_end, client_readiness, initial_client, or_message_end, client_message_end, end_of_verdict, segment_message, segment_names}
+use Rattle.nr_reduce.specs.Client.{client_segment, client_rules, client_end, client_readiness, initial_client, or_message_end, client_message_end, end_of_verdict, segment_message, segment_names, or_other_sizes}
 use Rattle.nr_laws.specs.Invalidated.{NamesAnother, IsLetThrough, NamedStagsAreJudged}
 use Rattle.nr_laws.proofs.JudgedMessages.{by_fault_lem, by_verdict_lem}
 use Rattle.nr_laws.proofs.NamedReplies.{judged_as_plain}
@@ -151,7 +151,7 @@ segment_end : (k : ClientState) (f : Frame) (segment : Segment) → is_hello f �
     → client_end k (FrameReceived f) ≡ or_message_end k f (frame_end_by (client_readiness k) (region_grants f.end k.regions) f (Ok segment))
 unfolding client_end
 segment_end k f segment behind reads =
-    λ i. cond (behind i) (hello_end (hello_of Responder f.bytes)) (or_message_end k f (frame_end_by (client_readiness k) (region_grants f.end k.regions) f (reads i)))
+    λ i. cond (behind i) (or_other_sizes k f (hello_end (hello_of Responder f.bytes))) (or_message_end k f (frame_end_by (client_readiness k) (region_grants f.end k.regions) f (reads i)))
 
 message_end : (k : ClientState) (f : Frame) (segment : Segment) (message : List ℕ) (named : Option ℕ) → client_segment k f ≡ Ok segment → segment_message k (Ok segment) ≡ Some message → segment_names (Ok segment) ≡ named
     → or_message_end k f None ≡ client_message_end k f named (Some message)

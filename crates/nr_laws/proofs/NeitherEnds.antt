@@ -18,7 +18,7 @@ use Rattle.nr_reduce.specs.Client.{client_rules}
 use Rattle.nr_reduce.specs.Server.{server_rules}
 use Rattle.nr_reduce.specs.Run.{client, server, end_of_side}
 use Rattle.nr_reduce.proofs.Steps.{AtEachMark_first, client_one, server_one}
-use Rattle.nr_laws.specs.EndCauses.{KeepLaws, IsReplyEnd, IsDenied}
+use Rattle.nr_laws.specs.EndCauses.{KeepLaws, IsReplyEnd, IsDenied, AgreesAgain, HasNoOldCall, NotOldMark}
 use Rattle.nr_laws.specs.PlainLinks.{server_with, HasPlainReplies, PlainReplyMark}
 use Rattle.nr_laws.specs.Stays.{NotRevokedMark, HasNoRevoke, ConveyedMark, AreConveyedOrRefused, MatchedLinksStayOpen, MatchedCallsComplete, NoAccessIsDenied, ClientsStayOpen}
 use Rattle.nr_laws.specs.Typed.{TypedMark, IsTyped}
@@ -62,6 +62,7 @@ server_same opened link before mark none =
 record AreAsked (reply_to : List Entry → Moment → List ℕ → Option (List ℕ)) (adds : Moment → List ℕ → List ℕ → List Entry) (opened : LinkParameters) (link : ℕ) (run : List Mark) : Type 0 where
   typed : IsTyped run
   laws : KeepLaws opened link run
+  fresh : HasNoOldCall link run
   kept : HasNoRevoke link run
   conveyed : AreConveyedOrRefused opened link run
   plain_replies : HasPlainReplies (server_with reply_to adds) link run
@@ -70,6 +71,7 @@ asked_before_lem : (reply_to : List Entry → Moment → List ℕ → Option (Li
 asked_before_lem reply_to adds opened link run more h = record {
   typed = AtEachMark_first TypedMark [] run more h.typed;
   laws = laws_kept_before opened link run more h.laws;
+  fresh = AtEachMark_first (NotOldMark link) [] run more h.fresh;
   kept = AtEachMark_first (NotRevokedMark link) [] run more h.kept;
   conveyed = AtEachMark_first (ConveyedMark opened link) [] run more h.conveyed;
   plain_replies = AtEachMark_first (PlainReplyMark (server_with reply_to adds) link) [] run more h.plain_replies;
@@ -77,13 +79,13 @@ asked_before_lem reply_to adds opened link run more h = record {
 
 -- ---- From mark to mark
 
-module _ (reply_to : List Entry → Moment → List ℕ → Option (List ℕ)) (adds : Moment → List ℕ → List ℕ → List Entry) (plain : KeepsReplyLimits (server_with reply_to adds)) (opened : LinkParameters) (link : ℕ) (opens : IsOpened opened) where
+module _ (reply_to : List Entry → Moment → List ℕ → Option (List ℕ)) (adds : Moment → List ℕ → List ℕ → List Entry) (plain : KeepsReplyLimits (server_with reply_to adds)) (opened : LinkParameters) (link : ℕ) (opens : IsOpened opened) (again : AgreesAgain opened) where
   client_stays_lem : (run : List Mark) → AreAsked reply_to adds opened link run → end_of_side opened link Responder run ≡ None → (end : End) → end_of_side opened link Initiator run ≡ Some end → ⊥
-  client_stays_lem run h down end up = by (client_ends_for_replies opened link run opens h.typed h.laws down end up)
+  client_stays_lem run h down end up = by (client_ends_for_replies opened link run opens again h.typed h.laws down end up)
     where
       by : IsReplyEnd end ⊎ IsDenied end → ⊥
       by (inl (at, reason, is, own)) = client_reads_replies reply_to adds opened link run opens h.typed (laws_so_far_lem opened link run h.laws.client h.laws.server h.laws.matched) h.plain_replies plain at reason own (up ∙ ap (λ (x : End). Some x) is)
-      by (inr (stag, offset, why, is)) = client_not_denied opened link run opens h.typed h.laws h.kept down stag offset why (up ∙ ap (λ (x : End). Some x) is)
+      by (inr (stag, offset, why, is)) = client_not_denied opened link run opens again h.typed h.laws h.kept down stag offset why (up ∙ ap (λ (x : End). Some x) is)
 
   mark_stays : (before : List Mark) (mark : Mark) → AreAsked reply_to adds opened link (before ++ mark ∷ []) → (client opened link before).ended ≡ None → (server opened link before).ended ≡ None
       → ((client opened link (before ++ mark ∷ [])).ended ≡ None) × ((server opened link (before ++ mark ∷ [])).ended ≡ None)
@@ -99,7 +101,7 @@ module _ (reply_to : List Entry → Moment → List ℕ → Option (List ℕ)) (
 
       by : (o : Option End) → (client opened link run).ended ≡ o → (p : Option End) → (server opened link run).ended ≡ p → ((client opened link run).ended ≡ None) × ((server opened link run).ended ≡ None)
       by None is None own = (is, own)
-      by None is (Some end) own = absurd (server_stays_lem opened link run opens h.typed h.laws h.conveyed is end own)
+      by None is (Some end) own = absurd (server_stays_lem opened link run opens h.typed h.laws h.fresh h.conveyed is end own)
       by (Some end) is None own = absurd (client_stays_lem run h own end is)
       by (Some a) is (Some b) own = absurd (both a b is own (one_side link before mark))
 
@@ -124,28 +126,28 @@ server_nothing opened link = refl
 
 pub links_stay : MatchedLinksStayOpen
 unfolding end_of_side
-links_stay reply_to adds opened link run opens typed laws kept conveyed plain plain_replies =
-    run_stays reply_to adds plain opened link opens run [] (record { typed = typed; laws = laws; kept = kept; conveyed = conveyed; plain_replies = plain_replies }) (client_nothing opened link) (server_nothing opened link)
+links_stay reply_to adds opened link run opens again typed laws fresh kept conveyed plain plain_replies =
+    run_stays reply_to adds plain opened link opens again run [] (record { typed = typed; laws = laws; fresh = fresh; kept = kept; conveyed = conveyed; plain_replies = plain_replies }) (client_nothing opened link) (server_nothing opened link)
 
 pub matched_calls_complete : MatchedCallsComplete
-matched_calls_complete reply_to adds opened link run opens typed full kept conveyed plain plain_replies nothing_waits =
+matched_calls_complete reply_to adds opened link run opens again typed full fresh kept conveyed plain plain_replies nothing_waits =
     let laws : KeepLaws opened link run = record { client = full.asked.each; server = full.served.each; matched = full.matched; grant = full.grant } in
-    let stays = links_stay reply_to adds opened link run opens typed laws kept conveyed plain plain_replies in
+    let stays = links_stay reply_to adds opened link run opens again typed laws fresh kept conveyed plain plain_replies in
     calls_complete_lem opened link run typed full.asked full.served full.matched (record { client_stays = stays.0; server_stays = stays.1; nothing_waits = nothing_waits })
 
 pub no_access_denied : NoAccessIsDenied
-no_access_denied opened link run opens typed laws kept down end up = by (client_ends_for_replies opened link run opens typed laws down end up)
+no_access_denied opened link run opens again typed laws kept down end up = by (client_ends_for_replies opened link run opens again typed laws down end up)
   where
     by : IsReplyEnd end ⊎ IsDenied end → IsReplyEnd end
     by (inl reply) = reply
-    by (inr (stag, offset, why, is)) = absurd (client_not_denied opened link run opens typed laws kept down stag offset why (up ∙ ap (λ (x : End). Some x) is))
+    by (inr (stag, offset, why, is)) = absurd (client_not_denied opened link run opens again typed laws kept down stag offset why (up ∙ ap (λ (x : End). Some x) is))
 
 pub clients_stay : ClientsStayOpen
-clients_stay reply_to adds opened link run opens typed laws kept plain plain_replies down = by (end_of_side opened link Initiator run) refl
+clients_stay reply_to adds opened link run opens again typed laws kept plain plain_replies down = by (end_of_side opened link Initiator run) refl
   where
     ends : (end : End) → end_of_side opened link Initiator run ≡ Some end → IsReplyEnd end → ⊥
     ends end up (at, reason, is, own) = client_reads_replies reply_to adds opened link run opens typed (laws_so_far_lem opened link run laws.client laws.server laws.matched) plain_replies plain at reason own (up ∙ ap (λ (x : End). Some x) is)
 
     by : (o : Option End) → end_of_side opened link Initiator run ≡ o → end_of_side opened link Initiator run ≡ None
     by None e = e
-    by (Some end) e = absurd (ends end e (no_access_denied opened link run opens typed laws kept down end e))
+    by (Some end) e = absurd (ends end e (no_access_denied opened link run opens again typed laws kept down end e))

@@ -32,7 +32,7 @@ use Rattle.nr_reduce.specs.Matched.{IsPrefixOf}
 use Rattle.nr_reduce.proofs.OwnStags.{AreNumbered, client_numbers}
 use Rattle.nr_laws.specs.Typed.{TypedMark, IsTyped}
 use Rattle.nr_laws.specs.Stays.{NotRevokedMark, HasNoRevoke}
-use Rattle.nr_laws.specs.EndCauses.{KeepLaws}
+use Rattle.nr_laws.specs.EndCauses.{KeepLaws, AgreesAgain}
 use Rattle.nr_laws.proofs.EndReasons.{EndsForMessage}
 use Rattle.nr_laws.proofs.FrameContents.{FrameContent, frame_bytes, total_of, sends_in, requests_in, Carries, last_segment, part_segment, written_segment}
 use Rattle.nr_laws.proofs.FrameContents.FrameContent.{HelloFrame, PartFrame, SendFrame, RequestFrame, TaggedFrame}
@@ -115,11 +115,11 @@ not_lacking k f stag offset why allowed (inr h) = (let wrong : None ≡ Some h.w
 
 -- ---- Some frames
 
-frames_allowed : (opened : LinkParameters) (s : ServerState) (u all_down left : List FrameContent) (o : IsOpened opened) (up at stag offset : ℕ) (why : Denied) (new : List FrameContent) (k : ClientState) (d all_up : List FrameContent) (w : Transit) (n r place : ℕ) → EndsAgree opened k s u d all_up all_down w → Guards opened k s u d all_up all_down w up → w.down ≡ new ++ left
+frames_allowed : (opened : LinkParameters) (s : ServerState) (u all_down left : List FrameContent) (o : IsOpened opened) (again : AgreesAgain opened) (up at stag offset : ℕ) (why : Denied) (new : List FrameContent) (k : ClientState) (d all_up : List FrameContent) (w : Transit) (n r place : ℕ) → EndsAgree opened k s u d all_up all_down w → Guards opened k s u d all_up all_down w up → w.down ≡ new ++ left
     → n ≡ total_of sends_in d → r ≡ total_of requests_in d → IsPlace d place → IsBytes (concat (frames_at opened Responder n r new)) → AreSome (frames_at opened Responder n r new) → EndBehind at (frames_from place (frames_at opened Responder n r new)) → AccessesAgree opened k s d all_up all_down at
     → (end_state_after (client_rules opened) (live k) (events_of place (frames_at opened Responder n r new))).ended ≡ Some (ends.Denied stag offset why) → ⊥
-frames_allowed opened s u all_down left o up at stag offset why [] k d all_up w n r place l g first sends requests is bytes some behind h e = absurd (let wrong : None ≡ Some (ends.Denied stag offset why) = e in cc)
-frames_allowed opened s u all_down left o up at stag offset why (p ∷ new) k d all_up w n r place l g first sends requests is bytes some behind h e =
+frames_allowed opened s u all_down left o again up at stag offset why [] k d all_up w n r place l g first sends requests is bytes some behind h e = absurd (let wrong : None ≡ Some (ends.Denied stag offset why) = e in cc)
+frames_allowed opened s u all_down left o again up at stag offset why (p ∷ new) k d all_up w n r place l g first sends requests is bytes some behind h e =
     let rules = client_rules opened in
     let frame = frame_bytes opened Responder (written_segment n r p) in
     let later = frames_at opened Responder (n + sends_in p) (r + requests_in p) new in
@@ -127,13 +127,13 @@ frames_allowed opened s u all_down left o up at stag offset why (p ∷ new) k d 
     let es = events_of (place + length frame) later in
     let step = step_down opened k s u d all_up all_down w up p (new ++ left) n r place o l g first sends requests is in
     (ends_first rules k event es (ends.Denied stag offset why) ⊥ e).first
-    (λ now. not_lacking k (frame_of frame place) stag offset why (frame_allowed opened k s u d all_up all_down w up p (new ++ left) n r place at l g first sends requests is behind.0 h) (step.only (ends.Denied stag offset why) now))
+    (λ now. not_lacking k (frame_of frame place) stag offset why (frame_allowed opened k s u d all_up all_down w up p (new ++ left) n r place at l g first sends requests is behind.0 h) (step.only again (ends.Denied stag offset why) now))
     (λ stays rest.
     let t = client_took opened k s u d all_up all_down w p (new ++ left) n r place l first sends requests is (IsBytes_left frame (concat later) bytes) stays in
     let after = client_state_after opened k event in
     let one = subst (λ (ps : List FrameContent). Guards opened after s u (d ++ p ∷ []) (all_up ++ ps) all_down (down_one w ps (new ++ left)) up) (sym t.said_is) (step.kept stays) in
     let two = subst (λ (ps : List FrameContent). AccessesAgree opened after s (d ++ p ∷ []) (all_up ++ ps) all_down at) (sym t.said_is) (accessed_down opened k s u d all_up all_down w p (new ++ left) n r place at l first sends requests is stays h) in
-    frames_allowed opened s u all_down left o up at stag offset why new after (d ++ p ∷ []) (all_up ++ t.said) (down_one w t.said (new ++ left)) (n + sends_in p) (r + requests_in p) (place + length frame) t.linked one refl
+    frames_allowed opened s u all_down left o again up at stag offset why new after (d ++ p ∷ []) (all_up ++ t.said) (down_one w t.said (new ++ left)) (n + sends_in p) (r + requests_in p) (place + length frame) t.linked one refl
     (omega (arith, sends, total_append sends_in d (p ∷ []))) (omega (arith, requests, total_append requests_in d (p ∷ []))) (place_next_lem d p frame place is some.0)
     (IsBytes_right frame (concat later) bytes) some.1 behind.1 two rest)
 
@@ -149,6 +149,7 @@ later opened k s d all_up all_down place end le h = record {
   lives = h.lives;
   up_said = h.up_said;
   asked = h.asked;
+  resent = h.resent;
   calls = h.calls;
   waiting = h.waiting;
   down_said = h.down_said;
@@ -166,9 +167,9 @@ accessed_more opened link run mark a g o within typed kept =
       agree = later opened g.k g.s g.d (j.all_up ++ g.said_up) (j.all_down ++ g.said_down) (length (bytes_received link Initiator run)) (length (bytes_received link Initiator (run ++ mark ∷ []))) longer (g.accessed o typed kept a.guarded.guards a.agree);
     }
 
-fed_denied : (opened : LinkParameters) (link : ℕ) (run : List Mark) (bytes : List ℕ) (a : Accessed opened link run) → IsOpened opened → IsPrefixOf (bytes_received link Initiator run ++ bytes) (bytes_sent link Responder run) → IsBytes bytes → (stag offset : ℕ) (why : Denied)
+fed_denied : (opened : LinkParameters) (link : ℕ) (run : List Mark) (bytes : List ℕ) (a : Accessed opened link run) → IsOpened opened → AgreesAgain opened → IsPrefixOf (bytes_received link Initiator run ++ bytes) (bytes_sent link Responder run) → IsBytes bytes → (stag offset : ℕ) (why : Denied)
     → (end_state_after (client_rules opened) (live a.guarded.joined.k) (map FrameReceived (frames_completed Responder (bytes_received link Initiator run) bytes))).ended ≡ Some (ends.Denied stag offset why) → ⊥
-fed_denied opened link run bytes a o prefix typed stag offset why e =
+fed_denied opened link run bytes a o again prefix typed stag offset why e =
     let j = a.guarded.joined in
     let got = bytes_received link Initiator run in
     let stream : IsOutput (j.d ++ (j.w.down ++ j.w.queued_down)) = subst IsOutput (sym j.linked.parts_down) j.linked.stream_down in
@@ -179,17 +180,17 @@ fed_denied opened link run bytes a o prefix typed stag offset why e =
     let es = events_of place (frames_at opened Responder n r m.new) in
     let same : map FrameReceived (frames_completed Responder got bytes) ≡ es = ap (λ (fs : List Frame). map FrameReceived fs) m.frames in
     let behind : EndBehind (length got) (frames_from place (frames_at opened Responder n r m.new)) = subst (EndBehind (length got)) m.frames (frames_behind Responder got bytes) in
-    frames_allowed opened j.s j.u j.all_down m.left o (place_of opened j.u) (length got) stag offset why m.new j.k j.d j.all_up j.w n r place j.linked a.guarded.guards m.parts (omega arith) (omega arith) m.place m.bytes_are m.some behind a.agree
+    frames_allowed opened j.s j.u j.all_down m.left o again (place_of opened j.u) (length got) stag offset why m.new j.k j.d j.all_up j.w n r place j.linked a.guarded.guards m.parts (omega arith) (omega arith) m.place m.bytes_are m.some behind a.agree
     (ap (λ (xs : List RunEvent). (end_state_after (client_rules opened) (live j.k) xs).ended) (sym same) ∙ e)
 
 -- ---- Each run
 
 -- On a matched link of which nothing is revoked, and whose server hasn't ended, no access ends the client.
-pub client_not_denied : (opened : LinkParameters) (link : ℕ) (run : List Mark) → IsOpened opened → IsTyped run → KeepLaws opened link run → HasNoRevoke link run → end_of_side opened link Responder run ≡ None
+pub client_not_denied : (opened : LinkParameters) (link : ℕ) (run : List Mark) → IsOpened opened → AgreesAgain opened → IsTyped run → KeepLaws opened link run → HasNoRevoke link run → end_of_side opened link Responder run ≡ None
     → (stag offset : ℕ) (why : Denied) → end_of_side opened link Initiator run ≡ Some (ends.Denied stag offset why) → ⊥
 unfolding end_of_side
-client_not_denied opened link run o typed laws kept down stag offset why up =
+client_not_denied opened link run o again typed laws kept down stag offset why up =
     let start = starts opened link in
     client_first opened link (Accessed opened link) (λ before a. a.guarded.joined) (λ before m. WithinGrant opened link before m × NotRevokedMark link before m) (ends.Denied stag offset why) ⊥
-    (λ before m a agrees typed kept. accessed_more opened link before m a agrees o kept.0 typed kept.1) (λ before bytes a prefix typed e. fed_denied opened link before bytes a o prefix typed stag offset why e) run []
+    (λ before m a agrees typed kept. accessed_more opened link before m a agrees o kept.0 typed kept.1) (λ before bytes a prefix typed e. fed_denied opened link before bytes a o again prefix typed stag offset why e) run []
     (record { guarded = record { joined = start.joined; guards = start.guards o }; agree = start.accessed }) laws.client laws.server laws.matched (each_both (WithinGrant opened link) (NotRevokedMark link) [] run laws.grant kept) typed down up

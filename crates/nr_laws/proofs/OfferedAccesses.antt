@@ -1,6 +1,6 @@
 -- What a server accesses of its client's memory is offered by the call that is to be answered, and no earlier message of the server
 -- answers that call.
-use Rattle.std.proofs.Common.{◌≡◌, ℕ, ◌+◌, ◌≤◌, Bool, true, false, List, [], ◌∷◌, ◌++◌, length, drop, None, Ok, sym, ap, subst, arith, append_assoc, append-nil, ◌⊎◌, inl, inr, Option}
+use Rattle.std.proofs.Common.{◌≡◌, ℕ, ◌+◌, ◌≤◌, Bool, true, false, List, [], ◌∷◌, ◌++◌, length, map, drop, None, Ok, sym, ap, subst, arith, append_assoc, append-nil, ◌⊎◌, inl, inr, Option}
 use Rattle.std.specs.List.{AllByRecursion}
 use Rattle.nr_xdr.specs.Fields.{word_at}
 use Rattle.nr_header.specs.declared.header.RdmaSegment.{RdmaSegment as Part}
@@ -15,7 +15,8 @@ use Rattle.nr_reduce.specs.declared.mark.LinkParameters.{LinkParameters}
 use Rattle.nr_reduce.specs.OfferedRegions.{Region, closed_if, regions_closed}
 use Rattle.nr_reduce.specs.Holds.{first_chunk, no_segments}
 use Rattle.nr_reduce.specs.ChunkBytes.{lists_by}
-use Rattle.nr_reduce.specs.ClientState.{ClientState, OutstandingCall}
+use Rattle.nr_reduce.specs.Plans.{buffers}
+use Rattle.nr_reduce.specs.ClientState.{ClientState, OutstandingCall, WaitingCall, region_of}
 use Rattle.nr_reduce.specs.ServerState.{ServerState, PendingCall, PendingRead}
 use Rattle.nr_laws.proofs.FrameContents.{FrameContent, send_frames, errors_frames}
 use Rattle.nr_laws.proofs.Outputs.{message_of_call}
@@ -87,6 +88,14 @@ abbrev pub AreAccesses : List Region → (before : List FrameContent) → List F
 AreAccesses regions before [] = Unit {0}
 AreAccesses regions before (p ∷ ps) = IsAccess regions (message_xids before) p × AreAccesses regions (before ++ p ∷ []) ps
 
+-- the second regions offer all that the first do
+abbrev pub OffersMore : List Region → List Region → Type 0
+OffersMore regions others = (xid stag : ℕ) (right : Right) (n : ℕ) → IsOffered xid stag right n regions → IsOffered xid stag right n others
+
+-- what a call offers that waits to be sent again
+abbrev pub WaitsOffered : List Region → WaitingCall → Type 0
+WaitsOffered regions w = OffersMore (map (region_of w.xid 0) (buffers w.stag w.plan)) regions
+
 -- a region is closed only by a message that answers its call
 abbrev pub IsLive : List ℕ → Region → Type 0
 IsLive answered g = (g.until ≡ None) ⊎ (1 ≤ times g.call answered)
@@ -101,14 +110,12 @@ pub record AccessesAgree (opened : LinkParameters) (k : ClientState) (s : Server
   pub lives : AllByRecursion (IsLive (message_xids d)) k.regions
   pub up_said : AllByRecursion (MessageOffered k.regions) all_up
   pub asked : AllByRecursion (CallAsked opened k.regions) k.outstanding
+  pub resent : AllByRecursion (WaitsOffered k.regions) k.waiting
   pub calls : AllByRecursion (CallOffered k.regions) s.calls
   pub waiting : AllByRecursion (ReadOffered k.regions s.calls) (drop open_reads_max s.reads)
   pub down_said : AreAccesses k.regions [] all_down
 
 -- ---- More regions offer no less
-
-abbrev pub OffersMore : List Region → List Region → Type 0
-OffersMore regions others = (xid stag : ℕ) (right : Right) (n : ℕ) → IsOffered xid stag right n regions → IsOffered xid stag right n others
 
 pub offers_same : (regions : List Region) → OffersMore regions regions
 offers_same regions xid stag right n h = h
@@ -138,6 +145,9 @@ lists_more regions others xid lists f h = record {
   reply = each_all (PartOffered regions xid) (PartOffered others xid) (no_segments lists.reply) (λ p x. f xid p.handle Fill (p.offset + p.length) x) h.reply;
   read = each_all (EntryOffered regions xid) (EntryOffered others xid) lists.read (λ r x. f xid r.handle Fetch (r.offset + r.length) x) h.read;
 }
+
+pub waits_more : (regions others : List Region) → OffersMore regions others → (w : WaitingCall) → WaitsOffered regions w → WaitsOffered others w
+waits_more regions others f w h = λ xid stag right n x. f xid stag right n (h xid stag right n x)
 
 pub send_more : (regions others : List Region) → OffersMore regions others → (message : List ℕ) → SendOffered regions message → SendOffered others message
 send_more regions others f message h = λ header is. lists_more regions others (word_at 0 message) (lists_by header.body) f (h header is)

@@ -12,7 +12,7 @@ use Rattle.nr_reduce.specs.OfferedRegions.{Region}
 use Rattle.nr_reduce.specs.Plans.{Buffer, buffer_if, buffers, has_segment, total, read_stag, write_stag, reply_stag, segments_from, entries_from, read_list, write_list, reply_chunk, lists_of, plan_of, regions_needed, call_message, HasWordPosition}
 use Rattle.nr_reduce.specs.Holds.{first_chunk, no_segments}
 use Rattle.nr_reduce.specs.ChunkBytes.{lists_by}
-use Rattle.nr_reduce.specs.Client.{region_of}
+use Rattle.nr_reduce.specs.ClientState.{region_of}
 use Rattle.nr_reduce.proofs.WrittenChunks.{added_up, sum_added}
 use Rattle.nr_laws.proofs.CallWords.{call_words_lem}
 use Rattle.nr_laws.proofs.ConveyedCalls.{planned_fits, plan_reads}

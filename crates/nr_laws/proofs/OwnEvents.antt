@@ -1,6 +1,6 @@
 -- What holds between both ends of a link is kept when a call is submitted or executed, memory is revoked, a queue is written, and the server
 -- is told something.
-use Rattle.std.proofs.Common.{◌≡◌, ℕ, ◌+◌, ◌<◌, Bool, true, false, cond, not, eqb, List, [], ◌∷◌, ◌++◌, length, map, Result, Ok, refl, sym, ap, subst, ◌∙◌, arith, append_assoc, append-nil, None}
+use Rattle.std.proofs.Common.{◌≡◌, ℕ, ◌+◌, ◌<◌, Bool, true, false, cond, not, eqb, List, [], ◌∷◌, ◌++◌, length, Result, Ok, refl, sym, ap, subst, ◌∙◌, arith, append_assoc, append-nil, None}
 use Rattle.std.specs.List.{list_any}
 use Rattle.std.proofs.lemmas.List.{length-map}
 use Rattle.nr_wire.specs.declared.hello.Side.TheVariants.{Initiator, Responder}
@@ -13,20 +13,19 @@ use Rattle.nr_reduce.specs.declared.outline.Plan.{Plan}
 use Rattle.nr_reduce.specs.Plans.{TooLarge, call_message}
 use Rattle.nr_reduce.specs.History.{AcceptedCall, ExecutedCall}
 use Rattle.nr_reduce.specs.Events.RunEvent.{CallSubmitted, MemoryRevoked, CallExecuted, QueueWritten, ServerTold}
-use Rattle.nr_reduce.specs.ClientState.{ClientState, OutstandingCall, plan_for}
+use Rattle.nr_reduce.specs.ClientState.{ClientState, OutstandingCall, plan_for, stag_for}
 use Rattle.nr_reduce.specs.ServerState.{ServerState, PendingCall, ReadyCall}
 use Rattle.nr_reduce.specs.Client.{client_state_after, client_output, call_output, outstanding_of, plan_or, revoked_call}
 use Rattle.nr_reduce.specs.Server.{server_state_after, server_output, offer_of, answer_of_target}
-use Rattle.nr_reduce.proofs.XidsFollow.{both_after}
 use Rattle.nr_laws.proofs.PlannedSizes.{short_call}
 use Rattle.nr_laws.proofs.FrameContents.{FrameContent, output_bytes, total_of, sends_in, requests_in, hellos_in, client_frames, server_frames, send_frames}
-use Rattle.nr_laws.proofs.LinkInvariants.{Transit, TotalsAgree, AreDistinct, IsUnused}
+use Rattle.nr_laws.proofs.LinkInvariants.{Transit, TotalsAgree}
 use Rattle.nr_laws.proofs.Totals.{total_append}
 use Rattle.nr_laws.proofs.TotalsAtClient.{totals_accepts, totals_writes_up, up_more}
 use Rattle.nr_laws.proofs.TotalsAtServer.{totals_executes, totals_writes_down, answer_counts}
 use Rattle.nr_laws.proofs.EventsAtServer.{totals_told, pending_told}
 use Rattle.nr_laws.proofs.PendingExecuted.{pending_agree_executes, executed_there}
-use Rattle.nr_laws.proofs.OwnXids.{OwnXids, own_xids_accepts, own_xids_writes}
+use Rattle.nr_laws.proofs.OwnXids.{OwnXids, own_xids_accepts, own_xids_revokes, own_xids_writes}
 use Rattle.nr_laws.proofs.Writable.{AreWritable, stream_more}
 use Rattle.nr_laws.proofs.ServerOutput.{execution_frames, execution_proper, execution_said, short_proper}
 use Rattle.nr_laws.proofs.AgreeingEnds.{EndsAgree, messages_said}
@@ -38,6 +37,8 @@ use Rattle.nr_laws.proofs.Basics.{each_kept, each_append}
 use Rattle.nr_laws.proofs.ServerOutputs.{CallFits}
 use Rattle.nr_laws.proofs.SendFrames.{send_counts}
 use Rattle.nr_laws.proofs.OutputFrames.{message_said}
+use Rattle.nr_reduce.specs.SubmitAnswer.{next_sent_xid}
+use Rattle.nr_reduce.specs.Asked.{IsResent}
 
 -- ---- Of a client
 
@@ -77,12 +78,12 @@ pub record Submitted (opened : LinkParameters) (k : ClientState) (s : ServerStat
   pub linked : EndsAgree opened (client_state_after opened k (CallSubmitted place a)) s u d (all_up ++ said) all_down (up_more w said)
 
 pub submitted : (opened : LinkParameters) (k : ClientState) (s : ServerState) (u d all_up all_down : List FrameContent) (w : Transit) (place : ℕ) (a : AcceptedCall) (plan : Plan) → EndsAgree opened k s u d all_up all_down w
-    → a.xid ≡ k.next_xid → plan_for k a.xid a.call a.form ≡ Ok plan → ClientLimits k → Submitted opened k s u d all_up all_down w place a
+    → a.xid ≡ next_sent_xid k → IsResent k.has_hello k.next_xid k.waiting a.call a.form → plan_for k a.xid a.call a.form ≡ Ok plan → ClientLimits k → Submitted opened k s u d all_up all_down w place a
 unfolding client_state_after client_frames client_output
-submitted opened k s u d all_up all_down w place a plan l own is limits = by k.has_hello refl
+submitted opened k s u d all_up all_down w place a plan l own again is limits = by k.has_hello refl
   where
-    short : IsShort (call_message a.xid opened.wished k.stag (outstanding_of k a).plan)
-    short = short_call opened k a plan is limits
+    short : IsShort (call_message a.xid opened.wished (stag_for k a.xid) (outstanding_of k a).plan)
+    short = short_call opened k a plan own again is limits
 
     message : List ℕ
     message = message_of_call opened (outstanding_of k a)
@@ -102,7 +103,7 @@ submitted opened k s u d all_up all_down w place a plan l own is limits = by k.h
       linked =
           up_linked opened k (client_state_after opened k (CallSubmitted place a)) s u d all_up all_down w said l
           (subst (λ (ps : List FrameContent). TotalsAgree (client_state_after opened k (CallSubmitted place a)) s (up_more w ps)) says (totals_accepts opened k s w place a l.counts))
-          (own_xids_accepts opened k place a own l.outs) (each_append (CallShort opened) k.outstanding (outstanding_of k a ∷ []) l.short (short, tt)) refl proper hellos reads;
+          (own_xids_accepts opened k place a own again l.outs) (each_append (CallShort opened) k.outstanding (outstanding_of k a ∷ []) l.short (short, tt)) refl proper hellos reads;
     }
 
     by : (b : Bool) → k.has_hello ≡ b → Submitted opened k s u d all_up all_down w place a
@@ -122,14 +123,6 @@ xid_revoked xid o = by (eqb o.xid xid)
     by : (b : Bool) → (cond b (record o { is_revoked = true }) o).xid ≡ o.xid
     by true = refl
     by false = refl
-
-absent_revoked : (xid n : ℕ) (os : List OutstandingCall) → IsUnused (λ (o : OutstandingCall). o.xid) n os → IsUnused (λ (o : OutstandingCall). o.xid) n (map (revoked_call xid) os)
-absent_revoked xid n [] h = tt
-absent_revoked xid n (o ∷ os) h = ((λ e. h.0 (sym (xid_revoked xid o) ∙ e)), absent_revoked xid n os h.1)
-
-apart_revoked : (xid : ℕ) (os : List OutstandingCall) → AreDistinct (λ (o : OutstandingCall). o.xid) os → AreDistinct (λ (o : OutstandingCall). o.xid) (map (revoked_call xid) os)
-apart_revoked xid [] h = tt
-apart_revoked xid (o ∷ os) h = (subst (λ (n : ℕ). IsUnused (λ (x : OutstandingCall). x.xid) n (map (revoked_call xid) os)) (sym (xid_revoked xid o)) (absent_revoked xid o.xid os h.0), apart_revoked xid os h.1)
 
 same_linked : (opened : LinkParameters) (k t : ClientState) (s : ServerState) (u d all_up all_down : List FrameContent) (w v : Transit) → EndsAgree opened k s u d all_up all_down w
     → v.up ++ v.queued_up ≡ w.up ++ w.queued_up → v.down ++ v.queued_down ≡ w.down ++ w.queued_down → TotalsAgree t s v → OwnXids opened t → CallsShort opened t.outstanding → t.received ≡ k.received
@@ -179,7 +172,7 @@ pub revoked : (opened : LinkParameters) (k : ClientState) (s : ServerState) (u d
 unfolding client_state_after
 revoked opened k s u d all_up all_down w place xid l =
     same_linked opened k (client_state_after opened k (MemoryRevoked place xid)) s u d all_up all_down w w l refl refl (totals_revoked opened k s w place xid l.counts)
-    (record { apart = apart_revoked xid k.outstanding l.outs.apart; follow = both_after opened k (MemoryRevoked place xid) tt l.outs.follow }) (short_revoked opened xid k.outstanding l.short) refl
+    (own_xids_revokes opened k place xid l.outs) (short_revoked opened xid k.outstanding l.short) refl
 
 pub written_up : (opened : LinkParameters) (k : ClientState) (s : ServerState) (u d all_up all_down : List FrameContent) (w : Transit) (taken : ℕ) → k.written + taken ≡ k.due → ClientEnds k → EndsAgree opened k s u d all_up all_down w
     → EndsAgree opened (client_state_after opened k (QueueWritten taken)) s u d all_up all_down (record { queued_up = []; up = w.up ++ w.queued_up; queued_down = w.queued_down; down = w.down })

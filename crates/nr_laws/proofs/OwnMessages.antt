@@ -8,13 +8,13 @@ use Rattle.nr_reduce.specs.declared.outline.Plan.{Plan}
 use Rattle.nr_reduce.specs.Limits.{numbers_end}
 use Rattle.nr_reduce.specs.Plans.{call_message, regions_needed}
 use Rattle.nr_reduce.specs.Matched.{IsPrefixOf}
-use Rattle.nr_reduce.specs.ClientState.{call_payload, plan_for}
+use Rattle.nr_reduce.specs.ClientState.{call_payload, plan_for, stag_for}
 use Rattle.nr_reduce.specs.ServerState.{ServerState}
 use Rattle.nr_reduce.specs.ServerMessages.{verdict}
 use Rattle.nr_reduce.specs.ServerMessages.Verdict.{BadChunks}
 use Rattle.nr_reduce.specs.Server.{initial_server}
 use Rattle.nr_reduce.specs.Run.{client}
-use Rattle.nr_reduce.specs.Asked.{AskedMark, IsAccepted}
+use Rattle.nr_reduce.specs.Asked.{AskedMark, IsAccepted, IsPlannedAs}
 use Rattle.nr_reduce.proofs.BadMessages.{bad_refused}
 use Rattle.nr_laws.specs.Typed.{TypedMark}
 use Rattle.nr_laws.specs.Payloads.{HasPlan}
@@ -22,21 +22,21 @@ use Rattle.nr_laws.specs.ChunkOutcomes.{NoOwnPlanIsRefused}
 use Rattle.nr_laws.proofs.WrittenBytes.{WrittenAs, written_as_lem, message_same_lem}
 use Rattle.nr_laws.proofs.CallWords.{CallWords, call_words_lem}
 use Rattle.nr_laws.proofs.OnceByXid.{at_mark}
-use Rattle.nr_laws.proofs.ExecutedPayloads.{planned_by, sizes_up, sizes_down}
+use Rattle.nr_laws.proofs.WaitingCalls.{accepted_stags, accepted_plan}
 use Rattle.nr_laws.proofs.OwnPlans.{payload_some, plan_suits}
 use Rattle.nr_laws.proofs.RefusedMessages.{long_enough}
 use Rattle.nr_laws.proofs.SubmittedPlans.{plan_is_lem}
 
 pub no_own_plan_is_refused : NoOwnPlanIsRefused
 no_own_plan_is_refused opened link run xid typed asked m own =
-    plan_suits k (call_payload xid has.call) has.form (sizes_up opened link has.before) (sizes_down opened link has.before) xid w.number stag m.plan bytes own (planned_by opened link has.before xid has.call has.form m.plan has.planned) (payload_some xid has.call)
+    plan_suits k (call_payload xid has.call) has.form formed.up formed.down xid w.number stag m.plan bytes own formed.planned (payload_some xid has.call)
     (let fits = accepted.xids in omega (arith, fits)) w.fits (let fit = stags in omega (arith, fit)) (ap (λ (x : List ℕ). verdict k x) (sym same) ∙ bad)
   where
     has : HasPlan opened link run xid m.plan
     has = m.has
 
     stag : ℕ
-    stag = (client opened link has.before).state.stag
+    stag = stag_for (client opened link has.before).state xid
 
     k : ServerState
     k = (initial_server opened).state
@@ -48,7 +48,10 @@ no_own_plan_is_refused opened link run xid typed asked m own =
     bytes = (at_mark TypedMark run has.before (marks.Submit link has.call has.form (submissions.Accepted xid)) has.at.after has.at.is typed).0
 
     stags : stag + regions_needed m.plan ≤ numbers_end
-    stags = subst (λ (p : Plan). stag + regions_needed p ≤ numbers_end) (plan_is_lem accepted.plan m.plan (plan_for (client opened link has.before).state xid has.call has.form) accepted.planned has.planned) accepted.stags
+    stags = subst (λ (p : Plan). stag + regions_needed p ≤ numbers_end) (plan_is_lem accepted.plan m.plan (plan_for (client opened link has.before).state xid has.call has.form) accepted.planned has.planned) (accepted_stags opened link has.before has.call has.form xid accepted)
+
+    formed : IsPlannedAs xid has.call has.form m.plan
+    formed = accepted_plan opened link has.before has.call has.form xid m.plan accepted has.planned
 
     message : List ℕ
     message = call_message xid opened.wished stag m.plan
@@ -70,4 +73,4 @@ no_own_plan_is_refused opened link run xid typed asked m own =
     error e = (let kind = words.kind in omega (arith, e, kind))
 
     bad : verdict k message ≡ BadChunks
-    bad = (bad_refused k message (long_enough opened (client opened link has.before).state xid has.call has.form m.plan has.planned) words.version done error refl).1 m.refused
+    bad = (bad_refused k message (long_enough opened stag xid has.call has.form m.plan formed) words.version done error refl).1 m.refused

@@ -17,6 +17,7 @@ use Rattle.nr_reduce.proofs.XidsFollow.{accepted_follows}
 use Rattle.nr_laws.proofs.OnceByXid.{executed_at_lem, before_mark}
 use Rattle.nr_laws.proofs.ExecutedReads.{read_call_lem}
 use Rattle.nr_laws.proofs.Basics.{first_is_lem, rest_is_lem}
+use Rattle.nr_reduce.specs.StandingLaws.{xid_of_send}
 
 -- two positions of a list: one, or one after the other
 data Places (pre : List Mark) (a : Mark) (post one : List Mark) (b : Mark) (two : List Mark) : Type 0 where
@@ -66,13 +67,15 @@ payloads_are_own opened link run before xid plan moment payload place reply type
     let r = read_call_lem opened link before xid payload (before_mark TypedMark run before execute at.after at.is typed) (before_mark (AskedMark IsPrefixOf opened link) run before execute at.after at.is far.asked)
     (before_mark (ServedMark IsPrefixOf opened link) run before execute at.after at.is far.served) (before_mark (MatchedMark link) run before execute at.after at.is far.matched) a.executed in
     let w = r.submitted in
-    let p = accepted_follows opened link w.earlier _ _ _ w.accepted in
-    let q = accepted_follows opened link a.submit.submitted.earlier _ _ _ a.submit.submitted.accepted in
+    let y = a.submit.submitted in
+    let asked = before_mark (AskedMark IsPrefixOf opened link) run before execute at.after at.is far.asked in
+    let p = accepted_follows opened link w.earlier _ _ _ (before_mark (AskedMark IsPrefixOf opened link) before w.earlier (marks.Submit link w.call w.form (submissions.Accepted w.xid)) w.later w.is asked) w.accepted in
+    let q = accepted_follows opened link y.earlier _ _ _ (before_mark (AskedMark IsPrefixOf opened link) before y.earlier (marks.Submit link y.call y.form (submissions.Accepted y.xid)) y.later y.is asked) y.accepted in
     let x = a.submit.own_xid in
     let m = a.submit.number in
     let n = r.number_is in
     let c = w.counted in
-    let own : w.xid ≡ xid = omega (arith, p, q, x, m, n, c) in
+    let own : w.xid ≡ xid = p ∙ ap (xid_of_send opened) (omega (arith, m, n, c)) ∙ sym q ∙ x in
     let whole : run ≡ w.earlier ++ marks.Submit link w.call w.form (submissions.Accepted w.xid) ∷ (w.later ++ execute ∷ at.after) =
     at.is ∙ ap (λ (xs : List Mark). xs ++ execute ∷ at.after) w.is ∙ append_assoc w.earlier (marks.Submit link w.call w.form (submissions.Accepted w.xid) ∷ w.later) (execute ∷ at.after) in
     let there : run ≡ w.earlier ++ marks.Submit link w.call w.form (submissions.Accepted xid) ∷ (w.later ++ execute ∷ at.after) =

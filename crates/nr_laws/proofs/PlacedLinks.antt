@@ -12,7 +12,7 @@ use Rattle.nr_laws.specs.PlainLinks.{server_with, PlainOnMark, AnsweredByPlainSe
 use Rattle.nr_laws.proofs.OnceByXid.{at_mark}
 
 -- what holds at each mark of a run, by what stands before and after it
-each_is : (P : List Mark → Mark → Type 0) (run before : List Mark) → ((b : List Mark) (m : Mark) (after : List Mark) → before ++ run ≡ b ++ m ∷ after → P b m) → AtEachMark P before run
+pub each_is : (P : List Mark → Mark → Type 0) (run before : List Mark) → ((b : List Mark) (m : Mark) (after : List Mark) → before ++ run ≡ b ++ m ∷ after → P b m) → AtEachMark P before run
 each_is P [] before h = tt
 each_is P (m ∷ run) before h = (h before m run refl, each_is P run (before ++ m ∷ []) (λ b n after is. h b n after (sym (append_assoc before (m ∷ []) run) ∙ is)))
 

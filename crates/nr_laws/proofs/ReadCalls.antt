@@ -27,7 +27,7 @@ use Rattle.nr_reduce.specs.ServerFrames.{with_access}
 use Rattle.nr_reduce.specs.Server.{server_readiness}
 use Rattle.nr_reduce.specs.Run.{end_of_side}
 use Rattle.nr_reduce.specs.RunLaws.{server_by, ends_response}
-use Rattle.nr_laws.specs.EndCauses.{KeepLaws, ServerEndsForCalls}
+use Rattle.nr_laws.specs.EndCauses.{KeepLaws, ServerEndsForCalls, HasNoOldCall}
 use Rattle.nr_link.specs.Reasons.{REASON_HEAD, REASON_XID}
 use Rattle.nr_laws.specs.MatchedSoFar.{MatchedSoFar}
 use Rattle.nr_laws.specs.Payloads.{form_conveyed}
@@ -106,8 +106,8 @@ own_xid_lem opened link run typed c o x e =
 -- so a server that ends first ends for a payload without a call head
 pub server_ends_for_calls : ServerEndsForCalls
 unfolding end_of_side
-server_ends_for_calls opened link run opens typed laws up end down =
-    let c : EndsForCall end = first_server_end opened link run opens typed laws up end down in
+server_ends_for_calls opened link run opens typed laws fresh up end down =
+    let c : EndsForCall end = first_server_end opened link run opens typed laws fresh up end down in
     (c.0, c.2 ∙ ap (λ (n : ℕ). ends.Bad c.0 n) (by c.0 c.1 c.3 (down ∙ ap (λ (x : End). Some x) c.2)))
   where
     by : (at reason : ℕ) → IsCallReason reason → end_of_side opened link Responder run ≡ Some (ends.Bad at reason) → reason ≡ REASON_HEAD
@@ -117,10 +117,10 @@ server_ends_for_calls opened link run opens typed laws up end down =
         absurd (not_refused_lem opened link run REASON_XID typed (laws_so_far_lem opened link run laws.client laws.server laws.matched) (own_xid_lem opened link run typed) (refused_at_lem opened link run typed (laws_so_far_lem opened link run laws.client laws.server laws.matched) at REASON_XID (inr refl) (e ∙ same)))
 
 -- On a matched link whose client hasn't ended, nor has the server.
-pub server_stays_lem : (opened : LinkParameters) (link : ℕ) (run : List Mark) → IsOpened opened → IsTyped run → KeepLaws opened link run → AreConveyedOrRefused opened link run → end_of_side opened link Initiator run ≡ None
+pub server_stays_lem : (opened : LinkParameters) (link : ℕ) (run : List Mark) → IsOpened opened → IsTyped run → KeepLaws opened link run → HasNoOldCall link run → AreConveyedOrRefused opened link run → end_of_side opened link Initiator run ≡ None
     → (end : End) → end_of_side opened link Responder run ≡ Some end → ⊥
 unfolding end_of_side
-server_stays_lem opened link run opens typed laws conveyed up end down =
-    let c : EndsForCall end = first_server_end opened link run opens typed laws up end down in
+server_stays_lem opened link run opens typed laws fresh conveyed up end down =
+    let c : EndsForCall end = first_server_end opened link run opens typed laws fresh up end down in
     let far = laws_so_far_lem opened link run laws.client laws.server laws.matched in
     not_refused_lem opened link run c.1 typed far (λ p o x e. conveyed_refuses opened link run typed conveyed p c.1 o x e) (refused_at_lem opened link run typed far c.0 c.1 c.3 (down ∙ ap (λ (x : End). Some x) c.2))

@@ -12,7 +12,7 @@ use Rattle.nr_reduce.specs.declared.mark.LinkParameters.{LinkParameters}
 use Rattle.nr_reduce.specs.Events.RunEvent.{FrameReceived}
 use Rattle.nr_reduce.specs.OfferedRegions.{region_grants}
 use Rattle.nr_reduce.specs.ClientState.{ClientState}
-use Rattle.nr_reduce.specs.Client.{client_end, client_readiness, client_segment, or_message_end}
+use Rattle.nr_reduce.specs.Client.{client_end, client_readiness, client_segment, or_message_end, or_other_sizes}
 use Rattle.nr_reduce.specs.ServerState.{ServerState}
 use Rattle.nr_reduce.specs.Server.{server_end, server_readiness, or_refusal}
 
@@ -34,7 +34,7 @@ server_read opened k f behind lives = by (frame_segment f) refl
 pub bad_frame : (k : ClientState) (f : Frame) (reason : ℕ) → is_hello f ≡ false → client_segment k f ≡ Err reason → client_end k (FrameReceived f) ≡ Some (ends.Bad f.at reason)
 unfolding client_end
 bad_frame k f reason behind is =
-    ap (λ (b : Bool). cond b (hello_end (hello_of Responder f.bytes)) (or_message_end k f (frame_end_by (client_readiness k) (region_grants f.end k.regions) f (client_segment k f)))) behind
+    ap (λ (b : Bool). cond b (or_other_sizes k f (hello_end (hello_of Responder f.bytes))) (or_message_end k f (frame_end_by (client_readiness k) (region_grants f.end k.regions) f (client_segment k f)))) behind
     ∙ ap (λ (r : Result Segment ℕ). or_message_end k f (frame_end_by (client_readiness k) (region_grants f.end k.regions) f r)) is
 
 pub client_read : (k : ClientState) (f : Frame) → is_hello f ≡ false → client_end k (FrameReceived f) ≡ None → client_segment k f ≡ segment_of f.bytes

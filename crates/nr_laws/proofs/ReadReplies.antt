@@ -164,7 +164,7 @@ never_invalidated opened link run typed far at e = by_test (invalidates_another 
 
 -- On a matched link whose server hasn't ended the client ends for what a reply is, or for a denied access.
 pub client_ends_for_replies : ClientEndsForReplies
-client_ends_for_replies opened link run opens typed laws down end up = by (first_client_end opened link run opens typed laws down end up)
+client_ends_for_replies opened link run opens again typed laws down end up = by (first_client_end opened link run opens again typed laws down end up)
   where
     far : MatchedSoFar opened link run
     far = laws_so_far_lem opened link run laws.client laws.server laws.matched

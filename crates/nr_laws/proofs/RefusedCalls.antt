@@ -32,6 +32,7 @@ use Rattle.nr_laws.proofs.Basics.{none_one_lem}
 use Rattle.std.proofs.lemmas.Bool.{and_parts, not-true}
 use Rattle.nr_laws.proofs.EachEffect.{EffectCase, effect_case, read_over, whole_rule}
 use Rattle.nr_laws.proofs.EachEffect.EffectCase.{Unchanged, OfMessage, OfRead, OfRefusal, OfCall}
+use Rattle.nr_reduce.specs.ClientState.{stag_for}
 
 -- ---- The cause of an error message
 
@@ -90,7 +91,7 @@ pub record RefusedSubmit (opened : LinkParameters) (link : ℕ) (run : List Mark
 submitted_xid : (opened : LinkParameters) (link : ℕ) (run : List Mark) (index : ℕ) (message : List ℕ) (w : WasSubmitted opened link run index message) → word_at 0 message ≡ w.xid
 submitted_xid opened link run index message w =
     let fits = w.accepted.xids in
-    ap (λ (x : List ℕ). word_at 0 x) w.message_is ∙ call_xid_lem w.xid opened.wished (client opened link w.earlier).state.stag w.accepted.plan (omega (arith, fits))
+    ap (λ (x : List ℕ). word_at 0 x) w.message_is ∙ call_xid_lem w.xid opened.wished (stag_for (client opened link w.earlier).state w.xid) w.accepted.plan (omega (arith, fits))
 
 pub refused_submit : (opened : LinkParameters) (link : ℕ) (run : List Mark) → IsTyped run → AskedSoFar opened link run → Matched link run → (m : List ℕ) (s : SaidError opened (events link Responder run) m) → RefusedSubmit opened link run m s
 refused_submit opened link run typed asked matched m s = by (cause (server_by opened s.earlier) s.frame s.segment m s.is_segment s.errors)

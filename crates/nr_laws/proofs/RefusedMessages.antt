@@ -31,7 +31,7 @@ use Rattle.nr_reduce.specs.Events.{RunEvent, events}
 use Rattle.nr_reduce.specs.Events.RunEvent.{FrameReceived}
 use Rattle.nr_reduce.specs.EndRules.{EndState, end_state_after, next_end_state, next_end_state_in, next_end_state_by}
 use Rattle.nr_reduce.specs.OfferedRegions.{region_grants}
-use Rattle.nr_reduce.specs.ClientState.{ClientState, call_payload, plan_for}
+use Rattle.nr_reduce.specs.ClientState.{call_payload, plan_for, stag_for}
 use Rattle.nr_reduce.specs.ServerState.{ServerState, PendingRead, is_pending}
 use Rattle.nr_reduce.specs.ServerReads.{is_read_at}
 use Rattle.nr_reduce.specs.ServerMessages.{Verdict, verdict, by_header, chunk_bytes}
@@ -56,14 +56,17 @@ use Rattle.nr_laws.proofs.ClientRun.{WasSubmitted}
 use Rattle.nr_laws.proofs.ServerAlong.{SaidError}
 use Rattle.nr_laws.proofs.RefusedCalls.{RefusedSubmit}
 use Rattle.nr_laws.proofs.Completed.{version_not}
-use Rattle.nr_laws.proofs.OnceByXid.{at_mark, executed_at_lem}
+use Rattle.nr_laws.proofs.OnceByXid.{at_mark, executed_at_lem, before_mark}
 use Rattle.nr_laws.proofs.SubmittedPlans.{same_submit, own_submit, plan_is_lem}
 use Rattle.nr_laws.proofs.ExecutedCalls.{frame_message, received_message, live_server, live_part}
-use Rattle.nr_laws.proofs.ExecutedPayloads.{planned_by, sizes_up, sizes_down, up_limit}
+use Rattle.nr_laws.proofs.WaitingCalls.{accepted_stags, accepted_plan}
 use Rattle.nr_laws.proofs.ConveyedCalls.{planned_fits, plan_reads}
 use Rattle.nr_laws.proofs.PendingReads.{HasPosition, IsOwn}
 use Rattle.nr_laws.proofs.KeptAtServer.{kept_at_server}
 use Rattle.nr_laws.proofs.OwnPlans.{own_found}
+use Rattle.nr_reduce.specs.Asked.{IsPlannedAs, AskedMark, AskedSoFar, IsAccepted}
+use Rattle.nr_reduce.specs.StandingLaws.{xid_of_send}
+use Rattle.nr_reduce.specs.Matched.{IsPrefixOf}
 
 -- ---- A list of one position suits any stream, if that position is 0
 
@@ -119,26 +122,28 @@ tested k message e = by (not (eqb (word_at 4 message) 1)) refl (eqb (word_at 12 
         }
 
 -- the message of a plan has the fixed words
-pub long_enough : (opened : LinkParameters) (k : ClientState) (xid : ℕ) (call : Call) (form : Form) (plan : Plan) → plan_for k xid call form ≡ Ok plan → 16 ≤ length (call_message xid opened.wished k.stag plan)
-long_enough opened k xid call form plan is = (planned_message k xid opened.wished k.stag call form plan is).0
+pub long_enough : (opened : LinkParameters) (stag xid : ℕ) (call : Call) (form : Form) (plan : Plan) → IsPlannedAs xid call form plan → 16 ≤ length (call_message xid opened.wished stag plan)
+long_enough opened stag xid call form plan p = (planned_message xid opened.wished stag call form plan p).0
 
 -- ---- The message of a Send that is refused
+
+-- its client kept its law until then
+asked_before : (opened : LinkParameters) (link : ℕ) (run : List Mark) {index : ℕ} {message : List ℕ} → MatchedSoFar opened link run → (w : WasSubmitted opened link run index message) → AskedSoFar opened link w.earlier
+asked_before opened link run {index} {message} far w = before_mark (AskedMark IsPrefixOf opened link) run w.earlier (marks.Submit link w.call w.form (submissions.Accepted w.xid)) w.later w.is far.asked
 
 -- two Sends with one number have one message
 same_message : (opened : LinkParameters) (link : ℕ) (run : List Mark) (index other : ℕ) (message again : List ℕ) → MatchedSoFar opened link run → index ≡ other → WasSubmitted opened link run index message → WasSubmitted opened link run other again → message ≡ again
 same_message opened link run index other message again far same v w =
-    let a = accepted_follows opened link v.earlier _ _ _ v.accepted in
-    let b = accepted_follows opened link w.earlier _ _ _ w.accepted in
-    let c = v.counted in
-    let d = w.counted in
-    let xids : v.xid ≡ w.xid = omega (arith, a, b, c, d, same) in
+    let a = accepted_follows opened link v.earlier _ _ _ (asked_before opened link run far v) v.accepted in
+    let b = accepted_follows opened link w.earlier _ _ _ (asked_before opened link run far w) w.accepted in
+    let xids : v.xid ≡ w.xid = a ∙ ap (xid_of_send opened) (let c = v.counted in let d = w.counted in omega (arith, c, d, same)) ∙ sym b in
     let s = same_submit opened link run v.earlier w.earlier v.later w.later v.call w.call v.form w.form v.xid w.xid far.asked xids v.is w.is in
     let m = s.mark in
     let calls : v.call ≡ w.call = cc in
     let forms : v.form ≡ w.form = cc in
     let plans : v.accepted.plan ≡ w.accepted.plan = plan_is_lem v.accepted.plan w.accepted.plan (plan_for (client opened link w.earlier).state w.xid w.call w.form)
     ((λ i. plan_for (client opened link (sym s.place i)).state (sym xids i) (sym calls i) (sym forms i)) ∙ v.accepted.planned) w.accepted.planned in
-    v.message_is ∙ (λ i. call_message (xids i) opened.wished (client opened link (s.place i)).state.stag (plans i)) ∙ sym w.message_is
+    v.message_is ∙ (λ i. call_message (xids i) opened.wished (stag_for (client opened link (s.place i)).state (xids i)) (plans i)) ∙ sym w.message_is
 
 pub refused_message : (opened : LinkParameters) (link : ℕ) (run : List Mark) (m : List ℕ) → IsTyped run → MatchedSoFar opened link run → (s : SaidError opened (events link Responder run) m) → (r : RefusedSubmit opened link run m s)
     → HasRefusedMessage opened link run r.submitted.xid
@@ -157,13 +162,13 @@ refused_message opened link run m typed far s r = record {
     words : (index : ℕ) (message : List ℕ) (w : WasSubmitted opened link run index message) → word_at 4 message ≡ 1
     words index message w =
         let fits = w.accepted.xids in
-        ap (λ (x : List ℕ). word_at 4 x) w.message_is ∙ (call_words_lem w.xid opened.wished (client opened link w.earlier).state.stag w.accepted.plan (omega (arith, fits))).version
+        ap (λ (x : List ℕ). word_at 4 x) w.message_is ∙ (call_words_lem w.xid opened.wished (stag_for (client opened link w.earlier).state w.xid) w.accepted.plan (omega (arith, fits))).version
 
     by : RefusesSend k s.frame s.segment (r.index + 1) → IsRefusedMessage r.message
     by (inl (message, (whole, (number, inl bad)))) =
         let w = frame_message opened link run typed far.asked far.matched s.earlier s.frame s.later s.segment message s.is s.behind s.is_segment whole s.live in
         let t = tested k message bad in
-        let long : 16 ≤ length message = subst (λ (x : List ℕ). 16 ≤ length x) (sym w.message_is) (long_enough opened (client opened link w.earlier).state w.xid w.call w.form w.accepted.plan w.accepted.planned) in
+        let long : 16 ≤ length message = subst (λ (x : List ℕ). 16 ≤ length x) (sym w.message_is) (long_enough opened (stag_for (client opened link w.earlier).state w.xid) w.xid w.call w.form w.accepted.plan (accepted_plan opened link w.earlier w.call w.form w.xid w.accepted.plan w.accepted w.accepted.planned)) in
         subst IsRefusedMessage (same_message opened link run k.received.sends r.index message r.message far (omega (arith, number)) w own)
         ((bad_refused k message long t.version t.done t.error t.free).0 bad)
     by (inl (message, (whole, (number, inr other)))) =
@@ -172,13 +177,13 @@ refused_message opened link run m typed far s r = record {
     by (inr (c, (h, number))) =
         let known = each_found (IsReceivedCall opened s.earlier) h.read.number k.calls c (known_from opened [] s.earlier (record { calls = tt; ready = tt })).calls h.call in
         let w = received_message opened link run typed far.asked far.matched c (FrameReceived s.frame ∷ s.later) s.earlier s.is known s.live in
-        let stag = (client opened link w.earlier).state.stag in
+        let stag = (stag_for (client opened link w.earlier).state w.xid) in
         let p = w.accepted.plan in
         let fits_xid = w.accepted.xids in
-        let stags = w.accepted.stags in
+        let stags = accepted_stags opened link w.earlier w.call w.form w.xid w.accepted in
         let bytes = at_mark TypedMark run w.earlier (marks.Submit link w.call w.form (submissions.Accepted w.xid)) w.later w.is typed in
-        let formed = planned_by opened link w.earlier w.xid w.call w.form p w.accepted.planned in
-        let fine = planned_fits (call_payload w.xid w.call) w.form (sizes_up opened link w.earlier) (sizes_down opened link w.earlier) stag p (up_limit opened link w.earlier) formed bytes.0 bytes.1 (omega (arith, stags)) in
+        let formed = accepted_plan opened link w.earlier w.call w.form w.xid p w.accepted w.accepted.planned in
+        let fine = planned_fits (call_payload w.xid w.call) w.form formed.up formed.down stag p formed.up_fits formed.planned bytes.0 bytes.1 (omega (arith, stags)) in
         let reads = plan_reads w.xid opened.wished stag p known.header fine.0 fine.1 (omega (arith, fits_xid)) (ap header_of (sym w.message_is) ∙ known.is_header) in
         let read = ap (λ (l : ChunkLists). l.read) (known.lists ∙ reads.lists) in
         let kept = kept_at_server opened link run typed far.served s.earlier (FrameReceived s.frame ∷ s.later) s.is in
@@ -255,10 +260,11 @@ refused_not_executed opened link run before xid moment payload place reply typed
     let k = server_by opened own.earlier in
     let same = own_submit opened link run before mark at.after xid m.plan far.asked at.is has w.earlier w.later w.call w.form w.xid w.is w.accepted s.own_xid in
     let x = s.own_xid in
-    let is : own.message ≡ call_message xid opened.wished (client opened link has.before).state.stag m.plan =
-    w.message_is ∙ (λ i. call_message (x i) opened.wished (client opened link (same.place i)).state.stag (same.plan_is i)) in
+    let is : own.message ≡ call_message xid opened.wished (stag_for (client opened link has.before).state xid) m.plan =
+    w.message_is ∙ (λ i. call_message (x i) opened.wished (stag_for (client opened link (same.place i)).state (x i)) (same.plan_is i)) in
     let small = w.accepted.xids in
-    let words = call_words_lem xid opened.wished (client opened link has.before).state.stag m.plan (omega (arith, small, x)) in
+    let words = call_words_lem xid opened.wished (stag_for (client opened link has.before).state xid) m.plan (omega (arith, small, x)) in
+    let accepted : IsAccepted opened link has.before has.call has.form xid = at_mark (AskedMark IsPrefixOf opened link) run has.before (marks.Submit link has.call has.form (submissions.Accepted xid)) has.at.after has.at.is far.asked refl in
     let live = live_server opened link before a.executed.call a.executed.is_next in
     let first : s.was.earlier ++ FrameReceived s.was.frame ∷ [] ≡ own.earlier ++ FrameReceived own.frame ∷ own.later = own.is_received in
     let all : events link Responder before ≡ (own.earlier ++ FrameReceived own.frame ∷ []) ++ (own.later ++ s.was.later) =
@@ -270,7 +276,7 @@ refused_not_executed opened link run before xid moment payload place reply typed
     let stays = stays_at opened own.earlier (FrameReceived own.frame) ago then in
     let bad : verdict k own.message ≡ BadChunks =
     must_be_bad opened k own.frame own.segment own.message own.behind_hello own.is_segment own.whole stays
-    (subst (λ (y : List ℕ). 16 ≤ length y) (sym is) (long_enough opened (client opened link has.before).state xid has.call has.form m.plan has.planned))
+    (subst (λ (y : List ℕ). 16 ≤ length y) (sym is) (long_enough opened (stag_for (client opened link has.before).state xid) xid has.call has.form m.plan (accepted_plan opened link has.before has.call has.form xid m.plan accepted has.planned)))
     (ap (λ (y : List ℕ). word_at 4 y) is ∙ words.version) (subst (λ (y : List ℕ). word_at 12 y ≤ 1) (sym is) words.kind) (subst IsRefusedMessage (sym is) m.refused) in
     let number = s.number in
     let counted = w.counted in

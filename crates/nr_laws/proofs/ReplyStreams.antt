@@ -1,5 +1,5 @@
 -- An answer brings a reply, or nothing: its kind is that of a message with a stream, in it or in chunks.
-use Rattle.std.proofs.Common.{◌≡◌, ℕ, ◌+◌, ◌<◌, Bool, true, false, cond, eqb, ltb, List, [], ◌++◌, length, drop, Option, None, Some, Result, Ok, Err, sym, ap, subst, ◌∙◌, arith, append_assoc}
+use Rattle.std.proofs.Common.{◌≡◌, ℕ, ◌<◌, Bool, true, false, cond, eqb, ltb, List, [], ◌++◌, length, drop, Option, None, Some, Result, Ok, Err, sym, ap, subst, ◌∙◌, arith, append_assoc}
 use Rattle.nr_xdr.specs.Item.{word}
 use Rattle.nr_xdr.specs.Fields.{word_at}
 use Rattle.nr_xdr.specs.Reading.{Cursor}

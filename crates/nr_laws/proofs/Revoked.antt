@@ -18,8 +18,8 @@ use Rattle.nr_reduce.specs.Events.RunEvent.{FrameReceived, CallSubmitted, Memory
 use Rattle.nr_reduce.specs.EndRules.{EndState, next_end_state, next_end_state_by, next_end_state_in, end_state_after}
 use Rattle.nr_reduce.specs.OfferedRegions.{Region, until_or, until_at, region_grant, closed_if, regions_closed}
 use Rattle.nr_reduce.specs.Plans.{Buffer, buffers}
-use Rattle.nr_reduce.specs.ClientState.{ClientState}
-use Rattle.nr_reduce.specs.Client.{client_segment, client_rules, client_end, client_state_after, outstanding_of, region_of, with_message, with_request, with_segment, with_hello, due_with_response}
+use Rattle.nr_reduce.specs.ClientState.{ClientState, region_of, WaitingCall, waiting_call, waiting_from, waiting_regions}
+use Rattle.nr_reduce.specs.Client.{client_segment, client_rules, client_end, client_state_after, outstanding_of, with_message, with_request, with_segment, with_hello, due_with_response, regions_unless_waiting}
 use Rattle.nr_reduce.specs.Run.{client}
 use Rattle.nr_reduce.proofs.OwnStags.{AreNumbered}
 use Rattle.nr_reduce.proofs.Steps.{client_one}
@@ -143,7 +143,11 @@ until_event opened n k (FrameReceived f) by h = by_hello (is_hello f)
     by_hello : (b : Bool) → UntilBy n (cond b (with_hello opened k f) (with_segment k f (client_segment k f))).regions
     by_hello true = h
     by_hello false = frame_regions (UntilBy n) k f (λ test g. until_closed test f.end n k.regions by g) h (client_segment k f)
-until_event opened n k (CallSubmitted q a) by h = until_append n k.regions (map (region_of a.xid q) (buffers k.stag (outstanding_of k a).plan)) h (until_new n a.xid q (buffers k.stag (outstanding_of k a).plan))
+until_event opened n k (CallSubmitted q a) by h = until_append n k.regions (regions_unless_waiting (waiting_call k a.xid) q (outstanding_of k a)) h (new_until (waiting_call k a.xid))
+  where
+    new_until : (w : Option WaitingCall) → UntilBy n (regions_unless_waiting w q (outstanding_of k a))
+    new_until None = until_new n a.xid q (buffers (outstanding_of k a).stag (outstanding_of k a).plan)
+    new_until (Some w) = tt
 until_event opened n k (MemoryRevoked q xid) by h = until_closed (λ r. eqb r.call xid) q n k.regions by h
 until_event opened n k (CallExecuted e) by h = h
 until_event opened n k (QueueWritten taken) by h = h
@@ -206,7 +210,12 @@ until_from opened link before (mark ∷ run) h =
     subst (λ (r : EndState ClientState). UntilBy n r.state.regions) (sym (client_one opened link before mark)) (until_all opened n (client opened link before) (events_at link Initiator before mark) (mark_by link before mark) more) in
     subst (λ (b : List Mark). UntilBy (length (bytes_received link Initiator b)) (client opened link b).state.regions) (append_assoc before (mark ∷ []) run) (until_from opened link (before ++ mark ∷ []) run next)
 
+-- those of calls that wait to be sent again are open at first
+until_first : (n : ℕ) (ws : List WaitingCall) → UntilBy n (waiting_regions ws)
+until_first n [] = tt
+until_first n (w ∷ ws) = until_append n (map (region_of w.xid 0) (buffers w.stag w.plan)) (waiting_regions ws) (until_new n w.xid 0 (buffers w.stag w.plan)) (until_first n ws)
+
 -- each lifetime that ended had ended by then
 pub until_run : (opened : LinkParameters) (link : ℕ) (run : List Mark) → UntilBy (length (bytes_received link Initiator run)) (client opened link run).state.regions
 unfolding client events
-until_run opened link run = until_from opened link [] run tt
+until_run opened link run = until_from opened link [] run (until_first (length (bytes_received link Initiator [])) (waiting_from opened.first_stag opened.resumed))

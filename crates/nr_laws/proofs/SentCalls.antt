@@ -117,7 +117,7 @@ HasSend opened sends o = slice_get sends o.send ≡ Some (sent_call_item opened 
 record SendsAreDue (opened : LinkParameters) (place : ℕ) (k : ClientState) (sends : List OutputItem) : Type 0 where
   greeted : HasHello place k.has_hello
   silent : k.has_hello ≡ false → sends ≡ []
-  waiting : k.has_hello ≡ false → NumberedBy (λ (o : OutstandingCall). o.send) 0 k.outstanding × (length k.outstanding ≡ k.sends)
+  waiting : k.has_hello ≡ false → NumberedBy (λ (o : OutstandingCall). o.send) (λ n. n) 0 k.outstanding × (length k.outstanding ≡ k.sends)
   count : k.has_hello ≡ true → length sends ≡ k.sends
   own : k.has_hello ≡ true → AllByRecursion (HasSend opened sends) k.outstanding
 
@@ -132,14 +132,14 @@ calls_count : (opened : LinkParameters) (n : ℕ) (os : List OutstandingCall) �
 calls_count opened n [] = refl
 calls_count opened n (o ∷ os) = ap (λ (m : ℕ). suc m) (calls_count opened (n + 1) os)
 
-hello_sends : (opened : LinkParameters) (front : List OutputItem) (os : List OutstandingCall) → NumberedBy (λ (o : OutstandingCall). o.send) (length front) os → AllByRecursion (HasSend opened (front ++ sent_call_items opened (length front + 1) os)) os
+hello_sends : (opened : LinkParameters) (front : List OutputItem) (os : List OutstandingCall) → NumberedBy (λ (o : OutstandingCall). o.send) (λ n. n) (length front) os → AllByRecursion (HasSend opened (front ++ sent_call_items opened (length front + 1) os)) os
 hello_sends opened front [] h = tt
 hello_sends opened front (o ∷ os) h =
     let at : o.send ≡ length front = h.0 in
     let x : OutputItem = sent_call_item opened (length front + 1) o in
     let l : length (front ++ x ∷ []) ≡ length front + 1 = length-append front (x ∷ []) in
     let rest : AllByRecursion (HasSend opened ((front ++ x ∷ []) ++ sent_call_items opened (length (front ++ x ∷ []) + 1) os)) os =
-    hello_sends opened (front ++ x ∷ []) os (subst (λ (n : ℕ). NumberedBy (λ (o : OutstandingCall). o.send) n os) (sym l) h.1) in (
+    hello_sends opened (front ++ x ∷ []) os (subst (λ (n : ℕ). NumberedBy (λ (o : OutstandingCall). o.send) (λ n. n) n os) (sym l) h.1) in (
       (λ i. slice_get (front ++ sent_call_items opened (length front + 1) (o ∷ os)) (at i)) ∙ get_first front x (sent_call_items opened (length front + 1 + 1) os) ∙ ap (λ (n : ℕ). Some (sent_call_item opened (n + 1) o)) (sym at),
       subst (λ (xs : List OutputItem). AllByRecursion (HasSend opened xs) os) (append_assoc front (x ∷ []) (sent_call_items opened (length (front ++ x ∷ []) + 1) os) ∙ ap (λ (n : ℕ). front ++ x ∷ sent_call_items opened (n + 1) os) l) rest,
     )
@@ -262,7 +262,7 @@ submit_step opened place p k a sends h = by k.has_hello refl
         record {
           greeted = h.greeted;
           silent = λ quiet. append-nil sends ∙ h.silent quiet;
-          waiting = λ quiet. (numbered_push (λ (y : OutstandingCall). y.send) 0 k.outstanding o w.0 (omega (arith, accepted)), omega (arith, more, accepted));
+          waiting = λ quiet. (numbered_push (λ (y : OutstandingCall). y.send) (λ n. n) 0 k.outstanding o w.0 (omega (arith, accepted)), omega (arith, more, accepted));
           count = λ wrong. clash k.has_hello wrong is;
           own = λ wrong. clash k.has_hello wrong is;
         }
@@ -283,7 +283,7 @@ event_step opened place k (MemoryRevoked p xid) items next good h =
     subst (SendsAreDue opened place (client_state_after opened k (MemoryRevoked p xid))) (sym same) (record {
       greeted = h.greeted;
       silent = h.silent;
-      waiting = λ quiet. (let w = h.waiting quiet in let accepted = w.1 in (numbered_map (λ (o : OutstandingCall). o.send) (revoked_call xid) 0 k.outstanding (revoked_send xid) w.0, omega (arith, size, accepted)));
+      waiting = λ quiet. (let w = h.waiting quiet in let accepted = w.1 in (numbered_map (λ (o : OutstandingCall). o.send) (revoked_call xid) (λ n. n) 0 k.outstanding (revoked_send xid) w.0, omega (arith, size, accepted)));
       count = h.count;
       own = λ is_so. has_revoked opened (send_items items) xid k.outstanding (h.own is_so);
     })

@@ -10,7 +10,7 @@ use Rattle.nr_reduce.specs.declared.call.Submission.TheVariants as submissions
 use Rattle.nr_reduce.specs.declared.mark.Mark.{Mark}
 use Rattle.nr_reduce.specs.declared.mark.Mark.TheVariants as marks
 use Rattle.nr_reduce.specs.declared.mark.Told.{Told}
-use Rattle.nr_reduce.specs.declared.mark.Told.TheVariants.{Granted}
+use Rattle.nr_reduce.specs.declared.mark.Told.TheVariants.{Granted, Old}
 use Rattle.nr_reduce.specs.declared.mark.LinkParameters.{LinkParameters}
 use Rattle.nr_reduce.specs.History.{bytes_received, same_side}
 use Rattle.nr_reduce.specs.AtEachMark.{AtEachMark}
@@ -26,6 +26,7 @@ use Rattle.nr_reduce.specs.Served.{ToldInRange, ServedMark, ServedSoFar}
 use Rattle.nr_reduce.specs.Run.{server}
 use Rattle.nr_reduce.specs.RunLaws.{server_by}
 use Rattle.nr_reduce.proofs.Steps.{server_one}
+use Rattle.nr_reduce.proofs.ToldCredits.{told_in_range}
 use Rattle.nr_laws.specs.Grant.{granted_at, last_granted, ServerGrantsInRange, ServerGrantsWhatIsSet}
 use Rattle.nr_laws.proofs.EachRun.{server_unended}
 
@@ -79,8 +80,9 @@ GrantsWithin opened (CallExecuted e) = Unit {0}
 GrantsWithin opened (QueueWritten taken) = Unit {0}
 GrantsWithin opened (ServerTold what) = ToldInRange opened what
 
-told_range : (opened : LinkParameters) (what : Told) → ToldInRange opened what → (1 ≤ credit_told what) × (credit_told what ≤ opened.granted)
-told_range opened (Granted credits) h = h
+keeps_told : (opened : LinkParameters) (k : ServerState) (what : Told) → ToldInRange opened what → KeepsCredits opened k → KeepsCredits opened (record k { credit = credit_told k.credit what })
+keeps_told opened k (Granted credits) range h = record { least = range.0; most = range.1 }
+keeps_told opened k (Old xid at) range h = record { least = h.least; most = h.most }
 
 credits_after : (opened : LinkParameters) (k : ServerState) (e : RunEvent) → GrantsWithin opened e → KeepsCredits opened k → KeepsCredits opened (server_state_after opened k e)
 unfolding server_state_after
@@ -93,7 +95,7 @@ credits_after opened k (CallSubmitted p a) within h = h
 credits_after opened k (MemoryRevoked p xid) within h = h
 credits_after opened k (CallExecuted e) within h = record { least = h.least; most = h.most }
 credits_after opened k (QueueWritten taken) within h = record { least = h.least; most = h.most }
-credits_after opened k (ServerTold what) within h = (let range = told_range opened what within in record { least = range.0; most = range.1 })
+credits_after opened k (ServerTold what) within h = keeps_told opened k what within h
 
 credits_next : (opened : LinkParameters) (r : EndState ServerState) (e : RunEvent) → GrantsWithin opened e → KeepsCredits opened r.state → KeepsCredits opened (next_end_state (server_rules opened) r e).state
 credits_next opened r e within h = by r.ended
@@ -135,7 +137,7 @@ mark_within opened link before (marks.Drop l) h = tt
 mark_within opened link before (marks.Told l what) h = by (eqb l link) refl
   where
     by : (b : Bool) → eqb l link ≡ b → AllByRecursion (GrantsWithin opened) (if_own (b && true) (ServerTold what ∷ []))
-    by true is = (h (eqb-true l link is), tt)
+    by true is = (told_in_range opened link before what (h (eqb-true l link is)), tt)
     by false is = tt
 
 -- ---- A run
@@ -226,6 +228,19 @@ told_one : (opened : LinkParameters) (r : EndState ServerState) (n : ℕ) → r.
 unfolding server_end server_state_after
 told_one opened r n stays = ap (λ (o : Option End). (next_end_state_in (server_rules opened) r.state (ServerTold (Granted n)) o).state.credit) stays
 
+-- an old call ends the server, or changes nothing
+told_old : (opened : LinkParameters) (r : EndState ServerState) (xid at : ℕ) → (end_state_after (server_rules opened) r (ServerTold (Old xid at) ∷ [])).state.credit ≡ r.state.credit
+unfolding server_state_after
+told_old opened r xid at = by r.ended
+  where
+    by_why : (o : Option End) → (next_end_state_by (server_rules opened) r.state (ServerTold (Old xid at)) o).state.credit ≡ r.state.credit
+    by_why None = refl
+    by_why (Some end) = refl
+
+    by : (o : Option End) → (next_end_state_in (server_rules opened) r.state (ServerTold (Old xid at)) o).state.credit ≡ r.state.credit
+    by None = by_why (server_end opened r.state (ServerTold (Old xid at)))
+    by (Some end) = refl
+
 set_mark : (opened : LinkParameters) (link : ℕ) (before : List Mark) (mark : Mark) → (server opened link before).ended ≡ None → (server opened link (before ++ mark ∷ [])).state.credit ≡ granted_at link (server opened link before).state.credit mark
 set_mark opened link before mark stays = ap (λ (r : EndState ServerState). r.state.credit) (server_one opened link before mark) ∙ by mark
   where
@@ -235,6 +250,10 @@ set_mark opened link before mark stays = ap (λ (r : EndState ServerState). r.st
     by_link : (n : ℕ) (b : Bool) → (end_state_after (server_rules opened) r (if_own (b && true) (ServerTold (Granted n) ∷ []))).state.credit ≡ cond b n r.state.credit
     by_link n true = told_one opened r n stays
     by_link n false = refl
+
+    by_old : (xid at : ℕ) (b : Bool) → (end_state_after (server_rules opened) r (if_own (b && true) (ServerTold (Old xid at) ∷ []))).state.credit ≡ r.state.credit
+    by_old xid at true = told_old opened r xid at
+    by_old xid at false = refl
 
     by : (m : Mark) → (end_state_after (server_rules opened) r (events_at link Responder before m)).state.credit ≡ granted_at link r.state.credit m
     by (marks.Fed l s bytes) = same_all opened r _ (own_others (eqb l link && same_side s Responder) _ (frames_others (frames_completed Initiator (bytes_received link Responder before) bytes)))
@@ -249,6 +268,7 @@ set_mark opened link before mark stays = ap (λ (r : EndState ServerState). r.st
     by (marks.Forget l xid) = refl
     by (marks.Drop l) = refl
     by (marks.Told l (Granted n)) = by_link n (eqb l link)
+    by (marks.Told l (Old xid at)) = by_old xid at (eqb l link)
 
 set_from : (opened : LinkParameters) (link : ℕ) (before run : List Mark) (credits : ℕ) → (server opened link (before ++ run)).ended ≡ None → (server opened link before).state.credit ≡ credits → (server opened link (before ++ run)).state.credit ≡ last_granted link credits run
 set_from opened link before [] credits stays is = ap (λ (r : List Mark). (server opened link r).state.credit) (append-nil before) ∙ is

@@ -1,5 +1,5 @@
 -- A server that has its client's own hello is not rejected later: the reasons of its later frames are others than those of a hello.
-use Rattle.std.proofs.Common.{◌≡◌, ℕ, ◌≤◌, Bool, true, false, cond, eqb, List, Option, None, Some, Result, Ok, Err, sym, ap, subst, ◌∙◌, arith}
+use Rattle.std.proofs.Common.{◌≡◌, ℕ, ◌≤◌, Bool, true, false, cond, eqb, List, [], ◌∷◌, Option, None, Some, Result, Ok, Err, refl, sym, ap, subst, ◌∙◌, arith}
 use Rattle.nr_rpc.specs.declared.head.CallHead.{CallHead}
 use Rattle.nr_rpc.specs.Reading.{call_of, head_xid}
 use Rattle.nr_regions.specs.declared.denied.Denied.{Denied}
@@ -15,13 +15,16 @@ use Rattle.nr_link.specs.SegmentFaults.SegmentReason.{Reason, NoBuffer, AccessDe
 use Rattle.nr_link.specs.Ending.{access_of, denied_at, frame_segment, frame_end, frame_end_by, end_of_fault, hello_end, missing_access}
 use Rattle.nr_reduce.specs.declared.mark.LinkParameters.{LinkParameters}
 use Rattle.nr_reduce.specs.OfferedRegions.{region_grants}
-use Rattle.nr_reduce.specs.Events.RunEvent.{FrameReceived}
-use Rattle.nr_reduce.specs.ServerState.{ServerState, PendingCall}
+use Rattle.nr_reduce.specs.Events.RunEvent.{FrameReceived, ServerTold}
+use Rattle.nr_reduce.specs.declared.mark.Told.{Told}
+use Rattle.nr_reduce.specs.declared.mark.Told.TheVariants.{Granted, Old}
+use Rattle.nr_reduce.specs.ServerState.{ServerState, PendingCall, ReadyCall}
 use Rattle.nr_reduce.specs.ServerMessages.{Verdict, CallVerdict, verdict, by_head, by_payload, pending_payload}
 use Rattle.nr_reduce.specs.ServerMessages.Verdict.{EndsLink, OtherVersion, BadChunks, MakesPending}
 use Rattle.nr_reduce.specs.ServerMessages.CallVerdict.{Refuses, IsReady}
 use Rattle.nr_reduce.specs.ServerFrames.{FrameEffect, with_verdict, frame_effect}
-use Rattle.nr_reduce.specs.Server.{server_end, or_refusal, refusal_end, server_readiness}
+use Rattle.nr_reduce.specs.Server.{server_end, or_refusal, refusal_end, server_readiness, old_end, told_end}
+use Rattle.nr_link.specs.Reasons.{REASON_OLD}
 use Rattle.nr_laws.proofs.Brought.{IsHelloFrame}
 use Rattle.nr_laws.proofs.EachEffect.{each_verdict, each_effect}
 use Rattle.nr_laws.proofs.EachFault.{OfReason, each_fault}
@@ -122,3 +125,33 @@ unfolding server_end
 hello_goes opened k f first read =
     ap (λ (b : Bool). cond b (hello_end (hello_of Initiator f.bytes)) (or_refusal k f (frame_end (server_readiness opened k) (region_grants f.end k.regions) f))) first
     ∙ ap hello_end read.says
+
+-- ---- A call that is old
+
+pub told_big : (k : ServerState) (what : Told) → BigEnd (told_end k what)
+told_big k (Granted credits) = tt
+told_big k (Old xid at) = by k.ready
+  where
+    by : (ready : List ReadyCall) → BigEnd (old_end at ready)
+    by [] = tt
+    by (r ∷ ready) = omega arith
+
+-- it ends a server only if a call is ready
+pub record EndsAsOld (k : ServerState) (end : Stop) : Type 0 where
+  pub call : ReadyCall
+  pub others : List ReadyCall
+  pub is_next : k.ready ≡ call ∷ others
+  pub at : ℕ
+  pub is : end ≡ ends.Bad at REASON_OLD
+
+pub ends_as_old : (k : ServerState) (what : Told) (end : Stop) → told_end k what ≡ Some end → EndsAsOld k end
+ends_as_old k (Granted credits) end e = absurd cc
+ends_as_old k (Old xid at) end e = by k.ready refl e
+  where
+    by : (ready : List ReadyCall) → k.ready ≡ ready → old_end at ready ≡ Some end → EndsAsOld k end
+    by [] own e = absurd cc
+    by (r ∷ ready) own e = record { call = r; others = ready; is_next = own; at = at; is = (let same : ends.Bad at REASON_OLD ≡ end = cc in sym same) }
+
+pub stopped_as_old : (opened : LinkParameters) (k : ServerState) (what : Told) (end : Stop) → server_end opened k (ServerTold what) ≡ Some end → EndsAsOld k end
+unfolding server_end
+stopped_as_old opened k what end e = ends_as_old k what end e

@@ -37,7 +37,9 @@ use Rattle.nr_laws.proofs.Completions.{completed_by, completed_from, begun_from,
 use Rattle.nr_laws.proofs.Memory.{Part, parts_out, out_append}
 use Rattle.nr_laws.proofs.ClientAlong.{final_words}
 use Rattle.nr_laws.proofs.ServerOutputs.{CallsFit, IsFine, fine_frame, AreFine, fine_effect, fine_answer, tagged_answer, CallFits}
-use Rattle.nr_laws.proofs.ServerEnds.{BigEnd, segment_ends, hello_goes}
+use Rattle.nr_laws.proofs.ServerEnds.{BigEnd, segment_ends, hello_goes, stopped_as_old}
+use Rattle.nr_link.specs.Reasons.{REASON_OLD}
+use Rattle.nr_reduce.specs.declared.mark.Told.{Told}
 use Rattle.nr_laws.proofs.PlainOutputs.{plain_message, plain_effect, names_none_at}
 use Rattle.nr_laws.proofs.SegmentedMessages.{last_segment_names}
 use Rattle.nr_laws.proofs.ServerAlong.{IsGoodExecution, ServerGood, SaidBy, is_live, outs_of, at_most_lem, nothing_at, Greeted, greeted_more, Shape, ServerTells, Grows, grown}
@@ -327,6 +329,42 @@ same_shape : (place : ℕ) (r t : EndState ServerState) (outs : List Output) →
 same_shape place r t outs ready ended (inl h) = inl (h.0, append-nil outs ∙ h.1, ready ∙ h.2, ended ∙ h.3)
 same_shape place r t outs ready ended (inr h) = inr (h.0, subst Greeted (sym (append-nil outs)) h.1)
 
+-- what a server is told has no output, or an old call ends it
+told_step : (opened : LinkParameters) (es : List RunEvent) (place : ℕ) (k : ServerState) (outs : List Output) (what : Told)
+    → ServerTells opened es place (record { state = k; ended = None }) outs → (o : Option Stop) → server_end opened k (ServerTold what) ≡ o
+    → Grows opened es place (record { state = k; ended = None }) outs (ServerTold what) (outputs_by (server_rules opened) (server_says opened) server_final_outputs k (ServerTold what) o)
+unfolding server_says server_output server_state_after
+told_step opened es place k outs what t (Some end) stops =
+    let rules = server_rules opened in
+    let same : next_end_state rules (record { state = k; ended = None }) (ServerTold what) ≡ record { state = k; ended = Some end } = ap (λ (o : Option Stop). next_end_state_by rules k (ServerTold what) o) stops in
+    let old = stopped_as_old opened k what end stops in
+    let there = ready_shape place k outs old.call old.others old.is_next t.shape in
+    let words = server_final_words end (subst (λ (x : Stop). BigEnd (Some x)) (sym old.is) (let big : 5 ≤ REASON_OLD = omega arith in big)) in
+    let none = server_final_none end in
+    record {
+      outputs = ap (λ (o : Option Stop). outputs_by rules (server_says opened) server_final_outputs k (ServerTold what) o) stops;
+      said = ap (λ (o : Option Stop). output_for_by rules k (ServerTold what) o) stops ∙ server_final_said end;
+      begun = subst (λ (r : EndState ServerState). IsBytes (begun_bytes r.state.received.begun)) (sym same) t.begun;
+      fit = subst (λ (r : EndState ServerState). CallsFit r.state.calls) (sym same) t.fit;
+      shape = inr (there.0, greeted_more outs (server_final_outputs end) there.1 words);
+      none_begun = none.begun;
+      cause = λ pre s post m is one. no_cause_lem (server_final_outputs end) pre s post m none.completed is one;
+    }
+told_step opened es place k outs what t None stays =
+    let rules = server_rules opened in
+    let same : next_end_state rules (record { state = k; ended = None }) (ServerTold what) ≡ record { state = server_state_after opened k (ServerTold what); ended = None } =
+    ap (λ (o : Option Stop). next_end_state_by rules k (ServerTold what) o) stays in
+    record {
+      outputs = ap (λ (o : Option Stop). outputs_by rules (server_says opened) server_final_outputs k (ServerTold what) o) stays;
+      said = ap (λ (o : Option Stop). output_for_by rules k (ServerTold what) o) stays;
+      begun = subst (λ (r : EndState ServerState). IsBytes (begun_bytes r.state.received.begun)) (sym same) t.begun;
+      fit = subst (λ (r : EndState ServerState). CallsFit r.state.calls) (sym same) t.fit;
+      shape = subst (λ (r : EndState ServerState). Shape place r (outs ++ [])) (sym same)
+          (same_shape place (record { state = k; ended = None }) (record { state = server_state_after opened k (ServerTold what); ended = None }) outs refl refl t.shape);
+      none_begun = refl;
+      cause = λ pre s post m is one. no_cause_lem [] pre s post m refl is one;
+    }
+
 pub server_step : (opened : LinkParameters) (es : List RunEvent) (place : ℕ) (k : ServerState) (ended : Option Stop) (outs : List Output) (e : RunEvent) → IsNext place e → ServerGood (record { state = k; ended = ended }) e
     → ServerTells opened es place (record { state = k; ended = ended }) outs
     → ServerTells opened (es ++ e ∷ []) (place_after place e) (next_end_state (server_rules opened) (record { state = k; ended = ended }) e) (outs ++ outputs_for (server_rules opened) (server_says opened) server_final_outputs (record { state = k; ended = ended }) e)
@@ -343,8 +381,9 @@ server_step opened es place k None outs (CallExecuted e) next good t =
     grown opened es place (record { state = k; ended = None }) outs (CallExecuted e) (answer_outputs k e.xid (offer_of k e.xid) (answer_of_call k e)) t (executed_step opened es place k outs e good t (answer_of_call k e) refl)
 server_step opened es place k None outs (QueueWritten taken) next good t = grown opened es place (record { state = k; ended = None }) outs (QueueWritten taken) [] t
     (record { outputs = refl; said = refl; begun = t.begun; fit = t.fit; shape = same_shape place (record { state = k; ended = None }) (record { state = server_state_after opened k (QueueWritten taken); ended = None }) outs refl refl t.shape; none_begun = refl; cause = λ pre s post m is one. no_cause_lem [] pre s post m refl is one })
-server_step opened es place k None outs (ServerTold what) next good t = grown opened es place (record { state = k; ended = None }) outs (ServerTold what) [] t
-    (record { outputs = refl; said = refl; begun = t.begun; fit = t.fit; shape = same_shape place (record { state = k; ended = None }) (record { state = server_state_after opened k (ServerTold what); ended = None }) outs refl refl t.shape; none_begun = refl; cause = λ pre s post m is one. no_cause_lem [] pre s post m refl is one })
+server_step opened es place k None outs (ServerTold what) next good t =
+    grown opened es place (record { state = k; ended = None }) outs (ServerTold what) (outputs_by (server_rules opened) (server_says opened) server_final_outputs k (ServerTold what) (server_end opened k (ServerTold what))) t
+    (told_step opened es place k outs what t (server_end opened k (ServerTold what)) refl)
 server_step opened es place k (Some end) outs (FrameReceived f) next good t = grown opened es place (record { state = k; ended = Some end }) outs (FrameReceived f) [] t
     (record { outputs = refl; said = refl; begun = t.begun; fit = t.fit; shape = ended_shape place f.end k end outs (let l = next.1 in omega (arith, l)) t.shape; none_begun = refl; cause = λ pre s post m is one. no_cause_lem [] pre s post m refl is one })
 server_step opened es place k (Some end) outs (CallSubmitted p a) next good t = grown opened es place (record { state = k; ended = Some end }) outs (CallSubmitted p a) [] t

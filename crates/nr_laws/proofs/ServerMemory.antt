@@ -7,6 +7,7 @@ use Rattle.nr_link.specs.declared.end.End.{End as Stop}
 use Rattle.nr_link.specs.Frames.{Frame, is_hello}
 use Rattle.nr_link.specs.Ending.{frame_segment, tagged_access, missing_access}
 use Rattle.nr_reduce.specs.declared.mark.LinkParameters.{LinkParameters}
+use Rattle.nr_reduce.specs.declared.mark.Told.{Told}
 use Rattle.nr_reduce.specs.OfferedRegions.{Region, region_grants, regions_closed}
 use Rattle.nr_reduce.specs.Events.{RunEvent}
 use Rattle.nr_reduce.specs.Events.RunEvent.{FrameReceived, CallSubmitted, MemoryRevoked, CallExecuted, QueueWritten, ServerTold}
@@ -81,6 +82,13 @@ frame_settled opened place k f next (inl g) h None is =
 frame_settled opened place k f next (inr (s, behind, own)) h None is =
     subst (λ (b : Bool). Settled f.end (cond b (with_own_hello opened k f) (with_effect k f (frame_effect k f))).regions (cond b (with_own_hello opened k f) (with_effect k f (frame_effect k f))).accesses_received) (sym behind) (segment_settled opened place k f s (let l = next.1 in omega (arith, l)) behind own is h)
 
+-- what a server is told changes no region, also if it ends it
+told_settled : (opened : LinkParameters) (place : ℕ) (k : ServerState) (what : Told) (o : Option Stop) → Settled place k.regions k.accesses_received
+    → Settled place (next_end_state_by (server_rules opened) k (ServerTold what) o).state.regions (next_end_state_by (server_rules opened) k (ServerTold what) o).state.accesses_received
+unfolding server_state_after
+told_settled opened place k what None h = h
+told_settled opened place k what (Some end) h = h
+
 settled_step : (opened : LinkParameters) (place : ℕ) (k : ServerState) (ended : Option Stop) (e : RunEvent) → IsNext place e → ServerGood (record { state = k; ended = ended }) e → Settled place k.regions k.accesses_received
     → Settled (place_after place e) (next_end_state_in (server_rules opened) k e ended).state.regions (next_end_state_in (server_rules opened) k e ended).state.accesses_received
 unfolding server_end server_state_after
@@ -89,7 +97,7 @@ settled_step opened place k None (CallSubmitted q a) next good h = h
 settled_step opened place k None (MemoryRevoked q xid) next good h = h
 settled_step opened place k None (CallExecuted x) next good h = h
 settled_step opened place k None (QueueWritten taken) next good h = h
-settled_step opened place k None (ServerTold what) next good h = h
+settled_step opened place k None (ServerTold what) next good h = told_settled opened place k what (server_end opened k (ServerTold what)) h
 settled_step opened place k (Some end) (FrameReceived f) next good h = settled_later place f.end k.regions k.accesses_received (let l = next.1 in omega (arith, l)) h
 settled_step opened place k (Some end) (CallSubmitted q a) next good h = h
 settled_step opened place k (Some end) (MemoryRevoked q xid) next good h = h

@@ -15,7 +15,7 @@ use Rattle.nr_reduce.specs.declared.mark.Mark.TheVariants as marks
 use Rattle.nr_reduce.specs.declared.mark.LinkParameters.{LinkParameters}
 use Rattle.nr_reduce.specs.declared.outline.Plan.{Plan}
 use Rattle.nr_reduce.specs.Plans.{read_list, read_stag, lists_of}
-use Rattle.nr_reduce.specs.ClientState.{call_payload}
+use Rattle.nr_reduce.specs.ClientState.{call_payload, stag_for}
 use Rattle.nr_reduce.specs.Events.{RunEvent, events}
 use Rattle.nr_reduce.specs.Events.RunEvent.{FrameReceived, CallSubmitted, MemoryRevoked, CallExecuted, QueueWritten, ServerTold}
 use Rattle.nr_reduce.specs.EndRules.{EndState, next_end_state, next_end_state_by, next_end_state_in, end_state_after}
@@ -38,7 +38,7 @@ use Rattle.nr_laws.proofs.Outputs.{Output, server_says, server_final_outputs, ef
 use Rattle.nr_laws.proofs.ClientRun.{WasSubmitted}
 use Rattle.nr_laws.proofs.ConveyedCalls.{planned_fits, plan_reads}
 use Rattle.nr_laws.proofs.ExecutedCalls.{plain_came, frame_message, server_receives_of}
-use Rattle.nr_laws.proofs.ExecutedPayloads.{planned_by, sizes_up, sizes_down, up_limit}
+use Rattle.nr_laws.proofs.WaitingCalls.{accepted_stags, accepted_plan}
 use Rattle.nr_laws.proofs.OnceByXid.{at_mark}
 use Rattle.nr_laws.proofs.Outputs.Output.{AHello}
 use Rattle.nr_laws.proofs.ReadsAlong.{ReadsAt, last_of, OwnMessages, frame_reads, executed_reads, other_reads}
@@ -71,12 +71,13 @@ own_list stag p = by p.read_at
 own_message : (opened : LinkParameters) (link : ℕ) (run : List Mark) (index : ℕ) (message : List ℕ) (k : ServerState) (c : PendingCall) → IsTyped run → WasSubmitted opened link run index message → verdict k message ≡ MakesPending c → IsOwnRead c.lists.read
 own_message opened link run index message k c typed w e =
     let l = verdict_lists k message c e in
-    let s = (client opened link w.earlier).state in
+    let stag : ℕ = stag_for (client opened link w.earlier).state w.xid in
     let p : Plan = w.accepted.plan in
+    let formed = accepted_plan opened link w.earlier w.call w.form w.xid p w.accepted w.accepted.planned in
     let ok = at_mark TypedMark run w.earlier (marks.Submit link w.call w.form (submissions.Accepted w.xid)) w.later w.is typed in
-    let fine = planned_fits (call_payload w.xid w.call) w.form (sizes_up opened link w.earlier) (sizes_down opened link w.earlier) s.stag p (up_limit opened link w.earlier) (planned_by opened link w.earlier w.xid w.call w.form p w.accepted.planned) ok.0 ok.1 w.accepted.stags in
-    let r = plan_reads w.xid opened.wished s.stag p l.header fine.0 fine.1 w.accepted.xids (ap header_of (sym w.message_is) ∙ l.is) in
-    subst (λ (lists : ChunkLists). IsOwnRead lists.read) (sym (l.lists ∙ r.lists)) (own_list s.stag p)
+    let fine = planned_fits (call_payload w.xid w.call) w.form formed.up formed.down stag p formed.up_fits formed.planned ok.0 ok.1 (accepted_stags opened link w.earlier w.call w.form w.xid w.accepted) in
+    let r = plan_reads w.xid opened.wished stag p l.header fine.0 fine.1 w.accepted.xids (ap header_of (sym w.message_is) ∙ l.is) in
+    subst (λ (lists : ChunkLists). IsOwnRead lists.read) (sym (l.lists ∙ r.lists)) (own_list stag p)
 
 -- ---- Along the events
 
@@ -146,7 +147,7 @@ reads_event opened es k outs (CallSubmitted p a) fine numbered None stays reads 
 reads_event opened es k outs (MemoryRevoked p xid) fine numbered None stays reads = λ live. other_reads opened es (MemoryRevoked p xid) k k outs [] refl refl refl refl refl refl reads
 reads_event opened es k outs (CallExecuted e) fine numbered None stays reads = λ live. executed_reads opened es k outs e reads
 reads_event opened es k outs (QueueWritten taken) fine numbered None stays reads = λ live. other_reads opened es (QueueWritten taken) k (record k { written = k.written + taken }) outs [] refl refl refl refl refl refl reads
-reads_event opened es k outs (ServerTold what) fine numbered None stays reads = λ live. other_reads opened es (ServerTold what) k (record k { credit = credit_told what }) outs [] refl refl refl refl refl refl reads
+reads_event opened es k outs (ServerTold what) fine numbered None stays reads = λ live. other_reads opened es (ServerTold what) k (record k { credit = credit_told k.credit what }) outs [] refl refl refl refl refl refl reads
 
 reads_in : (opened : LinkParameters) (es : List RunEvent) (k : ServerState) (ended : Option Stop) (outs : List Output) (e : RunEvent) → ServerFine (record { state = k; ended = ended }) e → AreNumbered 1 k.regions → (ended ≡ None → ReadsAt opened es k outs)
     → (next_end_state_in (server_rules opened) k e ended).ended ≡ None → ReadsAt opened (es ++ e ∷ []) (next_end_state_in (server_rules opened) k e ended).state (outs ++ outputs_in (server_rules opened) (server_says opened) server_final_outputs k e ended)

@@ -25,7 +25,7 @@ use Rattle.nr_rpc.specs.Reading.{call_of, head_xid}
 use Rattle.nr_link.specs.declared.end.End.{End}
 use Rattle.nr_link.specs.Frames.{Frame, is_hello}
 use Rattle.nr_link.specs.Ending.{frame_segment, frame_end, hello_end}
-use Rattle.nr_laws.proofs.CallNumbers.{none_pending}
+use Rattle.nr_laws.proofs.CallNumbers.{none_pending, above_sends}
 use Rattle.nr_reduce.specs.declared.mark.LinkParameters.{LinkParameters}
 use Rattle.nr_reduce.specs.Opening.{IsOpened}
 use Rattle.nr_reduce.specs.Events.RunEvent.{FrameReceived}
@@ -53,6 +53,8 @@ use Rattle.nr_laws.proofs.Basics.{some_not}
 use Rattle.nr_laws.proofs.EachEffect.{send_effect, tagged_effect_lem, part_effect}
 use Rattle.nr_laws.proofs.SendFrames.{at_front}
 use Rattle.nr_laws.proofs.ReadContents.{segment_is, carries_taken}
+use Rattle.nr_reduce.specs.StandingLaws.{xid_of_send}
+use Rattle.nr_reduce.proofs.RisingXids.{xids_from_one}
 
 -- ---- Why the effect of a frame refuses
 
@@ -172,11 +174,13 @@ step_piece opened k s u d all_up all_down w place (SendFrame message) rest f o l
     let are_bytes = message_bytes s.received message completes l.bytes_up (payload_bytes (written_last s.received.sends message) (subst IsBytes is bytes)) in
     let fine = (front_up opened k s u d all_up all_down w place (SendFrame message) rest l g first).0 in
     let xid = front_xid opened k s u d all_up all_down w place message rest l g first in
-    let again = none_pending opened.first_xid s.received.sends (word_at 0 message.bytes) s.calls g.numbers l.waits.calls_below xid in
+    let again = none_pending (xid_of_send opened) s.received.sends (word_at 0 message.bytes) s.calls g.answered.rise g.numbers l.waits.calls_below xid in
     let some : 0 < total_of sends_in w.up = omega (arith, ap (total_of sends_in) first) in
     let sent = calls_said opened k s u d all_up all_down w l in
-    let room : next_stag s + 1 ≤ 4294967296 =
-    omega (arith, o.xid, g.sinks, g.answered.room, some, sent, sent_most k, l.sends_up, ap (total_of sends_in) l.parts_up, total_append sends_in u (w.up ++ w.queued_up), total_append sends_in w.up w.queued_up) in
+    let fewer : s.received.sends < k.sends =
+    omega (arith, some, sent, sent_most k, l.sends_up, ap (total_of sends_in) l.parts_up, total_append sends_in u (w.up ++ w.queued_up), total_append sends_in w.up w.queued_up) in
+    let above = above_sends (xid_of_send opened) s.received.sends g.answered.rise (xids_from_one opened 0 o) in
+    let room : next_stag s + 1 ≤ 4294967296 = omega (arith, g.sinks, above, g.answered.room s.received.sends fewer) in
     by_takes opened k s u d all_up all_down w (SendFrame message) rest f (refused_send_lem s f message completes fine.3 again room are_bytes fine.4 reads) (takes_send opened k s u d all_up all_down w place message rest f o l g received first piece bytes is lt)
 step_piece opened k s u d all_up all_down w place (RequestFrame sink at size stag to) rest f o l g received first proper piece bytes is lt =
     absurd (omega (arith, l.no_reads, ap (total_of requests_in) l.parts_up, total_append requests_in u (w.up ++ w.queued_up), total_append requests_in w.up w.queued_up, ap (total_of requests_in) first))

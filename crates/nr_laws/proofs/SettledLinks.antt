@@ -1,5 +1,5 @@
 -- On a link with nothing left to do, nothing is queued or in transit; so no call is outstanding, and each has its outcome.
-use Rattle.std.proofs.Common.{◌≡◌, ℕ, ◌+◌, Bool, true, false, cond, not, ◌||◌, eqb, List, [], ◌∷◌, ◌++◌, length, map, filter, None, refl, sym, ap, subst, ◌∙◌, arith, append_assoc, append-nil, length-append}
+use Rattle.std.proofs.Common.{◌≡◌, ℕ, ◌+◌, ◌<◌, Bool, true, false, cond, not, ◌||◌, eqb, List, [], ◌∷◌, ◌++◌, length, map, filter, None, refl, sym, ap, subst, ◌∙◌, arith, append_assoc, append-nil, length-append}
 use Rattle.std.specs.Prelude.{slice_get, Contains}
 use Rattle.std.specs.List.{concat, flat_map, AllByRecursion}
 use Rattle.std.proofs.lemmas.Bool.{eqb-true}
@@ -24,12 +24,15 @@ use Rattle.nr_reduce.specs.Served.{Served, first_ready, next_call}
 use Rattle.nr_reduce.specs.Matched.{Matched}
 use Rattle.nr_laws.specs.Typed.{IsTyped}
 use Rattle.nr_laws.specs.Completion.{IsQuiescent, IsAwaitedStill, HasOutcome, CallsComplete}
-use Rattle.nr_laws.proofs.FrameContents.{FrameContent, written_segment, output_bytes, sends_in, requests_in}
+use Rattle.nr_laws.proofs.FrameContents.{FrameContent, written_segment, output_bytes, total_of, hellos_in, sends_in, requests_in}
 use Rattle.nr_laws.proofs.LinkInvariants.{Transit, TotalsAgree}
 use Rattle.nr_laws.proofs.StreamFrames.{AreWritableFrom, proper_frame, IsOf, frames_at, length_frames, spelled_concat}
 use Rattle.nr_laws.proofs.Writable.{IsOutput, stream_proper, stream_left}
 use Rattle.nr_laws.proofs.NothingLeft.{nothing_in_transit, quiet}
 use Rattle.nr_laws.proofs.EachRun.{joins}
+use Rattle.nr_laws.proofs.AgreeingEnds.{EndsAgree}
+use Rattle.nr_laws.proofs.ClientStep.{has_hello_lem}
+use Rattle.nr_laws.proofs.ResentCalls.{none_waits_still}
 use Rattle.nr_laws.proofs.AccountedCalls.{IsAccounted, is_outstanding, has_outcome}
 use Rattle.nr_laws.proofs.AccountedRuns.{gone_in, accounts}
 
@@ -80,7 +83,19 @@ none_ready : (ready : List ReadyCall) → slice_get ready 0 ≡ None → ready �
 none_ready [] e = refl
 none_ready (r ∷ ready) e = absurd cc
 
-none_outstanding_lem : (opened : LinkParameters) (link : ℕ) (run : List Mark) → IsTyped run → Asked opened link run → Served opened link run → Matched link run → IsQuiescent opened link run → (client opened link run).state.outstanding ≡ []
+-- no call is outstanding, and the client has the hello
+record NoneOutstanding (k : ClientState) : Type 0 where
+  none : k.outstanding ≡ []
+  greeted : k.has_hello ≡ true
+
+all_arrived : (u under_way queued all : List FrameContent) → AllArrived u all under_way queued → u ++ (under_way ++ queued) ≡ all → u ≡ all
+all_arrived u under_way queued all h parts = sym (append-nil u) ∙ (λ i. u ++ (sym h.under_way_none i ++ sym h.queued_none i)) ∙ parts
+
+greeted_client : (opened : LinkParameters) (k : ClientState) (s : ServerState) (u d all_up all_down : List FrameContent) (w : Transit) → EndsAgree opened k s u d all_up all_down w → 0 < total_of hellos_in d → k.has_hello ≡ true
+greeted_client opened k s u [] all_up all_down w l some = absurd (omega (arith, some))
+greeted_client opened k s u (q ∷ d) all_up all_down w l some = has_hello_lem opened k s u q d all_up all_down w l
+
+none_outstanding_lem : (opened : LinkParameters) (link : ℕ) (run : List Mark) → IsTyped run → Asked opened link run → Served opened link run → Matched link run → IsQuiescent opened link run → NoneOutstanding (client opened link run).state
 unfolding end_of_side next_call
 none_outstanding_lem opened link run typed asked served matched settled =
     let j = joins opened link run asked.each served.each matched typed settled.client_stays settled.server_stays in
@@ -90,8 +105,18 @@ none_outstanding_lem opened link run typed asked served matched settled =
     j.linked.stream_down j.linked.parts_down j.frames_down j.sent_down j.due_down settled.nothing_waits.down served.written in
     let way : j.w ≡ nothing_in_transit = λ i. record { queued_up = up.queued_none i; up = up.under_way_none i; queued_down = down.queued_none i; down = down.under_way_none i } in
     let ready : j.s.ready ≡ [] = none_ready j.s.ready (ap (λ (r : EndState ServerState). first_ready r.state.ready r.ended) (sym j.server_is) ∙ settled.nothing_waits.executed) in
-    ap (λ (r : EndState ClientState). r.state.outstanding) j.client_is
-    ∙ quiet opened j.k j.s (subst (λ (w : Transit). TotalsAgree j.k j.s w) way j.linked.counts) j.linked.waits.ready_calls ready
+    let hellos : 0 < total_of hellos_in j.d = omega (
+      arith,
+      j.linked.begins_up,
+      j.linked.hellos_down,
+      ap (total_of hellos_in) (all_arrived j.u j.w.up j.w.queued_up j.all_up up j.linked.parts_up),
+      ap (total_of hellos_in) (all_arrived j.d j.w.down j.w.queued_down j.all_down down j.linked.parts_down),
+    ) in
+    record {
+      none = ap (λ (r : EndState ClientState). r.state.outstanding) j.client_is
+          ∙ quiet opened j.k j.s (subst (λ (w : Transit). TotalsAgree j.k j.s w) way j.linked.counts) j.linked.waits.ready_calls ready;
+      greeted = ap (λ (r : EndState ClientState). r.state.has_hello) j.client_is ∙ greeted_client opened j.k j.s j.u j.d j.all_up j.all_down j.w j.linked hellos;
+    }
 
 -- ---- The outcome of each call
 
@@ -180,9 +205,11 @@ handed_over_lem opened link run none a kept some =
 pub calls_complete_lem : CallsComplete
 unfolding end_of_side calls_outstanding
 calls_complete_lem opened link run typed asked served matched settled =
-    let none = none_outstanding_lem opened link run typed asked served matched settled in
+    let left = none_outstanding_lem opened link run typed asked served matched settled in
+    let none = left.none in
     record {
       none_outstanding = ap (λ (os : List OutstandingCall). length os) none;
+      none_waits = none_waits_still opened link run settled.client_stays left.greeted none asked.none_left;
       has_outcome = λ a kept. some_outcome (client opened link run).state.outcomes a.xid (outcome_of opened link run settled.client_stays none a kept);
       has_done = λ due a kept. some_outcome (completed_calls link run) a.xid (handed_over_lem opened link run due a kept (outcome_of opened link run settled.client_stays none a kept));
     }

@@ -11,7 +11,7 @@ use Rattle.nr_reduce.specs.declared.outline.Plan.{Plan}
 use Rattle.nr_reduce.specs.Matched.{IsPrefixOf}
 use Rattle.nr_reduce.specs.Events.{RunEvent, events}
 use Rattle.nr_reduce.specs.Plans.{TooLarge, Buffer, buffers}
-use Rattle.nr_reduce.specs.ClientState.{OutstandingCall, plan_for, is_sent}
+use Rattle.nr_reduce.specs.ClientState.{OutstandingCall, plan_for, is_sent, stag_for}
 use Rattle.nr_reduce.specs.ClientMessages.{answered_call}
 use Rattle.nr_reduce.specs.Client.{client_rules, initial_client}
 use Rattle.nr_reduce.specs.Run.{client}
@@ -42,7 +42,7 @@ pub record AnsweredSubmit (opened : LinkParameters) (link : ℕ) (run : List Mar
   pub own_xid : o.xid ≡ submit.xid
   pub own_call : o.call ≡ submit.call
   pub own_plan : o.plan ≡ submit.accepted.plan
-  pub own_stag : o.stag ≡ (client opened link submit.earlier).state.stag
+  pub own_stag : o.stag ≡ stag_for (client opened link submit.earlier).state submit.xid
 
 -- with its regions, and the accesses of them so far
 pub record AnsweredCall (opened : LinkParameters) (link : ℕ) (run : List Mark) (es : List RunEvent) (o : OutstandingCall) : Type 0 where

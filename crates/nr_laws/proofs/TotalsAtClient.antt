@@ -23,7 +23,7 @@ use Rattle.nr_reduce.specs.OfferedRegions.{region_grants}
 use Rattle.nr_reduce.specs.Events.RunEvent.{FrameReceived, CallSubmitted, QueueWritten}
 use Rattle.nr_reduce.specs.ClientState.{ClientState, OutstandingCall, is_sent, client_memory_at, initial_client_state as client_initial_state}
 use Rattle.nr_reduce.specs.ClientMessages.{reply_verdict, reply_by_header, by_call, answered_call}
-use Rattle.nr_reduce.specs.Client.{client_segment, end_of_verdict, or_message_end, client_readiness, client_end, client_state_after, with_segment, outstanding_of, segment_request, with_hello, call_output, call_ends, submitted_ends, response_output, segment_names}
+use Rattle.nr_reduce.specs.Client.{client_segment, end_of_verdict, or_message_end, client_readiness, client_end, client_state_after, with_segment, outstanding_of, segment_request, with_hello, call_output, call_ends, submitted_ends, response_output, segment_names, or_other_sizes}
 use Rattle.nr_reduce.specs.ServerState.{ServerState, initial_server_state as server_initial_state}
 use Rattle.nr_laws.proofs.FrameContents.{FrameContent, Carries, total_of, sends_in, requests_in, responses_in, hellos_in, one_if_response, tagged_frame, tagged_frames, response_frames, client_frames, SentMessage, part_segment, last_segment, send_frames, calls_frames}
 use Rattle.nr_laws.proofs.FrameContents.FrameContent.{HelloFrame, PartFrame, SendFrame, RequestFrame, TaggedFrame}
@@ -32,7 +32,6 @@ use Rattle.nr_laws.proofs.Totals.{total_append, total_map_zero, length_fewer, an
 use Rattle.nr_laws.proofs.Outputs.{message_of_call}
 use Rattle.nr_laws.proofs.SendFrames.{send_counts, sends_zero, sends_one, are_sends, are_all_sends, tagged_sends, queued_more, none_queued, at_front}
 use Rattle.nr_laws.proofs.HeaderXid.{header_xid}
-use Rattle.nr_reduce.specs.Plans.{call_message}
 use Rattle.nr_reduce.specs.Written.{ends_waiting}
 use Rattle.nr_reduce.proofs.WholeWrotes.{ClientEnds, none_waiting}
 use Rattle.nr_laws.proofs.EndsWaiting.{waiting_append, all_waiting_lem, one_waiting, calls_above, calls_length, send_some, output_some}
@@ -67,7 +66,7 @@ pub taken : (k : ClientState) (f : Frame) → is_hello f ≡ false → client_en
 unfolding client_end
 taken k f behind e =
     or_message k f (frame_end_by (client_readiness k) (region_grants f.end k.regions) f (client_segment k f))
-    ((λ i. cond (sym behind i) (hello_end (hello_of Responder f.bytes)) (or_message_end k f (frame_end_by (client_readiness k) (region_grants f.end k.regions) f (client_segment k f)))) ∙ e)
+    ((λ i. cond (sym behind i) (or_other_sizes k f (hello_end (hello_of Responder f.bytes))) (or_message_end k f (frame_end_by (client_readiness k) (region_grants f.end k.regions) f (client_segment k f)))) ∙ e)
 
 -- ---- The client receives a message
 
@@ -317,7 +316,7 @@ totals_accepts opened k s w place a c =
     one = call_output opened (k.sends + 1) (outstanding_of k a)
 
     submitted_waits : (b : Bool) → ends_waiting k.written (cond b ((k.due + length (cond b one [])) ∷ []) []) ≡ hello_bit b
-    submitted_waits true = one_waiting k.written (k.due + length one) (omega (arith, c.within_up, send_some (k.sends + 1) (call_message a.xid opened.wished k.stag (outstanding_of k a).plan)))
+    submitted_waits true = one_waiting k.written (k.due + length one) (omega (arith, c.within_up, send_some (k.sends + 1) (message_of_call opened (outstanding_of k a))))
     submitted_waits false = refl
 
     submitted_length : (b : Bool) → length (cond b ((k.due + length (cond b one [])) ∷ []) []) ≡ hello_bit b

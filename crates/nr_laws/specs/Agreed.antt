@@ -9,6 +9,7 @@ use Rattle.nr_reduce.specs.declared.mark.LinkParameters.{LinkParameters}
 use Rattle.nr_reduce.specs.Events.{RunEvent, events}
 use Rattle.nr_reduce.specs.Events.RunEvent.{FrameReceived}
 use Rattle.nr_reduce.specs.Hellos.{client_agreement, server_agreement}
+use Rattle.nr_reduce.specs.Client.{has_same_sizes}
 use Rattle.nr_reduce.specs.Run.{client, server}
 use Rattle.nr_laws.specs.MatchedSoFar.{MatchedSoFar}
 use Rattle.nr_laws.specs.Typed.{IsTyped}
@@ -25,9 +26,11 @@ abbrev pub SidesAgree : Type 0
 SidesAgree = (opened : LinkParameters) (link : ℕ) (run : List Mark) (f g : Frame) → IsTyped run → MatchedSoFar opened link run →
     ReceivedHello link Initiator run f → ReceivedHello link Responder run g → client_agreement opened f ≡ server_agreement opened g
 
--- From its peer's hello on, each side plans and answers calls, and takes Sends, by what is agreed on.
+-- From its peer's hello on, each side plans and answers calls, and takes Sends, by what is agreed on. A client that was reopened ends if these
+-- lengths aren't those that an earlier hello agreed on.
 abbrev pub ClientGoesByAgreement : Type 0
 ClientGoesByAgreement = (opened : LinkParameters) (link : ℕ) (run : List Mark) (f : Frame) → IsTyped run → MatchedSoFar opened link run → ReceivedHello link Initiator run f →
+    has_same_sizes opened.agreed (client_agreement opened f) ≡ true →
     ((client opened link run).state.up_max ≡ (client_agreement opened f).up) × (((client opened link run).state.down_max ≡ (client_agreement opened f).down)
     × ((client opened link run).state.invalidates ≡ (client_agreement opened f).invalidates))
 

@@ -12,6 +12,7 @@ use Rattle.nr_reduce.specs.ServerReads.{open_reads}
 use Rattle.nr_reduce.specs.ServerState.{receives_in_use}
 use Rattle.nr_reduce.specs.Served.{ServedSoFar}
 use Rattle.nr_reduce.specs.Run.{client, server}
+use Rattle.nr_laws.specs.Resuming.{ResumesArePlanned}
 use Rattle.nr_laws.specs.Typed.{IsTyped}
 
 -- On every link a client owes at most open_reads_max Read Responses that haven't completely left,
@@ -35,9 +36,9 @@ chunk_segments (Some lengths) = length lengths
 abbrev pub segments_in : Plan → ℕ
 segments_in p = length p.read + (chunk_segments p.write + chunk_segments p.reply)
 
--- If a client keeps its law, the lists of each call that it has outstanding have together at most the segments for which a Send of the length that
--- it has agreed on has room: its header has HEADER_LEN_MIN bytes that are no segments, and 16 or more for each segment (RFC 8166 section 4.3). In
--- 1024 bytes that is 62, in 16384 it is 1022.
+-- If a client keeps its law, and sends no calls again but such as were planned, the lists of each call that it has outstanding have together at most
+-- the segments for which a Send of the length that it has agreed on has room: its header has HEADER_LEN_MIN bytes that are no segments, and 16 or more for each
+-- segment (RFC 8166 section 4.3). In 1024 bytes that is 62, in 16384 it is 1022.
 abbrev pub ClientOffersFewSegments : Type 0
-ClientOffersFewSegments = (opened : LinkParameters) (link : ℕ) (run : List Mark) → IsTyped run → AskedSoFar opened link run →
+ClientOffersFewSegments = (opened : LinkParameters) (link : ℕ) (run : List Mark) → ResumesArePlanned opened → IsTyped run → AskedSoFar opened link run →
     AllByRecursion (λ (o : OutstandingCall). HEADER_LEN_MIN + 16 * segments_in o.plan ≤ (client opened link run).state.up_max) (client opened link run).state.outstanding

@@ -31,8 +31,10 @@ use Rattle.nr_laws.specs.MatchedSoFar.{MatchedSoFar}
 use Rattle.nr_laws.specs.Typed.{IsTyped}
 use Rattle.nr_laws.specs.Completion.{IsQuiescent, IsAwaitedStill}
 use Rattle.nr_laws.specs.Payloads.{HasPlan}
+use Rattle.nr_laws.specs.Resuming.{ResumesArePlanned}
 use Rattle.nr_laws.specs.RefusedMessages.{HasRefusedMessage}
 use Rattle.nr_laws.specs.PlainLinks.{server_with, HasPlainReplies}
+use Rattle.nr_reduce.specs.ClientState.{stag_for}
 
 -- ---- The two causes
 
@@ -47,7 +49,7 @@ pub record HasReplyNotHeld (opened : LinkParameters) (link : ℕ) (run : List Ma
   pub reply : List ℕ
   pub before : List Mark
   pub at : MarkAt run before (marks.Execute link xid moment payload place reply)
-  pub none : answer_of_target (lists_of (client opened link has.before).state.stag plan) (server opened link before).state.down_max reply (target_of (call_of payload)) ≡ None
+  pub none : answer_of_target (lists_of (stag_for (client opened link has.before).state xid) plan) (server opened link before).state.down_max reply (target_of (call_of payload)) ≡ None
 
 -- the message of the accepted call of this xid is refused, or its offer doesn't hold its reply
 abbrev pub HasChunkCause : LinkParameters → ℕ → List Mark → ℕ → Type 0
@@ -82,7 +84,7 @@ abbrev pub OffersArePlanned : Type 0
 OffersArePlanned = (opened : LinkParameters) (link : ℕ) (run before : List Mark) (xid : ℕ) (plan : Plan) (moment : Moment) (payload : List ℕ) (place : ℕ) (reply : List ℕ) →
     IsTyped run → MatchedSoFar opened link run → (has : HasPlan opened link run xid plan) →
     MarkAt run before (marks.Execute link xid moment payload place reply) →
-    offer_of (server opened link before).state xid ≡ lists_of (client opened link has.before).state.stag plan
+    offer_of (server opened link before).state xid ≡ lists_of (stag_for (client opened link has.before).state xid) plan
 
 -- On every link of which the client keeps its law no message is refused of a call in a form that isn't given.
 abbrev pub NoOwnPlanIsRefused : Type 0
@@ -91,11 +93,12 @@ NoOwnPlanIsRefused = (opened : LinkParameters) (link : ℕ) (run : List Mark) (x
 
 -- ---- When a plain server replies
 
--- On a matched link whose calls are answered as a plain server answers, a call in form Auto that completes has a reply.
+-- On a matched link whose calls are answered as a plain server answers, and whose client sends no calls again but such as were planned, a call in
+-- form Auto that completes has a reply.
 abbrev pub AutoHasReplies : Type 0
 AutoHasReplies = (reply_to : List Entry → Moment → List ℕ → Option (List ℕ)) (adds : Moment → List ℕ → List ℕ → List Entry)
     (opened : LinkParameters) (link : ℕ) (run earlier before : List Mark) (call : Call) (xid : ℕ) (outcome : Outcome) →
-    KeepsReplyLimits (server_with reply_to adds) → HasPlainReplies (server_with reply_to adds) link run → IsTyped run → MatchedSoFar opened link run →
+    ResumesArePlanned opened → KeepsReplyLimits (server_with reply_to adds) → HasPlainReplies (server_with reply_to adds) link run → IsTyped run → MatchedSoFar opened link run →
     MarkAt run earlier (marks.Submit link call forms.Auto (submissions.Accepted xid)) →
     MarkAt run before (marks.Done link xid outcome) → (reply : List ℕ) × (outcome ≡ outcomes.Reply reply)
 

@@ -35,10 +35,11 @@ pub record IsAwaitedStill (link : ℕ) (run : List Mark) (a : AcceptedCall) : Ty
 abbrev pub HasOutcome : List CompletedCall → ℕ → Type 0
 HasOutcome calls xid = (outcome : Outcome) × Contains calls (record { xid = xid; outcome = outcome })
 
--- No call is outstanding: a message of each accepted call was received. It brought an outcome of each that wasn't given up; and once all
--- outcomes that are due are handed over, each of these has its Done.
+-- No call is outstanding, and none waits to be sent again: a message of each accepted call was received. It brought an outcome of each that wasn't
+-- given up; and once all outcomes that are due are handed over, each of these has its Done.
 pub record HaveCompleted (opened : LinkParameters) (link : ℕ) (run : List Mark) : Type 0 where
   pub none_outstanding : calls_outstanding opened link run ≡ 0
+  pub none_waits : (client opened link run).state.waiting ≡ []
   pub has_outcome : (a : AcceptedCall) → IsAwaitedStill link run a → HasOutcome (client opened link run).state.outcomes a.xid
   pub has_done : outcomes_due opened link run ≡ [] → (a : AcceptedCall) → IsAwaitedStill link run a → HasOutcome (completed_calls link run) a.xid
 

@@ -15,6 +15,9 @@ pub mod ChunkOutcomes
 pub mod PlacedBytes
 pub mod RefusedMessages
 pub mod PlainLinks
+pub mod OnceEach
+pub mod Resuming
+pub mod Reopened
 pub mod ServerRegions
 pub mod ClientRegions
 pub mod HandedBack

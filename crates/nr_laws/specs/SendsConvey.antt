@@ -9,7 +9,7 @@ use Rattle.nr_reduce.specs.declared.outline.Plan.{Plan}
 use Rattle.nr_reduce.specs.Plans.{call_message, lists_of}
 use Rattle.nr_reduce.specs.Chunks.{call_conveyed, read_bytes}
 use Rattle.nr_reduce.specs.ChunkBytes.{IsNotGiven, inline_by, lists_by}
-use Rattle.nr_reduce.specs.ClientState.{call_payload}
+use Rattle.nr_reduce.specs.ClientState.{call_payload, stag_for}
 use Rattle.nr_reduce.specs.Asked.{AskedSoFar}
 use Rattle.nr_reduce.specs.Opening.{IsOpened}
 use Rattle.nr_reduce.specs.Run.{client, placed_bytes}
@@ -18,13 +18,13 @@ use Rattle.nr_laws.specs.Typed.{IsTyped}
 
 -- the message of a call's plan
 abbrev pub message_of : (opened : LinkParameters) (link : ℕ) (run : List Mark) (xid : ℕ) (plan : Plan) → HasPlan opened link run xid plan → List ℕ
-message_of opened link run xid plan has = call_message xid opened.wished (client opened link has.before).state.stag plan
+message_of opened link run xid plan has = call_message xid opened.wished (stag_for (client opened link has.before).state xid) plan
 
 -- The message is read under the call's xid and with the lists of its plan, and conveys by what the client's regions hold what the call's form
 -- conveys of its payload.
 pub record SendConveys (opened : LinkParameters) (link : ℕ) (run : List Mark) (xid : ℕ) (plan : Plan) (has : HasPlan opened link run xid plan) (header : Header) : Type 0 where
   pub own : header.xid ≡ xid
-  pub lists : lists_by header.body ≡ lists_of (client opened link has.before).state.stag plan
+  pub lists : lists_by header.body ≡ lists_of (stag_for (client opened link has.before).state xid) plan
   pub conveys : call_conveyed (inline_by (message_of opened link run xid plan has) header.body) (lists_by header.body).read (read_bytes (placed_bytes opened link Initiator run) (lists_by header.body).read)
       ≡ form_conveyed has.form (call_payload xid has.call)
 

@@ -13,7 +13,7 @@ use Rattle.nr_reduce.specs.declared.mark.Mark.TheVariants as marks
 use Rattle.nr_reduce.specs.declared.mark.LinkParameters.{LinkParameters}
 use Rattle.nr_reduce.specs.declared.outline.Plan.{Plan}
 use Rattle.nr_reduce.specs.AtEachMark.{AtEachMark}
-use Rattle.nr_reduce.specs.ClientState.{call_payload, plan_for}
+use Rattle.nr_reduce.specs.ClientState.{call_payload, plan_for, stag_for}
 use Rattle.nr_reduce.specs.KeepsReplyLimits.{KeepsReplyLimits}
 use Rattle.nr_reduce.specs.Opening.{IsOpened}
 use Rattle.nr_reduce.specs.PayloadLaws.{given_conveyed}
@@ -21,7 +21,7 @@ use Rattle.nr_reduce.specs.Plans.{call_message}
 use Rattle.nr_reduce.specs.Run.{client, end_of_side}
 use Rattle.nr_reduce.specs.SoFar.{InFull}
 use Rattle.nr_laws.specs.Completion.{NothingInTransit, HaveCompleted}
-use Rattle.nr_laws.specs.EndCauses.{KeepLaws, IsReplyEnd}
+use Rattle.nr_laws.specs.EndCauses.{KeepLaws, IsReplyEnd, AgreesAgain, HasNoOldCall}
 use Rattle.nr_laws.specs.PlainLinks.{server_with, HasPlainReplies}
 use Rattle.nr_laws.specs.RefusedMessages.{IsRefusedMessage}
 use Rattle.nr_laws.specs.Typed.{IsTyped}
@@ -50,34 +50,34 @@ IsConveyedOrRefused (forms.Given offer) payload message = HasCallHead (given_con
 -- so it is of each accepted call of a link, with the message of its plan
 abbrev pub ConveyedMark : LinkParameters → ℕ → List Mark → Mark → Type 0
 ConveyedMark opened link before (marks.Submit l call form (submissions.Accepted xid)) = l ≡ link → (plan : Plan) → plan_for (client opened link before).state xid call form ≡ Ok plan →
-    IsConveyedOrRefused form (call_payload xid call) (call_message xid opened.wished (client opened link before).state.stag plan)
+    IsConveyedOrRefused form (call_payload xid call) (call_message xid opened.wished (stag_for (client opened link before).state xid) plan)
 ConveyedMark opened link before mark = Unit {0}
 
 abbrev pub AreConveyedOrRefused : LinkParameters → ℕ → List Mark → Type 0
 AreConveyedOrRefused opened link run = AtEachMark (ConveyedMark opened link) [] run
 
--- On a matched link that was opened with numbers and credits in range, if each Wrote writes all output due, no memory is taken back, each
--- offer that is given conveys a payload with a call head or is refused, and calls are answered as a plain server answers that keeps what
--- `KeepsReplyLimits` says: neither side ends.
+-- On a matched link that was opened with numbers and credits in range, and whose hellos agree on the lengths of an earlier one, if there was
+-- one: if each Wrote writes all output due, no memory is taken back, each offer that is given conveys a payload with a call head or is refused,
+-- calls are answered as a plain server answers that keeps what `KeepsReplyLimits` says, and none is old, neither side ends.
 abbrev pub MatchedLinksStayOpen : Type 0
 MatchedLinksStayOpen = (reply_to : List Entry → Moment → List ℕ → Option (List ℕ)) (adds : Moment → List ℕ → List ℕ → List Entry) (opened : LinkParameters) (link : ℕ) (run : List Mark) →
-    IsOpened opened → IsTyped run → KeepLaws opened link run → HasNoRevoke link run → AreConveyedOrRefused opened link run → KeepsReplyLimits (server_with reply_to adds) → HasPlainReplies (server_with reply_to adds) link run →
+    IsOpened opened → AgreesAgain opened → IsTyped run → KeepLaws opened link run → HasNoOldCall link run → HasNoRevoke link run → AreConveyedOrRefused opened link run → KeepsReplyLimits (server_with reply_to adds) → HasPlainReplies (server_with reply_to adds) link run →
     (end_of_side opened link Initiator run ≡ None) × (end_of_side opened link Responder run ≡ None)
 
 -- So if its laws hold in full and nothing waits, all its calls have completed.
 abbrev pub MatchedCallsComplete : Type 0
 MatchedCallsComplete = (reply_to : List Entry → Moment → List ℕ → Option (List ℕ)) (adds : Moment → List ℕ → List ℕ → List Entry) (opened : LinkParameters) (link : ℕ) (run : List Mark) →
-    IsOpened opened → IsTyped run → InFull opened link run → HasNoRevoke link run → AreConveyedOrRefused opened link run → KeepsReplyLimits (server_with reply_to adds) → HasPlainReplies (server_with reply_to adds) link run →
+    IsOpened opened → AgreesAgain opened → IsTyped run → InFull opened link run → HasNoOldCall link run → HasNoRevoke link run → AreConveyedOrRefused opened link run → KeepsReplyLimits (server_with reply_to adds) → HasPlainReplies (server_with reply_to adds) link run →
     NothingInTransit opened link run → HaveCompleted opened link run
 
 -- If no memory is taken back, no access to the memory of a client is denied before its server ends, whatever its offers convey and whatever
 -- is replied.
 abbrev pub NoAccessIsDenied : Type 0
-NoAccessIsDenied = (opened : LinkParameters) (link : ℕ) (run : List Mark) → IsOpened opened → IsTyped run → KeepLaws opened link run → HasNoRevoke link run →
+NoAccessIsDenied = (opened : LinkParameters) (link : ℕ) (run : List Mark) → IsOpened opened → AgreesAgain opened → IsTyped run → KeepLaws opened link run → HasNoRevoke link run →
     end_of_side opened link Responder run ≡ None → (end : End) → end_of_side opened link Initiator run ≡ Some end → IsReplyEnd end
 
 -- If calls are answered as a plain server answers, the client doesn't end before its server, whatever its offers convey.
 abbrev pub ClientsStayOpen : Type 0
 ClientsStayOpen = (reply_to : List Entry → Moment → List ℕ → Option (List ℕ)) (adds : Moment → List ℕ → List ℕ → List Entry) (opened : LinkParameters) (link : ℕ) (run : List Mark) →
-    IsOpened opened → IsTyped run → KeepLaws opened link run → HasNoRevoke link run → KeepsReplyLimits (server_with reply_to adds) → HasPlainReplies (server_with reply_to adds) link run →
+    IsOpened opened → AgreesAgain opened → IsTyped run → KeepLaws opened link run → HasNoRevoke link run → KeepsReplyLimits (server_with reply_to adds) → HasPlainReplies (server_with reply_to adds) link run →
     end_of_side opened link Responder run ≡ None → end_of_side opened link Initiator run ≡ None

@@ -6,6 +6,8 @@ ghost use Rattle.nr_laws.specs.Agreed.{SidesAgree, ClientGoesByAgreement, Server
 ghost use Rattle.nr_laws.specs.Bounds.{ClientOffersFewSegments, ClientOwesFewResponses, ServerReadsFew, ServerUsesItsReceives};
 ghost use Rattle.nr_laws.specs.Places.{PlacesFollow};
 ghost use Rattle.nr_laws.specs.Once.{NoSendTwice, NoCallTwice, NoXidTwice};
+ghost use Rattle.nr_laws.specs.OnceEach.{NoEntryTwice, NumbersAreHeard, CompletedChangesHaveEntries, NumberedLinksAreAtPlaces, PlacesFollowByNumber};
+ghost use Rattle.nr_laws.specs.Reopened.{ReopenedLinksAgree, NoCallIsLeftOver};
 ghost use Rattle.nr_laws.specs.ChunkOutcomes.{ChunkHasCause, OthersHaveNoCause, CausedCallsComplete, NoOtherVersion, OffersArePlanned, NoOwnPlanIsRefused, AutoHasReplies, ChangesAreAnswered, ChunkAddsNothing};
 
 /// No Send is executed twice, whatever a client sends, and no accepted call completes twice. On a matched link no xid is executed
@@ -14,6 +16,26 @@ pub fn once()
     ensures sends { NoSendTwice }
     ensures calls { NoCallTwice }
     ensures xids { NoXidTwice }
+{}
+
+/// Over any number of links, whatever was sent on them, no two entries of the one journal are of one call of a client with a number: its xid is
+/// executed anew only if it has no entry, and isn't old. On a matched link a server that executed a call heard its client's number. If a call of
+/// such a client completes on a link that is matched, as its earlier links are, with a reply that adds an entry, it has one: what its form conveys
+/// of its own call adds just that entry, and the reply is the one of that entry. On such links each call, new or sent again, has the plain server's
+/// reply at its place in the journal, and places follow what callers see.
+pub fn once_each()
+    ensures entries { NoEntryTwice }
+    ensures heard { NumbersAreHeard }
+    ensures completed { CompletedChangesHaveEntries }
+    ensures plain { NumberedLinksAreAtPlaces }
+    ensures places { PlacesFollowByNumber }
+{}
+
+/// A client leaves its link, and the next one goes on from it: if the hellos of the old link agree on what an earlier hello did, those of the next
+/// link do; and of each call that wasn't given up an outcome came, or the next link sends it again.
+pub fn reopening()
+    ensures agree { ReopenedLinksAgree }
+    ensures calls { NoCallIsLeftOver }
 {}
 
 /// On matched links a call that is submitted after another's outcome was handed over has a place that isn't smaller.

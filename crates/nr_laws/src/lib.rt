@@ -15,7 +15,8 @@ pub use completion::{calls_complete, matched_links_stay, segments_keep_the_rules
 pub use handover::{plain_links, replies_are_plain, replies_handed_over};
 pub use items::server_output_is_items;
 pub use laws::{
-    chunk_outcomes, grant, once, places, server_credits, sides_agree, sides_stay_bounded, touches,
+    chunk_outcomes, grant, once, once_each, places, reopening, server_credits, sides_agree,
+    sides_stay_bounded, touches,
 };
 pub use payloads::{answers_convey, executed_payloads, messages_in_segments, sends_convey};
 pub use regions::{offered_memory, offered_regions, regions_handed_back, sent_bytes};

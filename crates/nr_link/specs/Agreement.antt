@@ -48,6 +48,14 @@ agreed_by (Some i) (Some r) = record {
 unfoldable pub agreement : (initiator responder : List ℕ) → Agreement
 agreement initiator responder = agreed_by (terms_in initiator) (terms_in responder)
 
+-- the number of a client by the private data of its hello, or 0 if it has none
+abbrev pub number_by : Option Terms → ℕ
+number_by None = 0
+number_by (Some terms) = terms.number
+
+unfoldable pub client_number : (initiator : List ℕ) → ℕ
+client_number initiator = number_by (terms_in initiator)
+
 -- a length that a direction may have: from one unit to UNITS_MAX of them
 abbrev pub IsSendLimit : ℕ → Type 0
 IsSendLimit size = (send_unit ≤ size) × (size ≤ send_unit * UNITS_MAX)

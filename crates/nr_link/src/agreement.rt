@@ -3,7 +3,7 @@
 ghost use Rattle.std.specs.Prelude.{◌≡◌, ◌≤◌};
 ghost use Rattle.arrayvec.specs.ArrayVec.{array_vec_len};
 ghost use Rattle.nr_wire.specs.Constants.{NUMBERED_TERMS_LEN};
-ghost use Rattle.nr_link.specs.Agreement.{agreement, default_agreement, default_terms, initiator_private, responder_private, sized_terms, terms_with};
+ghost use Rattle.nr_link.specs.Agreement.{agreement, client_number, default_agreement, default_terms, initiator_private, responder_private, sized_terms, terms_with};
 
 use crate::constants::SEND_UNIT;
 use arrayvec::ArrayVec;
@@ -81,6 +81,17 @@ impl SideTerms {
             None => ArrayVec::new(),
             Some(_) => write_terms(self.units, 0, self.invalidates),
         }
+    }
+}
+
+/// The number of a client by the private data of its hello, or 0 if it has none. Takes no memory.
+#[tactic(auto, unfolding(crate::specs::Agreement::client_number))]
+pub fn client_number(initiator: &[u8]) -> u64
+    ensures { result ≡ client_number initiator.now }
+{
+    match read_terms(initiator) {
+        None => 0,
+        Some(terms) => terms.number,
     }
 }
 

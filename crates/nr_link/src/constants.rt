@@ -43,11 +43,17 @@ pub const REASON_LONG: u32 = 22;
 /// A client gets a message of another version of RPC-over-RDMA (RFC 8166 section 4.1).
 pub const REASON_VERSION: u32 = 23;
 
+/// A call of a client with a number is old when its turn to be executed comes.
+pub const REASON_OLD: u32 = 28;
+
 /// A Send with Invalidate names an STag that was not given to the call which it answers.
 pub const REASON_INVALIDATED: u32 = 29;
 
 /// No STag is left for a chunk of a call.
 pub const REASON_STAGS: u32 = 30;
+
+/// By the server's hello to a client that was reopened other lengths of Sends are agreed on than by an earlier one.
+pub const REASON_SIZES: u32 = 31;
 
 /// The word of a Terminate for an access to an STag that isn't live.
 pub const WORD_NO_STAG: u32 = 101;

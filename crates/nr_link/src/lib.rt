@@ -12,6 +12,6 @@ pub mod constants;
 mod end;
 mod laws;
 
-pub use agreement::{Agreement, SideTerms};
+pub use agreement::{Agreement, SideTerms, client_number};
 pub use end::End;
 pub use laws::{agreements_bounded, begun_sends_judged_alike, stop_reasons_numbered};

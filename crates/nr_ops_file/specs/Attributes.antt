@@ -103,7 +103,7 @@ setattr_rules t c space a =
     first (on (node_of_handle t a.object) (setattr_of c a)) ∷
     space_rule space ∷ []
 
--- a size may be given to what is a regular file, or isn't: it is one, and the size is at most the maximum of a file
+-- a size may be given (for the code): the node is a regular file, and the size is at most the maximum of one
 abbrev pub MayHaveSize : (is_file : Bool) → (size : ℕ) → Type 0
 MayHaveSize is_file size = (is_file ≡ true) × (size ≤ file_size_max)
 

@@ -19,11 +19,10 @@ use Rattle.nr_laws.specs.Payloads.{HasPlan}
 use Rattle.nr_laws.specs.MatchedSoFar.{MatchedSoFar}
 use Rattle.nr_laws.specs.PlainLinks.{HasPlainReplies}
 use Rattle.nr_laws.specs.Typed.{IsTyped}
-use Rattle.nr_laws.proofs.AutoReplies.{auto_has_replies}
+use Rattle.nr_laws.proofs.AutoReplies.{auto_replies}
 use Rattle.nr_laws.proofs.Basics.{some_is_lem}
-use Rattle.nr_laws.proofs.Following.{one_submit}
 use Rattle.nr_laws.proofs.ExecutedPayloads.{executes_have_plans}
-use Rattle.nr_laws.proofs.OnceByXid.{at_mark}
+use Rattle.nr_laws.proofs.OnceByXid.{at_mark, one_submit}
 use Rattle.nr_laws.proofs.Ordered.{Order, order}
 use Rattle.nr_laws.proofs.Ordered.Order.{Behind, Here, Before}
 use Rattle.nr_laws.proofs.OwnReplies.{executed_replies_are_handed_over}
@@ -39,6 +38,7 @@ use Rattle.nr_service_laws.specs.Exchanges.{Exchange}
 use Rattle.nr_service_laws.specs.Exchanges.Exchange.{Answered, Forgotten, GivenUp, HandedOver, Submitted}
 use Rattle.nr_service_laws.specs.ServedCommands.{client_marks, is_client_mark}
 use Rattle.nr_service_laws.proofs.ServedAnswers.{submit_of}
+use Rattle.nr_service_laws.proofs.ServedOutcomes.{WaitsAsPlanned}
 use Rattle.nr_pair_laws.specs.Pairs.{AreAnsweredFrom, IsAnsweredBetween, OpenCall, place_after}
 use Rattle.nr_pair_laws.proofs.PlacedCalls.{StandsBetween, bound, bound_low, bound_rises, served_calls, stands_between}
 
@@ -80,7 +80,7 @@ exchanged_in link both = filter_twice (is_client_mark link) (λ mark. not (moves
 front_is_short : (first : List Mark) (m : Mark) (rest : List Mark) → first ≡ first ++ m ∷ rest → ⊥
 front_is_short first m rest is = let same = ap (λ (l : List Mark). length l) is in let sum = length-append first (m ∷ rest) in absurd (omega (arith, same, sum))
 
-module _ (s : Setup) (sane : IsSane s.tree) (J : List Entry) (n : ℕ) (opened : LinkParameters) (link : ℕ) (both : List Mark) (typed : IsTyped both) (far : MatchedSoFar opened link both)
+module _ (s : Setup) (sane : IsSane s.tree) (J : List Entry) (n : ℕ) (opened : LinkParameters) (link : ℕ) (waits : WaitsAsPlanned opened link) (both : List Mark) (typed : IsTyped both) (far : MatchedSoFar opened link both)
     (plain : HasPlainReplies (plain_server s) link both) (placed : AllPlaced s J n (served_calls link both)) where
   replies_to : List Entry → Moment → List ℕ → Option (List ℕ)
   replies_to entries moment payload = plain_reply s entries (length entries) moment payload
@@ -166,7 +166,7 @@ module _ (s : Setup) (sane : IsSane s.tree) (J : List Entry) (n : ℕ) (opened :
       let done = marks.Done link xid outcome in
       let at_submit : MarkAt both u submit = record { after = v ++ done ∷ w; is = is } in
       let at_done : MarkAt both (u ++ submit ∷ v) done = record { after = w; is = is ∙ sym (append_assoc u (submit ∷ v) (done ∷ w)) } in
-      let reply = auto_has_replies replies_to entries_of_call opened link both u (u ++ submit ∷ v) call xid outcome (server_is_plain s sane) plain typed far at_submit at_done in
+      let reply = auto_replies replies_to entries_of_call opened link both u (u ++ submit ∷ v) call xid outcome (waits u) (server_is_plain s sane) plain typed far at_submit at_done in
       subst (λ (o : Outcome). IsAnsweredBetween s J call o (limit u) (limit (u ++ submit ∷ (v ++ marks.Done link xid o ∷ [])))) (sym reply.1)
       (one_reply call xid reply.0 u v w (subst (λ (o : Outcome). both ≡ u ++ submit ∷ (v ++ marks.Done link xid o ∷ w)) reply.1 is))
 

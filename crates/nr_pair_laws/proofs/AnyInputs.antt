@@ -36,5 +36,5 @@ pub pairs_over_any_input_are_typed_lem : PairsOverAnyInputAreTyped
 pairs_over_any_input_are_typed_lem limits first J opened link outside outside' end connection c before after input input' out out' result (NotOpened why is fails same_input same_out) names reads tree entries = tt
 pairs_over_any_input_are_typed_lem limits first J opened link outside outside' end connection c before after input input' out out' result (Opened dialed s s' opens prints closes) names reads tree entries = λ ran both sides.
     sides_typed limits first J opened link outside outside' end connection ran.run both
-    (tells_text c.uid c.gid c.export c.action input input' out prints.written s s' prints.text prints.made).made ran.own ran.asked ran.marks_are sides tree entries
+    (tells_text c.uid c.gid c.export c.action input input' out prints.written s s' prints.text prints.made).made ran.first_link ran.own ran.asked ran.marks_are sides tree entries
     (calls_of_bytes c.uid c.gid c.export c.action input input' out prints.written s s' prints.text prints.made (names.uid, names.gid) names.export names.names reads)

@@ -60,6 +60,7 @@ use Rattle.nr_service_laws.specs.ServedCommands.{client_marks, is_client_mark}
 use Rattle.nr_service_laws.proofs.Judged.{answers_more}
 use Rattle.nr_service_laws.proofs.JudgedParts.{AreJudged, judged_both, reads_after}
 use Rattle.nr_service_laws.proofs.ServedAnswers.{submit_of}
+use Rattle.nr_service_laws.proofs.ServedOutcomes.{WaitsAsPlanned, first_waits}
 use Rattle.nr_pair_laws.specs.FilesAt.{KeepPath}
 use Rattle.nr_pair_laws.specs.JobPairs.{AreJobsAnsweredFrom, IsServedJobs, JobsAreServed, JobsGiveTheFile, JobsReadTheFile}
 use Rattle.nr_pair_laws.specs.JobRuns.{IsJobMark, IsJobsRun, SaysOfFile}
@@ -145,7 +146,7 @@ more_marks alone x y a b kept made is count =
     let last = length-append y (b ∷ []) in
     omega (arith, count, kept_count, first, inner, second, last)
 
-module _ (s : Setup) (sane : IsSane s.tree) (J : List Entry) (n : ℕ) (opened : LinkParameters) (link : ℕ) (both : List Mark) (typed : IsTyped both) (b : JobSides s J n opened link both) where
+module _ (s : Setup) (sane : IsSane s.tree) (J : List Entry) (n : ℕ) (opened : LinkParameters) (link : ℕ) (waits : WaitsAsPlanned opened link) (both : List Mark) (typed : IsTyped both) (b : JobSides s J n opened link both) where
   -- the marks of the session alone are the first ones of its side, and their calls come first in the journal
   alone_answered : (alone rest : List Mark) (made : List Exchange) → client_marks link both ≡ alone ++ rest → AreMarksOf link made (without_bytes alone)
       → AreAnsweredFrom s (take (bound s J link n both b.placed (upto (is_client_mark link) (length alone) both)) J) n [] made
@@ -155,7 +156,7 @@ module _ (s : Setup) (sane : IsSane s.tree) (J : List Entry) (n : ℕ) (opened :
       let kept : client_marks link first ≡ alone = kept_upto (is_client_mark link) both alone rest is in
       let calls = ap (λ (r : List Mark). served_calls link r) whole.1 ∙ calls_more link first whole.0 in
       let placed = placed_first s J n (served_calls link first) (served_calls link whole.0) (subst (λ (l : List AnsweredCall). AllPlaced s J n l) calls b.placed) in
-      exchanges_answered s sane (take (bound s J link n both b.placed first) J) n opened link first (each_first TypedMark both first whole.0 whole.1 typed)
+      exchanges_answered s sane (take (bound s J link n both b.placed first) J) n opened link waits first (each_first TypedMark both first whole.0 whole.1 typed)
       (record {
         asked = each_first (AskedMark IsPrefixOf opened link) both first whole.0 whole.1 b.far.asked;
         served = each_first (ServedMark IsPrefixOf opened link) both first whole.0 whole.1 b.far.served;
@@ -217,7 +218,7 @@ module _ (s : Setup) (sane : IsSane s.tree) (J : List Entry) (n : ℕ) (opened :
         let w = second.after in
         let whole : both ≡ u ++ submit ∷ (v ++ done ∷ w) = first.is ∙ ap (λ (l : List Mark). u ++ submit ∷ l) second.is in
         let split : both ≡ (u ++ submit ∷ v) ++ done ∷ w = whole ∙ sym (append_assoc u (submit ∷ v) (done ∷ w)) in
-        let a = one_outcome s sane J n opened link both typed b.far b.plain b.placed call e.xid outcome u v w whole in
+        let a = one_outcome s sane J n opened link waits both typed b.far b.plain b.placed call e.xid outcome u v w whole in
         let made_first : made_upto e.at ≡ length (filter f u) =
         ap (λ (l : List SharedEntry). length alone + length (flat_map (mark_at fed link) l)) (taken_first history two.before (entry ∷ (two.between ++ close ∷ two.after)) e.at two.is two.first)
         ∙ sym (length-append alone x) ∙ sym (ap (λ (l : List Mark). length l) first.first) in
@@ -255,16 +256,17 @@ job_served : (setup : Setup) → IsSane setup.tree → (J more : List Entry) (op
 job_served setup sane J more opened link own law placed s source sink log log' result made history ran earlier both sides typed =
     let b = job_sides setup (J ++ more) (length J) opened link ran.run own both ran.own ran.asked sides law placed in
     let marks_are : client_marks link both ≡ run_of ran.alone ran.fed link history = sides.client_side ∙ ran.run_is in
+    let waits = first_waits opened link ran.first_link.resumed in
     record {
       served = record { client_side = sides.client_side; typed = typed; served = b.served; matched = sides.matched; plain = b.plain };
       so_far = b.far;
       at_places = b.at_places;
       answered = record {
-        alone = alone_first setup sane (J ++ more) (length J) opened link both typed b ran.alone ran.fed history marks_are made ran.marks_are;
-        used = used_upto setup sane (J ++ more) (length J) opened link both typed b ran.alone ran.fed history marks_are;
-        first = used_first setup sane (J ++ more) (length J) opened link both typed b ran.alone ran.fed history marks_are;
-        rises = used_rises setup sane (J ++ more) (length J) opened link both typed b ran.alone ran.fed history marks_are;
-        shared = shared_answered setup sane (J ++ more) (length J) opened link both typed b ran.alone ran.fed history marks_are earlier;
+        alone = alone_first setup sane (J ++ more) (length J) opened link waits both typed b ran.alone ran.fed history marks_are made ran.marks_are;
+        used = used_upto setup sane (J ++ more) (length J) opened link waits both typed b ran.alone ran.fed history marks_are;
+        first = used_first setup sane (J ++ more) (length J) opened link waits both typed b ran.alone ran.fed history marks_are;
+        rises = used_rises setup sane (J ++ more) (length J) opened link waits both typed b ran.alone ran.fed history marks_are;
+        shared = shared_answered setup sane (J ++ more) (length J) opened link waits both typed b ran.alone ran.fed history marks_are earlier;
       };
     }
 

@@ -19,7 +19,7 @@ use Rattle.nr_reduce.specs.History.{bytes_received, fed_at}
 use Rattle.nr_reduce.specs.OfferedRegions.{region_bytes, region_grants}
 use Rattle.nr_reduce.specs.Run.{client, grants_of, placed_bytes}
 use Rattle.nr_service_laws.specs.ServedCommands.{client_marks, is_client_mark}
-use Rattle.nr_service_laws.proofs.ClientLaws.{asked_back, asked_others, awaited_back, client_same}
+use Rattle.nr_service_laws.proofs.ClientLaws.{asked_back, asked_others, client_same, waits_back}
 use Rattle.nr_service_laws.proofs.OpenLinks.{others_not_fed}
 use Rattle.nr_service_laws.proofs.ServedOutcomes.{kept_all}
 use Rattle.nr_pair_laws.specs.JobRuns.{IsJobMark}
@@ -52,14 +52,14 @@ module _ (Relates : List ℕ → List ℕ → Type 0) (opened : LinkParameters) 
       let lost = h same in
       let back : client opened link (client_marks link before) ≡ client opened link before = sym (client_same opened link before) in
       record {
-        awaited = awaited_back Relates opened link before xid lost.awaited;
+        awaited = waits_back Relates opened link before xid lost.awaited;
         ended = lost.ended;
         is_ended = subst (λ (c : EndState ClientState). c.ended ≡ Some lost.ended) back lost.is_ended;
         none = λ c there. lost.none c (subst (λ (e : EndState ClientState). Contains e.state.outcomes c) (client_same opened link before) there);
       }
   asked_here before (marks.Revoke l xid bytes) own h = λ same.
       let revoked = h same in
-      record { awaited = awaited_back Relates opened link before xid revoked.awaited; bytes_are = revoked.bytes_are ∙ sym (revoked_same opened link before xid) }
+      record { awaited = waits_back Relates opened link before xid revoked.awaited; bytes_are = revoked.bytes_are ∙ sym (revoked_same opened link before xid) }
   asked_here before (marks.Wrote l Responder bytes) own h = absurd own
   asked_here before (marks.Fed l Responder bytes) own h = absurd own
   asked_here before (marks.Submit l call forms.Auto (submissions.Refused why)) own h = absurd own

@@ -18,6 +18,7 @@ use Rattle.nr_shared.specs.Histories.{Allows, AreAllowed, mark_at}
 use Rattle.nr_plain.specs.History.{AllPlaced, setup_in}
 use Rattle.nr_plain.specs.Setup.{Setup}
 use Rattle.nr_byte_laws.specs.InBytes.{EntriesInBytes, IsInBytes}
+use Rattle.nr_byte_laws.proofs.ByteClients.{none_again}
 use Rattle.nr_client.specs.declared.client_end.ClientEnd.{ClientEnd}
 use Rattle.nr_client.specs.Jobs.{FileReads, ReadsFileByJobs, bytes_at}
 use Rattle.nr_client.specs.Jobs.ReadsFileByJobs.{NoAttributes, Shared}
@@ -86,7 +87,7 @@ job_typed setup journal n opened link own law placed tree entries s source sink 
     let parts : client_marks link both ≡ ran.alone ++ later = sides.client_side ∙ ran.run_is ∙ run_first ran.alone ran.fed link history in
     let kept : filter (is_exchanged link) both ≡ without_bytes ran.alone ++ without_bytes later =
     sym (exchanged_in link both) ∙ ap (λ (r : List Mark). without_bytes r) parts ∙ filter-append (λ (m : Mark). not (moves_bytes m)) ran.alone later in
-    typed_by setup journal opened link both tree entries b.far b.at_places
+    typed_by setup journal opened link both (none_again opened ran.first_link.resumed) tree entries b.far b.at_places
     (subst (λ (r : List Mark). AllByRecursion (IsJobMark link) r) (sym sides.client_side) ran.own) (subst (λ (r : List Mark). MarksOfBytes r) (sym kept) marks) sides.no_others
 
 pub jobs_are_typed_lem : JobsAreTyped

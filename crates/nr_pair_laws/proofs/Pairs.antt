@@ -11,11 +11,11 @@ use Rattle.nr_reduce.specs.declared.mark.Mark.{Mark}
 use Rattle.nr_reduce.specs.Asked.{AskedSoFar, IsAll}
 use Rattle.nr_reduce.specs.AtEachMark.{AtEachMark}
 use Rattle.nr_reduce.specs.EndRules.{EndState}
-use Rattle.nr_reduce.specs.Opening.{IsOpened}
+use Rattle.nr_reduce.specs.Opening.{IsFirstLink, IsOpened}
 use Rattle.nr_reduce.specs.Run.{end_of_side, server}
 use Rattle.nr_reduce.specs.Served.{Served, ServedMark}
 use Rattle.nr_reduce.specs.ServerState.{ServerState}
-use Rattle.nr_laws.specs.EndCauses.{KeepLaws}
+use Rattle.nr_laws.specs.EndCauses.{AgreesAgain, HasNoOldCall, KeepLaws}
 use Rattle.nr_laws.specs.MatchedSoFar.{MatchedSoFar}
 use Rattle.nr_laws.specs.PlainLinks.{AtPlacesOn, HasPlainReplies}
 use Rattle.nr_laws.specs.Stays.{ConveyedMark, NotRevokedMark}
@@ -30,6 +30,7 @@ use Rattle.nr_plain.specs.ReplyLaws.{plain_server}
 use Rattle.nr_plain.specs.Setup.{Setup}
 use Rattle.nr_plain.proofs.PlainServers.{server_is_plain}
 use Rattle.nr_byte_laws.specs.InBytes.{IsInBytes}
+use Rattle.nr_byte_laws.proofs.ByteClients.{none_again}
 use Rattle.nr_client.specs.declared.call_end.CallEnd.TheVariants as calls
 use Rattle.nr_client.specs.declared.client_end.ClientEnd.TheVariants as client
 use Rattle.nr_commands.specs.Running.Runs.{NotOpened, Opened}
@@ -39,14 +40,15 @@ use Rattle.nr_host.specs.declared.connection_limits.ConnectionLimits.{Connection
 use Rattle.nr_host.specs.declared.conn_end.ConnEnd.{ConnEnd}
 use Rattle.nr_host_laws.specs.OwnMarks.{own_marks}
 use Rattle.nr_host_laws.proofs.Lawful.{keep_the_law}
-use Rattle.nr_host_laws.proofs.OwnMarks.{same_server}
+use Rattle.nr_host_laws.proofs.OwnMarks.{none_old, same_server}
 use Rattle.nr_host_laws.proofs.TypedMarks.{all_bytes, of_calls_bytes}
 use Rattle.nr_service_laws.specs.ClientMarks.{AreMarksOf, IsOwn, without_bytes}
 use Rattle.nr_service_laws.specs.Exchanges.{Exchange, tells_text}
 use Rattle.nr_service_laws.specs.ServedCommands.{client_marks}
 use Rattle.nr_service_laws.proofs.ByteCommands.{command_calls}
 use Rattle.nr_service_laws.proofs.ByteExchanges.{CallsAreBytes}
-use Rattle.nr_service_laws.proofs.OpenLinks.{conveyed, not_revoked, own_each}
+use Rattle.nr_service_laws.proofs.OpenLinks.{agrees_first, conveyed, not_revoked, own_each}
+use Rattle.nr_service_laws.proofs.ServedOutcomes.{first_waits}
 use Rattle.nr_service_laws.proofs.ServedLaws.{ServerKeeps, matched_by, served_keep_laws_lem}
 use Rattle.nr_pair_laws.specs.Pairs.{AreSidesOf, ConnectionsHaveARun, IsConnectionRun, PairsAreServed, PairsAreTyped}
 use Rattle.nr_pair_laws.proofs.AnsweredCalls.{exchanged_in, exchanges_answered}
@@ -70,10 +72,10 @@ ended_server opened link run own why same open_still out =
     none-some why (sym open_still ∙ ap (λ (x : EndState ServerState). x.ended) (same_server opened link run ∙ ap (λ (r : List Mark). server opened link r) same) ∙ out)
 
 -- the client's marks are those of a command
-never_ends : (s : Setup) → IsSane s.tree → (opened : LinkParameters) (link : ℕ) (both : List Mark) → IsOpened opened → IsTyped both → KeepLaws opened link both → HasPlainReplies (plain_server s) link both
+never_ends : (s : Setup) → IsSane s.tree → (opened : LinkParameters) (link : ℕ) (both : List Mark) → IsOpened opened → AgreesAgain opened → IsTyped both → KeepLaws opened link both → HasNoOldCall link both → HasPlainReplies (plain_server s) link both
     → AllByRecursion (IsOwn link) (client_marks link both) → end_of_side opened link Responder both ≡ None
-never_ends s sane opened link both fine typed laws plain owns =
-    (links_stay (plain_replies s) entries_of_call opened link both fine typed laws (own_each (NotRevokedMark link) link [] both (not_revoked link) owns)
+never_ends s sane opened link both fine again typed laws fresh plain owns =
+    (links_stay (plain_replies s) entries_of_call opened link both fine again typed laws fresh (own_each (NotRevokedMark link) link [] both (not_revoked link) owns)
     (own_each (ConveyedMark opened link) link [] both (conveyed opened link) owns) (server_is_plain s sane) plain).1
 
 -- ---- The pair
@@ -117,11 +119,12 @@ pairs_are_served_lem limits first J opened link outside outside' end connection 
     let made = (tells_text c.uid c.gid c.export c.action input input' out prints.written s s' prints.text prints.made).made in
     let b = both_sides setup journal (length J) opened link ran.run own both ran.own ran.asked sides connection.served connection.over.placed in
     let are = subst (λ (r : List Mark). AreMarksOf link made (without_bytes r)) (sym sides.client_side) ran.marks_are in
+    let fresh = none_old link both own sides.server_side connection.ended.runs.own in
     record {
       served = record { client_side = sides.client_side; typed = typed; served = b.keeps.served; matched = sides.matched; plain = b.plain };
       at_places = b.at_places;
-      answered = exchanges_answered setup sane journal (length J) opened link both typed b.far b.plain b.placed made are;
-      stays = λ why is. by (λ laws. ended_server opened link both own why sides.server_side (never_ends setup sane opened link both session.fine typed laws b.plain b.owns)
+      answered = exchanges_answered setup sane journal (length J) opened link (first_waits opened link ran.first_link.resumed) both typed b.far b.plain b.placed made are;
+      stays = λ why is. by (λ laws. ended_server opened link both own why sides.server_side (never_ends setup sane opened link both session.fine (agrees_first opened ran.first_link.agreed) typed laws fresh b.plain b.owns)
           (subst (λ (e : ConnEnd). IsCause opened link own outside'.left e) is (connection.ended.cause opened same)).0)
           (served_keep_laws_lem opened link c before after input input' out out' result (Opened dialed s s' opens prints closes) ran (plain_replies setup) entries_of_call both session.fine
           (record { client_side = sides.client_side; typed = typed; served = b.keeps.served; matched = sides.matched; limits = server_is_plain setup sane; plain = b.plain })).1;
@@ -133,19 +136,19 @@ pairs_are_served_lem limits first J opened link outside outside' end connection 
 
 -- a list with both sides is of its types, if each call of the command is of bytes
 pub sides_typed : (limits : ConnectionLimits) (first : Opening) (J : List Entry) (opened : LinkParameters) (link : ℕ) (outside outside' : Outside) (end : ConnEnd)
-    (connection : IsConnectionRun limits first J opened link outside outside' end) (run both : List Mark) (made : List Exchange) → AllByRecursion (IsOwn link) run → AskedSoFar opened link run
+    (connection : IsConnectionRun limits first J opened link outside outside' end) (run both : List Mark) (made : List Exchange) → IsFirstLink opened → AllByRecursion (IsOwn link) run → AskedSoFar opened link run
     → AreMarksOf link made (without_bytes run) → AreSidesOf link run connection.ended.run both → IsInBytes (setup_in first).tree → AreOfCalls (setup_in first) [] J → CallsAreBytes made → IsTyped both
-sides_typed limits first J opened link outside outside' end connection run both made owns asked are sides tree entries words =
+sides_typed limits first J opened link outside outside' end connection run both made first_link owns asked are sides tree entries words =
     let setup = setup_in first in
     let journal : List Entry = J ++ connection.over.more in
     let b = both_sides setup journal (length J) opened link run connection.ended.run both owns asked sides connection.served connection.over.placed in
     let are_both = subst (λ (r : List Mark). AreMarksOf link made (without_bytes r)) (sym sides.client_side) are in
-    pair_is_typed setup journal opened link both made tree (all_bytes setup J connection.over.more (of_calls_bytes setup [] J entries) connection.over.of_calls) b.far b.at_places b.owns
+    pair_is_typed setup journal opened link both made (none_again opened first_link.resumed) tree (all_bytes setup J connection.over.more (of_calls_bytes setup [] J entries) connection.over.of_calls) b.far b.at_places b.owns
     (subst (λ (r : List Mark). AreMarksOf link made r) (exchanged_in link both) are_both) words sides.no_others
 
 pub pairs_are_typed_lem : PairsAreTyped
 pairs_are_typed_lem limits first J opened link outside outside' end connection c before after input input' out out' result (NotOpened why is fails same_input same_out) of tree entries = tt
 pairs_are_typed_lem limits first J opened link outside outside' end connection c before after input input' out out' result (Opened dialed s s' opens prints closes) of tree entries = λ ran both sides.
     sides_typed limits first J opened link outside outside' end connection ran.run both
-    (tells_text c.uid c.gid c.export c.action input input' out prints.written s s' prints.text prints.made).made ran.own ran.asked ran.marks_are sides tree entries
+    (tells_text c.uid c.gid c.export c.action input input' out prints.written s s' prints.text prints.made).made ran.first_link ran.own ran.asked ran.marks_are sides tree entries
     (command_calls c.uid c.gid c.export c.action input input' out prints.written s s' prints.text prints.made (of.uid, of.gid) of.export of.names)

@@ -3,6 +3,8 @@
 use Rattle.std.proofs.Common.{◌≡◌, ℕ, Bool, true, false, cond, ◌&&◌, eqb, List, [], ◌∷◌, ◌++◌, refl, sym, ap, subst, ◌∙◌, append-nil}
 use Rattle.std.proofs.lemmas.List.Elements.{filter-append}
 use Rattle.nr_wire.specs.declared.hello.Side.TheVariants.{Initiator, Responder}
+use Rattle.nr_link.specs.Frames.{frames_of}
+use Rattle.nr_reduce.specs.declared.mark.Told.TheVariants.{Granted, Old}
 use Rattle.nr_reduce.specs.declared.mark.Entry.{Entry}
 use Rattle.nr_reduce.specs.declared.mark.Mark.{Mark}
 use Rattle.nr_reduce.specs.declared.mark.Mark.TheVariants as marks
@@ -10,10 +12,11 @@ use Rattle.nr_reduce.specs.declared.mark.LinkParameters.{LinkParameters}
 use Rattle.nr_reduce.specs.AtEachMark.{AtEachMark}
 use Rattle.nr_reduce.specs.EndRules.{EndState, output_for_all}
 use Rattle.nr_reduce.specs.Events.{RunEvent, events}
-use Rattle.nr_reduce.specs.History.{bytes_sent, written_at}
+use Rattle.nr_reduce.specs.History.{bytes_received, bytes_sent, fed_at, written_at}
 use Rattle.nr_reduce.specs.PlainJournal.{PlainServer}
 use Rattle.nr_reduce.specs.Run.{output_due}
-use Rattle.nr_reduce.specs.Served.{ServedMark, first_ready, next_call}
+use Rattle.nr_reduce.specs.NumberedJournal.{number_heard, number_in_frames}
+use Rattle.nr_reduce.specs.Served.{ServedMark, first_ready, last_at, last_frame_at, next_call}
 use Rattle.nr_reduce.specs.Server.{initial_server, server_rules}
 use Rattle.nr_reduce.specs.ServerState.{ServerState}
 use Rattle.nr_reduce.proofs.Standing.{itself}
@@ -36,6 +39,18 @@ sent_same : (link : ℕ) (both : List Mark) → bytes_sent link Responder both �
 unfolding bytes_sent
 sent_same link both = kept_all (written_at link Responder) (is_own link) both (λ m is. (not_own link m is).no_output)
 
+received_same : (link : ℕ) (both : List Mark) → bytes_received link Responder both ≡ bytes_received link Responder (own_marks link both)
+unfolding bytes_received
+received_same link both = kept_all (fed_at link Responder) (is_own link) both (λ m is. (not_own link m is).no_bytes)
+
+last_same : (link : ℕ) (both : List Mark) → last_frame_at link both ≡ last_frame_at link (own_marks link both)
+unfolding last_frame_at
+last_same link both = ap (λ (bytes : List ℕ). last_at (frames_of Initiator bytes)) (received_same link both)
+
+heard_same : (link : ℕ) (both : List Mark) → number_heard both link ≡ number_heard (own_marks link both) link
+unfolding number_heard
+heard_same link both = ap (λ (bytes : List ℕ). number_in_frames (frames_of Initiator bytes)) (received_same link both)
+
 next_same : (opened : LinkParameters) (link : ℕ) (both : List Mark) → next_call opened link both ≡ next_call opened link (own_marks link both)
 unfolding next_call
 next_same opened link both = ap (λ (e : EndState ServerState). first_ready e.state.ready e.ended) (same_server opened link both)
@@ -55,7 +70,9 @@ module _ (Relates : List ℕ → List ℕ → Type 0) (opened : LinkParameters) 
       (subst (λ (due : List ℕ). Relates (bytes_sent link Responder (own_marks link before) ++ bytes) due) (sym (due_same opened link before)) (h same))
   served_back (marks.Execute l xid moment payload place reply) h = λ same.
       record { call = (h same).call; is_next = next_same opened link before ∙ (h same).is_next; own = (h same).own; conveyed = (h same).conveyed }
-  served_back (marks.Told l what) h = h
+  served_back (marks.Told l (Granted credits)) h = h
+  served_back (marks.Told l (Old xid at)) h = λ same.
+      record { call = (h same).call; is_next = next_same opened link before ∙ (h same).is_next; own = (h same).own; numbered = λ none. (h same).numbered (sym (heard_same link before) ∙ none); last = (h same).last ∙ sym (last_same link before) }
   served_back (marks.Submit l call form answer) h = tt
   served_back (marks.Wrote l Initiator bytes) h = tt
   served_back (marks.Fed l side bytes) h = tt

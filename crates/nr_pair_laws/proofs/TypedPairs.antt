@@ -28,7 +28,7 @@ use Rattle.nr_laws.proofs.OnceByXid.{at_mark, before_mark}
 use Rattle.nr_laws.proofs.SentBytes.{client_sends_what_is_due, server_sends_what_is_due}
 use Rattle.nr_plain.specs.ReplyLaws.{plain_server}
 use Rattle.nr_plain.specs.Setup.{Setup}
-use Rattle.nr_byte_laws.specs.DueBytes.{CompletedInBytes, OutcomeIsBytes}
+use Rattle.nr_byte_laws.specs.DueBytes.{AreInBytes, CompletedInBytes, OutcomeIsBytes}
 use Rattle.nr_byte_laws.specs.InBytes.{EntriesInBytes, IsInBytes}
 use Rattle.nr_byte_laws.proofs.ByteClients.{client_due, outcome_bytes}
 use Rattle.nr_byte_laws.proofs.ByteServers.{server_due}
@@ -102,14 +102,14 @@ one_link link l of never is = by (eqb l link) refl is
     by true same is = eqb-true l link same
     by false same is = absurd (let wrong : false ≡ true = sym never ∙ is in cc)
 
-module _ (s : Setup) (J : List Entry) (opened : LinkParameters) (link : ℕ) (tree : IsInBytes s.tree) (entries : EntriesInBytes J) (both : List Mark) (far : MatchedSoFar opened link both)
+module _ (s : Setup) (J : List Entry) (opened : LinkParameters) (link : ℕ) (again : AreInBytes Initiator opened) (tree : IsInBytes s.tree) (entries : EntriesInBytes J) (both : List Mark) (far : MatchedSoFar opened link both)
     (placed : AtPlacesOn (plain_server s) J link both) (submits : AllByRecursion (IsJobMark link) (client_marks link both)) (calls : MarksOfBytes (filter (is_exchanged link) both)) where
   module _ (front rest : List Mark) (m : Mark) (is : both ≡ front ++ m ∷ rest) (typed : IsTyped front) where
     up_is_bytes : IsBytes (bytes_sent link Initiator front)
     up_is_bytes =
         let begins : IsPrefixOf (bytes_sent link Initiator front) (output_due opened link Initiator front) =
         client_sends_what_is_due opened link front (before_mark (AskedMark IsPrefixOf opened link) both front m rest is far.asked) in
-        IsBytes_left (bytes_sent link Initiator front) begins.0 (subst IsBytes (sym begins.1) (client_due opened link front typed))
+        IsBytes_left (bytes_sent link Initiator front) begins.0 (subst IsBytes (sym begins.1) (client_due opened link front again typed))
 
     down_is_bytes : IsBytes (bytes_sent link Responder front)
     down_is_bytes =
@@ -184,7 +184,7 @@ module _ (s : Setup) (J : List Entry) (opened : LinkParameters) (link : ℕ) (tr
   outcome_of front rest (marks.Done l xid outcome) is typed side =
       let completed : IsCompleted opened link front xid outcome = at_mark (AskedMark IsPrefixOf opened link) both front (marks.Done l xid outcome) rest is far.asked (one_link link l (λ b. b || false) refl side) in
       All-contains CompletedInBytes (client opened link front).state.outcomes (record { xid = xid; outcome = outcome })
-      (All-from_recursion CompletedInBytes (client opened link front).state.outcomes (outcome_bytes opened link front typed)) completed.is_received
+      (All-from_recursion CompletedInBytes (client opened link front).state.outcomes (outcome_bytes opened link front again typed)) completed.is_received
   outcome_of front rest (marks.Submit l call form answer) is typed side = tt
   outcome_of front rest (marks.Fed l at bytes) is typed side = tt
   outcome_of front rest (marks.Execute l xid moment payload place reply) is typed side = tt
@@ -215,12 +215,12 @@ module _ (s : Setup) (J : List Entry) (opened : LinkParameters) (link : ℕ) (tr
 -- ---- A pair
 
 -- a list with both sides is of its types, if the calls that its client submits are
-pub typed_by : (s : Setup) (J : List Entry) (opened : LinkParameters) (link : ℕ) (both : List Mark) → IsInBytes s.tree → EntriesInBytes J → MatchedSoFar opened link both
+pub typed_by : (s : Setup) (J : List Entry) (opened : LinkParameters) (link : ℕ) (both : List Mark) → AreInBytes Initiator opened → IsInBytes s.tree → EntriesInBytes J → MatchedSoFar opened link both
     → AtPlacesOn (plain_server s) J link both → AllByRecursion (IsJobMark link) (client_marks link both) → MarksOfBytes (filter (is_exchanged link) both) → AllByRecursion (IsOfSide link) both → IsTyped both
-typed_by s J opened link both tree entries far placed submits calls sides = typed_from s J opened link tree entries both far placed submits calls [] both refl tt tt sides
+typed_by s J opened link both again tree entries far placed submits calls sides = typed_from s J opened link again tree entries both far placed submits calls [] both refl tt tt sides
 
-pub pair_is_typed : (s : Setup) (J : List Entry) (opened : LinkParameters) (link : ℕ) (both : List Mark) (made : List Exchange) → IsInBytes s.tree → EntriesInBytes J → MatchedSoFar opened link both
+pub pair_is_typed : (s : Setup) (J : List Entry) (opened : LinkParameters) (link : ℕ) (both : List Mark) (made : List Exchange) → AreInBytes Initiator opened → IsInBytes s.tree → EntriesInBytes J → MatchedSoFar opened link both
     → AtPlacesOn (plain_server s) J link both → AllByRecursion (IsOwn link) (client_marks link both) → AreMarksOf link made (filter (is_exchanged link) both) → CallsAreBytes made
     → AllByRecursion (IsOfSide link) both → IsTyped both
-pair_is_typed s J opened link both made tree entries far placed own are calls sides =
-    typed_by s J opened link both tree entries far placed (job_marks link (client_marks link both) own) (exchanged link made (filter (is_exchanged link) both) are calls) sides
+pair_is_typed s J opened link both made again tree entries far placed own are calls sides =
+    typed_by s J opened link both again tree entries far placed (job_marks link (client_marks link both) own) (exchanged link made (filter (is_exchanged link) both) are calls) sides

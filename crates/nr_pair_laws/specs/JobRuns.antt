@@ -14,6 +14,7 @@ use Rattle.nr_reduce.specs.declared.mark.LinkParameters.{LinkParameters}
 use Rattle.nr_reduce.specs.declared.mark.Mark.{Mark}
 use Rattle.nr_reduce.specs.declared.mark.Mark.TheVariants as marks
 use Rattle.nr_reduce.specs.Asked.{AskedSoFar}
+use Rattle.nr_reduce.specs.Opening.{IsFirstLink}
 use Rattle.nr_reduce.specs.Credits.{KeepsGrant}
 use Rattle.nr_reduce.specs.History.{bytes_received, bytes_sent}
 use Rattle.nr_shared.specs.declared.entry.Entry.{Entry}
@@ -54,6 +55,8 @@ IsJobMark link mark = ⊥
 pub record IsJobsRun (opened : LinkParameters) (link : ℕ) (s : SessionAt) (source : SourceAt) (sink : SinkAt) (log log' : Option LinkLog)
     (result : Result (Unit {0}) ClientEnd) (made : List Exchange) (history : List Entry) : Type 0 where
   pub run : List Mark
+  -- its link was not reopened
+  pub first_link : IsFirstLink opened
   -- It is a run of the client's side alone. The client keeps its law and the last grant.
   pub own : AllByRecursion (IsJobMark link) run
   pub asked : AskedSoFar opened link run

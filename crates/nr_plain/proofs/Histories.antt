@@ -13,8 +13,9 @@ use Rattle.nr_turnstile.specs.Rule.{Begins, Earlier, opening_view, places, place
 use Rattle.nr_turnstile.specs.declared.plays.View.{View}
 use Rattle.nr_plain.specs.declared.history_entry.HistoryEntry.{HistoryEntry}
 use Rattle.nr_plain.specs.declared.history_entry.HistoryEntry.TheVariants.{Opened, Added}
-use Rattle.nr_plain.specs.declared.history_entry.TaggedEntry.{TaggedEntry}
-use Rattle.nr_plain.specs.History.{Opening, setup_in, tagged, entries_alone, additions, history, IsHistory, StandsFor, closes_none, AreOfCalls, AddsOne, AddsNone, xid_in, entries_added, first_added, entry_to_append, PassView, OnlyOthersAdded, ExecutesAt}
+use Rattle.nr_reduce.specs.declared.mark.TaggedEntry.{TaggedEntry}
+use Rattle.nr_reduce.specs.NumberedJournal.{tagged, entries_alone}
+use Rattle.nr_plain.specs.History.{Opening, setup_in, additions, history, IsHistory, StandsFor, closes_none, AreOfCalls, AddsOne, AddsNone, xid_in, entries_added, first_added, entry_to_append, PassView, OnlyOthersAdded, ExecutesAt}
 use Rattle.nr_plain.proofs.OfCalls.{both_of_calls, later_of_calls, of_call}
 
 -- ===== histories and their entries
@@ -26,7 +27,7 @@ entry_by false x y e p q = q
 tagged_is : (client xid : ℕ) (e : Entry) → (tagged client xid e).entry ≡ e
 tagged_is client xid e = entry_by (client == 0) (record { entry = e; client = 0; xid = 0 }) (record { entry = e; client = client; xid = xid }) e refl refl
 
-tagged_alone : (client xid : ℕ) (es : List Entry) → entries_alone (map (tagged client xid) es) ≡ es
+pub tagged_alone : (client xid : ℕ) (es : List Entry) → entries_alone (map (tagged client xid) es) ≡ es
 tagged_alone client xid [] = refl
 tagged_alone client xid (e ∷ es) = λ i. tagged_is client xid e i ∷ tagged_alone client xid es i
 

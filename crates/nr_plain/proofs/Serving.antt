@@ -77,7 +77,7 @@ module _ (k : PlainServerState) (e : Entry) (xid : ℕ) (p : NfsProcedure) where
       pub costs : b ≡ true → k.cost + entry_cost + length e.args ≤ k.parameters.capacity
       costs is_entry = spaced space (entry_spaced k.tree (caller_of e.cred) space (time_of e.moment) p arguments (sym (changes_is b entry) ∙ is_entry))
 
-      pub serving_entry : (n : ℕ) → n ≡ entry_cost + length e.args → b ≡ true → IsServing k → IsSane tree → IsServing (record { tree = tree; count = k.count + 1; cost = k.cost + n; parameters = k.parameters })
+      pub serving_entry : (n : ℕ) → n ≡ entry_cost + length e.args → b ≡ true → IsServing k → IsSane tree → IsServing (record { tree = tree; count = k.count + 1; cost = k.cost + n; parameters = k.parameters; cache = k.cache })
       serving_entry n costing is_entry is sane = record {
         sane = sane;
         below =
@@ -87,11 +87,12 @@ module _ (k : PlainServerState) (e : Entry) (xid : ℕ) (p : NfsProcedure) where
         counted = omega (arith, is.counted, costing);
         within = omega (arith, costs is_entry, costing);
         capacity = is.capacity;
+        remembers = is.remembers;
       }
 
-      pub serving_same : b ≡ false → IsServing k → IsServing (record { tree = tree; count = k.count; cost = k.cost; parameters = k.parameters })
-      serving_same no_entry is = subst (λ (u : Tree). IsServing (record { tree = u; count = k.count; cost = k.cost; parameters = k.parameters })) (sym (same no_entry))
-          (record { sane = is.sane; below = is.below; counted = is.counted; within = is.within; capacity = is.capacity })
+      pub serving_same : b ≡ false → IsServing k → IsServing (record { tree = tree; count = k.count; cost = k.cost; parameters = k.parameters; cache = k.cache })
+      serving_same no_entry is = subst (λ (u : Tree). IsServing (record { tree = u; count = k.count; cost = k.cost; parameters = k.parameters; cache = k.cache })) (sym (same no_entry))
+          (record { sane = is.sane; below = is.below; counted = is.counted; within = is.within; capacity = is.capacity; remembers = is.remembers })
 
       entries_are : (x : Bool) → b ≡ x → answer.entries ≡ entries_if x e
       entries_are x is = entries_by arguments ∙ ap (λ (y : Bool). entries_if y e) (sym (changes_is b entry) ∙ is)
@@ -104,14 +105,14 @@ module _ (k : PlainServerState) (e : Entry) (xid : ℕ) (p : NfsProcedure) where
       unfolding next_state
       next_cost = refl
 
-      pub entry_kept : (n : ℕ) → n ≡ entry_cost + length e.args → b ≡ true → nfs_procedure_of e.proc ≡ Some p → record { tree = tree; count = k.count + 1; cost = k.cost + n; parameters = k.parameters } ≡ state_after_answer k answer.entries
+      pub entry_kept : (n : ℕ) → n ≡ entry_cost + length e.args → b ≡ true → nfs_procedure_of e.proc ≡ Some p → record { tree = tree; count = k.count + 1; cost = k.cost + n; parameters = k.parameters; cache = k.cache } ≡ state_after_answer k answer.entries
       entry_kept n costing is_entry of_number =
-          (λ i. record { tree = sym (next_tree of_number) i; count = k.count + 1; cost = (ap (λ (m : ℕ). k.cost + m) costing ∙ sym next_cost) i; parameters = k.parameters }) ∙ ap (state_after_answer k) (sym (entries_are true is_entry))
+          (λ i. record { tree = sym (next_tree of_number) i; count = k.count + 1; cost = (ap (λ (m : ℕ). k.cost + m) costing ∙ sym next_cost) i; parameters = k.parameters; cache = k.cache }) ∙ ap (state_after_answer k) (sym (entries_are true is_entry))
 
-      pub same_kept : b ≡ false → record { tree = tree; count = k.count; cost = k.cost; parameters = k.parameters } ≡ state_after_answer k answer.entries
+      pub same_kept : b ≡ false → record { tree = tree; count = k.count; cost = k.cost; parameters = k.parameters; cache = k.cache } ≡ state_after_answer k answer.entries
       same_kept no_entry =
           let none : k.count ≡ k.count + 0 = omega arith in
-          (λ i. record { tree = same no_entry i; count = none i; cost = k.cost; parameters = k.parameters }) ∙ ap (state_after_answer k) (sym (entries_are false no_entry))
+          (λ i. record { tree = same no_entry i; count = none i; cost = k.cost; parameters = k.parameters; cache = k.cache }) ∙ ap (state_after_answer k) (sym (entries_are false no_entry))
 
 -- ===== journals
 
@@ -137,7 +138,7 @@ stands_after s J k es is =
     }
 
 pub kept_none : (k : PlainServerState) → k ≡ state_after_answer k []
-kept_none k = let none : k.count ≡ k.count + 0 = omega arith in λ i. record { tree = k.tree; count = none i; cost = k.cost; parameters = k.parameters }
+kept_none k = let none : k.count ≡ k.count + 0 = omega arith in λ i. record { tree = k.tree; count = none i; cost = k.cost; parameters = k.parameters; cache = k.cache }
 
 -- ===== MOUNT adds no entry
 
@@ -160,7 +161,7 @@ mount_none prm xid vers e = mount_version_by prm xid e (eqb vers 3)
 pub mount_kept : (k : PlainServerState) (xid vers : ℕ) (e : Entry) → k ≡ state_after_answer k (mount_call k.parameters xid vers e).entries
 mount_kept k xid vers e = kept_none k ∙ ap (state_after_answer k) (sym (mount_none k.parameters xid vers e))
 
-any_ok : {A E : Type 0} (r : Result A E) (P : Type 0) → P → OnOk r P
+pub any_ok : {A E : Type 0} (r : Result A E) (P : Type 0) → P → OnOk r P
 any_ok (Ok x) P holds = holds
 any_ok (Err e) P holds = tt
 

@@ -1,6 +1,6 @@
 -- The history of a server in a turnstile: what it was opened as, and then its journal. What a pass has seen of it, and
 -- what a call under a turn makes of that.
-use Rattle.std.specs.Prelude.{◌≡◌, ⊤, ℕ, suc, ◌+◌, ◌≤◌, ◌==◌, if◌then◌else◌, List, [], ◌∷◌, ◌++◌, length, map, take, drop, Option, None, Some, unwrap_or}
+use Rattle.std.specs.Prelude.{◌≡◌, ⊤, ℕ, suc, ◌+◌, ◌≤◌, List, [], ◌∷◌, ◌++◌, length, map, take, drop, Option, None, Some, unwrap_or}
 use Rattle.std.specs.List.{flat_map}
 use Rattle.std.specs.declared.snapshot.Snapshot.{Snapshot}
 use Rattle.nr_xdr.specs.Item.{IsBytes}
@@ -17,7 +17,8 @@ use Rattle.nr_turnstile.specs.Passes.{seen_by, mine_of}
 use Rattle.nr_turnstile.specs.declared.turnstile.Pass.{Pass}
 use Rattle.nr_plain.specs.declared.history_entry.HistoryEntry.{HistoryEntry}
 use Rattle.nr_plain.specs.declared.history_entry.HistoryEntry.TheVariants.{Opened, Added}
-use Rattle.nr_plain.specs.declared.history_entry.TaggedEntry.{TaggedEntry}
+use Rattle.nr_reduce.specs.declared.mark.TaggedEntry.{TaggedEntry}
+use Rattle.nr_reduce.specs.NumberedJournal.{tagged, entries_alone}
 
 -- a server as it was opened, and its setup
 abbrev pub Opening : Type 0
@@ -30,14 +31,6 @@ abbrev pub setup_in : Opening → Setup
 setup_in first = setup_of first.value
 
 -- ===== the history
-
--- the entry of a call, with the number of its client and its xid, or 0 and 0 if the client has no number
-abbrev pub tagged : (client xid : ℕ) → Entry → TaggedEntry
-tagged client xid e = if client == 0 then record { entry = e; client = 0; xid = 0 } else record { entry = e; client = client; xid = xid }
-
--- the entries alone: all that a reply depends on
-abbrev pub entries_alone : List TaggedEntry → List Entry
-entries_alone T = map (λ (t : TaggedEntry). t.entry) T
 
 -- a server that was opened so, and what was added to its journal since
 abbrev pub additions : List TaggedEntry → List HistoryEntry

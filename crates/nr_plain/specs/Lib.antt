@@ -9,3 +9,4 @@ pub mod ReplySizes
 pub mod ReplyLaws
 pub mod private
 pub mod History
+pub mod Numbered

@@ -1,2 +1,3 @@
 -- Definitions that only private code cites.
 pub mod Code
+pub mod Executing

@@ -30,6 +30,7 @@ mod journal_laws;
 mod laws;
 mod machine;
 mod mount;
+mod numbered;
 mod procedure;
 mod reading;
 mod server;
@@ -37,7 +38,7 @@ mod turns;
 
 pub use entry::entry_of_call;
 pub use fault::Fault;
-pub use history_entry::{HistoryEntry, TaggedEntry};
+pub use history_entry::HistoryEntry;
 pub use journal_laws::{
     calls_add_one_entry_at_most, failures_leave_the_tree, replies_are_those_of_answers,
     replies_stay, replies_tell_entries, trees_stay_sane,
@@ -47,5 +48,6 @@ pub use laws::{
     auto_offers_hold_their_replies, changes_fit_every_offer, replies_are_within_their_limit,
     replies_begin_with_the_xid, server_is_plain,
 };
+pub use numbered::{changes_once, first_replies_are_kept};
 pub use server::{Reply, Server};
 pub use turns::{execute, journal_len, share};

@@ -1,6 +1,6 @@
 //! The server.
 
-ghost use Rattle.std.specs.Prelude.{◌≡◌, ◌+◌, ◌<◌, ◌≤◌, ◌^◌, [], List, length, None, Some, Ok, Err, IfOk, IfErr, OnOk, OnErr, IsOk, drop};
+ghost use Rattle.std.specs.Prelude.{◌≡◌, ◌+◌, ◌<◌, ◌≤◌, ◌^◌, [], ◌∷◌, ◌++◌, List, ℕ, length, None, Some, Ok, Err, IfOk, IfErr, OnOk, OnErr, IsOk, drop, ◌≢◌};
 ghost use Rattle.nr_nfs_args.specs.Arguments.{nfs_arguments_codec};
 ghost use Rattle.nr_nfs_base.specs.Codec.{read_all};
 ghost use Rattle.nr_reduce.specs.declared.mark.Entry.{Entry};
@@ -11,8 +11,16 @@ ghost use Rattle.nr_plain.specs.Setup.{Setup, caller_of, space_of, time_of};
 ghost use Rattle.nr_plain.specs.private.Code.{IsHeadWithin, changes_from, entry_of, reply_from, tree_from, version2_answer};
 ghost use Rattle.nr_plain.specs.Journal.{nfs_procedure_of, cost_of};
 ghost use Rattle.nr_plain.specs.Replies.{nfs_by_procedure, nfs_call, mount_call, program_call, cred_refusal, answer_to};
-ghost use Rattle.nr_plain.specs.ReplySizes.{any_reply_max};
-ghost use Rattle.nr_plain.specs.Stands.{RepresentsJournal, ExecutesCall, IsCause, state_kept, state_after_answer};
+ghost use Rattle.nr_plain.specs.Stands.{RepresentsJournal, ExecutesCall, IsCause, cache_kept, state_kept, state_after_answer};
+ghost use Rattle.nr_plain.specs.ReplySizes.{any_reply_max, reply_max};
+ghost use Rattle.nr_plain.specs.History.{entries_added};
+ghost use Rattle.nr_plain.specs.Numbered.{IsSameButRoom, RepresentsTagged};
+ghost use Rattle.nr_reduce.specs.declared.mark.TaggedEntry.{TaggedEntry};
+ghost use Rattle.nr_plain.specs.private.Executing.{ExecutedNow, IsFound, IsRefusedBy, IsShort};
+ghost use Rattle.nr_cache.specs.Caches.{HasClient, RemembersAll, found_by};
+ghost use Rattle.nr_cache.specs.Entries.{KeptEntry};
+ghost use Rattle.nr_cache.specs.Entries.Finding.{NewCall};
+ghost use Rattle.nr_cache.specs.Windows.{finding_of};
 
 use crate::call::{Call, Change, Request};
 use crate::caller::{caller, time};
@@ -20,6 +28,7 @@ use crate::dispatch::run;
 use crate::encoding::{accepted_head, refused};
 use crate::fault::Fault;
 use crate::mount;
+use nr_cache::{Cache, Found};
 use nr_nfs_base::{
     MOUNT_PROGRAM, MOUNT_VERSION, MountProcedure, NFS_PROGRAM, NFS_VERSION, NfsProcedure, Numbered,
     Verifier,
@@ -31,8 +40,8 @@ use nr_xdr::{Memory, Octets};
 use std::alloc::Global;
 use std::marker::Model;
 
-/// A serial RPC server of NFS and MOUNT. It stands for its journal and does not keep it: what it keeps is the tree, and
-/// the length and the cost of the journal.
+/// A serial RPC server of NFS and MOUNT. It stands for its journal and does not keep it: what it keeps is the tree, the
+/// length and the cost of the journal, and replies of clients that have a number.
 #[derive(Drop)]
 pub struct Server {
     tree: Tree,
@@ -41,18 +50,19 @@ pub struct Server {
     capacity: u64,
     verifier: Verifier,
     export: Octets,
+    cache: Option<Cache>,
 }
 
 impl Model for Server {
-    ghost use Rattle.nr_plain.specs.Stands.{PlainServerState, kept_code, IsServing};
+    ghost use Rattle.nr_plain.specs.Stands.{PlainServerState, cache_kept, kept_code, IsServing};
 
     ghost Value = { PlainServerState };
 
     ghost coded = { kept_code };
 
-    ghost view = { λ s. record { tree = s.tree; count = s.count; cost = s.cost; parameters = record { capacity = s.capacity; verifier = s.verifier; export = s.export } } };
+    ghost view = { λ s. record { tree = s.tree; count = s.count; cost = s.cost; parameters = record { capacity = s.capacity; verifier = s.verifier; export = s.export }; cache = cache_kept s.cache } };
 
-    ghost invariant = { λ s. IsServing (record { tree = s.tree; count = s.count; cost = s.cost; parameters = record { capacity = s.capacity; verifier = s.verifier; export = s.export } }) };
+    ghost invariant = { λ s. IsServing (record { tree = s.tree; count = s.count; cost = s.cost; parameters = record { capacity = s.capacity; verifier = s.verifier; export = s.export }; cache = cache_kept s.cache }) };
 }
 
 /// The reply to a call, also to one that is refused or is no NFS procedure.
@@ -84,7 +94,9 @@ impl Server {
         // below 2^63.
         requires below { IsBelow (2 ^ 62) tree }
         requires capacity { capacity < 2 ^ 63 }
-        ensures { RepresentsJournal (record { tree = tree; parameters = record { capacity = capacity; verifier = verifier; export = export } }) [] result }
+        ensures journal { RepresentsJournal (record { tree = tree; parameters = record { capacity = capacity; verifier = verifier; export = export } }) [] result }
+        // It remembers no reply.
+        ensures numbered { RepresentsTagged (record { tree = tree; parameters = record { capacity = capacity; verifier = verifier; export = export } }) [] result }
     {
         tree.facts();
         Server {
@@ -94,6 +106,7 @@ impl Server {
             capacity,
             verifier,
             export,
+            cache: None,
         }
     }
 
@@ -117,6 +130,24 @@ impl Server {
     /// entry. After an `Err` the server is as before.
     pub fn execute(&mut self, alloc: Global, now: Moment, payload: &[u8]) -> Result<Reply, Fault>
         ensures executed { IfOk result (λ r. (s : Setup) (J : List Entry) → RepresentsJournal s J self.old → ExecutesCall s J now payload.now r.payload r.place self.new) }
+        // The call is one of a client without a number.
+        ensures numbered { IfOk result (λ r. (s : Setup) (T : List TaggedEntry) → RepresentsTagged s T self.old → RepresentsTagged s (T ++ entries_added 0 now payload.now r.payload) self.new) }
+        ensures call { IfOk result (λ _. IsOk (call_of payload.now)) }
+        ensures limit { IfOk result (λ r. length r.payload ≤ any_reply_max) }
+        ensures cause { IfErr result (λ e. IsCause e (call_of payload.now)) }
+        ensures err { OnErr result (self.new ≡ self.old) }
+    {
+        self.execute_now(alloc, now, payload)
+    }
+
+    /// Executes a call.
+    pub(crate) fn execute_now(
+        &mut self,
+        alloc: Global,
+        now: Moment,
+        payload: &[u8],
+    ) -> Result<Reply, Fault>
+        ensures executed { IfOk result (λ r. ExecutedNow self.old now payload.now r.payload r.place self.new) }
         ensures call { IfOk result (λ _. IsOk (call_of payload.now)) }
         ensures limit { IfOk result (λ r. length r.payload ≤ any_reply_max) }
         ensures cause { IfErr result (λ e. IsCause e (call_of payload.now)) }
@@ -134,6 +165,57 @@ impl Server {
             payload: reply?,
             place,
         })
+    }
+
+    /// How many entries the journal has.
+    pub(crate) fn count(&self) -> u64
+        ensures { result ≡ self.now.count }
+    {
+        self.count
+    }
+
+    /// The reply of a call that is kept, with its place; `None` for a new one.
+    pub(crate) fn remembered(
+        &self,
+        alloc: Global,
+        client: u64,
+        xid: u32,
+    ) -> Result<Option<Reply>, Fault>
+        requires { client ≢ 0 }
+        ensures found { IfOk result (λ r. IsFound r (found_by self.now.cache client xid)) }
+        ensures short { IfOk result (λ r. IsShort r) }
+        ensures refused { IfErr result (λ e. IsRefusedBy e (found_by self.now.cache client xid)) }
+    {
+        match &self.cache {
+            None => Ok(None),
+            Some(cache) => reply_found(alloc, cache.find(client, xid)),
+        }
+    }
+
+    /// Makes the room for the replies of a client.
+    pub(crate) fn make_ready(&mut self, alloc: Global, client: u64) -> Result<(), Memory>
+        requires { client ≢ 0 }
+        ensures room { OnOk result (HasClient self.new.cache client) }
+        ensures same { IsSameButRoom self.old self.new }
+        ensures new { (xid : ℕ) → found_by self.old.cache client xid ≡ NewCall → found_by self.new.cache client xid ≡ NewCall }
+    {
+        make_room(alloc, &mut self.cache, client)
+    }
+
+    /// Keeps the reply of a new call of a client.
+    pub(crate) fn keep(&mut self, client: u64, xid: u32, place: u64, reply: Octets)
+        requires number { client ≢ 0 }
+        requires room { HasClient self.old.cache client }
+        requires new { found_by self.old.cache client xid ≡ NewCall }
+        requires short { length reply ≤ reply_max }
+        ensures rest { record self.new { cache = self.old.cache } ≡ self.old }
+        ensures kept { (E : List KeptEntry) → RemembersAll E self.old.cache →
+            RemembersAll (E ++ record { client = client; xid = xid; place = place; reply = reply } ∷ []) self.new.cache }
+    {
+        match &mut self.cache {
+            Some(cache) => cache.keep(client, xid, place, reply),
+            None => unreachable!(),
+        }
     }
 
     /// What a call finds beside the tree.
@@ -302,6 +384,36 @@ impl Server {
             ),
         }
     }
+}
+
+/// The reply of a call that is found so, if it is kept.
+fn reply_found(alloc: Global, found: Found<'_>) -> Result<Option<Reply>, Fault>
+    ensures found { IfOk result (λ r. IsFound r (finding_of found.entry)) }
+    ensures refused { IfErr result (λ e. IsRefusedBy e (finding_of found.entry)) }
+{
+    match found {
+        Found::Old { top } => Err(Fault::Old { top }),
+        Found::New => Ok(None),
+        Found::Kept { place, reply } => Ok(Some(Reply {
+            payload: Octets::from_slice(alloc, reply)?,
+            place,
+        })),
+    }
+}
+
+/// Makes the room for the replies of a client in a cache, which is made for the first one.
+fn make_room(alloc: Global, cache: &mut Option<Cache>, client: u64) -> Result<(), Memory>
+    requires { client ≢ 0 }
+    ensures room { OnOk result (HasClient (cache_kept cache.new) client) }
+    ensures same { (E : List KeptEntry) → RemembersAll E (cache_kept cache.old) → RemembersAll E (cache_kept cache.new) }
+{
+    if let Some(made) = cache {
+        return made.ready(client);
+    }
+    let mut made = Cache::new(alloc);
+    made.ready(client)?;
+    *cache = Some(made);
+    Ok(())
 }
 
 /// Executes a procedure of NFS over a tree. After an `Err` the tree is as before.

@@ -14,3 +14,5 @@ mod directory_orders;
 mod files;
 #[cfg(test)]
 mod links_max;
+#[cfg(test)]
+mod numbered;

@@ -47,6 +47,7 @@ impl<'a, C: Clock, R: Wait> Answers for PlainCalls<'a, C, R> {
             Ok(reply) => Ok(reply.payload),
             Err(Fault::NotCall { .. }) => Err(NoReply::NotCall),
             Err(Fault::Memory) => Err(NoReply::Memory),
+            Err(Fault::Old { .. }) => unreachable!(),
         }
     }
 }

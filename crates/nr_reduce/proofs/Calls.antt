@@ -30,7 +30,7 @@ use Rattle.nr_reduce.specs.declared.outline.Plan.{Plan}
 use Rattle.nr_reduce.specs.Plans.{TooLarge, call_message}
 use Rattle.nr_reduce.specs.Chunks.{is_read_chunk_of_item}
 use Rattle.nr_reduce.specs.Holds.{Answer, answer_writes, answer_message, chunk_error, version_error}
-use Rattle.nr_reduce.specs.ClientState.{ClientState, call_payload, plan_for}
+use Rattle.nr_reduce.specs.ClientState.{ClientState, call_payload, plan_for, stag_for}
 use Rattle.nr_reduce.specs.Client.{client_rules, client_end, client_output, client_state_after, with_segment, plan_or, outstanding_of, call_output, calls_output, response_output, segment_request, with_hello, client_segment}
 use Rattle.nr_reduce.specs.ServerState.{ServerState, ReadyCall, PendingCall, PendingRead, credit_word, receives_in_use}
 use Rattle.nr_reduce.specs.ServerReads.{open_reads, is_read, regions_of, reads_of}
@@ -71,7 +71,7 @@ submit_due opened link run call form xid stays =
 pub submit_sent : (opened : LinkParameters) (link : ℕ) (run : List Mark) (call : Call) (form : Form) (xid : ℕ) → (h : IsAccepted opened link run call form xid) →
     ((client opened link run).state.has_hello ≡ true →
     output_due opened link Initiator (run ++ marks.Submit link call form (submissions.Accepted xid) ∷ [])
-    ≡ output_due opened link Initiator run ++ send ((client opened link run).state.sends + 1) (call_message xid opened.wished (client opened link run).state.stag h.plan))
+    ≡ output_due opened link Initiator run ++ send ((client opened link run).state.sends + 1) (call_message xid opened.wished (stag_for (client opened link run).state xid) h.plan))
     × ((client opened link run).state.has_hello ≡ false →
     output_due opened link Initiator (run ++ marks.Submit link call form (submissions.Accepted xid) ∷ []) ≡ output_due opened link Initiator run)
 unfolding client_output
@@ -83,7 +83,7 @@ submit_sent opened link run call form xid h =
     let all = submit_due opened link run call form xid h.stays in (
       (λ hello. all
           ∙ ap (λ (b : Bool). due ++ cond b one []) hello
-          ∙ ap (λ (p : Plan). due ++ send (k.sends + 1) (call_message xid opened.wished k.stag p)) (plan_is_lem k xid call form (plan_for k xid call form) h.plan h.planned)),
+          ∙ ap (λ (p : Plan). due ++ send (k.sends + 1) (call_message xid opened.wished (stag_for k xid) p)) (plan_is_lem k xid call form (plan_for k xid call form) h.plan h.planned)),
       λ none. all ∙ ap (λ (b : Bool). due ++ cond b one []) none ∙ append-nil due,
     )
 

@@ -20,16 +20,18 @@ use Rattle.nr_reduce.specs.Plans.{TooLarge, regions_needed, plan_of}
 use Rattle.nr_reduce.specs.OfferedRegions.{Region, region_grants, region_bytes, region_bytes_by}
 use Rattle.nr_reduce.specs.OfferedMemory.{region_at, HoldsRegions, held_if_open, registered_region}
 use Rattle.nr_reduce.specs.EndRules.{EndState, live}
-use Rattle.nr_reduce.specs.ClientState.{OutstandingCall, ClientState, call_payload, plan_for, client_memory_at}
+use Rattle.nr_reduce.specs.ClientState.{OutstandingCall, ClientState, call_payload, plan_for, client_memory_at, WaitingCall, plan_unless, first_of}
 use Rattle.nr_reduce.specs.Client.{initial_client}
-use Rattle.nr_reduce.specs.SubmitAnswer.{unless_spent, by_plan, answer_by, submit_answer}
+use Rattle.nr_reduce.specs.SubmitAnswer.{unless_spent, by_plan, answer_by, submit_answer, calls_counted, unless_far, unless_far_from, least_xid}
 use Rattle.nr_reduce.specs.KeptCalls.{KeptCall, AreKept}
-use Rattle.nr_reduce.specs.KeptClient.{KeptClient, ClientKeeps, CallsKeep, MemoryKeeps, bytes_under, opened_client}
+use Rattle.nr_reduce.specs.KeptClient.{KeptClient, ClientKeeps, CallsKeep, MemoryKeeps, bytes_under, opened_client, IsUnresumed}
 use Rattle.nr_reduce.specs.StandingLaws.{KeptJudges, KeptResponds, KeptAnswers, KeptCounts, kept_answer_by_plan, kept_answer_if}
 use Rattle.nr_reduce.proofs.MemorySteps.{holds_later}
 use Rattle.nr_reduce.proofs.Conveying.{message_alike}
 use Rattle.nr_regions.proofs.Holding.{live_parts}
 use Rattle.std.specs.Prelude.{unwrap_or}
+use Rattle.nr_reduce.specs.Opening.{IsFirstLink}
+use Rattle.std.proofs.lemmas.Bool.{eq-eqb}
 
 -- ---- As it is opened
 
@@ -48,8 +50,12 @@ next_begins : (first_stag : ℕ) → (initial_memory first_stag).next ≡ first_
 unfolding initial_memory
 next_begins first_stag = refl
 
-pub keeps_begins : (opened : LinkParameters) → ClientKeeps opened (opened_client opened) (initial_client opened) 0
-keeps_begins opened = record {
+-- a link that was not reopened
+abbrev unresumed : LinkParameters → LinkParameters
+unresumed any = record any { resumed = []; agreed = None }
+
+begins_unresumed : (any : LinkParameters) → any.client.number ≡ 0 → ClientKeeps (unresumed any) (opened_client (unresumed any)) (initial_client (unresumed any)) 0
+begins_unresumed any number = record {
   ended = refl;
   xid = refl;
   sends = refl;
@@ -57,15 +63,21 @@ keeps_begins opened = record {
   up = refl;
   down = refl;
   invalidates = refl;
+  first = (refl, (refl, number));
   outstanding = refl;
   calls = λ lives. record { kept = tt; rising = tt; owned = λ stag r e is. absurd cc; opens = tt };
-  memory = λ lives. record { next = next_begins opened.first_stag; offered = tt; holds = memory_begins opened.first_stag; none_dead = none_begins opened.first_stag; below = λ stag r e. absurd cc };
+  memory = λ lives. record { next = next_begins any.first_stag; offered = tt; holds = memory_begins any.first_stag; none_dead = none_begins any.first_stag; below = λ stag r e. absurd cc };
   waits = tt;
   rising = tt;
   opens = tt;
   accesses = tt;
   holds = tt;
 }
+
+pub keeps_begins : (opened : LinkParameters) → IsFirstLink opened → opened.client.number ≡ 0 → ClientKeeps opened (opened_client opened) (initial_client opened) 0
+keeps_begins opened first number =
+    let same : unresumed opened ≡ opened = (λ i. record opened { resumed = sym first.resumed i; agreed = sym first.agreed i }) in
+    subst (λ (p : LinkParameters). ClientKeeps p (opened_client p) (initial_client p) 0) same (begins_unresumed opened number)
 
 -- ---- Messages
 
@@ -130,14 +142,24 @@ unfolding answer_parts
 own_parts kept (Ok plan) = refl
 own_parts kept (Err large) = refl
 
-client_parts : (k : ClientState) (p : Result Plan TooLarge) → by_plan k p ≡ answer_parts p k.grant (length k.outstanding) k.next_xid k.stag
+-- a client without a number counts no call that waits, and its xids have no window
+client_parts : (k : ClientState) (p : Result Plan TooLarge) → IsUnresumed k → by_plan k p ≡ answer_parts p k.grant (length k.outstanding) k.next_xid k.stag
 unfolding answer_parts
-client_parts k (Ok plan) = refl
-client_parts k (Err large) = refl
+client_parts k (Ok plan) first = λ i. cond (leb k.grant (count i)) (submissions.Refused (refusals.NoCredit (count i) k.grant)) (near i)
+  where
+    answer : Submission
+    answer = unless_spent (numbers_end - k.next_xid) 1 (unless_spent (numbers_end - k.stag) (regions_needed plan) (submissions.Accepted k.next_xid))
 
-plan_same : (k : ClientState) (xid : ℕ) (call : Call) (form : Form) → plan_of (call_payload xid call) form k.up_max k.down_max ≡ plan_for k xid call form
+    count : calls_counted k ≡ length k.outstanding
+    count = (let none = ap (λ (ws : List WaitingCall). length ws) first.0 in omega (arith, none))
+
+    near : unless_far k answer ≡ answer
+    near = ap (λ (b : Bool). cond b answer (unless_far_from k.next_xid (least_xid k.outstanding k.waiting) answer)) (eq-eqb k.terms.number 0 first.1.1)
+client_parts k (Err large) first = refl
+
+plan_same : (k : ClientState) (xid : ℕ) (call : Call) (form : Form) → k.waiting ≡ [] → plan_of (call_payload xid call) form k.up_max k.down_max ≡ plan_for k xid call form
 unfolding plan_for
-plan_same k xid call form = refl
+plan_same k xid call form none = sym (ap (λ (ws : List WaitingCall). plan_unless (first_of ws xid) (plan_of (call_payload xid call) form k.up_max k.down_max)) none)
 
 answer_live : (opened : LinkParameters) (kept : KeptClient) (k : ClientState) (count : ℕ) (call : Call) (form : Form) → ClientKeeps opened kept (live k) count →
     kept_answer_by_plan kept (plan_of (call_payload kept.next_xid call) form kept.up_max kept.down_max) ≡ by_plan k (plan_for k k.next_xid call form)
@@ -146,8 +168,8 @@ answer_live opened kept k count call form keeps =
     let calls : CallsKeep kept.calls kept.next_xid k = keeps.calls refl in
     own_parts kept (plan_of (call_payload kept.next_xid call) form kept.up_max kept.down_max)
     ∙ (λ i. answer_parts (plan_of (call_payload (keeps.xid i) call) form (keeps.up i) (keeps.down i)) (keeps.grant i) (kept_count k kept.calls k.outstanding calls.kept i) (keeps.xid i) (memory.next i))
-    ∙ sym (client_parts k (plan_of (call_payload k.next_xid call) form k.up_max k.down_max))
-    ∙ ap (by_plan k) (plan_same k k.next_xid call form)
+    ∙ sym (client_parts k (plan_of (call_payload k.next_xid call) form k.up_max k.down_max) keeps.first)
+    ∙ ap (by_plan k) (plan_same k k.next_xid call form keeps.first.0)
 
 answer_if : (opened : LinkParameters) (kept : KeptClient) (e : EndState ClientState) (count : ℕ) (call : Call) (form : Form) → ClientKeeps opened kept e count → (x : Option End) → e.ended ≡ x →
     kept_answer_if kept call form x ≡ answer_by e.state call form x

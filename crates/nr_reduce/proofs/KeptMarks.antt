@@ -155,6 +155,7 @@ writes_ended opened kept k end count sent keeps = record {
   up = keeps.up;
   down = keeps.down;
   invalidates = keeps.invalidates;
+  first = keeps.first;
   outstanding = keeps.outstanding;
   calls = λ e. absurd cc;
   memory = λ e. absurd cc;

@@ -15,6 +15,9 @@ pub mod Compared
 pub mod CountedBytes
 pub mod OutcomesStay
 pub mod XidsFollow
+pub mod Unresumed
+pub mod RisingXids
+pub mod ToldCredits
 pub mod Unconcerned
 pub mod OutputItems
 pub mod ServerItems
@@ -46,6 +49,9 @@ pub mod Touches
 pub mod Sizes
 pub mod Segments
 pub mod OwnStags
+pub mod NewStags
+pub mod FoundCalls
+pub mod GoingOn
 pub mod OwnLimits
 pub mod StagsLeft
 pub mod ReadChunks

@@ -1,5 +1,6 @@
 -- The limits of Sends in each reachable state are from one unit to UNITS_MAX of them.
-use Rattle.std.proofs.Common.{◌≡◌, ℕ, Bool, true, false, cond, List, Option, None, Some, Result, Ok, Err, arith}
+use Rattle.std.proofs.Common.{◌≡◌, ℕ, Bool, true, false, cond, eqb, List, [], ◌∷◌, Option, None, Some, Result, Ok, Err, sym, ◌∙◌, arith}
+use Rattle.std.proofs.lemmas.Bool.{eq-eqb}
 use Rattle.nr_wire.specs.declared.hello.Side.TheVariants.{Initiator, Responder}
 use Rattle.nr_wire.specs.Segment.{Segment}
 use Rattle.nr_link.specs.Frames.{Frame, is_hello}
@@ -13,11 +14,13 @@ use Rattle.nr_link.specs.Agreement.{IsSendLimit}
 use Rattle.nr_link.proofs.Agreements.{agreements_bounded}
 use Rattle.nr_reduce.specs.Hellos.{client_private, private_of, server_private, client_agreement, server_agreement}
 use Rattle.nr_reduce.specs.Limits.{send_unit}
-use Rattle.nr_reduce.specs.Plans.{TooLarge, plan_of}
+use Rattle.nr_reduce.specs.Plans.{plan_of}
 use Rattle.nr_reduce.specs.Events.{RunEvent, events}
 use Rattle.nr_reduce.specs.Events.RunEvent.{FrameReceived, CallSubmitted, MemoryRevoked, CallExecuted, QueueWritten, ServerTold}
 use Rattle.nr_reduce.specs.EndRules.{end_state_after}
-use Rattle.nr_reduce.specs.ClientState.{ClientState, call_payload, plan_for}
+use Rattle.nr_reduce.specs.ClientState.{WaitingCall, ClientState, first_of, call_payload, plan_unless, plan_for}
+use Rattle.nr_reduce.specs.SubmitAnswer.{first_xid_or, next_sent_xid}
+use Rattle.nr_reduce.specs.Asked.{IsPlannedAs, IsResent}
 use Rattle.nr_reduce.specs.Client.{client_rules, client_state_after, initial_client, with_hello, with_message, with_request, with_segment, due_with_response, client_segment}
 use Rattle.nr_reduce.specs.ServerState.{ServerState}
 use Rattle.nr_reduce.specs.Server.{server_rules, server_state_after, initial_server, with_own_hello, with_effect}
@@ -90,7 +93,22 @@ pub server_limits_of : (opened : LinkParameters) (link : ℕ) (run : List Mark) 
 unfolding server
 server_limits_of opened link run = server_limits opened (events link Responder run)
 
--- the plan of a call goes by these limits
-pub limited_plan : (k : ClientState) (xid : ℕ) (call : Call) (form : Form) (r : Result Plan TooLarge) → plan_for k xid call form ≡ r → plan_of (call_payload xid call) form k.up_max k.down_max ≡ r
+-- The plan of the call that is sent next is for lengths within these limits: for those of the state, or those for which it was planned before.
+pub planned_as : (k : ClientState) (xid : ℕ) (call : Call) (form : Form) (plan : Plan) → ClientLimits k → xid ≡ next_sent_xid k → IsResent k.has_hello k.next_xid k.waiting call form → plan_for k xid call form ≡ Ok plan → IsPlannedAs xid call form plan
 unfolding plan_for
-limited_plan k xid call form r e = e
+planned_as k xid call form plan limits own again is = by k.waiting own again is
+  where
+    by : (ws : List WaitingCall) → xid ≡ first_xid_or k.next_xid ws → IsResent k.has_hello k.next_xid ws call form → plan_unless (first_of ws xid) (plan_of (call_payload xid call) form k.up_max k.down_max) ≡ Ok plan → IsPlannedAs xid call form plan
+    by [] own again is = record { up = k.up_max; down = k.down_max; up_fits = limits.up; down_fits = limits.down; planned = is }
+    by (w ∷ ws) own again is = same (eqb w.xid xid) (eq-eqb w.xid xid (sym own)) is
+      where
+        same : (b : Bool) → b ≡ true → plan_unless (cond b (Some w) None) (plan_of (call_payload xid call) form k.up_max k.down_max) ≡ Ok plan → IsPlannedAs xid call form plan
+        same true e is =
+            let first = again.planned in record {
+              up = first.up;
+              down = first.down;
+              up_fits = first.up_fits;
+              down_fits = first.down_fits;
+              planned = (λ i. plan_of (call_payload (own i) (again.call_is i)) (again.form_is i) first.up first.down) ∙ first.planned ∙ is;
+            }
+        same false e is = absurd cc

@@ -1,5 +1,5 @@
 -- The regions of an end have consecutive STags: so no two have one STag, and what is offered to be read stays as it was.
-use Rattle.std.proofs.Common.{◌≡◌, ℕ, suc, ◌+◌, ◌<◌, Bool, true, false, cond, ◌&&◌, eqb, List, [], ◌∷◌, ◌++◌, length, replicate, Option, Some, None, Result, Ok, Err, refl, sym, ap, subst, ◌∙◌, arith, length-append}
+use Rattle.std.proofs.Common.{◌≡◌, ℕ, suc, ◌+◌, ◌<◌, Bool, true, false, cond, ◌&&◌, eqb, List, [], ◌∷◌, ◌++◌, length, replicate, Option, Some, None, Result, Ok, Err, refl, sym, ap, subst, ◌∙◌, arith, length-append, append-nil}
 use Rattle.std.specs.Prelude.{map}
 use Rattle.nr_wire.specs.declared.hello.Side.{Side}
 use Rattle.nr_wire.specs.declared.hello.Side.TheVariants.{Initiator, Responder}
@@ -21,8 +21,8 @@ use Rattle.nr_reduce.specs.OfferedRegions.{Region, region_grant, region_grants, 
 use Rattle.nr_reduce.specs.Events.{RunEvent, events}
 use Rattle.nr_reduce.specs.Events.RunEvent.{FrameReceived, CallSubmitted, MemoryRevoked, CallExecuted, QueueWritten, ServerTold}
 use Rattle.nr_reduce.specs.EndRules.{EndMachine, EndState, next_end_state, next_end_state_by, next_end_state_in, end_state_after}
-use Rattle.nr_reduce.specs.ClientState.{ClientState}
-use Rattle.nr_reduce.specs.Client.{client_rules, client_state_after, initial_client, outstanding_of, region_of, with_message, with_request, with_segment, with_hello, due_with_response, client_segment}
+use Rattle.nr_reduce.specs.ClientState.{OutstandingCall, WaitingCall, ClientState, region_of, waiting_from, stag_after, waiting_regions, waiting_call, stag_unless, stags_unless_waiting}
+use Rattle.nr_reduce.specs.Client.{client_rules, client_state_after, initial_client, outstanding_of, with_message, with_request, with_segment, with_hello, due_with_response, client_segment, regions_unless_waiting}
 use Rattle.nr_reduce.specs.ServerState.{ServerState, PendingCall, PendingRead, next_stag}
 use Rattle.nr_reduce.specs.ServerReads.{regions_from, regions_of, chunks_of, is_read, is_over}
 use Rattle.nr_reduce.specs.ServerMessages.{Verdict, CallVerdict, verdict, by_payload, pending_payload}
@@ -32,13 +32,15 @@ use Rattle.nr_reduce.specs.ServerFrames.{FrameEffect, no_effect, with_verdict, r
 use Rattle.nr_reduce.specs.Server.{server_rules, server_state_after, initial_server, with_effect, with_own_hello}
 use Rattle.nr_reduce.specs.Run.{client, server, grants_of}
 use Rattle.nr_reduce.specs.StandingLaws.{StagsFrom, ClientStagsInOrder, ServerStagsInOrder, PlanStagsInOrder}
+use Rattle.nr_reduce.specs.History.{AcceptedCall}
+use Rattle.nr_reduce.specs.declared.mark.ResumedCall.{ResumedCall}
 
 -- ---- Consecutive STags
 
 abbrev pub AreNumbered : ℕ → List Region → Type 0
 AreNumbered n regions = StagsFrom n regions
 
-numbered_append : (n m : ℕ) (xs ys : List Region) → AreNumbered n xs → m ≡ n + length xs → AreNumbered m ys → AreNumbered n (xs ++ ys)
+pub numbered_append : (n m : ℕ) (xs ys : List Region) → AreNumbered n xs → m ≡ n + length xs → AreNumbered m ys → AreNumbered n (xs ++ ys)
 numbered_append n m [] ys h e k = subst (λ (i : ℕ). AreNumbered i ys) (let s : m ≡ n = omega (arith, e) in s) k
 numbered_append n m (x ∷ xs) ys h e k = (h.0, numbered_append (n + 1) m xs ys h.1 (omega (arith, e)) k)
 
@@ -93,7 +95,7 @@ map_length : {X Y : Type 0} (f : X → Y) (xs : List X) → length (map f xs) �
 map_length f [] = refl
 map_length f (x ∷ xs) = ap (λ (n : ℕ). suc n) (map_length f xs)
 
-buffers_length : (xid place stag : ℕ) (p : Plan) → length (map (region_of xid place) (buffers stag p)) ≡ regions_needed p
+pub buffers_length : (xid place stag : ℕ) (p : Plan) → length (map (region_of xid place) (buffers stag p)) ≡ regions_needed p
 unfolding buffers regions_needed
 buffers_length xid place stag p =
     map_length (region_of xid place) (buffers stag p) ∙ counted
@@ -137,6 +139,29 @@ numbers_segment opened k f (Ok segment) h =
     numbers_same opened m (with_segment k f (Ok segment)) refl refl
     (numbers_request opened (with_message k f.end (message_completed k.received segment)) (due_with_response k f segment) (read_request_of segment) (numbers_message opened k f.end (message_completed k.received segment) h))
 
+-- a new call has the next STags; one that is sent again has its own, and adds none
+abbrev pub NewStag : ClientState → Option WaitingCall → OutstandingCall → Type 0
+NewStag k None o = o.stag ≡ k.stag
+NewStag k (Some w) o = Unit {0}
+
+pub stag_is : (k : ClientState) (a : AcceptedCall) → NewStag k (waiting_call k a.xid) (outstanding_of k a)
+stag_is k a = by (waiting_call k a.xid) refl
+  where
+    by : (w : Option WaitingCall) → waiting_call k a.xid ≡ w → NewStag k w (outstanding_of k a)
+    by None is = ap (λ (w : Option WaitingCall). stag_unless w k.stag) is
+    by (Some w) is = tt
+
+numbers_submitted : (opened : LinkParameters) (k : ClientState) (place : ℕ) (o : OutstandingCall) (w : Option WaitingCall) → NewStag k w o → ClientNumbers opened k →
+    AreNumbered opened.first_stag (k.regions ++ regions_unless_waiting w place o) × (k.stag + stags_unless_waiting w o.plan ≡ opened.first_stag + length (k.regions ++ regions_unless_waiting w place o))
+numbers_submitted opened k place o None own h =
+    let more = map (region_of o.xid place) (buffers o.stag o.plan) in (
+      numbered_append opened.first_stag o.stag k.regions more h.regions (own ∙ h.next) (numbered_buffers o.xid place o.stag o.plan),
+      (let a = buffers_length o.xid place o.stag o.plan in let b = length-append k.regions more in let c = h.next in omega (arith, a, b, c)),
+    )
+numbers_submitted opened k place o (Some w) own h =
+    let none : k.regions ++ [] ≡ k.regions = append-nil k.regions in
+    (subst (λ (rs : List Region). AreNumbered opened.first_stag rs) (sym none) h.regions, (let a = ap (λ (rs : List Region). length rs) none in let c = h.next in omega (arith, a, c)))
+
 numbers_after : (opened : LinkParameters) (k : ClientState) (event : RunEvent) → ClientNumbers opened k → ClientNumbers opened (client_state_after opened k event)
 unfolding client_state_after
 numbers_after opened k (FrameReceived f) h = by (is_hello f)
@@ -145,12 +170,8 @@ numbers_after opened k (FrameReceived f) h = by (is_hello f)
     by true = numbers_same opened k (with_hello opened k f) refl refl h
     by false = numbers_segment opened k f (client_segment k f) h
 numbers_after opened k (CallSubmitted place a) h =
-    let p : Plan = (outstanding_of k a).plan in
-    let more = map (region_of a.xid place) (buffers k.stag p) in
-    record {
-      regions = numbered_append opened.first_stag k.stag k.regions more h.regions h.next (numbered_buffers a.xid place k.stag p);
-      next = (let a = buffers_length a.xid place k.stag p in let b = length-append k.regions more in let c = h.next in omega (arith, a, b, c));
-    }
+    let both = numbers_submitted opened k place (outstanding_of k a) (waiting_call k a.xid) (stag_is k a) h in
+    record { regions = both.0; next = both.1 }
 numbers_after opened k (MemoryRevoked place xid) h = numbers_closed opened k (client_state_after opened k (MemoryRevoked place xid)) _ place refl refl h
 numbers_after opened k (CallExecuted call) h = h
 numbers_after opened k (QueueWritten taken) h = numbers_same opened k (client_state_after opened k (QueueWritten taken)) refl refl h
@@ -172,9 +193,24 @@ pub kept_after : {S : Type 0} (rules : EndMachine S) (P : S → Type 0) → ((s 
 kept_after rules P keeps r [] h = h
 kept_after rules P keeps r (event ∷ es) h = kept_after rules P keeps (next_end_state rules r event) es (kept_next rules P keeps r event h)
 
+-- those that a reopened client offers from the start
+pub waiting_numbered : (stag : ℕ) (rs : List ResumedCall) → AreNumbered stag (waiting_regions (waiting_from stag rs)) × (stag_after stag rs ≡ stag + length (waiting_regions (waiting_from stag rs)))
+waiting_numbered stag [] = (tt, (let s : stag ≡ stag + 0 = omega arith in s))
+waiting_numbered stag (r ∷ rs) =
+    let own = map (region_of r.xid 0) (buffers stag r.plan) in
+    let rest = waiting_numbered (stag + regions_needed r.plan) rs in
+    let later = waiting_regions (waiting_from (stag + regions_needed r.plan) rs) in
+    let count = buffers_length r.xid 0 stag r.plan in (
+      numbered_append stag (stag + regions_needed r.plan) own later (numbered_buffers r.xid 0 stag r.plan) (omega (arith, count)) rest.0,
+      (let a = length-append own later in let b = rest.1 in omega (arith, a, b, count)),
+    )
+
+numbers_first : (opened : LinkParameters) → ClientNumbers opened (initial_client opened).state
+numbers_first opened = (let both = waiting_numbered opened.first_stag opened.resumed in record { regions = both.0; next = both.1 })
+
 pub client_numbers : (opened : LinkParameters) (es : List RunEvent) → ClientNumbers opened (end_state_after (client_rules opened) (initial_client opened) es).state
 client_numbers opened es =
-    kept_after (client_rules opened) (ClientNumbers opened) (numbers_after opened) (initial_client opened) es (record { regions = tt; next = (let s : opened.first_stag ≡ opened.first_stag + 0 = omega arith in s) })
+    kept_after (client_rules opened) (ClientNumbers opened) (numbers_after opened) (initial_client opened) es (numbers_first opened)
 
 pub client_known : (opened : LinkParameters) (link : ℕ) (run : List Mark) → ClientNumbers opened (client opened link run).state
 unfolding client

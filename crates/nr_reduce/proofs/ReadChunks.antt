@@ -1,7 +1,7 @@
 -- The region of a call's read chunk holds on what its plan put there: nothing is placed into it.
-use Rattle.std.proofs.Common.{◌≡◌, ℕ, ◌+◌, ◌<◌, ◌≤◌, Bool, true, false, cond, ◌&&◌, ◌||◌, eqb, ltb, leb, List, [], ◌∷◌, ◌++◌, length, replicate, Option, Some, None, Result, Ok, Err, refl, sym, ap, subst, ◌∙◌, arith, append_assoc, append-nil}
+use Rattle.std.proofs.Common.{◌≡◌, ℕ, ◌+◌, ◌<◌, ◌≤◌, Bool, true, false, cond, ◌&&◌, ◌||◌, eqb, ltb, leb, List, [], ◌∷◌, ◌++◌, length, replicate, Option, Some, None, Result, Ok, Err, refl, sym, ap, subst, ◌∙◌, arith, append_assoc, append-nil, length-append}
 use Rattle.std.specs.Prelude.{map, find, is_none}
-use Rattle.std.specs.List.{list_any}
+use Rattle.std.specs.List.{list_any, AllByRecursion}
 use Rattle.std.proofs.lemmas.Bool.{eqb-true, eq-eqb}
 use Rattle.nr_wire.specs.declared.hello.Side.TheVariants.{Initiator}
 use Rattle.nr_wire.specs.Segment.{Segment}
@@ -22,19 +22,21 @@ use Rattle.nr_reduce.specs.declared.mark.Mark.{Mark}
 use Rattle.nr_reduce.specs.declared.mark.Mark.TheVariants as marks
 use Rattle.nr_reduce.specs.declared.mark.LinkParameters.{LinkParameters}
 use Rattle.nr_reduce.specs.declared.outline.Plan.{Plan}
-use Rattle.nr_reduce.specs.Plans.{TooLarge, Buffer, one_if, buffer_if, buffers, has_segment, read_stag, write_stag, reply_stag, regions_needed, total}
+use Rattle.nr_reduce.specs.Plans.{TooLarge, Buffer, one_if, buffer_if, buffers, has_segment, read_stag, write_stag, reply_stag, regions_needed, total, plan_of}
 use Rattle.nr_reduce.specs.History.{AcceptedCall, bytes_received}
 use Rattle.nr_reduce.specs.OfferedRegions.{Region, region_grants, closed_if, regions_closed, region_bytes, region_bytes_by}
-use Rattle.nr_reduce.specs.Events.{RunEvent, if_own, events_at}
+use Rattle.nr_reduce.specs.Events.{RunEvent, if_own, events_at, events}
 use Rattle.nr_reduce.specs.Events.RunEvent.{FrameReceived, CallSubmitted, MemoryRevoked, CallExecuted, QueueWritten, ServerTold}
 use Rattle.nr_reduce.specs.EndRules.{EndState, next_end_state_in, end_state_after}
-use Rattle.nr_reduce.specs.ClientState.{ClientState, call_payload, plan_for}
-use Rattle.nr_reduce.specs.Client.{client_rules, client_end, client_state_after, plan_or, outstanding_of, region_of, with_message, with_request, with_segment, with_hello, due_with_response, client_segment}
+use Rattle.nr_reduce.specs.ClientState.{ClientState, call_payload, plan_for, region_of, OutstandingCall, WaitingCall, first_of, others_than, waiting_from, waiting_regions, stag_after, waiting_call, stag_for, stag_unless, stags_unless_waiting, plan_unless}
+use Rattle.nr_reduce.specs.Client.{client_rules, client_end, client_state_after, plan_or, outstanding_of, with_message, with_request, with_segment, with_hello, due_with_response, client_segment, regions_unless_waiting, revoked_waiting, initial_client}
 use Rattle.nr_reduce.specs.Run.{client, grants_of, placed_bytes}
 use Rattle.nr_reduce.specs.Asked.{IsAccepted}
 use Rattle.nr_reduce.proofs.Steps.{client_one}
 use Rattle.nr_reduce.proofs.Standing.{itself}
-use Rattle.nr_reduce.proofs.OwnStags.{AreNumbered, ClientNumbers, kept_after, client_known, numbered_buffers, closed_stag}
+use Rattle.nr_reduce.proofs.OwnStags.{AreNumbered, ClientNumbers, kept_after, client_known, numbered_buffers, closed_stag, NewStag, stag_is, buffers_length, waiting_numbered, numbered_append}
+use Rattle.nr_reduce.proofs.Placing.{segment_waiting}
+use Rattle.nr_reduce.specs.declared.mark.ResumedCall.{ResumedCall}
 
 -- the regions of an STag are to be read, and hold these bytes
 abbrev OnlyRead : (stag : ℕ) → List ℕ → List Region → Type 0
@@ -122,6 +124,10 @@ chunk_segment stag bytes k f (Ok segment) h =
     chunk_same stag bytes m (with_segment k f (Ok segment)) refl refl
     (chunk_request stag bytes (with_message k f.end (message_completed k.received segment)) (due_with_response k f segment) (read_request_of segment) (chunk_message stag bytes k f.end (message_completed k.received segment) h))
 
+only_submitted : (stag : ℕ) (bytes : List ℕ) (k : ClientState) (place : ℕ) (o : OutstandingCall) (w : Option WaitingCall) → NewStag k w o → KeepsChunk stag bytes k → OnlyRead stag bytes (regions_unless_waiting w place o)
+only_submitted stag bytes k place o None own h = only_above stag o.stag bytes _ (let b = h.below in omega (arith, b, own)) (numbered_buffers o.xid place o.stag o.plan)
+only_submitted stag bytes k place o (Some w) own h = tt
+
 chunk_after : (opened : LinkParameters) (stag : ℕ) (bytes : List ℕ) (k : ClientState) (event : RunEvent) → KeepsChunk stag bytes k → KeepsChunk stag bytes (client_state_after opened k event)
 unfolding client_state_after
 chunk_after opened stag bytes k (FrameReceived f) h = by (is_hello f)
@@ -129,13 +135,11 @@ chunk_after opened stag bytes k (FrameReceived f) h = by (is_hello f)
     by : (b : Bool) → KeepsChunk stag bytes (cond b (with_hello opened k f) (with_segment k f (client_segment k f)))
     by true = chunk_same stag bytes k (with_hello opened k f) refl refl h
     by false = chunk_segment stag bytes k f (client_segment k f) h
-chunk_after opened stag bytes k (CallSubmitted place a) h =
-    let p : Plan = (outstanding_of k a).plan in
-    record {
-      only = only_append stag bytes k.regions _ h.only (only_above stag k.stag bytes _ h.below (numbered_buffers a.xid place k.stag p));
-      there = there_left stag k.regions _ h.there;
-      below = (let b = h.below in omega (arith, b));
-    }
+chunk_after opened stag bytes k (CallSubmitted place a) h = record {
+  only = only_append stag bytes k.regions _ h.only (only_submitted stag bytes k place (outstanding_of k a) (waiting_call k a.xid) (stag_is k a) h);
+  there = there_left stag k.regions _ h.there;
+  below = (let b = h.below in omega (arith, b));
+}
 chunk_after opened stag bytes k (MemoryRevoked place xid) h = chunk_closed stag bytes k (client_state_after opened k (MemoryRevoked place xid)) _ place refl refl h
 chunk_after opened stag bytes k (CallExecuted call) h = h
 chunk_after opened stag bytes k (QueueWritten taken) h = chunk_same stag bytes k (client_state_after opened k (QueueWritten taken)) refl refl h
@@ -154,10 +158,10 @@ abbrev rest_of : ℕ → Plan → List Buffer
 rest_of stag p =
     buffer_if (has_segment p.write) (write_stag stag p) Fill (replicate (total p.write) 0) ++ buffer_if (has_segment p.reply) (reply_stag stag p) Fill (replicate (total p.reply) 0)
 
-abbrev first_of : (xid place stag : ℕ) → Plan → Region
-first_of xid place stag p = record { call = xid; position = 0; stag = stag; right = Fetch; bytes = p.region; from = place; until = None }
+abbrev first_of_plan : (xid place stag : ℕ) → Plan → Region
+first_of_plan xid place stag p = record { call = xid; position = 0; stag = stag; right = Fetch; bytes = p.region; from = place; until = None }
 
-read_first : (xid place stag : ℕ) (p : Plan) → has_segment (Some p.read) ≡ true → map (region_of xid place) (buffers stag p) ≡ first_of xid place stag p ∷ map (region_of xid place) (rest_of stag p)
+read_first : (xid place stag : ℕ) (p : Plan) → has_segment (Some p.read) ≡ true → map (region_of xid place) (buffers stag p) ≡ first_of_plan xid place stag p ∷ map (region_of xid place) (rest_of stag p)
 unfolding buffers
 read_first xid place stag p some = ap (λ (b : Bool). map (region_of xid place) (buffer_if b stag Fetch p.region ++ rest_of stag p)) some
 
@@ -170,7 +174,7 @@ offered : (opened : LinkParameters) (k t : ClientState) (xid place : ℕ) (p : P
 offered opened k t xid place p numbers some regions next =
     let stag : ℕ = k.stag in
     let tail : List Region = map (region_of xid place) (rest_of stag p) in
-    let new : List Region = first_of xid place stag p ∷ tail in
+    let new : List Region = first_of_plan xid place stag p ∷ tail in
     let all : t.regions ≡ k.regions ++ new = regions ∙ ap (λ (rs : List Region). k.regions ++ rs) (read_first xid place stag p some) in
     let numbered : AreNumbered stag new = subst (λ (rs : List Region). AreNumbered stag rs) (read_first xid place stag p some) (numbered_buffers xid place stag p) in
     let low : OnlyRead stag p.region k.regions = only_below stag opened.first_stag p.region k.regions (let n = numbers.next in omega (arith, n)) numbers.regions in
@@ -182,15 +186,142 @@ offered opened k t xid place p numbers some regions next =
       below = (let n = needs_one p some in omega (arith, n, next));
     }
 
-submitted : (opened : LinkParameters) (k : ClientState) (ended : Option Stop) (place : ℕ) (a : AcceptedCall) (plan : Plan) → ClientNumbers opened k → ended ≡ None
+-- ---- Of the calls that wait to be sent again
+
+-- the region of a read chunk of each call that waits holds what its plan put there
+abbrev WaitingChunk : ClientState → WaitingCall → Type 0
+WaitingChunk k w = has_segment (Some w.plan.read) ≡ true → KeepsChunk w.stag w.plan.region k
+
+abbrev WaitingChunks : ClientState → Type 0
+WaitingChunks k = AllByRecursion (WaitingChunk k) k.waiting
+
+chunks_moved : (k t : ClientState) (ws : List WaitingCall) → ((stag : ℕ) (bytes : List ℕ) → KeepsChunk stag bytes k → KeepsChunk stag bytes t) → AllByRecursion (WaitingChunk k) ws → AllByRecursion (WaitingChunk t) ws
+chunks_moved k t [] goes h = tt
+chunks_moved k t (w ∷ ws) goes h = ((λ some. goes w.stag w.plan.region (h.0 some)), chunks_moved k t ws goes h.1)
+
+chunks_others : (k : ClientState) (ws : List WaitingCall) (xid : ℕ) → AllByRecursion (WaitingChunk k) ws → AllByRecursion (WaitingChunk k) (others_than ws xid)
+chunks_others k [] xid h = tt
+chunks_others k (w ∷ ws) xid h = by (eqb w.xid xid)
+  where
+    by : (b : Bool) → AllByRecursion (WaitingChunk k) (cond b ws (w ∷ ws))
+    by true = h.1
+    by false = h
+
+chunks_revoked : (k : ClientState) (ws : List WaitingCall) (xid : ℕ) → AllByRecursion (WaitingChunk k) ws → AllByRecursion (WaitingChunk k) (map (revoked_waiting xid) ws)
+chunks_revoked k [] xid h = tt
+chunks_revoked k (w ∷ ws) xid h = (by (eqb w.xid xid), chunks_revoked k ws xid h.1)
+  where
+    by : (b : Bool) → WaitingChunk k (cond b (record w { is_revoked = true }) w)
+    by true = h.0
+    by false = h.0
+
+waiting_after : (opened : LinkParameters) (k : ClientState) (event : RunEvent) → WaitingChunks k → AllByRecursion (WaitingChunk k) (client_state_after opened k event).waiting
+unfolding client_state_after
+waiting_after opened k (FrameReceived f) h = by (is_hello f)
+  where
+    by : (b : Bool) → AllByRecursion (WaitingChunk k) (cond b (with_hello opened k f) (with_segment k f (client_segment k f))).waiting
+    by true = h
+    by false = subst (λ (ws : List WaitingCall). AllByRecursion (WaitingChunk k) ws) (sym (segment_waiting k f (client_segment k f))) h
+waiting_after opened k (CallSubmitted place a) h = chunks_others k k.waiting a.xid h
+waiting_after opened k (MemoryRevoked place xid) h = chunks_revoked k k.waiting xid h
+waiting_after opened k (CallExecuted call) h = h
+waiting_after opened k (QueueWritten taken) h = h
+waiting_after opened k (ServerTold what) h = h
+
+chunks_after : (opened : LinkParameters) (k : ClientState) (event : RunEvent) → WaitingChunks k → WaitingChunks (client_state_after opened k event)
+chunks_after opened k event h =
+    chunks_moved k (client_state_after opened k event) (client_state_after opened k event).waiting (λ stag bytes own. chunk_after opened stag bytes k event own) (waiting_after opened k event h)
+
+-- As a client is opened: the regions of a call are after those of the calls before it, and before those of the calls after it.
+abbrev HasChunk : (regions : List Region) (next : ℕ) → WaitingCall → Type 0
+HasChunk regions next w = has_segment (Some w.plan.read) ≡ true → OnlyRead w.stag w.plan.region regions × (IsThere w.stag regions × (w.stag < next))
+
+first_chunk : (first stag : ℕ) (low later : List Region) (r : ResumedCall) → AreNumbered first low → stag ≡ first + length low → AreNumbered (stag + regions_needed r.plan) later → has_segment (Some r.plan.read) ≡ true →
+    OnlyRead stag r.plan.region (low ++ (map (region_of r.xid 0) (buffers stag r.plan) ++ later)) × IsThere stag (low ++ (map (region_of r.xid 0) (buffers stag r.plan) ++ later))
+first_chunk first stag low later r numbered next above some =
+    let p : Plan = r.plan in
+    let tail : List Region = map (region_of r.xid 0) (rest_of stag p) in
+    let own : List Region = map (region_of r.xid 0) (buffers stag p) in
+    let is : own ≡ first_of_plan r.xid 0 stag p ∷ tail = read_first r.xid 0 stag p some in
+    let numbers : AreNumbered stag (first_of_plan r.xid 0 stag p ∷ tail) = subst (λ (rs : List Region). AreNumbered stag rs) is (numbered_buffers r.xid 0 stag p) in
+    let rest : OnlyRead stag p.region tail = only_above stag (stag + 1) p.region tail (omega arith) numbers.1 in
+    let mine : OnlyRead stag p.region own = subst (λ (rs : List Region). OnlyRead stag p.region rs) (sym is) ((λ e. (refl, refl)), rest) in
+    let under : OnlyRead stag p.region low = only_below stag first p.region low (omega (arith, next)) numbered in
+    let over : OnlyRead stag p.region later = only_above stag (stag + regions_needed p) p.region later (let n = needs_one p some in omega (arith, n)) above in
+    let there : IsThere stag own = subst (λ (rs : List Region). IsThere stag rs) (sym is) (ap (λ (b : Bool). b || list_any (λ (r : Region). eqb r.stag stag) tail) (eq-eqb stag stag refl)) in
+    (only_append stag p.region low (own ++ later) under (only_append stag p.region own later mine over), there_right stag low (own ++ later) (there_left stag own later there))
+
+waiting_chunks : (first stag : ℕ) (low : List Region) (rs : List ResumedCall) → AreNumbered first low → stag ≡ first + length low →
+    AllByRecursion (HasChunk (low ++ waiting_regions (waiting_from stag rs)) (stag_after stag rs)) (waiting_from stag rs)
+waiting_chunks first stag low [] numbered next = tt
+waiting_chunks first stag low (r ∷ rs) numbered next =
+    let more : ℕ = stag + regions_needed r.plan in
+    let own : List Region = map (region_of r.xid 0) (buffers stag r.plan) in
+    let later : List Region = waiting_regions (waiting_from more rs) in
+    let both = waiting_numbered more rs in
+    let count = buffers_length r.xid 0 stag r.plan in
+    let rest = waiting_chunks first more (low ++ own) rs (numbered_append first stag low own numbered next (numbered_buffers r.xid 0 stag r.plan)) (let l = length-append low own in omega (arith, l, next, count)) in (
+      λ some. (
+        (let here = first_chunk first stag low later r numbered next both.0 some in
+        (here.0, (here.1, (let n = needs_one r.plan some in let a = both.1 in omega (arith, n, a)))))
+      ),
+      subst (λ (regions : List Region). AllByRecursion (HasChunk regions (stag_after more rs)) (waiting_from more rs)) (append_assoc low own later) rest,
+    )
+
+chunks_opened : (k : ClientState) (ws : List WaitingCall) → AllByRecursion (HasChunk k.regions k.stag) ws → AllByRecursion (WaitingChunk k) ws
+chunks_opened k [] h = tt
+chunks_opened k (w ∷ ws) h = ((λ some. (let c = h.0 some in record { only = c.0; there = c.1.0; below = c.1.1 })), chunks_opened k ws h.1)
+
+chunks_first : (opened : LinkParameters) → WaitingChunks (initial_client opened).state
+chunks_first opened =
+    chunks_opened (initial_client opened).state (waiting_from opened.first_stag opened.resumed)
+    (waiting_chunks opened.first_stag opened.first_stag [] opened.resumed tt (let s : opened.first_stag ≡ opened.first_stag + 0 = omega arith in s))
+
+waiting_known : (opened : LinkParameters) (link : ℕ) (run : List Mark) → WaitingChunks (client opened link run).state
+unfolding client
+waiting_known opened link run = kept_after (client_rules opened) WaitingChunks (chunks_after opened) (initial_client opened) (events link Initiator run) (chunks_first opened)
+
+first_holds : (Q : WaitingCall → Type 0) (ws : List WaitingCall) (xid : ℕ) (w : WaitingCall) → AllByRecursion Q ws → first_of ws xid ≡ Some w → Q w
+first_holds Q [] xid w h is = absurd cc
+first_holds Q (v ∷ ws) xid w h is = by (eqb v.xid xid) is
+  where
+    by : (b : Bool) → cond b (Some v) None ≡ Some w → Q w
+    by true is = (let same : v ≡ w = cc in subst Q same h.0)
+    by false is = absurd cc
+
+-- ---- At its Submit
+
+submitted_new : (opened : LinkParameters) (k : ClientState) (place : ℕ) (a : AcceptedCall) (plan : Plan) → ClientNumbers opened k → waiting_call k a.xid ≡ None → (outstanding_of k a).plan ≡ plan → has_segment (Some plan.read) ≡ true
+    → KeepsChunk (stag_for k a.xid) plan.region (client_state_after opened k (CallSubmitted place a))
+unfolding client_state_after
+submitted_new opened k place a plan numbers new same some =
+    let stag : stag_for k a.xid ≡ k.stag = ap (λ (w : Option WaitingCall). stag_unless w k.stag) new in
+    subst (λ (n : ℕ). KeepsChunk n plan.region (client_state_after opened k (CallSubmitted place a))) (sym stag)
+    (offered opened k (client_state_after opened k (CallSubmitted place a)) a.xid place plan numbers some
+    (ap (λ (w : Option WaitingCall). k.regions ++ regions_unless_waiting w place (outstanding_of k a)) new ∙ (λ i. k.regions ++ map (region_of a.xid place) (buffers (stag i) (same i))))
+    (λ i. k.stag + stags_unless_waiting (new i) (same i)))
+
+submitted_again : (opened : LinkParameters) (k : ClientState) (place : ℕ) (a : AcceptedCall) (plan : Plan) (w : WaitingCall) → WaitingChunks k → waiting_call k a.xid ≡ Some w → plan_for k a.xid a.call a.form ≡ Ok plan → has_segment (Some plan.read) ≡ true
+    → KeepsChunk (stag_for k a.xid) plan.region (client_state_after opened k (CallSubmitted place a))
+unfolding plan_for
+submitted_again opened k place a plan w waits waiting planned some =
+    let stag : stag_for k a.xid ≡ w.stag = ap (λ (w : Option WaitingCall). stag_unless w k.stag) waiting in
+    let ok : Ok w.plan ≡ Ok plan = sym (ap (λ (w : Option WaitingCall). plan_unless w (plan_of (call_payload a.xid a.call) a.form k.up_max k.down_max)) waiting) ∙ planned in
+    let same : w.plan ≡ plan = cc in
+    let own : KeepsChunk w.stag w.plan.region k = first_holds (WaitingChunk k) k.waiting a.xid w waits waiting (subst (λ (p : Plan). has_segment (Some p.read) ≡ true) (sym same) some) in
+    subst (λ (n : ℕ). KeepsChunk n plan.region (client_state_after opened k (CallSubmitted place a))) (sym stag)
+    (subst (λ (p : Plan). KeepsChunk w.stag p.region (client_state_after opened k (CallSubmitted place a))) same (chunk_after opened w.stag w.plan.region k (CallSubmitted place a) own))
+
+submitted : (opened : LinkParameters) (k : ClientState) (ended : Option Stop) (place : ℕ) (a : AcceptedCall) (plan : Plan) → ClientNumbers opened k → WaitingChunks k → ended ≡ None
     → plan_for k a.xid a.call a.form ≡ Ok plan → has_segment (Some plan.read) ≡ true
-    → KeepsChunk k.stag plan.region (next_end_state_in (client_rules opened) k (CallSubmitted place a) ended).state
-unfolding client_state_after client_end
-submitted opened k (Some end) place a plan numbers stays planned some = absurd cc
-submitted opened k None place a plan numbers stays planned some =
-    let same : (outstanding_of k a).plan ≡ plan = ap (λ (r : Result Plan TooLarge). plan_or (call_payload a.xid a.call) r) planned in
-    offered opened k (client_state_after opened k (CallSubmitted place a)) a.xid place plan numbers some
-    (ap (λ (p : Plan). k.regions ++ map (region_of a.xid place) (buffers k.stag p)) same) (ap (λ (p : Plan). k.stag + regions_needed p) same)
+    → KeepsChunk (stag_for k a.xid) plan.region (next_end_state_in (client_rules opened) k (CallSubmitted place a) ended).state
+unfolding client_end
+submitted opened k (Some end) place a plan numbers waits stays planned some = absurd cc
+submitted opened k None place a plan numbers waits stays planned some = by (waiting_call k a.xid) refl
+  where
+    by : (w : Option WaitingCall) → waiting_call k a.xid ≡ w → KeepsChunk (stag_for k a.xid) plan.region (client_state_after opened k (CallSubmitted place a))
+    by None is = submitted_new opened k place a plan numbers is (ap (λ (r : Result Plan TooLarge). plan_or (call_payload a.xid a.call) r) planned) some
+    by (Some w) is = submitted_again opened k place a plan w waits is planned some
 
 -- ---- What is placed
 
@@ -250,7 +381,7 @@ chunk_bytes_lem grants stag bytes (r ∷ regions) segments g h there = by (eqb r
 
 -- From its Submit on the region of a call's read chunk holds what its plan put there.
 pub chunk_stays : (opened : LinkParameters) (link : ℕ) (run more : List Mark) (call : Call) (form : Form) (xid : ℕ) → (h : IsAccepted opened link run call form xid) → has_segment (Some h.plan.read) ≡ true →
-    placed_bytes opened link Initiator (run ++ marks.Submit link call form (submissions.Accepted xid) ∷ more) (read_stag (client opened link run).state.stag h.plan) ≡ h.plan.region
+    placed_bytes opened link Initiator (run ++ marks.Submit link call form (submissions.Accepted xid) ∷ more) (read_stag (stag_for (client opened link run).state xid) h.plan) ≡ h.plan.region
 unfolding placed_bytes region_bytes grants_of
 chunk_stays opened link run more call form xid h some =
     let k : ClientState = (client opened link run).state in
@@ -258,13 +389,15 @@ chunk_stays opened link run more call form xid h some =
     let mark = marks.Submit link call form (submissions.Accepted xid) in
     let place = length (bytes_received link Initiator run) in
     let numbers : ClientNumbers opened k = client_known opened link run in
-    let one : KeepsChunk k.stag h.plan.region (next_end_state_in (client_rules opened) k (CallSubmitted place a) (client opened link run).ended).state =
-    submitted opened k (client opened link run).ended place a h.plan numbers h.stays h.planned some in
-    let events : KeepsChunk k.stag h.plan.region (end_state_after (client_rules opened) (client opened link run) (events_at link Initiator run mark)).state =
-    subst (λ (b : Bool). KeepsChunk k.stag h.plan.region (end_state_after (client_rules opened) (client opened link run) (if_own (b && true) (CallSubmitted place a ∷ []))).state) (sym (itself link)) one in
-    let first = subst (λ (r : EndState ClientState). KeepsChunk k.stag h.plan.region r.state) (sym (client_one opened link run mark)) events in
-    let last = subst (λ (r : List Mark). KeepsChunk k.stag h.plan.region (client opened link r).state) (append_assoc run (mark ∷ []) more) (chunk_more opened link k.stag h.plan.region (run ++ mark ∷ []) more first) in
+    let waits : WaitingChunks k = waiting_known opened link run in
+    let stag : ℕ = stag_for k xid in
+    let one : KeepsChunk stag h.plan.region (next_end_state_in (client_rules opened) k (CallSubmitted place a) (client opened link run).ended).state =
+    submitted opened k (client opened link run).ended place a h.plan numbers waits h.stays h.planned some in
+    let events : KeepsChunk stag h.plan.region (end_state_after (client_rules opened) (client opened link run) (events_at link Initiator run mark)).state =
+    subst (λ (b : Bool). KeepsChunk stag h.plan.region (end_state_after (client_rules opened) (client opened link run) (if_own (b && true) (CallSubmitted place a ∷ []))).state) (sym (itself link)) one in
+    let first = subst (λ (r : EndState ClientState). KeepsChunk stag h.plan.region r.state) (sym (client_one opened link run mark)) events in
+    let last = subst (λ (r : List Mark). KeepsChunk stag h.plan.region (client opened link r).state) (append_assoc run (mark ∷ []) more) (chunk_more opened link stag h.plan.region (run ++ mark ∷ []) more first) in
     let all : List Mark = run ++ mark ∷ more in
     let t : ClientState = (client opened link all).state in
     let now = length (bytes_received link Initiator all) in
-    chunk_bytes_lem (region_grants now t.regions) k.stag h.plan.region t.regions t.accesses_received (only_grants now k.stag h.plan.region t.regions last.only) last.only last.there
+    chunk_bytes_lem (region_grants now t.regions) stag h.plan.region t.regions t.accesses_received (only_grants now stag h.plan.region t.regions last.only) last.only last.there

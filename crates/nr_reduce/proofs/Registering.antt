@@ -12,7 +12,7 @@ use Rattle.nr_reduce.specs.declared.outline.Plan.{Plan}
 use Rattle.nr_reduce.specs.Plans.{Buffer, buffers, buffer_if, regions_needed, has_segment, one_if, total}
 use Rattle.nr_reduce.specs.OfferedRegions.{Region}
 use Rattle.nr_reduce.specs.OfferedMemory.{region_at, AreOffered, AreReceived, HoldsRegions}
-use Rattle.nr_reduce.specs.Client.{region_of}
+use Rattle.nr_reduce.specs.ClientState.{region_of}
 use Rattle.nr_reduce.proofs.MemorySteps.{holds_registered, offered_registered}
 use Rattle.nr_reduce.specs.KeptClient.{AreBelow, IsRegionOpen, IsAmong, registered_all}
 

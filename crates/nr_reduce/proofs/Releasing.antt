@@ -12,11 +12,11 @@ use Rattle.nr_reduce.specs.OfferedRegions.{Region, until_or, regions_closed, reg
 use Rattle.nr_reduce.specs.OfferedMemory.{region_at, held_if_open, registered_region, AreReceived, HoldsRegions, is_closed_by, ReleasesClosed}
 use Rattle.nr_reduce.specs.Events.RunEvent.{MemoryRevoked}
 use Rattle.nr_reduce.specs.EndRules.{next_end_state, live}
-use Rattle.nr_reduce.specs.ClientState.{OutstandingCall, ClientState, client_memory_at}
-use Rattle.nr_reduce.specs.Client.{client_rules, client_end, client_state_after, revoked_call, with_message}
+use Rattle.nr_reduce.specs.ClientState.{OutstandingCall, ClientState, client_memory_at, WaitingCall}
+use Rattle.nr_reduce.specs.Client.{client_rules, client_end, client_state_after, revoked_call, with_message, revoked_waiting}
 use Rattle.nr_reduce.specs.KeptCalls.{KeptCall, IsKeptCall, AreKept, stags_unless}
 use Rattle.nr_reduce.specs.Plans.{buffers}
-use Rattle.nr_reduce.specs.KeptClient.{KeptClient, ClientKeeps, CallsKeep, MemoryKeeps, HoldsFor, IsOwned, IsRegionOpen, IsAmong, AreRising, OpensFor, IsWaiting, HasRegions, HasRegionsOf, bytes_under, released_all, stags_in, stags_for, without, revoked_if, revoked_kept, kept_revoked, kept_handed_back, kept_completed}
+use Rattle.nr_reduce.specs.KeptClient.{KeptClient, ClientKeeps, CallsKeep, MemoryKeeps, HoldsFor, IsOwned, IsRegionOpen, IsAmong, AreRising, OpensFor, IsWaiting, HasRegions, HasRegionsOf, bytes_under, released_all, stags_in, stags_for, without, revoked_if, revoked_kept, kept_revoked, kept_handed_back, kept_completed, IsUnresumed}
 use Rattle.nr_reduce.specs.StandingLaws.{KeptStays, KeptRevokes, KeptHandsBack, KeptCompletes}
 use Rattle.nr_reduce.proofs.OfferedMemory.{grants_from, contents_same, AreAlike, alike_offers}
 use Rattle.nr_reduce.proofs.MemorySteps.{holds_closed, holds_later, offered_closed, offered_later, received_later}
@@ -249,6 +249,7 @@ kept_stays opened kept e count later keeps le = record {
   up = keeps.up;
   down = keeps.down;
   invalidates = keeps.invalidates;
+  first = keeps.first;
   outstanding = keeps.outstanding;
   calls = keeps.calls;
   memory = λ lives.
@@ -302,9 +303,9 @@ waits_revoked xid os (c ∷ cs) h = (by (eqb c.xid xid), waits_revoked xid os cs
     by false = h.0
 
 -- of a client that hasn't ended the memory of its calls is that of its open regions
-pub keeps_live : (opened : LinkParameters) (kept : KeptClient) (k : ClientState) (count : ℕ) → kept.ended ≡ None → kept.next_xid ≡ k.next_xid → kept.sends ≡ k.sends → kept.grant ≡ k.grant → kept.up_max ≡ k.up_max → kept.down_max ≡ k.down_max → kept.invalidates ≡ k.invalidates → kept.outstanding ≡ length k.outstanding →
+pub keeps_live : (opened : LinkParameters) (kept : KeptClient) (k : ClientState) (count : ℕ) → kept.ended ≡ None → kept.next_xid ≡ k.next_xid → kept.sends ≡ k.sends → kept.grant ≡ k.grant → kept.up_max ≡ k.up_max → kept.down_max ≡ k.down_max → kept.invalidates ≡ k.invalidates → IsUnresumed k → kept.outstanding ≡ length k.outstanding →
     AreReceived count k.accesses_received → MemoryKeeps kept.memory k count → CallsKeep kept.calls kept.next_xid k → ClientKeeps opened kept (live k) count
-keeps_live opened kept k count ended xid sends grant up down invalidates outstanding accesses memory calls = record {
+keeps_live opened kept k count ended xid sends grant up down invalidates first outstanding accesses memory calls = record {
   ended = ended;
   xid = xid;
   sends = sends;
@@ -312,6 +313,7 @@ keeps_live opened kept k count ended xid sends grant up down invalidates outstan
   up = up;
   down = down;
   invalidates = invalidates;
+  first = first;
   outstanding = outstanding;
   calls = λ lives. calls;
   memory = λ lives. memory;
@@ -339,7 +341,7 @@ revokes : (opened : LinkParameters) (kept : KeptClient) (k : ClientState) (count
 unfolding client_end client_state_after kept_revoked
 revokes opened kept k count xid keeps =
     let calls : CallsKeep kept.calls kept.next_xid k = keeps.calls refl in
-    keeps_live opened (kept_revoked kept xid) (client_state_after opened k (MemoryRevoked count xid)) count keeps.ended keeps.xid keeps.sends keeps.grant keeps.up keeps.down keeps.invalidates (keeps.outstanding ∙ sym (length-map k.outstanding (revoked_call xid))) keeps.accesses
+    keeps_live opened (kept_revoked kept xid) (client_state_after opened k (MemoryRevoked count xid)) count keeps.ended keeps.xid keeps.sends keeps.grant keeps.up keeps.down keeps.invalidates (ap (λ (ws : List WaitingCall). map (revoked_waiting xid) ws) keeps.first.0, keeps.first.1) (keeps.outstanding ∙ sym (length-map k.outstanding (revoked_call xid))) keeps.accesses
     (memory_closed xid count count kept.calls kept.next_xid k (client_state_after opened k (MemoryRevoked count xid)) kept.memory (omega arith) calls keeps.accesses (keeps.memory refl) refl refl refl)
     (calls_revoked opened kept.calls kept.next_xid xid count k calls)
 
@@ -353,6 +355,7 @@ revokes_ended opened kept k end count xid keeps = record {
   up = keeps.up;
   down = keeps.down;
   invalidates = keeps.invalidates;
+  first = keeps.first;
   outstanding = keeps.outstanding;
   calls = λ e. absurd cc;
   memory = λ e. absurd cc;
@@ -384,6 +387,7 @@ kept_hands_back opened kept e end count xid ended keeps = record {
   up = keeps.up;
   down = keeps.down;
   invalidates = keeps.invalidates;
+  first = keeps.first;
   outstanding = keeps.outstanding;
   calls = λ lives. absurd (let wrong : Some end ≡ None = sym ended ∙ lives in cc);
   memory = λ lives. absurd (let wrong : Some end ≡ None = sym ended ∙ lives in cc);
@@ -401,6 +405,6 @@ kept_completes opened kept k count place message keeps le =
     let after : ClientState = with_message k place (Some message) in
     let closed : CallsKeep (without (word_at 0 message) kept.calls) kept.next_xid after =
     calls_closed kept.calls kept.next_xid (word_at 0 message) place k after (record { written = refl; ends = refl }) calls refl refl in
-    keeps_live opened (kept_completed kept message) after place keeps.ended keeps.xid keeps.sends refl keeps.up keeps.down keeps.invalidates (kept_count after (without (word_at 0 message) kept.calls) after.outstanding closed.kept) (received_later count place k.accesses_received le keeps.accesses)
+    keeps_live opened (kept_completed kept message) after place keeps.ended keeps.xid keeps.sends refl keeps.up keeps.down keeps.invalidates keeps.first (kept_count after (without (word_at 0 message) kept.calls) after.outstanding closed.kept) (received_later count place k.accesses_received le keeps.accesses)
     (memory_closed (word_at 0 message) count place kept.calls kept.next_xid k after kept.memory le calls keeps.accesses (keeps.memory refl) refl refl refl)
     closed

@@ -13,7 +13,7 @@ use Rattle.nr_reduce.specs.declared.mark.Mark.TheVariants as marks
 use Rattle.nr_reduce.specs.declared.mark.LinkParameters.{LinkParameters}
 use Rattle.nr_reduce.specs.declared.outline.Plan.{Plan}
 use Rattle.nr_reduce.specs.Limits.{numbers_end}
-use Rattle.nr_reduce.specs.Plans.{TooLarge, regions_needed}
+use Rattle.nr_reduce.specs.Plans.{TooLarge}
 use Rattle.nr_reduce.specs.History.{AcceptedCall, bytes_received}
 use Rattle.nr_reduce.specs.AtEachMark.{AtEachMark}
 use Rattle.nr_reduce.specs.Opening.{IsOpened}
@@ -21,7 +21,7 @@ use Rattle.nr_reduce.specs.Matched.{IsPrefixOf}
 use Rattle.nr_reduce.specs.Events.{RunEvent, if_own, events_at, events}
 use Rattle.nr_reduce.specs.Events.RunEvent.{FrameReceived, CallSubmitted, MemoryRevoked, CallExecuted, QueueWritten, ServerTold}
 use Rattle.nr_reduce.specs.EndRules.{EndState, next_end_state, next_end_state_by, next_end_state_in, end_state_after}
-use Rattle.nr_reduce.specs.ClientState.{ClientState, call_payload, plan_for}
+use Rattle.nr_reduce.specs.ClientState.{ClientState, call_payload, plan_for, stags_taken}
 use Rattle.nr_reduce.specs.Client.{client_rules, client_end, client_state_after, plan_or, with_message, with_request, with_segment, with_hello, due_with_response, client_segment}
 use Rattle.nr_reduce.specs.Run.{client}
 use Rattle.nr_reduce.specs.Asked.{AskedSoFar, AskedMark}
@@ -102,9 +102,9 @@ left_nothing : (opened : LinkParameters) (link : ℕ) (before : List Mark) (mark
 left_nothing opened link before mark low h = (let e = stag_all opened (client opened link before) (events_at link Initiator before mark) h in omega (arith, e, low))
 
 submit_one : (opened : LinkParameters) (k : ClientState) (ended : Option Stop) (place : ℕ) (a : AcceptedCall) (plan : Plan) → ended ≡ None → plan_for k a.xid a.call a.form ≡ Ok plan
-    → (next_end_state_in (client_rules opened) k (CallSubmitted place a) ended).state.stag ≡ k.stag + regions_needed plan
+    → (next_end_state_in (client_rules opened) k (CallSubmitted place a) ended).state.stag ≡ k.stag + stags_taken k a.xid plan
 unfolding client_state_after client_end
-submit_one opened k None place a plan stays e = ap (λ (r : Result Plan TooLarge). k.stag + regions_needed (plan_or (call_payload a.xid a.call) r)) e
+submit_one opened k None place a plan stays e = ap (λ (r : Result Plan TooLarge). k.stag + stags_taken k a.xid (plan_or (call_payload a.xid a.call) r)) e
 submit_one opened k (Some end) place a plan stays e = absurd cc
 
 left_mark : (opened : LinkParameters) (link : ℕ) (before : List Mark) (mark : Mark) → next_stag_after opened link before ≤ numbers_end → AskedMark IsPrefixOf opened link before mark → IsLeft opened link before mark

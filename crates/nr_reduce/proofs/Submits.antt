@@ -16,11 +16,12 @@ use Rattle.nr_reduce.specs.OfferedRegions.{Region}
 use Rattle.nr_reduce.specs.OfferedMemory.{region_at}
 use Rattle.nr_reduce.specs.Written.{ends_written}
 use Rattle.nr_reduce.specs.Events.RunEvent.{CallSubmitted}
-use Rattle.nr_reduce.specs.ClientState.{OutstandingCall, ClientState, call_payload, plan_for}
-use Rattle.nr_reduce.specs.Client.{client_end, client_state_after, outstanding_of, plan_or, region_of, with_hello, call_ends, submitted_ends}
+use Rattle.nr_reduce.specs.ClientState.{OutstandingCall, ClientState, call_payload, plan_for, region_of}
+use Rattle.nr_reduce.specs.EndRules.{live, next_end_state}
+use Rattle.nr_reduce.specs.Client.{client_rules, client_end, client_state_after, outstanding_of, plan_or, with_hello, call_ends, submitted_ends}
 use Rattle.nr_reduce.specs.KeptCalls.{KeptCall, IsKeptCall, AreKept}
 use Rattle.nr_reduce.specs.Hellos.{client_agreement}
-use Rattle.nr_reduce.specs.KeptClient.{kept_greeted, CallsKeep, MemoryKeeps, HoldsFor, IsOwned, IsRegionOpen, IsAmong, AreRising, AreBelow, OpensFor, registered_all, kept_placed, sent_kept, kept_sent, kept_of, kept_submitted}
+use Rattle.nr_reduce.specs.KeptClient.{KeptClient, ClientKeeps, kept_greeted, CallsKeep, MemoryKeeps, HoldsFor, IsOwned, IsRegionOpen, IsAmong, AreRising, AreBelow, OpensFor, registered_all, kept_placed, sent_kept, kept_sent, kept_of, kept_submitted}
 use Rattle.nr_reduce.specs.StandingLaws.{KeptPlaces, KeptWrites, KeptGreets, KeptSubmits}
 use Rattle.nr_reduce.proofs.MemorySteps.{holds_access, received_one, offered_later}
 use Rattle.nr_reduce.proofs.Releasing.{keeps_live}
@@ -88,7 +89,7 @@ unfolding kept_placed
 kept_places opened kept k count access keeps lt =
     let memory : MemoryKeeps kept.memory k count = keeps.memory refl in
     let after : ClientState = record k { accesses_received = k.accesses_received ++ access ∷ [] } in
-    keeps_live opened (kept_placed kept access) after access.end keeps.ended keeps.xid keeps.sends keeps.grant keeps.up keeps.down keeps.invalidates keeps.outstanding (received_one count k.accesses_received access (omega (arith, lt)) keeps.accesses)
+    keeps_live opened (kept_placed kept access) after access.end keeps.ended keeps.xid keeps.sends keeps.grant keeps.up keeps.down keeps.invalidates keeps.first keeps.outstanding (received_one count k.accesses_received access (omega (arith, lt)) keeps.accesses)
     (record {
       next = event_next kept.memory access ∙ memory.next;
       offered = offered_later count access.end k.regions (omega (arith, lt)) memory.offered;
@@ -147,7 +148,7 @@ kept_writes opened kept k count taken keeps =
     let memory : MemoryKeeps kept.memory k count = keeps.memory refl in
     let after : ClientState = record k { written = k.written + taken } in
     let sent : ℕ = ends_written (k.written + taken) k.send_ends in
-    keeps_live opened (kept_sent sent kept) after count keeps.ended keeps.xid keeps.sends keeps.grant keeps.up keeps.down keeps.invalidates keeps.outstanding keeps.accesses
+    keeps_live opened (kept_sent sent kept) after count keeps.ended keeps.xid keeps.sends keeps.grant keeps.up keeps.down keeps.invalidates keeps.first keeps.outstanding keeps.accesses
     (record { next = memory.next; offered = memory.offered; holds = memory.holds; none_dead = memory.none_dead; below = memory.below })
     (record {
       kept = sent_all k after sent kept.calls k.outstanding refl calls.kept;
@@ -166,7 +167,7 @@ kept_greets opened kept k f count keeps within =
     let later : AllByRecursion (λ end. k.written < end) (call_ends opened k.due 1 k.outstanding) = calls_later opened k.written k.due 1 k.outstanding within in
     let calls : CallsKeep kept.calls kept.next_xid k = keeps.calls refl in
     let memory : MemoryKeeps kept.memory k count = keeps.memory refl in
-    keeps_live opened (kept_greeted kept (client_agreement opened f)) (with_hello opened k f) count keeps.ended keeps.xid keeps.sends keeps.grant refl refl refl keeps.outstanding keeps.accesses
+    keeps_live opened (kept_greeted kept (client_agreement opened f)) (with_hello opened k f) count keeps.ended keeps.xid keeps.sends keeps.grant refl refl refl keeps.first keeps.outstanding keeps.accesses
     (record { next = memory.next; offered = memory.offered; holds = memory.holds; none_dead = memory.none_dead; below = memory.below })
     (record {
       kept = kept_stay k (with_hello opened k f) kept.calls k.outstanding (left_append k.written k.send_ends (call_ends opened k.due 1 k.outstanding) later) calls.kept;
@@ -213,16 +214,24 @@ opens_more : (regions more : List Region) (cs : List KeptCall) (c : KeptCall) �
 opens_more regions more [] c is one = (one, tt)
 opens_more regions more (x ∷ cs) c is one = (opens_stags regions more x.xid x.stags is.0, opens_more regions more cs c is.1 one)
 
-calls_submitted : (opened : LinkParameters) (calls : List KeptCall) (next_xid : ℕ) (k : ClientState) (count : ℕ) (a : AcceptedCall) (c : KeptCall) → CallsKeep calls next_xid k → AreBelow k.regions k.stag →
-    SendsStay k (client_state_after opened k (CallSubmitted count a)) → a.xid ≡ next_xid → IsKeptCall (client_state_after opened k (CallSubmitted count a)) c (outstanding_of k a) → CallsKeep (calls ++ c ∷ []) (next_xid + 1) (client_state_after opened k (CallSubmitted count a))
+-- a client to which no call waits to be sent again
+abbrev unwaiting : ClientState → ClientState
+unwaiting any = record any { waiting = [] }
+
+calls_submitted : (opened : LinkParameters) (calls : List KeptCall) (next_xid : ℕ) (any : ClientState) (count : ℕ) (a : AcceptedCall) (c : KeptCall) → CallsKeep calls next_xid (unwaiting any) → AreBelow any.regions any.stag →
+    SendsStay (unwaiting any) (client_state_after opened (unwaiting any) (CallSubmitted count a)) → a.xid ≡ next_xid → IsKeptCall (client_state_after opened (unwaiting any) (CallSubmitted count a)) c (outstanding_of (unwaiting any) a) →
+    CallsKeep (calls ++ c ∷ []) (next_xid + 1) (client_state_after opened (unwaiting any) (CallSubmitted count a))
 unfolding client_state_after
-calls_submitted opened calls next_xid k count a c keeps below stay next is = record {
+calls_submitted opened calls next_xid any count a c keeps below stay next is = record {
   kept = kept_more after calls k.outstanding c o (kept_stay k after calls k.outstanding stay keeps.kept) is;
   rising = rising_more calls c next_xid keeps.rising (is.xid ∙ next);
   owned = λ stag r there is_open. own stag r is_open (region_at k.regions stag) refl (sym (at_both k.regions new stag) ∙ there);
   opens = opens_more k.regions new calls c keeps.opens (subst (λ (ss : List ℕ). AllByRecursion (λ s. IsRegionOpen (k.regions ++ new) c.xid s) ss) (sym is.stags) (subst (λ (x : ℕ). AllByRecursion (λ s. IsRegionOpen (k.regions ++ new) x s) (map (λ (b : Buffer). b.stag) (buffers k.stag o.plan))) (sym is.xid) (opens_new a.xid count k.regions (buffers k.stag o.plan) k.stag below (buffers_numbered k.stag o.plan))));
 }
   where
+    k : ClientState
+    k = unwaiting any
+
     after : ClientState
     after = client_state_after opened k (CallSubmitted count a)
 
@@ -249,9 +258,12 @@ calls_submitted opened calls next_xid k count a c keeps below stay next is = rec
 planned : (k : ClientState) (a : AcceptedCall) (plan : Plan) → plan_for k a.xid a.call a.form ≡ Ok plan → (outstanding_of k a).plan ≡ plan
 planned k a plan is = ap (λ (r : Result Plan TooLarge). plan_or (call_payload a.xid a.call) r) is
 
-pub kept_submits : KeptSubmits
+submits_unwaiting : (opened : LinkParameters) (kept : KeptClient) (any : ClientState) (count : ℕ) (a : AcceptedCall) (plan : Plan) → ClientKeeps opened kept (live (unwaiting any)) count → a.xid ≡ kept.next_xid →
+    plan_for (unwaiting any) a.xid a.call a.form ≡ Ok plan → any.written ≤ any.due → ends_written any.written any.send_ends ≤ any.sends →
+    ClientKeeps opened (kept_submitted kept a.call plan) (next_end_state (client_rules opened) (live (unwaiting any)) (CallSubmitted count a)) count
 unfolding client_end client_state_after kept_submitted
-kept_submits opened kept k count a plan keeps next is within few =
+submits_unwaiting opened kept any count a plan keeps next is within few =
+    let k : ClientState = unwaiting any in
     let later : AllByRecursion (λ end. k.written < end) (submitted_ends opened k a) = submit_later opened k a within in
     let calls : CallsKeep kept.calls kept.next_xid k = keeps.calls refl in
     let memory : MemoryKeeps kept.memory k count = keeps.memory refl in
@@ -277,6 +289,13 @@ kept_submits opened kept k count a plan keeps next is within few =
       given = λ i. map (λ (b : Buffer). b.stag) (buffers (memory.next i) (sym plan_is i));
       stags = λ i. map (λ (b : Buffer). b.stag) (buffers (memory.next i) (sym plan_is i));
     } in
-    keeps_live opened (kept_submitted kept a.call plan) after count keeps.ended (ap (λ (n : ℕ). n + 1) keeps.xid) (ap (λ (n : ℕ). n + 1) keeps.sends) keeps.grant keeps.up keeps.down keeps.invalidates (ap (λ (n : ℕ). n + 1) keeps.outstanding ∙ sym (length-append k.outstanding (o ∷ []))) keeps.accesses
+    keeps_live opened (kept_submitted kept a.call plan) after count keeps.ended (ap (λ (n : ℕ). n + 1) keeps.xid) (ap (λ (n : ℕ). n + 1) keeps.sends) keeps.grant keeps.up keeps.down keeps.invalidates (refl, keeps.first.1) (ap (λ (n : ℕ). n + 1) keeps.outstanding ∙ sym (length-append k.outstanding (o ∷ []))) keeps.accesses
     (record { next = all.next_is; offered = all.offered; holds = all.holds; none_dead = all.none_dead; below = all.below })
     (calls_submitted opened kept.calls kept.next_xid k count a (kept_of kept.next_xid kept.sends a.call plan kept.memory.next) calls memory.below left next own)
+
+pub kept_submits : KeptSubmits
+kept_submits opened kept k count a plan keeps next is within few =
+    let same : unwaiting k ≡ k = (λ i. record k { waiting = sym keeps.first.0 i }) in
+    subst (λ (x : ClientState). ClientKeeps opened (kept_submitted kept a.call plan) (next_end_state (client_rules opened) (live x) (CallSubmitted count a)) count) same
+    (submits_unwaiting opened kept k count a plan (subst (λ (x : ClientState). ClientKeeps opened kept (live x) count) (sym same) keeps) next
+    (subst (λ (x : ClientState). plan_for x a.xid a.call a.form ≡ Ok plan) (sym same) is) within few)

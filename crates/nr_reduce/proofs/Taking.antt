@@ -25,7 +25,7 @@ same_keeps opened kept k count received due ends keeps =
     let calls : CallsKeep kept.calls kept.next_xid k = keeps.calls refl in
     let memory : MemoryKeeps kept.memory k count = keeps.memory refl in
     let after : ClientState = record k { received = received; due = due; response_ends = ends } in
-    keeps_live opened kept after count keeps.ended keeps.xid keeps.sends keeps.grant keeps.up keeps.down keeps.invalidates keeps.outstanding keeps.accesses
+    keeps_live opened kept after count keeps.ended keeps.xid keeps.sends keeps.grant keeps.up keeps.down keeps.invalidates keeps.first keeps.outstanding keeps.accesses
     (record { next = memory.next; offered = memory.offered; holds = memory.holds; none_dead = memory.none_dead; below = memory.below })
     (record {
       kept = kept_alike k after kept.calls k.outstanding (record { written = refl; ends = refl }) calls.kept;
@@ -89,6 +89,7 @@ kept_ends opened kept k end count event keeps is =
       up = keeps.up;
       down = keeps.down;
       invalidates = keeps.invalidates;
+      first = keeps.first;
       outstanding = keeps.outstanding;
       calls = λ lives. absurd (let wrong : Some end ≡ None = lives in cc);
       memory = λ lives. absurd (let wrong : Some end ≡ None = lives in cc);

@@ -17,7 +17,7 @@ use Rattle.nr_link.specs.Ending.{missing_access, end_of_fault, frame_segment, fr
 use Rattle.nr_reduce.specs.OfferedRegions.{region_grants}
 use Rattle.nr_reduce.specs.Events.{RunEvent}
 use Rattle.nr_reduce.specs.Events.RunEvent.{FrameReceived}
-use Rattle.nr_reduce.specs.Client.{client_end, client_segment, or_message_end, client_readiness as client_ready, client_rules, initial_client}
+use Rattle.nr_reduce.specs.Client.{client_end, client_segment, or_message_end, client_readiness as client_ready, client_rules, initial_client, or_other_sizes}
 use Rattle.nr_reduce.specs.ClientState.{ClientState}
 use Rattle.nr_reduce.specs.Server.{server_end, or_refusal, server_readiness as server_ready, server_rules, initial_server}
 use Rattle.nr_reduce.specs.ServerState.{ServerState}
@@ -83,7 +83,7 @@ unfolding client_end
 client_touched k f segment later is e =
     let ends : Option Stop = frame_end_by (client_ready k) (region_grants f.end k.regions) f (client_segment k f) in
     let others : or_message_end k f ends ≡ None =
-    ap (λ (b : Bool). cond b (hello_end (hello_of Responder f.bytes)) (or_message_end k f ends)) (sym later) ∙ e in
+    ap (λ (b : Bool). cond b (or_other_sizes k f (hello_end (hello_of Responder f.bytes))) (or_message_end k f ends)) (sym later) ∙ e in
     lacks_nothing (client_ready k) (λ o. refl) (region_grants f.end k.regions) f segment (client_segment k f) is (by_end ends others)
   where
     by_end : (o : Option Stop) → or_message_end k f o ≡ None → o ≡ None

@@ -24,11 +24,12 @@ use Rattle.nr_reduce.specs.Matched.{IsPrefixOf}
 use Rattle.nr_reduce.specs.Served.{IsExecuted, ServedMark, first_ready, next_call}
 use Rattle.nr_reduce.specs.EndRules.{EndState, next_end_state, end_state_after, output_for, output_for_by, output_for_in, output_for_all}
 use Rattle.nr_reduce.specs.ServerState.{PendingCall, ReadyCall, ServerState}
-use Rattle.nr_reduce.specs.Server.{server_rules, server_end, server_output, server_state_after}
+use Rattle.nr_reduce.specs.Server.{server_rules, server_end, server_output, server_state_after, old_end}
 use Rattle.nr_reduce.specs.Run.{server, output_due}
 use Rattle.nr_reduce.specs.StandingLaws.{IsUnasked, NoCallBeforeHello, NothingDueBeforeHello}
 use Rattle.nr_reduce.proofs.Steps.{server_one, output_due_down_one}
 use Rattle.nr_reduce.proofs.Standing.{received_one}
+use Rattle.nr_reduce.specs.declared.mark.Told.TheVariants.{Granted, Old}
 
 -- ---- A stream of which a hello is awaited has no complete frame
 
@@ -76,18 +77,19 @@ unasked_after opened k (CallExecuted call) none u = record {
 unasked_after opened k (QueueWritten taken) none u = record { received = u.received; calls = u.calls; reads = u.reads; ready = u.ready; regions = u.regions }
 unasked_after opened k (ServerTold what) none u = record { received = u.received; calls = u.calls; reads = u.reads; ready = u.ready; regions = u.regions }
 
-lives_after : (opened : LinkParameters) (k : ServerState) (event : RunEvent) → BringsNoFrame event → server_end opened k event ≡ None
+lives_after : (opened : LinkParameters) (k : ServerState) (event : RunEvent) → BringsNoFrame event → IsUnasked k → server_end opened k event ≡ None
 unfolding server_end
-lives_after opened k (FrameReceived f) none = absurd none
-lives_after opened k (CallSubmitted place a) none = refl
-lives_after opened k (MemoryRevoked place xid) none = refl
-lives_after opened k (CallExecuted call) none = refl
-lives_after opened k (QueueWritten taken) none = refl
-lives_after opened k (ServerTold what) none = refl
+lives_after opened k (FrameReceived f) none u = absurd none
+lives_after opened k (CallSubmitted place a) none u = refl
+lives_after opened k (MemoryRevoked place xid) none u = refl
+lives_after opened k (CallExecuted call) none u = refl
+lives_after opened k (QueueWritten taken) none u = refl
+lives_after opened k (ServerTold (Granted credits)) none u = refl
+lives_after opened k (ServerTold (Old xid at)) none u = ap (old_end at) u.ready
 
 quiet_event : (opened : LinkParameters) (e : EndState ServerState) (event : RunEvent) → BringsNoFrame event → IsQuiet e → IsQuiet (next_end_state (server_rules opened) e event)
 quiet_event opened e event none q =
-    let lives = lives_after opened e.state event none in
+    let lives = lives_after opened e.state event none q.1 in
     let rules = server_rules opened in
     let step : next_end_state rules e event ≡ record { state = server_state_after opened e.state event; ended = None } =
     ap (λ (x : Option Rattle.nr_link.specs.declared.end.End.End). Rattle.nr_reduce.specs.EndRules.next_end_state_in rules e.state event x) q.0
@@ -183,7 +185,7 @@ silent_output opened k (ServerTold what) silent = refl
 silent_event : (opened : LinkParameters) (e : EndState ServerState) (event : RunEvent) → IsSilent event → IsQuiet e → output_for (server_rules opened) e event ≡ []
 silent_event opened e event silent q =
     ap (λ (x : Option End). output_for_in (server_rules opened) e.state event x) q.0
-    ∙ ap (λ (x : Option End). output_for_by (server_rules opened) e.state event x) (lives_after opened e.state event (brings_no_frame event silent))
+    ∙ ap (λ (x : Option End). output_for_by (server_rules opened) e.state event x) (lives_after opened e.state event (brings_no_frame event silent) q.1)
     ∙ silent_output opened e.state event silent
 
 silent_events : (opened : LinkParameters) (e : EndState ServerState) (es : List RunEvent) → AllByRecursion IsSilent es → IsQuiet e → output_for_all (server_rules opened) e es ≡ []

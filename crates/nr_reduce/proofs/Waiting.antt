@@ -20,7 +20,7 @@ use Rattle.nr_reduce.specs.declared.call.Submission.TheVariants as submissions
 use Rattle.nr_reduce.specs.declared.mark.Mark.{Mark}
 use Rattle.nr_reduce.specs.declared.mark.Mark.TheVariants as marks
 use Rattle.nr_reduce.specs.declared.mark.LinkParameters.{LinkParameters}
-use Rattle.nr_reduce.specs.Plans.{regions_needed}
+use Rattle.nr_reduce.specs.Plans.{plan_of, TooLarge}
 use Rattle.nr_reduce.specs.History.{AcceptedCall, accepted_calls, accepted_at, bytes_received}
 use Rattle.nr_reduce.specs.AtEachMark.{AtEachMark}
 use Rattle.nr_reduce.specs.Matched.{IsPrefixOf}
@@ -28,15 +28,16 @@ use Rattle.nr_reduce.specs.Events.{RunEvent, if_own, events_at, events}
 use Rattle.nr_reduce.specs.Events.RunEvent.{FrameReceived, CallSubmitted, MemoryRevoked, CallExecuted, QueueWritten, ServerTold}
 use Rattle.nr_reduce.specs.EndRules.{EndState, next_end_state, next_end_state_by, next_end_state_in, end_state_after, output_for, output_for_by, output_for_in}
 use Rattle.nr_reduce.specs.OfferedRegions.{region_grants}
-use Rattle.nr_reduce.specs.ClientState.{OutstandingCall, ClientState, is_sent, plan_for}
+use Rattle.nr_reduce.specs.ClientState.{OutstandingCall, ClientState, is_sent, plan_for, WaitingCall, first_of, others_than, plan_unless, stag_unless, stags_unless_waiting, stag_for, stags_taken, call_payload}
 use Rattle.nr_reduce.specs.Written.{ends_written}
 use Rattle.nr_reduce.specs.ClientMessages.{ReplyVerdict, reply_verdict, reply_by_header, by_call, invalidates_another, message_verdict}
 use Rattle.nr_reduce.specs.ClientMessages.ReplyVerdict.{EndsLink, GivesOutcome}
-use Rattle.nr_reduce.specs.Client.{client_rules, client_end, client_output, client_state_after, initial_client, client_readiness, or_message_end, client_message_end, end_of_verdict, segment_message, segment_names, outstanding_of, call_output, calls_output, response_output, segment_request, revoked_call, submitted_output, with_message, with_request, with_segment, with_hello, due_with_response, client_segment}
+use Rattle.nr_reduce.specs.Client.{client_rules, client_end, client_output, client_state_after, initial_client, client_readiness, or_message_end, client_message_end, end_of_verdict, segment_message, segment_names, outstanding_of, call_output, calls_output, response_output, segment_request, revoked_call, submitted_output, with_message, with_request, with_segment, with_hello, due_with_response, client_segment, revoked_waiting, plan_or, or_other_sizes}
 use Rattle.nr_reduce.specs.Run.{client}
 use Rattle.nr_reduce.specs.Asked.{AskedSoFar, AskedMark}
 use Rattle.nr_reduce.specs.RunLaws.{numbered_on, outstanding_from, as_submitted}
 use Rattle.nr_reduce.proofs.Steps.{client_one}
+use Rattle.nr_reduce.specs.declared.outline.Plan.{Plan}
 
 abbrev pub start : LinkParameters → ClientState
 start opened = (initial_client opened).state
@@ -46,6 +47,50 @@ abbrev state_after_calls : ClientState → List AcceptedCall → ClientState
 state_after_calls k [] = k
 state_after_calls k (a ∷ accepted) = state_after_calls (numbered_on k a) accepted
 
+-- a call that waits to be sent again, whether or not its memory was revoked: what is sent of it is the same
+abbrev unrevoked : WaitingCall → WaitingCall
+unrevoked w = record w { is_revoked = false }
+
+plan_unrevoked : (ws : List WaitingCall) (xid : ℕ) (plan : Result Plan TooLarge) → plan_unless (first_of (map unrevoked ws) xid) plan ≡ plan_unless (first_of ws xid) plan
+plan_unrevoked [] xid plan = refl
+plan_unrevoked (w ∷ ws) xid plan = by (eqb w.xid xid)
+  where
+    by : (b : Bool) → plan_unless (cond b (Some (unrevoked w)) None) plan ≡ plan_unless (cond b (Some w) None) plan
+    by true = refl
+    by false = refl
+
+stag_unrevoked : (ws : List WaitingCall) (xid stag : ℕ) → stag_unless (first_of (map unrevoked ws) xid) stag ≡ stag_unless (first_of ws xid) stag
+stag_unrevoked [] xid stag = refl
+stag_unrevoked (w ∷ ws) xid stag = by (eqb w.xid xid)
+  where
+    by : (b : Bool) → stag_unless (cond b (Some (unrevoked w)) None) stag ≡ stag_unless (cond b (Some w) None) stag
+    by true = refl
+    by false = refl
+
+taken_unrevoked : (ws : List WaitingCall) (xid : ℕ) (plan : Plan) → stags_unless_waiting (first_of (map unrevoked ws) xid) plan ≡ stags_unless_waiting (first_of ws xid) plan
+taken_unrevoked [] xid plan = refl
+taken_unrevoked (w ∷ ws) xid plan = by (eqb w.xid xid)
+  where
+    by : (b : Bool) → stags_unless_waiting (cond b (Some (unrevoked w)) None) plan ≡ stags_unless_waiting (cond b (Some w) None) plan
+    by true = refl
+    by false = refl
+
+others_unrevoked : (ws : List WaitingCall) (xid : ℕ) → map unrevoked (others_than ws xid) ≡ others_than (map unrevoked ws) xid
+others_unrevoked [] xid = refl
+others_unrevoked (w ∷ ws) xid = by (eqb w.xid xid)
+  where
+    by : (b : Bool) → map unrevoked (cond b ws (w ∷ ws)) ≡ cond b (map unrevoked ws) (unrevoked w ∷ map unrevoked ws)
+    by true = refl
+    by false = refl
+
+still_unrevoked : (xid : ℕ) (ws : List WaitingCall) → map unrevoked (map (revoked_waiting xid) ws) ≡ map unrevoked ws
+still_unrevoked xid [] = refl
+still_unrevoked xid (w ∷ ws) = (λ i. by (eqb w.xid xid) i ∷ still_unrevoked xid ws i)
+  where
+    by : (b : Bool) → unrevoked (cond b (record w { is_revoked = true }) w) ≡ unrevoked w
+    by true = refl
+    by false = refl
+
 record Waiting (opened : LinkParameters) (accepted : List AcceptedCall) (k : ClientState) : Type 0 where
   pub calls : map as_submitted k.outstanding ≡ outstanding_from (start opened) accepted
   pub stag : k.stag ≡ (state_after_calls (start opened) accepted).stag
@@ -53,13 +98,14 @@ record Waiting (opened : LinkParameters) (accepted : List AcceptedCall) (k : Cli
   pub ends : k.send_ends ≡ []
   pub up : k.up_max ≡ (state_after_calls (start opened) accepted).up_max
   pub down : k.down_max ≡ (state_after_calls (start opened) accepted).down_max
+  pub waiting : map unrevoked k.waiting ≡ map unrevoked (state_after_calls (start opened) accepted).waiting
 
 abbrev Waits : LinkParameters → List AcceptedCall → ClientState → Type 0
 Waits opened accepted k = k.has_hello ≡ false → Waiting opened accepted k
 
-from_append : (k : ClientState) (xs : List AcceptedCall) (a : AcceptedCall) → outstanding_from k (xs ++ a ∷ []) ≡ outstanding_from k xs ++ outstanding_of (state_after_calls k xs) a ∷ []
+from_append : (k : ClientState) (xs : List AcceptedCall) (a : AcceptedCall) → outstanding_from k (xs ++ a ∷ []) ≡ outstanding_from k xs ++ as_submitted (outstanding_of (state_after_calls k xs) a) ∷ []
 from_append k [] a = refl
-from_append k (x ∷ xs) a = ap (λ (os : List OutstandingCall). outstanding_of k x ∷ os) (from_append (numbered_on k x) xs a)
+from_append k (x ∷ xs) a = ap (λ (os : List OutstandingCall). as_submitted (outstanding_of k x) ∷ os) (from_append (numbered_on k x) xs a)
 
 numbers_append : (k : ClientState) (xs : List AcceptedCall) (a : AcceptedCall) → state_after_calls k (xs ++ a ∷ []) ≡ numbered_on (state_after_calls k xs) a
 numbers_append k [] a = refl
@@ -123,28 +169,28 @@ or_message k f None e = e
 
 -- a frame that brings no message leaves the calls
 abbrev SameCalls : ClientState → ClientState → Type 0
-SameCalls k after = (after.outstanding ≡ k.outstanding) × (after.stag ≡ k.stag) × (after.has_hello ≡ k.has_hello) × (after.send_ends ≡ k.send_ends) × (after.up_max ≡ k.up_max) × (after.down_max ≡ k.down_max) × (after.sends ≡ k.sends)
+SameCalls k after = (after.outstanding ≡ k.outstanding) × (after.stag ≡ k.stag) × (after.has_hello ≡ k.has_hello) × (after.send_ends ≡ k.send_ends) × (after.up_max ≡ k.up_max) × (after.down_max ≡ k.down_max) × (after.sends ≡ k.sends) × (after.waiting ≡ k.waiting)
 
 request_same : (k m : ClientState) (due : ℕ) (r : Option ReadRequest) → SameCalls k m → SameCalls k (with_request m due r)
 request_same k m due None h = h
 request_same k m due (Some r) h = h
 
 segment_same : (k : ClientState) (f : Frame) (r : Result Segment ℕ) → segment_message k r ≡ None → SameCalls k (with_segment k f r)
-segment_same k f (Err reason) e = (refl, refl, refl, refl, refl, refl, refl)
+segment_same k f (Err reason) e = (refl, refl, refl, refl, refl, refl, refl, refl)
 segment_same k f (Ok segment) e =
     request_same k (with_message k f.end (message_completed k.received segment)) (due_with_response k f segment) (read_request_of segment)
-    (subst (λ (o : Option (List ℕ)). SameCalls k (with_message k f.end o)) (sym e) (refl, refl, refl, refl, refl, refl, refl))
+    (subst (λ (o : Option (List ℕ)). SameCalls k (with_message k f.end o)) (sym e) (refl, refl, refl, refl, refl, refl, refl, refl))
 
 same_waits : (opened : LinkParameters) (accepted : List AcceptedCall) (k after : ClientState) → SameCalls k after → Waits opened accepted k → Waits opened accepted after
 same_waits opened accepted k after s w hello =
     let h = w (sym s.2 ∙ hello) in
-    record { calls = ap (λ (os : List OutstandingCall). map as_submitted os) s.0 ∙ h.calls; stag = s.1 ∙ h.stag; sends = s.6 ∙ h.sends; ends = s.3 ∙ h.ends; up = s.4 ∙ h.up; down = s.5 ∙ h.down }
+    record { calls = ap (λ (os : List OutstandingCall). map as_submitted os) s.0 ∙ h.calls; stag = s.1 ∙ h.stag; sends = s.6 ∙ h.sends; ends = s.3 ∙ h.ends; up = s.4 ∙ h.up; down = s.5 ∙ h.down; waiting = ap (λ (ws : List WaitingCall). map unrevoked ws) s.7 ∙ h.waiting }
 
 frame_waits : (opened : LinkParameters) (accepted : List AcceptedCall) (k : ClientState) (f : Frame) → client_end k (FrameReceived f) ≡ None → Waits opened accepted k → Waits opened accepted (client_state_after opened k (FrameReceived f))
 unfolding client_end client_state_after
 frame_waits opened accepted k f stays w = by (is_hello f) stays
   where
-    by : (b : Bool) → cond b (hello_end (hello_of Responder f.bytes)) (or_message_end k f (frame_end_by (client_readiness k) (region_grants f.end k.regions) f (client_segment k f))) ≡ None
+    by : (b : Bool) → cond b (or_other_sizes k f (hello_end (hello_of Responder f.bytes))) (or_message_end k f (frame_end_by (client_readiness k) (region_grants f.end k.regions) f (client_segment k f))) ≡ None
         → Waits opened accepted (cond b (with_hello opened k f) (with_segment k f (client_segment k f)))
     by true e = λ hello. absurd cc
     by false e = λ hello. by_hello k.has_hello refl hello
@@ -173,18 +219,28 @@ unfolding client_state_after plan_for
 submit_waits opened accepted k place a w hello =
     let h = w hello in
     let next : ClientState = state_after_calls (start opened) accepted in
-    let same : outstanding_of k a ≡ outstanding_of next a = (λ i. outstanding_of (record k { stag = h.stag i; sends = h.sends i; up_max = h.up i; down_max = h.down i }) a) in
     let on : numbered_on next a ≡ state_after_calls (start opened) (accepted ++ a ∷ []) = sym (numbers_append (start opened) accepted a) in
+    let plans : plan_for k a.xid a.call a.form ≡ plan_for next a.xid a.call a.form =
+    sym (plan_unrevoked k.waiting a.xid (plan_of (call_payload a.xid a.call) a.form k.up_max k.down_max))
+    ∙ (λ i. plan_unless (first_of (h.waiting i) a.xid) (plan_of (call_payload a.xid a.call) a.form (h.up i) (h.down i)))
+    ∙ plan_unrevoked next.waiting a.xid (plan_of (call_payload a.xid a.call) a.form next.up_max next.down_max) in
+    let stags : stag_for k a.xid ≡ stag_for next a.xid =
+    sym (stag_unrevoked k.waiting a.xid k.stag) ∙ (λ i. stag_unless (first_of (h.waiting i) a.xid) (h.stag i)) ∙ stag_unrevoked next.waiting a.xid next.stag in
+    let same : as_submitted (outstanding_of k a) ≡ as_submitted (outstanding_of next a) =
+    (λ i. record { xid = a.xid; send = h.sends i; call = a.call; plan = plan_or (call_payload a.xid a.call) (plans i); stag = stags i; is_revoked = false }) in
+    let taken : stags_taken k a.xid (outstanding_of k a).plan ≡ stags_taken next a.xid (outstanding_of next a).plan =
+    sym (taken_unrevoked k.waiting a.xid (outstanding_of k a).plan) ∙ (λ i. stags_unless_waiting (first_of (h.waiting i) a.xid) (same i).plan) ∙ taken_unrevoked next.waiting a.xid (outstanding_of next a).plan in
     record {
       calls = submitted_append k.outstanding (outstanding_of k a ∷ [])
-          ∙ ap (λ (os : List OutstandingCall). os ++ outstanding_of k a ∷ []) h.calls
+          ∙ ap (λ (os : List OutstandingCall). os ++ as_submitted (outstanding_of k a) ∷ []) h.calls
           ∙ ap (λ (o : OutstandingCall). outstanding_from (start opened) accepted ++ o ∷ []) same
           ∙ sym (from_append (start opened) accepted a);
-      stag = (λ i. h.stag i + regions_needed (same i).plan) ∙ ap (λ (x : ClientState). x.stag) on;
+      stag = (λ i. h.stag i + taken i) ∙ ap (λ (x : ClientState). x.stag) on;
       sends = ap (λ (n : ℕ). n + 1) h.sends ∙ ap (λ (x : ClientState). x.sends) on;
       ends = ap (λ (b : Bool). k.send_ends ++ cond b ((k.due + length (submitted_output opened k a)) ∷ []) []) hello ∙ append-nil k.send_ends ∙ h.ends;
       up = h.up ∙ ap (λ (x : ClientState). x.up_max) on;
       down = h.down ∙ ap (λ (x : ClientState). x.down_max) on;
+      waiting = others_unrevoked k.waiting a.xid ∙ (λ i. others_than (h.waiting i) a.xid) ∙ sym (others_unrevoked next.waiting a.xid) ∙ ap (λ (x : ClientState). map unrevoked x.waiting) on;
     }
 
 -- the events that submit nothing
@@ -200,10 +256,11 @@ after_waits : (opened : LinkParameters) (accepted : List AcceptedCall) (k : Clie
 unfolding client_state_after
 after_waits opened accepted k (FrameReceived f) s stays w = frame_waits opened accepted k f stays w
 after_waits opened accepted k (CallSubmitted place a) s stays w = absurd s
-after_waits opened accepted k (MemoryRevoked place xid) s stays w = λ hello. (let h = w hello in record { calls = revoked_same xid k.outstanding ∙ h.calls; stag = h.stag; sends = h.sends; ends = h.ends; up = h.up; down = h.down })
+after_waits opened accepted k (MemoryRevoked place xid) s stays w =
+    λ hello. (let h = w hello in record { calls = revoked_same xid k.outstanding ∙ h.calls; stag = h.stag; sends = h.sends; ends = h.ends; up = h.up; down = h.down; waiting = still_unrevoked xid k.waiting ∙ h.waiting })
 after_waits opened accepted k (CallExecuted call) s stays w = w
-after_waits opened accepted k (QueueWritten taken) s stays w = λ hello. (let h = w hello in record { calls = h.calls; stag = h.stag; sends = h.sends; ends = h.ends; up = h.up; down = h.down })
-after_waits opened accepted k (ServerTold what) s stays w = λ hello. (let h = w hello in record { calls = h.calls; stag = h.stag; sends = h.sends; ends = h.ends; up = h.up; down = h.down })
+after_waits opened accepted k (QueueWritten taken) s stays w = λ hello. (let h = w hello in record { calls = h.calls; stag = h.stag; sends = h.sends; ends = h.ends; up = h.up; down = h.down; waiting = h.waiting })
+after_waits opened accepted k (ServerTold what) s stays w = λ hello. (let h = w hello in record { calls = h.calls; stag = h.stag; sends = h.sends; ends = h.ends; up = h.up; down = h.down; waiting = h.waiting })
 
 next_waits : (opened : LinkParameters) (accepted : List AcceptedCall) (r : EndState ClientState) (event : RunEvent) → SubmitsNothing event → Waits opened accepted r.state → Waits opened accepted (next_end_state (client_rules opened) r event).state
 next_waits opened accepted r event s w = by_end r.state r.ended w
@@ -300,7 +357,7 @@ waits_from opened link before (mark ∷ run) w h =
 
 begins_waiting : (opened : LinkParameters) (link : ℕ) → Waits opened (accepted_calls link []) (client opened link []).state
 unfolding client events accepted_calls
-begins_waiting opened link hello = record { calls = refl; stag = refl; sends = refl; ends = refl; up = refl; down = refl }
+begins_waiting opened link hello = record { calls = refl; stag = refl; sends = refl; ends = refl; up = refl; down = refl; waiting = refl }
 
 -- ---- What the hello sends
 

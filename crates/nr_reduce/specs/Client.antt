@@ -1,5 +1,5 @@
 -- The client of a link, event by event: what ends it, what it writes for an event, and what it knows after it.
-use Rattle.std.specs.Prelude.{ℕ, ◌+◌, true, false, not, ◌==◌, nat_lt, if◌then◌else◌, List, [], ◌∷◌, ◌++◌, length, take, drop, map, Option, None, Some, Result, Ok, Err}
+use Rattle.std.specs.Prelude.{ℕ, ◌+◌, Bool, true, false, not, ◌&&◌, ◌==◌, nat_lt, if◌then◌else◌, List, [], ◌∷◌, ◌++◌, length, take, drop, map, Option, None, Some, Result, Ok, Err}
 use Rattle.std.specs.List.{filter}
 use Rattle.nr_wire.specs.declared.hello.Side.TheVariants.{Initiator, Responder}
 use Rattle.nr_wire.specs.Hello.{hello_of}
@@ -10,7 +10,9 @@ use Rattle.nr_reduce.specs.declared.mark.LinkParameters.{LinkParameters}
 use Rattle.nr_reduce.specs.Limits.{credits_max}
 use Rattle.nr_reduce.specs.History.{AcceptedCall, CompletedCall}
 use Rattle.nr_reduce.specs.declared.outline.Plan.{Plan}
-use Rattle.nr_reduce.specs.Plans.{TooLarge, Buffer, regions_needed, buffers, call_message, inline_plan}
+use Rattle.nr_reduce.specs.Plans.{TooLarge, buffers, call_message, inline_plan}
+use Rattle.nr_link.specs.declared.agreement.Agreement.{Agreement}
+use Rattle.nr_link.specs.Reasons.{REASON_SIZES}
 use Rattle.nr_link.specs.Output.{send, read_response}
 use Rattle.nr_link.specs.Frames.{Frame, is_hello}
 use Rattle.nr_link.specs.ReceiveState.{received_after, message_completed, stag_invalidated, ReadRequest, read_request_of}
@@ -19,10 +21,10 @@ use Rattle.nr_link.specs.Ending.{tagged_access, frame_segment_with, frame_end_by
 use Rattle.nr_regions.specs.declared.denied.Denied.{Denied}
 use Rattle.nr_reduce.specs.OfferedRegions.{Region, region_grants, regions_closed}
 use Rattle.nr_reduce.specs.Events.{RunEvent}
-use Rattle.nr_reduce.specs.Hellos.{client_agreement}
+use Rattle.nr_reduce.specs.Hellos.{client_agreement, agreement_with}
 use Rattle.nr_reduce.specs.EndRules.{EndMachine, EndState}
 use Rattle.nr_reduce.specs.Events.RunEvent.{FrameReceived, CallSubmitted, MemoryRevoked, CallExecuted, QueueWritten, ServerTold}
-use Rattle.nr_reduce.specs.ClientState.{OutstandingCall, ClientState, initial_client_state, responses_owed, call_payload, plan_for, client_memory_at}
+use Rattle.nr_reduce.specs.ClientState.{OutstandingCall, WaitingCall, ClientState, initial_client_state, region_of, responses_owed, waiting_call, others_than, call_payload, plan_for, stag_for, stags_taken, client_memory_at}
 use Rattle.nr_reduce.specs.ClientMessages.{ReplyVerdict, reply_verdict, message_verdict}
 use Rattle.nr_reduce.specs.ClientMessages.ReplyVerdict.{EndsLink, GivesOutcome}
 use Rattle.nr_xdr.specs.Fields.{word_at}
@@ -64,9 +66,18 @@ abbrev pub or_message_end : ClientState → Frame → Option End → Option End
 or_message_end k f (Some end) = Some end
 or_message_end k f None = client_message_end k f (segment_names (client_segment k f)) (segment_message k (client_segment k f))
 
+-- A hello by which other lengths of Sends are agreed on than by an earlier one ends a client that was reopened: its calls keep their plans.
+abbrev pub has_same_sizes : Option Agreement → Agreement → Bool
+has_same_sizes None a = true
+has_same_sizes (Some earlier) a = earlier.up == a.up && earlier.down == a.down
+
+abbrev pub or_other_sizes : ClientState → Frame → Option End → Option End
+or_other_sizes k f (Some end) = Some end
+or_other_sizes k f None = if has_same_sizes k.agreed (agreement_with k.terms f) then None else Some (ends.Bad f.at REASON_SIZES)
+
 unfoldable pub client_end : ClientState → RunEvent → Option End
 client_end k (FrameReceived f) =
-    if is_hello f then hello_end (hello_of Responder f.bytes) else or_message_end k f (frame_end_by (client_readiness k) (region_grants f.end k.regions) f (client_segment k f))
+    if is_hello f then or_other_sizes k f (hello_end (hello_of Responder f.bytes)) else or_message_end k f (frame_end_by (client_readiness k) (region_grants f.end k.regions) f (client_segment k f))
 client_end k (CallSubmitted place a) = None
 client_end k (MemoryRevoked place xid) = None
 client_end k (CallExecuted call) = None
@@ -97,14 +108,18 @@ abbrev pub plan_or : List ℕ → Result Plan TooLarge → Plan
 plan_or payload (Ok plan) = plan
 plan_or payload (Err large) = inline_plan payload
 
+abbrev pub is_revoked_waiting : Option WaitingCall → Bool
+is_revoked_waiting None = false
+is_revoked_waiting (Some w) = w.is_revoked
+
 abbrev pub outstanding_of : ClientState → AcceptedCall → OutstandingCall
 outstanding_of k a = record {
   xid = a.xid;
   send = k.sends;
   call = a.call;
   plan = plan_or (call_payload a.xid a.call) (plan_for k a.xid a.call a.form);
-  stag = k.stag;
-  is_revoked = false;
+  stag = stag_for k a.xid;
+  is_revoked = is_revoked_waiting (waiting_call k a.xid);
 }
 
 -- the Send of a call that is accepted, due at once if the server's hello was received
@@ -127,9 +142,6 @@ client_output opened k (ServerTold what) = []
 -- bounds are own)
 abbrev pub credits_of_word : ℕ → ℕ
 credits_of_word credit = if credit == 0 then 1 else (if nat_lt credits_max credit then credits_max else credit)
-
-abbrev pub region_of : ℕ → ℕ → Buffer → Region
-region_of xid place b = record { call = xid; position = 0; stag = b.stag; right = b.right; bytes = b.bytes; from = place; until = None }
 
 abbrev pub outcomes_of : ReplyVerdict → List CompletedCall
 outcomes_of (EndsLink reason) = []
@@ -164,6 +176,9 @@ with_segment k f (Ok segment) =
 abbrev pub revoked_call : ℕ → OutstandingCall → OutstandingCall
 revoked_call xid o = if o.xid == xid then record o { is_revoked = true } else o
 
+abbrev pub revoked_waiting : ℕ → WaitingCall → WaitingCall
+revoked_waiting xid w = if w.xid == xid then record w { is_revoked = true } else w
+
 -- the offsets at which the Sends of some calls end, of which the first begins at `due`
 abbrev pub call_ends : LinkParameters → ℕ → ℕ → List OutstandingCall → List ℕ
 call_ends opened due msn [] = []
@@ -181,22 +196,33 @@ with_hello opened k f = record k {
   invalidates = (client_agreement opened f).invalidates;
 }
 
+-- a new call has the next xid, and its regions are offered from here on; one that is sent again has both
+abbrev pub xid_unless_waiting : Option WaitingCall → ℕ → ℕ
+xid_unless_waiting None next = next + 1
+xid_unless_waiting (Some w) next = next
+
+abbrev pub regions_unless_waiting : Option WaitingCall → ℕ → OutstandingCall → List Region
+regions_unless_waiting None place o = map (region_of o.xid place) (buffers o.stag o.plan)
+regions_unless_waiting (Some w) place o = []
+
 abbrev pub submitted_ends : LinkParameters → ClientState → AcceptedCall → List ℕ
 submitted_ends opened k a = if k.has_hello then (k.due + length (submitted_output opened k a)) ∷ [] else []
 
 unfoldable pub client_state_after : LinkParameters → ClientState → RunEvent → ClientState
 client_state_after opened k (FrameReceived f) = if is_hello f then with_hello opened k f else with_segment k f (client_segment k f)
 client_state_after opened k (CallSubmitted place a) = record k {
-  next_xid = k.next_xid + 1;
+  next_xid = xid_unless_waiting (waiting_call k a.xid) k.next_xid;
   sends = k.sends + 1;
-  stag = k.stag + regions_needed (outstanding_of k a).plan;
+  stag = k.stag + stags_taken k a.xid (outstanding_of k a).plan;
   outstanding = k.outstanding ++ outstanding_of k a ∷ [];
-  regions = k.regions ++ map (region_of a.xid place) (buffers k.stag (outstanding_of k a).plan);
+  waiting = others_than k.waiting a.xid;
+  regions = k.regions ++ regions_unless_waiting (waiting_call k a.xid) place (outstanding_of k a);
   due = k.due + length (submitted_output opened k a);
   send_ends = k.send_ends ++ submitted_ends opened k a;
 }
 client_state_after opened k (MemoryRevoked place xid) = record k {
   outstanding = map (revoked_call xid) k.outstanding;
+  waiting = map (revoked_waiting xid) k.waiting;
   regions = regions_closed (λ r. r.call == xid) place k.regions;
 }
 client_state_after opened k (CallExecuted call) = k

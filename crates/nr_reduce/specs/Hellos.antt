@@ -4,6 +4,7 @@ use Rattle.nr_wire.specs.Constants.{HELLO_LEN}
 use Rattle.nr_wire.specs.declared.hello.Side.TheVariants.{Initiator, Responder}
 use Rattle.nr_link.specs.Frames.{Frame}
 use Rattle.nr_link.specs.declared.agreement.Agreement.{Agreement}
+use Rattle.nr_link.specs.declared.agreement.SideTerms.{SideTerms}
 use Rattle.nr_link.specs.Agreement.{initiator_private, responder_private, agreement}
 use Rattle.nr_link.specs.Output.{hello_with}
 use Rattle.nr_reduce.specs.declared.mark.LinkParameters.{LinkParameters}
@@ -28,8 +29,11 @@ unfoldable pub server_hello : LinkParameters → Frame → List ℕ
 server_hello opened f = hello_with Responder (server_private opened f)
 
 -- what a side agrees on after it received the other's hello
+abbrev pub agreement_with : SideTerms → Frame → Agreement
+agreement_with terms f = agreement (initiator_private terms) (private_of f)
+
 unfoldable pub client_agreement : LinkParameters → Frame → Agreement
-client_agreement opened f = agreement (client_private opened) (private_of f)
+client_agreement opened f = agreement_with opened.client f
 
 unfoldable pub server_agreement : LinkParameters → Frame → Agreement
 server_agreement opened f = agreement (private_of f) (server_private opened f)

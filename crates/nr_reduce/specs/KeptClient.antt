@@ -108,6 +108,10 @@ HasRegionsOf c (Some o) = HasRegions c o
 abbrev pub IsWaiting : List OutstandingCall → KeptCall → Type 0
 IsWaiting outstanding c = HasRegionsOf c (find (λ o. o.xid == c.xid) outstanding)
 
+-- no call waits to be sent again, no earlier hello agreed on anything, and the client has no number
+abbrev pub IsUnresumed : ClientState → Type 0
+IsUnresumed k = (k.waiting ≡ []) × ((k.agreed ≡ None) × (k.terms.number ≡ 0))
+
 -- It is kept of a client in this state, after `count` bytes were received. Of a client that has ended its calls are some of those that
 -- were outstanding, and the memory counts by what it holds for them.
 pub record ClientKeeps (opened : LinkParameters) (kept : KeptClient) (e : EndState ClientState) (count : ℕ) : Type 0 where
@@ -118,6 +122,7 @@ pub record ClientKeeps (opened : LinkParameters) (kept : KeptClient) (e : EndSta
   pub up : kept.up_max ≡ e.state.up_max
   pub down : kept.down_max ≡ e.state.down_max
   pub invalidates : kept.invalidates ≡ e.state.invalidates
+  pub first : IsUnresumed e.state
   pub outstanding : kept.outstanding ≡ length e.state.outstanding
   pub calls : e.ended ≡ None → CallsKeep kept.calls kept.next_xid e.state
   pub memory : e.ended ≡ None → MemoryKeeps kept.memory e.state count

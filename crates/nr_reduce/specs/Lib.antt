@@ -35,6 +35,8 @@ pub mod Credits
 pub mod SubmitAnswer
 pub mod Asked
 pub mod OutcomesDue
+pub mod Reopening
+pub mod NumberedJournal
 pub mod Served
 pub mod Opening
 pub mod Journal
@@ -46,6 +48,7 @@ pub mod KeptClient
 pub mod Standing
 pub mod StandingLaws
 pub mod RunLaws
+pub mod ReopenedLinks
 pub mod DueItems
 pub mod OutputLaws
 pub mod MemoryLaws

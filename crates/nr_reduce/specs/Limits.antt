@@ -19,6 +19,10 @@ given_max = 1056768
 abbrev pub chunk_segment_max : ℕ
 chunk_segment_max = 66048
 
+-- how many xids below the largest one of a client's calls a server remembers, that one among them
+abbrev pub window : ℕ
+window = 64
+
 -- how many STags and xids there are: the last one is below this
 abbrev pub numbers_end : ℕ
 numbers_end = 4294967296

@@ -39,8 +39,8 @@ use Rattle.nr_reduce.specs.Events.{RunEvent, events_at, events}
 use Rattle.nr_reduce.specs.EndRules.{next_end_state, end_state_after, output_for, output_for_all, live}
 use Rattle.nr_reduce.specs.OfferedRegions.{region_grants}
 use Rattle.nr_reduce.specs.declared.outline.Plan.{Plan}
-use Rattle.nr_reduce.specs.Plans.{regions_needed, call_message, lists_of, inline_stream, has_segment, read_stag}
-use Rattle.nr_reduce.specs.ClientState.{OutstandingCall, ClientState}
+use Rattle.nr_reduce.specs.Plans.{call_message, lists_of, inline_stream, has_segment, read_stag}
+use Rattle.nr_reduce.specs.ClientState.{OutstandingCall, ClientState, others_than, stag_for, stags_taken}
 use Rattle.nr_reduce.specs.Client.{client_rules, client_segment, client_end, outstanding_of, calls_output, initial_client}
 use Rattle.nr_reduce.specs.ServerState.{ServerState, ReadyCall, PendingCall, PendingRead, is_pending, credit_word}
 use Rattle.nr_reduce.specs.ServerReads.{open_reads}
@@ -211,10 +211,10 @@ ServerAllows = (opened : LinkParameters) (events : List RunEvent) (f : Frame) (s
 abbrev pub StagsAreNumbers : Type 0
 StagsAreNumbers = (opened : LinkParameters) (link : ℕ) (run : List Mark) → IsOpened opened → AskedSoFar opened link run → (client opened link run).state.stag ≤ numbers_end
 
--- A call that a client accepts keeps the law of its side, and fewer calls are outstanding than are granted.
+-- A call that a client accepts while none waits to be sent again keeps the law of its side, and fewer calls are outstanding than are granted.
 abbrev pub AcceptedKeepsLaw : Type 0
 AcceptedKeepsLaw = (opened : LinkParameters) (link : ℕ) (run : List Mark) (call : Call) (form : Form) (xid : ℕ) →
-    submit_answer (client opened link run) call form ≡ submissions.Accepted xid → IsOpened opened → AskedSoFar opened link run → CanWriteCred call.cred →
+    submit_answer (client opened link run) call form ≡ submissions.Accepted xid → (client opened link run).state.waiting ≡ [] → IsOpened opened → AskedSoFar opened link run → CanWriteCred call.cred →
     IsAccepted opened link run call form xid × (calls_outstanding opened link run < credits_granted opened link run)
 
 -- The Send of an accepted call is due at its Submit, by its plan, once the server's hello was received. Before, nothing is due.
@@ -222,7 +222,7 @@ abbrev pub SubmitIsSent : Type 0
 SubmitIsSent = (opened : LinkParameters) (link : ℕ) (run : List Mark) (call : Call) (form : Form) (xid : ℕ) → (h : IsAccepted opened link run call form xid) →
     ((client opened link run).state.has_hello ≡ true →
     output_due opened link Initiator (run ++ marks.Submit link call form (submissions.Accepted xid) ∷ [])
-    ≡ output_due opened link Initiator run ++ send ((client opened link run).state.sends + 1) (call_message xid opened.wished (client opened link run).state.stag h.plan))
+    ≡ output_due opened link Initiator run ++ send ((client opened link run).state.sends + 1) (call_message xid opened.wished (stag_for (client opened link run).state xid) h.plan))
     × ((client opened link run).state.has_hello ≡ false →
     output_due opened link Initiator (run ++ marks.Submit link call form (submissions.Accepted xid) ∷ []) ≡ output_due opened link Initiator run)
 
@@ -230,7 +230,7 @@ SubmitIsSent = (opened : LinkParameters) (link : ℕ) (run : List Mark) (call : 
 -- call conveys its payload over its regions.
 abbrev pub ReadChunkStays : Type 0
 ReadChunkStays = (opened : LinkParameters) (link : ℕ) (run more : List Mark) (call : Call) (form : Form) (xid : ℕ) → (h : IsAccepted opened link run call form xid) → has_segment (Some h.plan.read) ≡ true →
-    placed_bytes opened link Initiator (run ++ marks.Submit link call form (submissions.Accepted xid) ∷ more) (read_stag (client opened link run).state.stag h.plan) ≡ h.plan.region
+    placed_bytes opened link Initiator (run ++ marks.Submit link call form (submissions.Accepted xid) ∷ more) (read_stag (stag_for (client opened link run).state xid) h.plan) ≡ h.plan.region
 
 -- For the server's hello, if it doesn't end the client, the Sends of all calls that are outstanding are due, in the order of their
 -- Submits, numbered from 1 on. From then on the client has the hello.
@@ -241,17 +241,17 @@ HelloSendsCalls = (opened : LinkParameters) (k : ClientState) (f : Frame) → is
 
 -- a client in this state, with the numbers that it gives next after a call
 abbrev pub numbered_on : ClientState → AcceptedCall → ClientState
-numbered_on k a = record k { sends = k.sends + 1; stag = k.stag + regions_needed (outstanding_of k a).plan }
+numbered_on k a = record k { sends = k.sends + 1; stag = k.stag + stags_taken k a.xid (outstanding_of k a).plan; waiting = others_than k.waiting a.xid }
+
+-- a call that is outstanding, whether or not its memory was revoked
+abbrev pub as_submitted : OutstandingCall → OutstandingCall
+as_submitted o = record o { is_revoked = false }
 
 -- These calls as a client in this state has them outstanding, in their order: each with the plan of its form, and with the numbers of Sends and
 -- the STags from those on that it gives next.
 abbrev pub outstanding_from : ClientState → List AcceptedCall → List OutstandingCall
 outstanding_from k [] = []
-outstanding_from k (a ∷ accepted) = outstanding_of k a ∷ outstanding_from (numbered_on k a) accepted
-
--- a call that is outstanding, whether or not its memory was revoked
-abbrev pub as_submitted : OutstandingCall → OutstandingCall
-as_submitted o = record o { is_revoked = false }
+outstanding_from k (a ∷ accepted) = as_submitted (outstanding_of k a) ∷ outstanding_from (numbered_on k a) accepted
 
 -- Until the server's hello is received, the calls that are outstanding are all that were accepted, in the order of their Submits, and
 -- no Send of them is written. So for the hello, if it doesn't end the client, a Send of each accepted call is due, in this order.

@@ -1,5 +1,5 @@
 -- The marks that an end stands for, one mark more, and what a client keeps that is enough for it.
-use Rattle.std.specs.Prelude.{◌≡◌, ℕ, ◌+◌, ◌-◌, ◌<◌, ◌≤◌, nat_le, if◌then◌else◌, false, List, [], ◌∷◌, ◌++◌, length, map, take, drop, Option, None, Some, Result, Ok, Err, Contains}
+use Rattle.std.specs.Prelude.{◌≡◌, ℕ, zero, suc, ◌+◌, ◌-◌, ◌<◌, ◌≤◌, nat_le, if◌then◌else◌, false, List, [], ◌∷◌, ◌++◌, length, map, take, drop, Option, None, Some, Result, Ok, Err, Contains}
 use Rattle.std.specs.List.{AllByRecursion}
 use Rattle.nr_wire.specs.declared.hello.Side.{Side}
 use Rattle.nr_wire.specs.declared.hello.Side.TheVariants.{Initiator, Responder}
@@ -23,6 +23,8 @@ use Rattle.nr_reduce.specs.declared.call.Submission.TheVariants as submissions
 use Rattle.nr_reduce.specs.declared.mark.Mark.{Mark}
 use Rattle.nr_reduce.specs.declared.mark.Mark.TheVariants as marks
 use Rattle.nr_reduce.specs.declared.mark.LinkParameters.{LinkParameters}
+use Rattle.nr_reduce.specs.declared.mark.ResumedCall.{ResumedCall}
+use Rattle.nr_reduce.specs.Opening.{IsFirstLink}
 use Rattle.nr_reduce.specs.declared.outline.Plan.{Plan}
 use Rattle.nr_reduce.specs.Limits.{numbers_end}
 use Rattle.nr_reduce.specs.Plans.{TooLarge, regions_needed, buffers, plan_of}
@@ -32,9 +34,9 @@ use Rattle.nr_reduce.specs.Hellos.{client_hello, client_agreement}
 use Rattle.nr_reduce.specs.Events.{RunEvent, events_at}
 use Rattle.nr_reduce.specs.Events.RunEvent.{FrameReceived, CallSubmitted, MemoryRevoked, QueueWritten}
 use Rattle.nr_reduce.specs.EndRules.{EndMachine, EndState, live, next_end_state, end_state_after, output_for_all}
-use Rattle.nr_reduce.specs.ClientState.{OutstandingCall, ClientState, call_payload, plan_for}
+use Rattle.nr_reduce.specs.ClientState.{OutstandingCall, ClientState, call_payload, plan_for, region_of}
 use Rattle.nr_reduce.specs.OfferedRegions.{Region}
-use Rattle.nr_reduce.specs.Client.{client_rules, client_segment, client_end, response_output, region_of, with_message, with_hello}
+use Rattle.nr_reduce.specs.Client.{client_rules, client_segment, client_end, response_output, with_message, with_hello}
 use Rattle.nr_reduce.specs.ClientMessages.{message_verdict}
 use Rattle.nr_reduce.specs.ServerState.{ServerState}
 use Rattle.nr_reduce.specs.Server.{server_rules, initial_server}
@@ -47,9 +49,9 @@ use Rattle.nr_reduce.specs.KeptCalls.{kept_message_verdict}
 use Rattle.nr_reduce.specs.KeptClient.{KeptClient, ClientKeeps, bytes_under, opened_client, kept_revoked, kept_handed_back, kept_completed, kept_placed, kept_received, kept_sent, kept_submitted, kept_greeted}
 use Rattle.nr_reduce.specs.Standing.{input_events, ClientRepresents, ClientRunsOut, ServerRepresents, ServerRunsOut}
 
--- An end stands for no marks as it is opened: a client's queue has its hello.
+-- An end stands for no marks as it is opened: a client's queue has its hello. Its link was not reopened, and it has no number.
 abbrev pub ClientBegins : Type 0
-ClientBegins = (opened : LinkParameters) (link : ℕ) → ClientRepresents opened link (opened_client opened) (initial_input Responder) (client_hello opened) []
+ClientBegins = (opened : LinkParameters) (link : ℕ) → IsFirstLink opened → opened.client.number ≡ 0 → ClientRepresents opened link (opened_client opened) (initial_input Responder) (client_hello opened) []
 
 abbrev pub ServerBegins : Type 0
 ServerBegins = (opened : LinkParameters) (link : ℕ) → ServerRepresents opened link (initial_server opened) (initial_input Initiator) [] []
@@ -235,14 +237,25 @@ KeptSubmits = (opened : LinkParameters) (kept : KeptClient) (k : ClientState) (c
 
 -- ---- The client of a run
 
--- Xids and the numbers of Sends both go by the order of Submits: the next xid is the first one and as many more as Sends have a number;
+-- Xids and the numbers of Sends both go by the order of Submits. The next xid is the first one and as many more as Sends of new calls have a
+-- number: all but those of the calls that were sent again.
 abbrev pub NextXidFollows : Type 0
-NextXidFollows = (opened : LinkParameters) (link : ℕ) (run : List Mark) → (client opened link run).state.next_xid ≡ opened.first_xid + (client opened link run).state.sends
+NextXidFollows = (opened : LinkParameters) (link : ℕ) (run : List Mark) →
+    (client opened link run).state.next_xid + length opened.resumed ≡ opened.first_xid + (client opened link run).state.sends + length (client opened link run).state.waiting
 
--- and if the client keeps its law, the xid of an outstanding call is the first one and as many more as Sends come before its own.
+-- The xids of a link in the order of their Sends: those of the calls that are sent again, and then from the first one on.
+abbrev pub xid_after : List ℕ → (first n : ℕ) → ℕ
+xid_after [] first n = first + n
+xid_after (xid ∷ xids) first zero = xid
+xid_after (xid ∷ xids) first (suc n) = xid_after xids first n
+
+unfoldable pub xid_of_send : LinkParameters → (number : ℕ) → ℕ
+xid_of_send opened number = xid_after (map (λ (r : ResumedCall). r.xid) opened.resumed) opened.first_xid number
+
+-- If the client keeps its law, the xid of an outstanding call is the one of its Send.
 abbrev pub XidsFollow : Type 0
 XidsFollow = (opened : LinkParameters) (link : ℕ) (run : List Mark) → AskedSoFar opened link run →
-    AllByRecursion (λ (o : OutstandingCall). (o.xid ≡ opened.first_xid + o.send) × (o.send < (client opened link run).state.sends)) (client opened link run).state.outstanding
+    AllByRecursion (λ (o : OutstandingCall). (o.xid ≡ xid_of_send opened o.send) × (o.send < (client opened link run).state.sends)) (client opened link run).state.outstanding
 
 -- An outcome stays.
 

@@ -72,6 +72,9 @@ pub enum Refused {
     TooLarge { need: u128, room: u32 },
     /// No credit is left: `out` calls are outstanding, and the peer grants `grant`.
     NoCredit { out: u32, grant: u32 },
+    /// The client has a number, and the next xid is 64 or more above the least one of a call that is outstanding. A next xid of 2^32 is
+    /// none.
+    Window { oldest: u32, next: u64 },
     /// Fewer xids or STags are left than it needs.
     Spent { left: u64, need: u64 },
     /// Memory ran out.

@@ -50,7 +50,7 @@ pub use item::{
 pub use largest::largest_reply;
 pub use laws::{answers_convey_replies, plans_convey_payloads, rebuild_undoes_cut};
 pub use limits::{CREDITS_MAX, GIVEN_MAX};
-pub use mark::{Entry, LinkParameters, Mark, Marks, Told};
+pub use mark::{Entry, LinkParameters, Mark, Marks, ResumedCall, ResumedCalls, TaggedEntry, Told};
 pub use memory_laws::{memory_follows_regions, regions_go_on};
 pub use outline::{ChunkLengths, Outline, Plan, ReadOutline};
 pub use parts::{CallParts, call_item_of, call_parts, largest_reply_of, written_parts};
@@ -61,7 +61,7 @@ pub use replying::{answer_header, answer_lists, answer_message};
 pub use run_laws::{
     accepted_calls_keep_the_law, accesses_are_allowed, counts_go_by_bytes_sent, ended_ends_stay,
     laws_so_far, nothing_twice, one_mark_more, output_is_items, places_rise, plans_are_accepted,
-    sends_are_answered, submits_are_sent,
+    reopened_links_go_on, sends_are_answered, submits_are_sent,
 };
 pub use sequence::Sequence;
 pub use standing_laws::{

@@ -2,6 +2,7 @@
 
 ghost use Rattle.nr_reduce.specs.OutputLaws.{ClientOutputIsItems, ClientBytes, ServerBytes, ClientCountsItems, WroteAddsNothing};
 ghost use Rattle.nr_reduce.specs.RunLaws.{ClientAfterMark, ServerAfterMark, ClientOutputAfterMark, ServerOutputAfterMark, EndedClientStays, EndedServerStays, FullHoldsSoFar, SoFarHoldsBefore, AskedWithMark, ServedWithMark, GrantsHaveOwnStags, ClientAllows, ServerAllows, StagsAreNumbers, AcceptedKeepsLaw, SubmitIsSent, HelloSendsCalls, AcceptedCallsWait, ReadChunkStays, PayloadHasItsXid, ReadyIsConveyed, PayloadIsConveyed, ExecuteIsAnswered, RefusedSendIsAnswered, BadMessageIsRefused, RefusedCallIsAnswered, RefusedIsNotExecuted, OpenReadsAreFew, PlanIsAccepted, SendIsExecutedOnce, CallCompletesOnce, XidsRise, PlacesRise};
+ghost use Rattle.nr_reduce.specs.ReopenedLinks.{ReopenedStagsAreNew, ReopenedCallsGoOn};
 
 /// One mark more: the state of an end, and the output due, are those before with the events of the mark.
 pub fn one_mark_more()
@@ -85,6 +86,14 @@ pub fn nothing_twice()
     ensures executes { SendIsExecutedOnce }
     ensures completes { CallCompletesOnce }
     ensures xids { XidsRise }
+{}
+
+/// A client that went on over another link offers nothing there under an STag of the link that it left: its STags are larger. Of a
+/// client that was opened with numbers in range and kept its law so far, the next link sends each call again that was outstanding or
+/// waited, and wasn't given up, by its plan.
+pub fn reopened_links_go_on()
+    ensures stags { ReopenedStagsAreNew }
+    ensures calls { ReopenedCallsGoOn }
 {}
 
 /// Places in the one journal rise along a run: what is executed later has a place that isn't smaller.

@@ -23,7 +23,7 @@ use Rattle.nr_reduce.specs.Events.{RunEvent}
 use Rattle.nr_reduce.specs.Events.RunEvent.{CallSubmitted}
 use Rattle.nr_reduce.specs.EndRules.{EndState, next_end_state, end_state_after, output_for, output_for_all}
 use Rattle.nr_reduce.specs.Written as reduce
-use Rattle.nr_reduce.specs.ClientState.{ClientState, call_payload, plan_for}
+use Rattle.nr_reduce.specs.ClientState.{WaitingCall, ClientState, first_of, call_payload, plan_unless, plan_for}
 use Rattle.nr_reduce.specs.Client.{client_rules, client_end, client_output}
 use Rattle.nr_reduce.specs.Run.{client}
 use Rattle.nr_reduce.specs.Credits.{calls_outstanding, credits_granted}
@@ -99,7 +99,7 @@ module _ (opened : LinkParameters) (link : ℕ) (h : RequesterSide) (run : List 
   side_is = λ i. submitted h.state.side (call_message a.xid (s.wished i) (stag i) plan) (buffers (stag i) plan)
 
   queue_next : queue_of (after_submit h call plan).state ≡ queue_of h.state ++ client_output opened k event
-  queue_next = ap (λ (x : LinkState). writable x.has_hello x.send_queue) side_is ∙ queue_submitted opened h.state.side k count a plan keeps is due
+  queue_next = ap (λ (x : LinkState). writable x.has_hello x.send_queue) side_is ∙ queue_submitted opened h.state.side k count a plan keeps is due s.kept.keeps.first.0
 
   output_next : output_for (client_rules opened) (client opened link run) event ≡ client_output opened k event
   unfolding client_end
@@ -128,11 +128,12 @@ module _ (opened : LinkParameters) (link : ℕ) (h : RequesterSide) (run : List 
       subst (λ (x : LinkState). LinkKeeps opened x (state_of opened link (run ++ mark ∷ []))) (sym side_is)
       (subst (λ (x : ClientState). LinkKeeps opened (submitted h.state.side (call_message a.xid opened.wished k.stag plan) (buffers k.stag plan)) x)
       (sym (state_next opened link run mark event stays (own_events link (event ∷ [])) refl))
-      (link_submitted opened h.state.side k count a plan keeps is due))
+      (link_submitted opened h.state.side k count a plan keeps is due s.kept.keeps.first.0))
 
   pub submit_keeps : KeepsClient opened link (after_submit h call plan) (run ++ mark ∷ [])
   submit_keeps = record {
     wished = s.wished;
+    first = s.first;
     kept = client_stands opened link (kept_client h.state) (kept_client (after_submit h call plan).state) (input_kept h) (input_kept (after_submit h call plan)) (queue_of h.state) (queue_of (after_submit h call plan).state) run mark s.kept goes_on
         (λ lives_on. same_input link run (input_kept h) (s.kept.received stays));
     sent = λ lives_on. s.sent none;
@@ -174,7 +175,10 @@ end_as_client opened link h run s = s.keeps.kept.keeps.ended
 
 plan_same : (opened : LinkParameters) (link : ℕ) (h : RequesterSide) (run : List Mark) (call : Call) (form : Form) → KeepsClient opened link h run → plan_under h.state call form ≡ plan_for (state_of opened link run) h.state.next_xid call form
 unfolding plan_for
-plan_same opened link h run call form s = λ i. plan_of (call_payload h.state.next_xid call) form (s.kept.keeps.up i) (s.kept.keeps.down i)
+plan_same opened link h run call form s =
+    let k : ClientState = state_of opened link run in
+    (λ i. plan_of (call_payload h.state.next_xid call) form (s.kept.keeps.up i) (s.kept.keeps.down i))
+    ∙ sym (ap (λ (ws : List WaitingCall). plan_unless (first_of ws h.state.next_xid) (plan_of (call_payload h.state.next_xid call) form k.up_max k.down_max)) s.kept.keeps.first.0)
 
 pub submit_client : (opened : LinkParameters) (link : ℕ) (h : RequesterSide) (run : List Mark) (call : Call) (form : Form) (plan : Plan) → h.state.side.ended ≡ None → plan_under h.state call form ≡ Ok plan → KeepsClient opened link h run →
     KeepsClient opened link (after_submit h call plan) (run ++ marks.Submit link call form (submissions.Accepted h.state.next_xid) ∷ [])

@@ -44,11 +44,22 @@ no_frames_if false es h = tt
 
 -- ---- As it is opened
 
-pub begins : Begins
+-- a link that was not reopened
+abbrev first_link : LinkParameters → LinkParameters
+first_link any = record any { resumed = []; agreed = None }
+
+answers_begin : (any : LinkParameters) (link : ℕ) (staging : List ℕ) → AnswersAfter (first_link any) link (opened_as any.first_xid any.first_stag any.wished any.client staging) []
 unfolding opened_as events completed_calls accepted_calls marks_of
-begins opened link staging = record {
-  keeps = begins_client opened link staging;
-  answers = record { outcomes = refl; hands_back = tt; holds = tt; calls = tt; awaited = tt; submitted = tt; tickets = tt; to_come = λ xid le. refl; regions = record { before = tt; calls = tt } };
+answers_begin any link staging =
+    record { outcomes = refl; hands_back = tt; holds = tt; calls = tt; awaited = tt; submitted = tt; tickets = tt; to_come = λ xid le. refl; regions = record { before = tt; calls = tt } }
+
+pub begins : Begins
+unfolding opened_as marks_of
+begins opened link staging first number = record {
+  keeps = begins_client opened link staging first number;
+  answers =
+      (let same : first_link opened ≡ opened = (λ i. record opened { resumed = sym first.resumed i; agreed = sym first.agreed i }) in
+      subst (λ (p : LinkParameters). AnswersAfter p link (opened_as p.first_xid p.first_stag p.wished p.client staging) []) same (answers_begin opened link staging));
   counted = refl;
 }
 
@@ -69,12 +80,12 @@ submit_answers opened link h run call form plan s k =
     let outs = quiet_outcomes opened es (event ∷ []) (tt, tt) in
     let e : EndState ClientState = client_by opened es in
     let xid_is : h.state.next_xid ≡ e.state.next_xid = s.kept.keeps.xid in
-    let regions : Offers opened (next_end_state (client_rules opened) e event).state = submit_offers opened e.state e.ended (length (bytes_received link Initiator run)) a xid_is k.regions in
+    let regions : Offers opened (next_end_state (client_rules opened) e event).state = submit_offers opened e.state e.ended (length (bytes_received link Initiator run)) a s.kept.keeps.first.0 xid_is k.regions in
     let next : KeepsAnswers opened (es ++ event ∷ []) due2 (asked ++ a ∷ []) (after_submit h call plan).state = record {
       outcomes = k.outcomes ∙ (λ i. Rattle.std.specs.List.filter (λ (x : Rattle.nr_reduce.specs.History.CompletedCall). sym (same x.xid) i) (sym outs i));
       hands_back = all_as h.state.answered (back_more opened es (event ∷ [])) k.hands_back;
       holds = all_as h.state.answered (λ (x : AnsweredCall) g. subst (λ (d : EndState ClientState). StillHolds d.state.next_xid d.state x) (sym (end_state_after_append (client_rules opened) (initial_client opened) es (event ∷ [])))
-          (submit_still opened e.state e.ended (length (bytes_received link Initiator run)) a x xid_is g)) k.holds;
+          (submit_still opened e.state e.ended (length (bytes_received link Initiator run)) a x s.kept.keeps.first.0 xid_is g)) k.holds;
       calls = all_as h.state.answered (λ (x : AnsweredCall) g. asked_more asked (a ∷ []) x.xid x.call g) k.calls;
       awaited = all_append _ h.state.outstanding (c ∷ []) (all_as h.state.outstanding (λ (x : StoredCall) g. g ∙ sym (same x.xid)) k.awaited) (sym (same h.state.next_xid ∙ k.to_come h.state.next_xid (omega arith)), tt);
       submitted = all_append _ h.state.outstanding (c ∷ []) (all_as h.state.outstanding (λ (x : StoredCall) g. some_asked asked (a ∷ []) x.xid x.call g) k.submitted) ((form, Contains-push asked a), tt);
@@ -280,6 +291,7 @@ forget_client : (opened : LinkParameters) (link : ℕ) (h : RequesterSide) (run 
 unfolding after_forget
 forget_client opened link h run xid s = record {
   wished = s.wished;
+  first = s.first;
   kept = subst (λ (x : KeptClient). ClientRepresents opened link x (input_kept h) (queue_of h.state) run) (kept_after_forget h xid) s.kept;
   sent = s.sent;
   side = s.side;

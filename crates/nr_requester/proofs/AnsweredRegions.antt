@@ -20,13 +20,14 @@ use Rattle.nr_reduce.specs.OfferedMemory.{region_at, AreOffered, AreReceived}
 use Rattle.nr_reduce.specs.Events.{RunEvent}
 use Rattle.nr_reduce.specs.Events.RunEvent.{FrameReceived, CallSubmitted, MemoryRevoked, CallExecuted, QueueWritten, ServerTold}
 use Rattle.nr_reduce.specs.EndRules.{EndState, live, next_end_state, next_end_state_by, next_end_state_in, end_state_after}
-use Rattle.nr_reduce.specs.ClientState.{ClientState, client_memory_at}
-use Rattle.nr_reduce.specs.Client.{client_rules, client_segment, client_end, client_state_after, outstanding_of, region_of, with_message, with_request, with_segment, with_hello, due_with_response}
+use Rattle.nr_reduce.specs.ClientState.{ClientState, client_memory_at, region_of}
+use Rattle.nr_reduce.specs.Client.{client_rules, client_segment, client_end, client_state_after, outstanding_of, with_message, with_request, with_segment, with_hello, due_with_response}
 use Rattle.nr_reduce.specs.StandingLaws.{StagsFrom}
 use Rattle.nr_reduce.proofs.OfferedMemory.{found, grants_from, none_found_lem, contents_same}
 use Rattle.nr_reduce.proofs.Placing.{segment_next}
 use Rattle.nr_requester.specs.declared.answer.AnsweredCall.{AnsweredCall}
 use Rattle.nr_requester.specs.KeptAnswers.{buffers_in, regions_of, region_contents, closed_contents, StillHolds}
+use Rattle.nr_requester.proofs.CallRegions.{unwaiting}
 
 abbrev pub IsClosed : Region → Type 0
 IsClosed r = is_some r.until ≡ true
@@ -320,14 +321,22 @@ silent_still opened e [] a none h = h
 silent_still opened e (event ∷ es) a none h = silent_still opened (next_end_state (client_rules opened) e event) es a none.1 (silent_next opened e event a none.0 h)
 
 -- a call that is accepted under the next xid
-pub submit_still : (opened : LinkParameters) (k : ClientState) (ended : Option End) (place : ℕ) (c : AcceptedCall) (a : AnsweredCall) → c.xid ≡ k.next_xid → StillHolds k.next_xid k a →
-    StillHolds (next_end_state_in (client_rules opened) k (CallSubmitted place c) ended).state.next_xid (next_end_state_in (client_rules opened) k (CallSubmitted place c) ended).state a
+unwaiting_still : (opened : LinkParameters) (any : ClientState) (ended : Option End) (place : ℕ) (c : AcceptedCall) (a : AnsweredCall) → c.xid ≡ any.next_xid → StillHolds any.next_xid (unwaiting any) a →
+    StillHolds (next_end_state_in (client_rules opened) (unwaiting any) (CallSubmitted place c) ended).state.next_xid (next_end_state_in (client_rules opened) (unwaiting any) (CallSubmitted place c) ended).state a
 unfolding client_state_after client_end
-submit_still opened k None place c a own h =
+unwaiting_still opened any None place c a own h =
+    let k : ClientState = unwaiting any in
     let lt = h.before in
     still_by k.next_xid (client_state_after opened k (CallSubmitted place c)).next_xid k (client_state_after opened k (CallSubmitted place c)) a (omega arith)
     (picked_more (λ (r : Region). eqb r.call a.xid) k.regions (map (region_of c.xid place) (buffers k.stag (outstanding_of k c).plan)) (other_regions a.xid place c.xid (buffers k.stag (outstanding_of k c).plan) (λ same. (omega (arith, own, lt, same))))) refl h
-submit_still opened k (Some end) place c a own h = h
+unwaiting_still opened any (Some end) place c a own h = h
+
+pub submit_still : (opened : LinkParameters) (k : ClientState) (ended : Option End) (place : ℕ) (c : AcceptedCall) (a : AnsweredCall) → k.waiting ≡ [] → c.xid ≡ k.next_xid → StillHolds k.next_xid k a →
+    StillHolds (next_end_state_in (client_rules opened) k (CallSubmitted place c) ended).state.next_xid (next_end_state_in (client_rules opened) k (CallSubmitted place c) ended).state a
+submit_still opened k ended place c a none own h =
+    let same : unwaiting k ≡ k = (λ i. record k { waiting = sym none i }) in
+    subst (λ (x : ClientState). StillHolds (next_end_state_in (client_rules opened) x (CallSubmitted place c) ended).state.next_xid (next_end_state_in (client_rules opened) x (CallSubmitted place c) ended).state a) same
+    (unwaiting_still opened k ended place c a own (subst (λ (x : ClientState). StillHolds k.next_xid x a) (sym same) h))
 
 -- ---- As its message comes
 

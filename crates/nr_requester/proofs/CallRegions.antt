@@ -1,32 +1,25 @@
 -- The regions of a call in the state of its client: those that its plan offers, in the order in which they are offered.
-use Rattle.std.proofs.Common.{◌≡◌, ℕ, ◌+◌, ◌<◌, ◌≤◌, Bool, true, false, not, cond, ◌&&◌, eqb, List, [], ◌∷◌, ◌++◌, length, map, Option, None, Some, Result, Ok, Err, refl, sym, ap, subst, ◌∙◌, arith, append_assoc, append-nil}
+use Rattle.std.proofs.Common.{◌≡◌, ℕ, ◌+◌, ◌<◌, ◌≤◌, Bool, true, false, not, cond, eqb, List, [], ◌∷◌, ◌++◌, map, Option, None, Some, Result, Ok, Err, refl, sym, ap, subst, ◌∙◌, arith, append-nil}
 use Rattle.std.specs.List.{AllByRecursion, filter}
 use Rattle.std.proofs.lemmas.Bool.{eqb-true}
 use Rattle.nr_xdr.specs.Fields.{word_at}
-use Rattle.nr_wire.specs.declared.hello.Side.TheVariants.{Initiator, Responder}
 use Rattle.nr_wire.specs.Segment.{Segment}
 use Rattle.nr_link.specs.declared.end.End.{End}
-use Rattle.nr_link.specs.Frames.{Frame, is_hello, frames_completed}
+use Rattle.nr_link.specs.Frames.{Frame, is_hello}
 use Rattle.nr_link.specs.ReceiveState.{ReadRequest, message_completed, read_request_of}
 use Rattle.nr_reduce.specs.declared.call.Submission.TheVariants as submissions
-use Rattle.nr_reduce.specs.declared.mark.Mark.{Mark}
 use Rattle.nr_reduce.specs.declared.mark.Mark.TheVariants as marks
 use Rattle.nr_reduce.specs.declared.mark.LinkParameters.{LinkParameters}
 use Rattle.nr_reduce.specs.Plans.{Buffer, buffers}
 use Rattle.nr_reduce.specs.OfferedRegions.{Region, closed_if, regions_closed}
-use Rattle.nr_reduce.specs.History.{AcceptedCall, bytes_received}
-use Rattle.nr_reduce.specs.AtEachMark.{AtEachMark}
-use Rattle.nr_reduce.specs.Matched.{IsPrefixOf}
-use Rattle.nr_reduce.specs.Events.{RunEvent, if_own, events_at, events}
+use Rattle.nr_reduce.specs.History.{AcceptedCall}
+use Rattle.nr_reduce.specs.Events.{RunEvent, if_own}
 use Rattle.nr_reduce.specs.Events.RunEvent.{FrameReceived, CallSubmitted, MemoryRevoked, CallExecuted, QueueWritten, ServerTold}
 use Rattle.nr_reduce.specs.EndRules.{EndState, next_end_state, next_end_state_by, next_end_state_in, end_state_after}
-use Rattle.nr_reduce.specs.ClientState.{ClientState, OutstandingCall}
-use Rattle.nr_reduce.specs.Client.{client_rules, client_segment, client_end, client_state_after, outstanding_of, region_of, revoked_call, with_message, with_request, with_segment, with_hello, due_with_response}
-use Rattle.nr_reduce.specs.Run.{client}
-use Rattle.nr_reduce.specs.Asked.{AskedSoFar, AskedMark}
+use Rattle.nr_reduce.specs.ClientState.{ClientState, OutstandingCall, region_of}
+use Rattle.nr_reduce.specs.Client.{client_rules, client_segment, client_end, client_state_after, outstanding_of, revoked_call, with_message, with_request, with_segment, with_hello, due_with_response}
 use Rattle.nr_reduce.proofs.Placing.{segment_next}
 use Rattle.nr_reduce.proofs.Standing.{itself}
-use Rattle.nr_reduce.proofs.Steps.{client_one}
 use Rattle.nr_requester.specs.CallRegions.{call_stags, AreOfBefore, OffersPlan, CallsOffer}
 
 pick : (b : Bool) (x y : Region) (xs ys : List Region) → x.stag ≡ y.stag → map (λ (r : Region). r.stag) xs ≡ map (λ (r : Region). r.stag) ys →
@@ -234,9 +227,15 @@ pub none_in_frames : (fs : List Frame) → SubmitNothing (map FrameReceived fs)
 none_in_frames [] = tt
 none_in_frames (f ∷ fs) = (tt, none_in_frames fs)
 
-pub submit_offers : (opened : LinkParameters) (k : ClientState) (ended : Option End) (place : ℕ) (a : AcceptedCall) → a.xid ≡ k.next_xid → Offers opened k → Offers opened (next_end_state_in (client_rules opened) k (CallSubmitted place a) ended).state
+-- a client to which no call waits to be sent again
+abbrev pub unwaiting : ClientState → ClientState
+unwaiting any = record any { waiting = [] }
+
+unwaiting_offers : (opened : LinkParameters) (any : ClientState) (ended : Option End) (place : ℕ) (a : AcceptedCall) → a.xid ≡ any.next_xid → Offers opened (unwaiting any) →
+    Offers opened (next_end_state_in (client_rules opened) (unwaiting any) (CallSubmitted place a) ended).state
 unfolding client_state_after client_end
-submit_offers opened k None place a own h =
+unwaiting_offers opened any None place a own h =
+    let k : ClientState = unwaiting any in
     let n : ℕ = k.next_xid in
     let bs : List Buffer = buffers k.stag (outstanding_of k a).plan in
     let more : CallsOffer (n + 1) (record k { regions = k.regions ++ map (region_of n place) bs; outstanding = k.outstanding ++ outstanding_of k a ∷ [] }) = record {
@@ -247,52 +246,11 @@ submit_offers opened k None place a own h =
       before = subst (λ (x : ℕ). AreOfBefore (n + 1) (k.regions ++ map (region_of x place) bs)) (sym own) more.before;
       calls = subst (λ (x : ℕ). AllByRecursion (OffersPlan (n + 1) (k.regions ++ map (region_of x place) bs)) (k.outstanding ++ outstanding_of k a ∷ [])) (sym own) more.calls;
     }
-submit_offers opened k (Some end) place a own h = h
+unwaiting_offers opened any (Some end) place a own h = h
 
--- ---- Its marks
-
-abbrev pub OffersAfter : LinkParameters → ℕ → List Mark → Mark → Type 0
-OffersAfter opened link before mark = Offers opened (end_state_after (client_rules opened) (client opened link before) (events_at link Initiator before mark)).state
-
-none_offers : (opened : LinkParameters) (link : ℕ) (before : List Mark) (mark : Mark) → Offers opened (client opened link before).state → SubmitNothing (events_at link Initiator before mark) → OffersAfter opened link before mark
-none_offers opened link before mark h none = all_offer opened (client opened link before) (events_at link Initiator before mark) none h
-
-pub mark_offers : (opened : LinkParameters) (link : ℕ) (before : List Mark) (mark : Mark) → Offers opened (client opened link before).state → AskedMark IsPrefixOf opened link before mark → OffersAfter opened link before mark
-mark_offers opened link before (marks.Submit l call form (submissions.Accepted xid)) h asked = by (eqb l link) refl
-  where
-    a : AcceptedCall
-    a = record { xid = xid; call = call; form = form }
-
-    place : ℕ
-    place = length (bytes_received link Initiator before)
-
-    by : (b : Bool) → eqb l link ≡ b → Offers opened (end_state_after (client_rules opened) (client opened link before) (if_own (b && true) (CallSubmitted place a ∷ []))).state
-    by false is = h
-    by true is = submit_offers opened (client opened link before).state (client opened link before).ended place a (asked (eqb-true l link is)).next h
-mark_offers opened link before (marks.Submit l call form (submissions.Refused why)) h asked = h
-mark_offers opened link before (marks.Submit l call form submissions.Dropped) h asked = h
-mark_offers opened link before (marks.Wrote l s bytes) h asked = none_offers opened link before (marks.Wrote l s bytes) h (none_if _ (QueueWritten (length bytes) ∷ []) (tt, tt))
-mark_offers opened link before (marks.Fed l s bytes) h asked =
-    none_offers opened link before (marks.Fed l s bytes) h (none_if _ (map FrameReceived (frames_completed Responder (bytes_received link Initiator before) bytes)) (none_in_frames _))
-mark_offers opened link before (marks.Execute l xid moment payload place reply) h asked =
-    none_offers opened link before (marks.Execute l xid moment payload place reply) h
-    (none_if _ (CallExecuted (record { xid = xid; moment = moment; payload = payload; place = place; reply = reply }) ∷ []) (tt, tt))
-mark_offers opened link before (marks.Done l xid outcome) h asked = h
-mark_offers opened link before (marks.Lost l xid) h asked = h
-mark_offers opened link before (marks.Forget l xid) h asked = h
-mark_offers opened link before (marks.Revoke l xid bytes) h asked =
-    none_offers opened link before (marks.Revoke l xid bytes) h (none_if _ (MemoryRevoked (length (bytes_received link Initiator before)) xid ∷ []) (tt, tt))
-mark_offers opened link before (marks.Drop l) h asked = h
-mark_offers opened link before (marks.Told l what) h asked = none_offers opened link before (marks.Told l what) h (none_if _ (ServerTold what ∷ []) (tt, tt))
-
-offers_from : (opened : LinkParameters) (link : ℕ) (before run : List Mark) → Offers opened (client opened link before).state → AtEachMark (AskedMark IsPrefixOf opened link) before run → Offers opened (client opened link (before ++ run)).state
-offers_from opened link before [] h asked = subst (λ (r : List Mark). Offers opened (client opened link r).state) (sym (append-nil before)) h
-offers_from opened link before (mark ∷ run) h asked =
-    subst (λ (r : List Mark). Offers opened (client opened link r).state) (append_assoc before (mark ∷ []) run)
-    (offers_from opened link (before ++ mark ∷ []) run
-    (subst (λ (e : EndState ClientState). Offers opened e.state) (sym (client_one opened link before mark)) (mark_offers opened link before mark h asked.0)) asked.1)
-
--- after marks that keep the law of the client
-pub client_offers : (opened : LinkParameters) (link : ℕ) (run : List Mark) → AskedSoFar opened link run → Offers opened (client opened link run).state
-unfolding client events
-client_offers opened link run asked = offers_from opened link [] run (record { before = tt; calls = tt }) asked
+pub submit_offers : (opened : LinkParameters) (k : ClientState) (ended : Option End) (place : ℕ) (a : AcceptedCall) → k.waiting ≡ [] → a.xid ≡ k.next_xid → Offers opened k →
+    Offers opened (next_end_state_in (client_rules opened) k (CallSubmitted place a) ended).state
+submit_offers opened k ended place a none own h =
+    let same : unwaiting k ≡ k = (λ i. record k { waiting = sym none i }) in
+    subst (λ (x : ClientState). Offers opened (next_end_state_in (client_rules opened) x (CallSubmitted place a) ended).state) same
+    (unwaiting_offers opened k ended place a own (subst (λ (x : ClientState). Offers opened x) (sym same) h))

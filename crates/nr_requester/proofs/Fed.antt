@@ -204,6 +204,7 @@ module _ (opened : LinkParameters) (link : ℕ) (h : RequesterSide) (run : List 
       λ lives. g.keeps.live_one (sym g.keeps.client.ended ∙ lives) in
       record {
         wished = g.keeps.wished;
+        first = s.first;
         kept = client_stands_on;
         sent = λ lives. (next lives).sent;
         side = λ lives. subst (λ (e : EndState ClientState). LinkKeeps opened after.state.side e.state) (sym state) (next lives).side;

@@ -30,7 +30,7 @@ use Rattle.nr_reduce.specs.EndRules.{EndState, next_end_state, next_end_state_by
 use Rattle.nr_reduce.specs.ClientState.{ClientState, client_memory_at}
 use Rattle.nr_reduce.specs.ClientMessages.{invalidates_another, message_verdict, reply_verdict}
 use Rattle.nr_reduce.specs.ClientMessages.ReplyVerdict.{EndsLink, GivesOutcome}
-use Rattle.nr_reduce.specs.Client.{client_rules, client_segment, segment_names, client_end, client_output, client_state_after, client_readiness, client_message_end, segment_message, or_message_end, with_segment, with_message, with_request, with_hello, due_with_response, response_output, segment_request, calls_output, credits_of_word, outcomes_of}
+use Rattle.nr_reduce.specs.Client.{client_rules, client_segment, segment_names, client_end, client_output, client_state_after, client_readiness, client_message_end, segment_message, or_message_end, with_segment, with_message, with_request, with_hello, due_with_response, response_output, segment_request, calls_output, credits_of_word, outcomes_of, or_other_sizes}
 use Rattle.nr_reduce.specs.KeptCalls.{KeptCall, kept_message_verdict}
 use Rattle.nr_reduce.specs.KeptClient.{KeptClient, ClientKeeps, HoldsFor, bytes_under, released_all, without, kept_completed, stags_for as kept_stags}
 use Rattle.nr_reduce.proofs.Touches.{AreNone, all_none, no_flaw}
@@ -111,6 +111,7 @@ kept_dead opened kept e end count m is same k = record {
   up = k.up;
   down = k.down;
   invalidates = k.invalidates;
+  first = k.first;
   outstanding = k.outstanding;
   calls = k.calls;
   memory = λ none. absurd (let wrong : Some end ≡ None = sym is ∙ none in cc);
@@ -256,7 +257,7 @@ unfolding client_end client_output client_state_after
 reads opened k f segment later is none = record {
   later = later;
   is_segment = is;
-  end = (λ i. cond (later i) (hello_end (hello_of Responder f.bytes)) (or_message_end k f (none i)))
+  end = (λ i. cond (later i) (or_other_sizes k f (hello_end (hello_of Responder f.bytes))) (or_message_end k f (none i)))
       ∙ ap (λ (r : Result Segment ℕ). client_message_end k f (segment_names r) (segment_message k r)) is;
   output = (λ i. cond (later i) (calls_output opened 1 k.outstanding) (response_output k f.end (segment_request (is i))));
   state = (λ i. cond (later i) (with_hello opened k f) (with_segment k f (is i)));

@@ -34,7 +34,7 @@ use Rattle.nr_reduce.specs.EndRules.{next_end_state, live}
 use Rattle.nr_reduce.specs.ClientState.{ClientState}
 use Rattle.nr_reduce.specs.ClientMessages.{ReplyVerdict, message_verdict}
 use Rattle.nr_reduce.specs.ClientMessages.ReplyVerdict.{EndsLink, GivesOutcome}
-use Rattle.nr_reduce.specs.Client.{client_rules, client_segment, client_end, client_output, client_readiness, end_of_verdict, client_message_end, or_message_end, response_output, outcomes_of}
+use Rattle.nr_reduce.specs.Client.{client_rules, client_segment, client_end, client_output, client_readiness, end_of_verdict, client_message_end, or_message_end, response_output, outcomes_of, or_other_sizes}
 use Rattle.nr_reduce.specs.KeptCalls.{kept_named, kept_message_verdict}
 use Rattle.nr_reduce.specs.KeptClient.{KeptClient, ClientKeeps, bytes_under, released_all, kept_completed, kept_placed, kept_received, kept_by_message}
 use Rattle.nr_regions.proofs.Holding.{live_held}
@@ -255,7 +255,7 @@ fpdu_taken opened r k count frame keeps lt later = by (with_frame r.side Fpdu fr
     alike = ends_alike opened r.side k count frame keeps.client.ended keeps.side keeps.client.invalidates (keeps.client.memory refl) lt
 
     end_of_link : (end : End) → frame_end_by (client_readiness k) (region_grants f.end k.regions) f (client_segment k f) ≡ Some end → client_end k (FrameReceived f) ≡ Some end
-    end_of_link end e = (λ i. cond (not_hello i) (hello_end (hello_of Responder frame)) (or_message_end k f (e i)))
+    end_of_link end e = (λ i. cond (not_hello i) (or_other_sizes k f (hello_end (hello_of Responder frame))) (or_message_end k f (e i)))
 
     by : (e : Option End) → (with_frame r.side Fpdu frame).ended ≡ e → FrameTaken opened r k f (unless_ended r (with_frame r.side Fpdu frame) (with_frame r.side Fpdu frame).ended)
     by (Some end) is =

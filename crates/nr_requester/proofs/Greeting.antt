@@ -23,18 +23,19 @@ use Rattle.nr_endpoint.specs.Laws.{IsFrameEnd}
 use Rattle.nr_endpoint.proofs.Agreed.{agreed_fits}
 use Rattle.nr_endpoint.proofs.EndLaws.{frames_end_for_these}
 use Rattle.nr_reduce.specs.declared.mark.LinkParameters.{LinkParameters}
-use Rattle.nr_reduce.specs.Hellos.{private_of, client_agreement}
+use Rattle.nr_reduce.specs.Hellos.{private_of, client_agreement, agreement_with}
 use Rattle.nr_reduce.specs.OfferedRegions.{region_grants}
 use Rattle.nr_reduce.specs.Events.RunEvent.{FrameReceived}
 use Rattle.nr_reduce.specs.EndRules.{EndState, next_end_state, next_end_state_by, live}
 use Rattle.nr_reduce.specs.ClientState.{ClientState}
-use Rattle.nr_reduce.specs.Client.{client_rules, client_segment, client_end, client_output, client_state_after, calls_output, call_ends, or_message_end, client_readiness, with_hello, with_segment, response_output, segment_request}
+use Rattle.nr_reduce.specs.Client.{client_rules, client_segment, client_end, client_output, client_state_after, calls_output, call_ends, or_message_end, client_readiness, with_hello, with_segment, response_output, segment_request, or_other_sizes, has_same_sizes}
 use Rattle.nr_reduce.specs.KeptClient.{KeptClient, ClientKeeps, kept_greeted}
 use Rattle.nr_reduce.proofs.Releasing.{kept_stays}
 use Rattle.nr_reduce.proofs.Submits.{kept_greets}
 use Rattle.nr_requester.specs.RequesterState.{RequesterState, queue_of, kept_client}
 use Rattle.nr_requester.specs.Standing.{HasEnds, sends_ends, LinkKeeps}
 use Rattle.nr_requester.proofs.FrameMoves.{KeepsLiveClient, FrameTaken, taken_live, taken_ended}
+use Rattle.nr_link.specs.Reasons.{REASON_SIZES}
 
 -- the requester after it
 abbrev pub after_hello : RequesterState → List ℕ → RequesterState
@@ -102,6 +103,11 @@ unfolding with_peer_hello
 hello_reason s frame reason lives is =
     (subst (λ (e : Option End). IfSome e (IsFrameEnd (HelloFrom Responder) s.place)) (ap (λ (r : Result Hello ℕ). (with_peer_hello (next_frame s frame) r s).ended) is) (frames_end_for_these s (HelloFrom Responder) frame lives)).1.1
 
+-- no earlier hello agreed on anything
+same_sizes : (k : ClientState) (f : Frame) (end : Option End) → k.agreed ≡ None → or_other_sizes k f end ≡ end
+same_sizes k f (Some end) none = refl
+same_sizes k f None none = ap (λ (agreed : Option Agreement). cond (has_same_sizes agreed (agreement_with k.terms f)) None (Some (ends.Bad f.at REASON_SIZES))) none
+
 pub hello_taken : (opened : LinkParameters) (r : RequesterState) (k : ClientState) (count : ℕ) (frame : List ℕ) → KeepsLiveClient opened r k count → count < (next_frame r.side frame).end → r.side.place ≡ 0 →
     FrameTaken opened r k (next_frame r.side frame) (after_hello r frame)
 unfolding with_peer_hello client_end client_output client_state_after with_end
@@ -120,7 +126,9 @@ hello_taken opened r k count frame keeps lt first = by (hello_of Responder frame
     no_hello = link.greeted ∙ ap not is_first
 
     end_is : (x : Result Hello ℕ) → hello_of Responder frame ≡ x → client_end k (FrameReceived f) ≡ hello_end x
-    end_is x e = (λ i. cond (is_first i) (hello_end (e i)) (or_message_end k f (frame_end_by (client_readiness k) (region_grants f.end k.regions) f (client_segment k f))))
+    end_is x e =
+        (λ i. cond (is_first i) (or_other_sizes k f (hello_end (e i))) (or_message_end k f (frame_end_by (client_readiness k) (region_grants f.end k.regions) f (client_segment k f))))
+        ∙ same_sizes k f (hello_end x) keeps.client.first.1.0
 
     output_is : client_output opened k (FrameReceived f) ≡ calls_output opened 1 k.outstanding
     output_is = ap (λ (b : Bool). cond b (calls_output opened 1 k.outstanding) (response_output k f.end (segment_request (client_segment k f)))) is_first

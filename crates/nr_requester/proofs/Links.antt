@@ -11,7 +11,7 @@ use Rattle.nr_reduce.specs.History.{AcceptedCall}
 use Rattle.nr_reduce.specs.Plans.{TooLarge, buffers, call_message}
 use Rattle.nr_reduce.specs.Events.RunEvent.{CallSubmitted, MemoryRevoked}
 use Rattle.nr_reduce.specs.Written as reduce
-use Rattle.nr_reduce.specs.ClientState.{OutstandingCall, ClientState, plan_for, call_payload}
+use Rattle.nr_reduce.specs.ClientState.{OutstandingCall, WaitingCall, ClientState, first_of, stag_unless, plan_for, call_payload}
 use Rattle.nr_reduce.specs.Client.{client_state_after, client_output, call_output, calls_output, call_ends, outstanding_of, plan_or}
 use Rattle.nr_reduce.proofs.LaterSends.{calls_later}
 use Rattle.nr_requester.specs.Standing.{HasEnds, sends_ends, LinkKeeps}
@@ -100,10 +100,14 @@ sent_by opened s k o number =
     send_word (next_number s.send_queue.last_send) (k.sends + 1) (call_message o.xid opened.wished o.stag o.plan)
     (ap (λ (n : ℕ). msn_word (msn_word (n + 1))) number ∙ ap msn_word (next_word k.sends) ∙ word_word (k.sends + 1))
 
-message_sent : (opened : LinkParameters) (s : LinkState) (k : ClientState) (a : AcceptedCall) (plan : Plan) → s.send_queue.last_send ≡ msn_word k.sends → plan_for k a.xid a.call a.form ≡ Ok plan →
+-- a new call has the next STag, while none waits to be sent again
+new_stag : (k : ClientState) (a : AcceptedCall) → k.waiting ≡ [] → (outstanding_of k a).stag ≡ k.stag
+new_stag k a unwaited = ap (λ (ws : List WaitingCall). stag_unless (first_of ws a.xid) k.stag) unwaited
+
+message_sent : (opened : LinkParameters) (s : LinkState) (k : ClientState) (a : AcceptedCall) (plan : Plan) → s.send_queue.last_send ≡ msn_word k.sends → plan_for k a.xid a.call a.form ≡ Ok plan → k.waiting ≡ [] →
     send_output s.send_queue None (call_message a.xid opened.wished k.stag plan) ≡ call_output opened (k.sends + 1) (outstanding_of k a)
-message_sent opened s k a plan number is =
-    ap (λ (p : Plan). send (next_number s.send_queue.last_send) (call_message a.xid opened.wished k.stag p)) (sym (planned k a plan is)) ∙ sent_by opened s k (outstanding_of k a) number
+message_sent opened s k a plan number is unwaited =
+    (λ i. send (next_number s.send_queue.last_send) (call_message a.xid opened.wished (sym (new_stag k a unwaited) i) (sym (planned k a plan is) i))) ∙ sent_by opened s k (outstanding_of k a) number
 
 -- the first n ends and one more, with the bytes that are queued
 pub ends_more : (written hello due : ℕ) (fpdus out all queued : List ℕ) → HasEnds written hello all queued → due ≡ written + hello + length fpdus → 0 < length out →
@@ -116,7 +120,7 @@ ends_more written hello due fpdus out all queued h due_is some =
 output_some : (opened : LinkParameters) (msn : ℕ) (o : OutstandingCall) → 0 < length (call_output opened msn o)
 output_some opened msn o = (let later = (calls_later opened 0 0 msn (o ∷ []) (omega arith)).0 in omega (arith, later))
 
-module _ (opened : LinkParameters) (s : LinkState) (k : ClientState) (count : ℕ) (a : AcceptedCall) (plan : Plan) (keeps : LinkKeeps opened s k) (is : plan_for k a.xid a.call a.form ≡ Ok plan) (due_is : k.due ≡ k.written + length (writable s.has_hello s.send_queue)) where
+module _ (opened : LinkParameters) (s : LinkState) (k : ClientState) (count : ℕ) (a : AcceptedCall) (plan : Plan) (keeps : LinkKeeps opened s k) (is : plan_for k a.xid a.call a.form ≡ Ok plan) (due_is : k.due ≡ k.written + length (writable s.has_hello s.send_queue)) (unwaited : k.waiting ≡ []) where
   abbrev pub o : OutstandingCall
   o = outstanding_of k a
 
@@ -127,7 +131,7 @@ module _ (opened : LinkParameters) (s : LinkState) (k : ClientState) (count : �
   message = call_message a.xid opened.wished k.stag plan
 
   queued : send_output s.send_queue None message ≡ out
-  queued = message_sent opened s k a plan keeps.number is
+  queued = message_sent opened s k a plan keeps.number is unwaited
 
   abbrev pub k2 : ClientState
   k2 = client_state_after opened k (CallSubmitted count a)

@@ -37,6 +37,8 @@ use Rattle.nr_requester.specs.AfterCalls.{opened_as, drained, after_drain, after
 use Rattle.nr_requester.proofs.Queues.{written_writable}
 use Rattle.nr_requester.proofs.Links.{sent_is, link_drained, link_revoked}
 use Rattle.nr_requester.proofs.KeptCalls.{sent_after, kept_drained, ended_drained, kept_after_revoke}
+use Rattle.nr_reduce.specs.Opening.{IsFirstLink}
+use Rattle.nr_reduce.specs.declared.mark.ResumedCall.{ResumedCall}
 
 -- ---- What a requester knows of its client
 
@@ -120,6 +122,7 @@ pub drain_stands : (h : RequesterSide) (n : ℕ) → n ≤ length (queue_of h.st
     KeepsClient opened link (after_drain n h) (run ++ marks.Wrote link Initiator (take n (queue_of h.state)) ∷ [])
 drain_stands h n le fits opened link run s = record {
   wished = drain_wished h n ∙ s.wished;
+  first = s.first;
   kept = subst (λ (k : KeptClient). ClientRepresents opened link k (input_kept (after_drain n h)) (queue_of (after_drain n h).state) (run ++ mark ∷ [])) (kept_drained h n)
       (subst (λ (i : InputState). ClientRepresents opened link (kept_sent (sent_after n h) (kept_client h.state)) i (queue_of (after_drain n h).state) (run ++ mark ∷ [])) (sym (drain_input h n))
       (subst (λ (q : List ℕ). ClientRepresents opened link (kept_sent (sent_after n h) (kept_client h.state)) (input_kept h) q (run ++ mark ∷ [])) (sym (drain_queue h n))
@@ -141,7 +144,7 @@ drain_stands h n le fits opened link run s = record {
     parts = subst (λ (q : List ℕ). ClientRepresents opened link (kept_client h.state) (input_kept h) q run) (sym (take-append-drop n queue)) s.kept
 
     few : k.sends ≤ 2 ^ 32
-    few = (let number = s.kept.keeps.xid in let follows = next_xid_follows opened link run in omega (arith, number, follows, fits))
+    few = (let number = s.kept.keeps.xid in let follows = next_xid_follows opened link run in let none = ap (λ (rs : List ResumedCall). length rs) s.first.resumed in omega (arith, number, follows, none, fits))
 
     next : h.state.side.ended ≡ None → LinkKeeps opened (drained n h.state.side) (record k { written = k.written + n })
     next none = link_drained opened h.state.side k n le few (s.side none)
@@ -206,6 +209,7 @@ revoke_stands opened link h run xid bytes s =
     let mark : Mark = marks.Revoke link xid bytes in
     record {
       wished = l.wished ∙ s.wished;
+      first = s.first;
       kept = subst (λ (k : KeptClient). ClientRepresents opened link k (input_kept (after_revoke h xid)) (queue_of (after_revoke h xid).state) (run ++ mark ∷ [])) (kept_after_revoke h xid)
           (subst (λ (i : InputState). ClientRepresents opened link (kept_revoked (kept_client h.state) xid) i (queue_of (after_revoke h xid).state) (run ++ mark ∷ [])) (sym l.input)
           (subst (λ (q : List ℕ). ClientRepresents opened link (kept_revoked (kept_client h.state) xid) (input_kept h) q (run ++ mark ∷ [])) (sym l.queue)
@@ -235,6 +239,7 @@ others_leave_client opened link h run mark s no_events no_write no_feed =
     ap (λ (e : EndState ClientState). e.state) (client_one opened link run mark ∙ ap (λ (es : List RunEvent). end_state_after (client_rules opened) (client opened link run) es) no_events) in
     record {
       wished = s.wished;
+      first = s.first;
       kept = other_stands opened link (kept_client h.state) (input_kept h) (queue_of h.state) run mark s.kept no_events no_write no_feed;
       sent = s.sent;
       side = λ none. subst (λ (x : ClientState). LinkKeeps opened h.state.side x) (sym same) (s.side none);
@@ -278,12 +283,13 @@ queue_opened : (opened : LinkParameters) (staging : List ℕ) → client_hello o
 unfolding opened_as client_hello
 queue_opened opened staging = sym (append-nil (hello_with Initiator (initiator_private opened.client)))
 
-pub begins_client : (opened : LinkParameters) (link : ℕ) (staging : List ℕ) → KeepsClient opened link (opened_as opened.first_xid opened.first_stag opened.wished opened.client staging) []
+pub begins_client : (opened : LinkParameters) (link : ℕ) (staging : List ℕ) → IsFirstLink opened → opened.client.number ≡ 0 → KeepsClient opened link (opened_as opened.first_xid opened.first_stag opened.wished opened.client staging) []
 unfolding opened_as
-begins_client opened link staging = record {
+begins_client opened link staging first number = record {
   wished = refl;
+  first = first;
   kept = subst (λ (k : KeptClient). ClientRepresents opened link k (initial_input Responder) (queue_of (opened_as opened.first_xid opened.first_stag opened.wished opened.client staging).state) []) (kept_opened opened staging)
-      (subst (λ (q : List ℕ). ClientRepresents opened link (opened_client opened) (initial_input Responder) q []) (queue_opened opened staging) (client_begins_lem opened link));
+      (subst (λ (q : List ℕ). ClientRepresents opened link (opened_client opened) (initial_input Responder) q []) (queue_opened opened staging) (client_begins_lem opened link first number));
   sent = λ none. refl;
   side = λ none. link_opened opened link staging;
 }

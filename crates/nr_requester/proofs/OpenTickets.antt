@@ -22,6 +22,7 @@ use Rattle.nr_requester.specs.Laws.{OpenIsAwaited, OpenOut, AwaitedIsOpen, Await
 use Rattle.nr_requester.proofs.DueAnswers.{Among, from_among, to_among, in_filter, of_filter}
 use Rattle.nr_requester.proofs.FoundAnswers.{found_own}
 use Rattle.nr_requester.proofs.FoundCalls.{found_one, found_xid}
+use Rattle.nr_reduce.proofs.Unresumed.{awaited_or_waits}
 
 -- ---- What is due
 
@@ -155,7 +156,7 @@ forget_keeps : (opened : LinkParameters) (link : ℕ) (h : RequesterSide) (run :
     AskedSoFar opened link (run ++ marks.Forget link xid ∷ []) × KeepsGrant opened link (run ++ marks.Forget link xid ∷ [])
 forget_keeps opened link h run xid k is_open asked grant =
     let mark : Mark = marks.Forget link xid in
-    (AtEachMark_more (AskedMark IsPrefixOf opened link) [] run mark asked (λ same. open_awaits opened link h run xid k is_open), AtEachMark_more (WithinGrant opened link) [] run mark grant tt)
+    (AtEachMark_more (AskedMark IsPrefixOf opened link) [] run mark asked (λ same. awaited_or_waits opened link run xid (open_awaits opened link h run xid k is_open)), AtEachMark_more (WithinGrant opened link) [] run mark grant tt)
 
 pub forget_keeps_law : ForgetKeepsLaw
 forget_keeps_law opened link h run xid s is_open asked grant = forget_keeps opened link h run xid s.answers is_open asked grant
@@ -200,7 +201,7 @@ lost_keeps_law opened link h run xid end s ended is_open none asked grant =
     let mark : Mark = marks.Lost link xid in
     let awaited : IsAwaited link run xid = open_is_awaited opened link h run xid s is_open in
     let is : IsLost opened link run xid = record {
-      awaited = awaited;
+      awaited = awaited_or_waits opened link run xid awaited;
       ended = end;
       is_ended = sym s.keeps.kept.keeps.ended ∙ ended;
       none = λ c there own. of_answer xid c h.state.answered

@@ -37,6 +37,7 @@ use Rattle.nr_requester.proofs.Releases.{joined_buffers}
 use Rattle.nr_requester.specs.CallRegions.{CallsOffer, OffersPlan, call_stags}
 use Rattle.nr_requester.proofs.FoundCalls.{found_one}
 use Rattle.nr_requester.proofs.RunOut.{memory_as_client, memory_out_lem}
+use Rattle.nr_reduce.proofs.Unresumed.{awaited_or_waits}
 
 abbrev or_call : StoredCall → Option StoredCall → StoredCall
 or_call c None = c
@@ -176,7 +177,7 @@ revoke_keeps_law opened link h run xid s there awaited asked grant =
     let bytes : List ℕ = bytes_of_buffers (buffers_of xid h.state) in
     let mark : Mark = marks.Revoke link xid bytes in
     let is : IsRevoked opened link run xid bytes = record {
-      awaited = awaited;
+      awaited = awaited_or_waits opened link run xid awaited;
       bytes_are = left_are_placed opened link h run xid s there;
     } in
     (AtEachMark_more (AskedMark IsPrefixOf opened link) [] run mark asked (λ same. is), AtEachMark_more (WithinGrant opened link) [] run mark grant tt)

@@ -112,7 +112,7 @@ pub record StoppedOut (before after : RequesterFeeding) : Type 0 where
 abbrev pub TakesDeliveries : (before after : RequesterFeeding) → Type 0
 TakesDeliveries before after = (after ≡ with_deliveries_side before) ⊎ StoppedOut before after
 
--- the same of the parts of a requester; what it wishes, the Sends that it queued and its next xid stay
+-- the same of the parts of a requester; how many of its Sends have left, what it wishes, the Sends that it queued and its next xid stay
 abbrev pub TakesEvent : (sent wished sends next_xid : ℕ) → (link link2 : LinkSide) → (calls calls2 : List OutstandingCall) → (answers answers2 : List AnsweredCall) → (grant grant2 releases releases2 : ℕ) → Type 0
 TakesEvent sent wished sends next_xid link link2 calls calls2 answers answers2 grant grant2 releases releases2 =
     TakesDeliveries (requester_view link sent wished sends next_xid grant calls answers releases) (requester_view link2 sent wished sends next_xid grant2 calls2 answers2 releases2)

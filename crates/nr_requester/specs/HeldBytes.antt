@@ -237,8 +237,8 @@ in_bytes len = len
 abbrev pub claims_len : Claims → ℕ
 claims_len c = claims_size in_bytes c
 
--- The maximum number of segments of a call: a header of HEADER_LEN_MIN bytes with 16 or more for each segment (RFC 8166 section 4.3) has at most
--- receive_max bytes.
+-- The maximum number of segments of a call: a header of 28 bytes, rounded up to 32, with 16 or more for each segment (RFC 8166 section 4.3) has at
+-- most receive_max bytes.
 abbrev pub offered_segments_max : ℕ
 offered_segments_max = (receive_max - 32) / 16
 

@@ -21,7 +21,7 @@ use Rattle.nr_rpc.specs.Credential.{CanWriteCred}
 use Rattle.nr_reduce.specs.History.{AcceptedCall, CompletedCall, accepted_calls, bytes_sent, written_at, fed_at, completed_at, abandons}
 use Rattle.nr_reduce.specs.OutcomesDue.{outcomes_due}
 use Rattle.nr_reduce.specs.Run.{client, output_due, placed_bytes}
-use Rattle.nr_reduce.specs.Opening.{IsOpened}
+use Rattle.nr_reduce.specs.Opening.{IsOpened, IsFirstLink}
 use Rattle.nr_reduce.specs.Asked.{AskedSoFar, IsAll, IsAwaited, revoked_bytes}
 use Rattle.nr_reduce.specs.SubmitAnswer.{submit_answer}
 use Rattle.nr_reduce.specs.Credits.{calls_outstanding, credits_granted, KeepsGrant}
@@ -38,7 +38,7 @@ use Rattle.nr_requester.specs.Buffers.{bytes_of_buffers}
 use Rattle.nr_requester.specs.OpenCalls.{open_call, remaining_call, found_answer, buffers_of}
 
 abbrev pub Begins : Type 0
-Begins = (opened : LinkParameters) (link : ℕ) (staging : List ℕ) → RequesterRepresents opened link (opened_as opened.first_xid opened.first_stag opened.wished opened.client staging) []
+Begins = (opened : LinkParameters) (link : ℕ) (staging : List ℕ) → IsFirstLink opened → opened.client.number ≡ 0 → RequesterRepresents opened link (opened_as opened.first_xid opened.first_stag opened.wished opened.client staging) []
 
 -- It answers a call as its client does.
 abbrev pub AnswersAsClient : Type 0

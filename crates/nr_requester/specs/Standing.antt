@@ -21,6 +21,7 @@ use Rattle.nr_reduce.specs.Standing.{ClientRepresents, ClientRunsOut}
 use Rattle.nr_requester.specs.RequesterState.{RequesterSide, queue_of, kept_client, input_kept}
 use Rattle.nr_requester.specs.KeptAnswers.{is_due, KeepsAnswers}
 use Rattle.nr_requester.specs.CountedMarks.{counted_marks}
+use Rattle.nr_reduce.specs.Opening.{IsFirstLink}
 
 -- Messages of which some end at these offsets of all output, as a queue has them of which the first `written` bytes are gone, and that begins
 -- with `hello` other bytes: those that haven't left, each with the bytes up to its end.
@@ -58,9 +59,10 @@ pub record LinkKeeps (opened : LinkParameters) (s : LinkState) (k : ClientState)
   pub greeted : k.has_hello ≡ not (s.place == 0)
 
 -- A requester that hasn't run out of memory keeps the client of these marks: what that client asks for; its input is what they fed to it,
--- until it has ended; and its queue is the output that is due by them and isn't written.
+-- until it has ended; and its queue is the output that is due by them and isn't written. Its link was not reopened.
 pub record KeepsClient (opened : LinkParameters) (link : ℕ) (h : RequesterSide) (run : List Mark) : Type 0 where
   pub wished : h.state.wished ≡ opened.wished
+  pub first : IsFirstLink opened
   pub kept : ClientRepresents opened link (kept_client h.state) (input_kept h) (queue_of h.state) run
   pub sent : h.state.side.ended ≡ None → h.state.sent ≡ h.state.side.send_queue.sends_left
   pub side : h.state.side.ended ≡ None → LinkKeeps opened h.state.side (client opened link run).state

@@ -11,7 +11,7 @@ use Rattle.nr_reduce.specs.declared.mark.Told.TheVariants.{Granted}
 use Rattle.nr_reduce.specs.EndRules.{EndState, live, next_end_state_in, output_for_in}
 use Rattle.nr_reduce.specs.Events.RunEvent.{ServerTold}
 use Rattle.nr_reduce.specs.Server.{server_end, server_output, server_rules, server_state_after}
-use Rattle.nr_reduce.specs.ServerState.{ServerState, credit_told}
+use Rattle.nr_reduce.specs.ServerState.{ServerState}
 use Rattle.nr_endpoint.specs.LinkState.{LinkState}
 use Rattle.nr_responder.specs.declared.granting.Credits.{Credits}
 use Rattle.nr_responder.specs.Granting.{grant}
@@ -89,19 +89,19 @@ fits_as v c same h =
 -- ---- Other credits
 
 -- the server once it was told to grant them
-abbrev granted_state : ServerState → Told → ServerState
-granted_state k what = record k { credit = credit_told what }
+abbrev granted_state : ServerState → ℕ → ServerState
+granted_state k credits = record k { credit = credits }
 
-told_lives : (opened : LinkParameters) (k : ServerState) (what : Told) (o : Option End) → o ≡ None → next_end_state_in (server_rules opened) k (ServerTold what) o ≡ live (granted_state k what)
+told_lives : (opened : LinkParameters) (k : ServerState) (credits : ℕ) (o : Option End) → o ≡ None → next_end_state_in (server_rules opened) k (ServerTold (Granted credits)) o ≡ live (granted_state k credits)
 unfolding server_end server_state_after
-told_lives opened k what o is = ap (λ (x : Option End). next_end_state_in (server_rules opened) k (ServerTold what) x) is
+told_lives opened k credits o is = ap (λ (x : Option End). next_end_state_in (server_rules opened) k (ServerTold (Granted credits)) x) is
 
-told_silent : (opened : LinkParameters) (k : ServerState) (what : Told) (o : Option End) → o ≡ None → output_for_in (server_rules opened) k (ServerTold what) o ≡ []
+told_silent : (opened : LinkParameters) (k : ServerState) (credits : ℕ) (o : Option End) → o ≡ None → output_for_in (server_rules opened) k (ServerTold (Granted credits)) o ≡ []
 unfolding server_end server_output
-told_silent opened k what o is = ap (λ (x : Option End). output_for_in (server_rules opened) k (ServerTold what) x) is
+told_silent opened k credits o is = ap (λ (x : Option End). output_for_in (server_rules opened) k (ServerTold (Granted credits)) x) is
 
-granted_server : (k : ServerState) (what : Told) (place : ℕ) → IsServer k place → IsServer (granted_state k what) place
-granted_server k what place is = record {
+granted_server : (k : ServerState) (credits : ℕ) (place : ℕ) → IsServer k place → IsServer (granted_state k credits) place
+granted_server k credits place is = record {
   offered = is.offered;
   accesses = is.accesses;
   numbered = is.numbered;
@@ -119,8 +119,8 @@ granted_server k what place is = record {
   down = is.down;
 }
 
-granted_link : (opened : LinkParameters) (k : ServerState) (what : Told) (s : LinkState) → LinkKeeps opened k s → LinkKeeps opened (granted_state k what) s
-granted_link opened k what s h = record {
+granted_link : (opened : LinkParameters) (k : ServerState) (credits : ℕ) (s : LinkState) → LinkKeeps opened k s → LinkKeeps opened (granted_state k credits) s
+granted_link opened k credits s h = record {
   live = h.live;
   side = h.side;
   received = h.received;
@@ -141,12 +141,12 @@ granted_link opened k what s h = record {
   queue = h.queue;
 }
 
-granted_keeps : (opened : LinkParameters) (k : ServerState) (so_far : InputState) (v : ResponderSide) (credits : ℕ) → Keeps opened k so_far v → Keeps opened (granted_state k (Granted credits)) so_far (with_granted credits v)
+granted_keeps : (opened : LinkParameters) (k : ServerState) (so_far : InputState) (v : ResponderSide) (credits : ℕ) → Keeps opened k so_far v → Keeps opened (granted_state k credits) so_far (with_granted credits v)
 granted_keeps opened k so_far v credits h = record {
-  link = granted_link opened k (Granted credits) v.link.state h.link;
+  link = granted_link opened k credits v.link.state h.link;
   input = h.input;
   begins = h.begins;
-  server = granted_server k (Granted credits) v.link.state.place h.server;
+  server = granted_server k credits v.link.state.place h.server;
   calls = h.calls;
   ready = h.ready;
   credits = λ i. ((h.credits i).0, (credits, (h.credits i).1.1));
@@ -158,8 +158,8 @@ granted_keeps opened k so_far v credits h = record {
 
 granted_goes : (opened : LinkParameters) (end : EndState ServerState) (so_far : InputState) (v : ResponderSide) (credits : ℕ) → end.ended ≡ None → Keeps opened end.state so_far v → GoesOn opened end so_far v (ServerTold (Granted credits) ∷ []) so_far (with_granted credits v)
 granted_goes opened end so_far v credits is h = record {
-  keeps = subst (λ (e : EndState ServerState). KeepsEnd opened e so_far (with_granted credits v)) (sym (told_lives opened end.state (Granted credits) end.ended is)) (inl (refl, granted_keeps opened end.state so_far v credits h));
-  output = sym (append-nil (queue v)) ∙ ap (λ (bytes : List ℕ). queue v ++ bytes) (sym (append-nil (output_for_in (server_rules opened) end.state (ServerTold (Granted credits)) end.ended) ∙ told_silent opened end.state (Granted credits) end.ended is));
+  keeps = subst (λ (e : EndState ServerState). KeepsEnd opened e so_far (with_granted credits v)) (sym (told_lives opened end.state credits end.ended is)) (inl (refl, granted_keeps opened end.state so_far v credits h));
+  output = sym (append-nil (queue v)) ∙ ap (λ (bytes : List ℕ). queue v ++ bytes) (sym (append-nil (output_for_in (server_rules opened) end.state (ServerTold (Granted credits)) end.ended) ∙ told_silent opened end.state credits end.ended is));
 }
 
 -- a side that has ended stays as it is

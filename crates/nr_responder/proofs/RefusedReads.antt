@@ -1,5 +1,5 @@
 -- What holds of a responder whose call is refused as a read is done.
-use Rattle.std.proofs.Common.{◌≡◌, ◌≢◌, ℕ, zero, suc, ◌+◌, ◌-◌, ◌<◌, ◌≤◌, Bool, true, false, not, cond, eqb, ◌||◌, List, [], ◌∷◌, ◌++◌, length, take, drop, get_or, map, refl, sym, ap, subst, ◌∙◌, arith, length-append, All, None}
+use Rattle.std.proofs.Common.{◌≡◌, ◌≢◌, ℕ, zero, suc, ◌+◌, ◌<◌, ◌≤◌, Bool, true, false, not, cond, eqb, ◌||◌, List, [], ◌∷◌, ◌++◌, length, take, drop, get_or, map, refl, sym, ap, subst, ◌∙◌, arith, length-append, All, None}
 use Rattle.std.specs.List.{AllByRecursion, filter, list_any, remove}
 use Rattle.std.proofs.lemmas.List.{length-drop, length-take}
 use Rattle.nr_endpoint.specs.Receives.{IsReceive}

@@ -78,8 +78,8 @@ pub record SinksFit (v : ResponderSide) : Type 0 where
 abbrev pub sent_reply_max : ℕ
 sent_reply_max = PAYLOAD_MAX
 
--- The maximum of the Read Requests of a call, of the RDMA Writes of an answer, and of both with its Send. A reply of the maximum length has frames of
--- segment_max bytes, and each segment of a write chunk and of a reply chunk may add one.
+-- The maximum of the Read Requests of a call, of the RDMA Writes of an answer, and of both with its Send. A reply of the maximum length takes
+-- sent_reply_max / segment_max frames, and each segment of a write chunk and of a reply chunk may add one.
 abbrev pub requests_max : ℕ
 requests_max = READ_SEGMENTS_MAX * request_max
 

@@ -11,7 +11,7 @@ use Rattle.nr_reduce.specs.Run.{output_due}
 use Rattle.nr_reduce.specs.Asked.{IsAll}
 use Rattle.nr_reduce.specs.AtEachMark.{AtEachMark}
 use Rattle.nr_reduce.specs.Concerns.{concerns}
-use Rattle.nr_reduce.specs.Served.{ServedMark, ServedSoFar, IsExecuted, ToldInRange}
+use Rattle.nr_reduce.specs.Served.{ServedMark, ServedSoFar, IsExecuted, IsTold}
 use Rattle.nr_responder.specs.ResponderState.{ResponderSide, queue, may_write}
 use Rattle.nr_responder.specs.Standing.{RepresentsServer, ResponderRepresents}
 
@@ -42,9 +42,9 @@ abbrev pub ExecuteKeepsLaw : Type 0
 ExecuteKeepsLaw = (opened : LinkParameters) (link : ℕ) (run : List Mark) (xid : ℕ) (moment : Moment) (payload : List ℕ) (place : ℕ) (reply : List ℕ) → IsExecuted opened link run xid payload →
     ServedSoFar opened link run → ServedSoFar opened link (run ++ marks.Execute link xid moment payload place reply ∷ [])
 
--- by what it is told, from 1 to all of the credits that it was opened with,
+-- by what it is told: from 1 to all of the credits that it was opened with, or that the next call is old,
 abbrev pub ToldKeepsLaw : Type 0
-ToldKeepsLaw = (opened : LinkParameters) (link : ℕ) (run : List Mark) (what : Told) → ToldInRange opened what → ServedSoFar opened link run → ServedSoFar opened link (run ++ marks.Told link what ∷ [])
+ToldKeepsLaw = (opened : LinkParameters) (link : ℕ) (run : List Mark) (what : Told) → IsTold opened link run what → ServedSoFar opened link run → ServedSoFar opened link (run ++ marks.Told link what ∷ [])
 
 -- and by a drain of which a sink took n bytes, also if it ran out of memory.
 abbrev pub DrainKeepsLaw : Type 0
@@ -70,7 +70,7 @@ ExecuteKeepsFull = (opened : LinkParameters) (link : ℕ) (run : List Mark) (xid
     ServedInFull opened link run → ServedInFull opened link (run ++ marks.Execute link xid moment payload place reply ∷ [])
 
 abbrev pub ToldKeepsFull : Type 0
-ToldKeepsFull = (opened : LinkParameters) (link : ℕ) (run : List Mark) (what : Told) → ToldInRange opened what → ServedInFull opened link run → ServedInFull opened link (run ++ marks.Told link what ∷ [])
+ToldKeepsFull = (opened : LinkParameters) (link : ℕ) (run : List Mark) (what : Told) → IsTold opened link run what → ServedInFull opened link run → ServedInFull opened link (run ++ marks.Told link what ∷ [])
 
 -- A side that didn't run out of memory has all that is due in its queue, and hasn't written it.
 abbrev pub QueueIsAllDue : Type 0

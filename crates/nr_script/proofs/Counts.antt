@@ -48,6 +48,7 @@ caller_is i (lines.Tick seconds) = nothing i
 caller_is i (lines.Forget client number) = nothing i
 caller_is i (lines.Revoke client number) = nothing i
 caller_is i (lines.Drop client) = nothing i
+caller_is i (lines.Rejoin client) = nothing i
 caller_is i (lines.Raw client side bytes) = nothing i
 caller_is i (lines.Grant client credits) = nothing i
 caller_is i lines.Drain = nothing i

@@ -156,7 +156,7 @@ lines_len clients (suc calls) state =
 pub made_is : (seed clients calls : ℕ) → 1 ≤ clients → clients ≤ clients_max → calls ≤ calls_max → IsScript (made_script seed clients calls)
 unfolding made_script
 made_is seed clients calls some few short =
-    let opening : Opening = record { clients = clients; credits = drawn_credits; capacity = default_capacity; client_units = default_units; server_units = default_units; invalidates = false } in
+    let opening : Opening = record { clients = clients; credits = drawn_credits; capacity = default_capacity; client_units = default_units; server_units = default_units; numbered = false; invalidates = false } in
     let made = lines_made opening calls seed some in
     let all = drawn_lines clients calls seed in
     record {
@@ -169,6 +169,7 @@ made_is seed clients calls some few short =
       few_client_units = omega arith;
       some_server_units = omega arith;
       few_server_units = omega arith;
+      unnumbered = refl;
       few_lines = (let count : length all ≤ 2 * calls + 1 = lines_len clients calls seed in omega (arith, count, short));
       follow_on = all_follow opening [] all made;
       creds = all_creds opening all made;

@@ -92,8 +92,9 @@ later_if name others =
     if_if LineIsRight (bytes_eq name (codes "forget")) (number_line lines.Forget others) _ (number_if lines.Forget others (λ c n. (tt, tt)))
     (if_if LineIsRight (bytes_eq name (codes "revoke")) (number_line lines.Revoke others) _ (number_if lines.Revoke others (λ c n. (tt, tt)))
     (if_if LineIsRight (bytes_eq name (codes "drop")) (client_line lines.Drop others) _ (client_if lines.Drop others (λ c. (tt, tt)))
+    (if_if LineIsRight (bytes_eq name (codes "rejoin")) (client_line lines.Rejoin others) _ (client_if lines.Rejoin others (λ c. (tt, tt)))
     (if_if LineIsRight (bytes_eq name (codes "grant")) (number_line lines.Grant others) _ (number_if lines.Grant others (λ c n. (tt, tt)))
-    (if_if LineIsRight (bytes_eq name (codes "drain")) (drain_line others) None (drain_if others) tt))))
+    (if_if LineIsRight (bytes_eq name (codes "drain")) (drain_line others) None (drain_if others) tt)))))
 
 plain_if : (name : List ℕ) (others : List (List ℕ)) → If LineIsRight (plain_line name others)
 plain_if name others =
@@ -123,18 +124,18 @@ follow_more opening before (l ∷ all) line e h =
 -- a script that is being read, but for its number of lines
 record IsRead (script : ScriptLines) : Type 0 where
   opening : IsOpening script.opening
+  unnumbered : script.opening.numbered ≡ false
   follow_on : FollowOn script.opening [] script.lines
   creds : AllByRecursion HasWritableCred script.lines
   typed : AllByRecursion IsTypedLine script.lines
 
 opened_if : (o : Option Opening) → If IsOpening o → If IsRead (opened_by o)
 opened_if None h = tt
-opened_if (Some o) h = record {
-  opening = h;
-  follow_on = tt;
-  creds = tt;
-  typed = tt;
-}
+opened_if (Some o) h = by o.numbered refl
+  where
+    by : (b : Bool) → o.numbered ≡ b → If IsRead (cond b None (Some (record { opening = o; lines = [] })))
+    by true e = tt
+    by false e = record { opening = h; unnumbered = e; follow_on = tt; creds = tt; typed = tt }
 
 followed_if : (script : ScriptLines) (line : Option Line) → IsRead script → If LineIsRight line → If IsRead (followed_by script line)
 followed_if script None is h = tt
@@ -143,6 +144,7 @@ followed_if script (Some line) is h = by (may_follow script.opening script.lines
     by : (b : Bool) → may_follow script.opening script.lines line ≡ b → If IsRead (cond b (Some (record script { lines = script.lines ++ line ∷ [] })) None)
     by true e = record {
       opening = is.opening;
+      unnumbered = is.unnumbered;
       follow_on = follow_more script.opening [] script.lines line e is.follow_on;
       creds = all_more HasWritableCred script.lines line is.creds h.1;
       typed = all_more IsTypedLine script.lines line is.typed h.0;
@@ -200,7 +202,7 @@ OkFew n (Err line) = Unit {0}
 
 opened_few : (n : ℕ) (o : Option Opening) → If (HasFew (n + 1)) (opened_by o)
 opened_few n None = tt
-opened_few n (Some opening) = omega arith
+opened_few n (Some opening) = if_if (HasFew (n + 1)) opening.numbered None (Some (record { opening = opening; lines = [] })) tt (omega arith)
 
 followed_few : (n : ℕ) (script : ScriptLines) (line : Option Line) → HasFew n script → If (HasFew (n + 1)) (followed_by script line)
 followed_few n script None h = tt
@@ -266,6 +268,7 @@ script_is text script short e =
       few_client_units = is.opening.few_client_units;
       some_server_units = is.opening.some_server_units;
       few_server_units = is.opening.few_server_units;
+      unnumbered = is.unnumbered;
       few_lines = omega (arith, few, count, within, short);
       follow_on = is.follow_on;
       creds = is.creds;

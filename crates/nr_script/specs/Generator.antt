@@ -125,6 +125,6 @@ drawn_credits = 8
 -- the script of a seed, of this many clients and calls
 unfoldable pub made_script : ℕ → ℕ → ℕ → ScriptLines
 made_script seed clients calls = record {
-  opening = record { clients = clients; credits = drawn_credits; capacity = default_capacity; client_units = default_units; server_units = default_units; invalidates = false };
+  opening = record { clients = clients; credits = drawn_credits; capacity = default_capacity; client_units = default_units; server_units = default_units; numbered = false; invalidates = false };
   lines = drawn_lines clients calls seed;
 }

@@ -60,9 +60,10 @@ later_line name others =
     if bytes_eq name (codes "forget") then number_line lines.Forget others
     else (if bytes_eq name (codes "revoke") then number_line lines.Revoke others
     else (if bytes_eq name (codes "drop") then client_line lines.Drop others
+    else (if bytes_eq name (codes "rejoin") then client_line lines.Rejoin others
     else (if bytes_eq name (codes "grant") then number_line lines.Grant others
     else (if bytes_eq name (codes "drain") then drain_line others
-    else None))))
+    else None)))))
 
 -- a line of numbers
 abbrev pub plain_line : List ℕ → List (List ℕ) → Option Line

@@ -55,7 +55,7 @@ abbrev pub credits_in_range : Opening → ℕ → Bool
 credits_in_range opening credits = nat_le 1 credits && nat_le credits opening.credits
 
 -- A line names a client of the script, and a call line that came before it; the clock doesn't pass its end; credits are granted within
--- those of the first line.
+-- those of the first line; only a client with a number begins another link.
 abbrev pub may_follow : Opening → List Line → Line → Bool
 may_follow opening before (lines.Cred client cred) = is_client opening client
 may_follow opening before (lines.Call client form prog vers proc args) = is_client opening client
@@ -66,6 +66,7 @@ may_follow opening before (lines.Tick seconds) = nat_le (seconds_after before + 
 may_follow opening before (lines.Forget client number) = is_client opening client && is_call_line client number before
 may_follow opening before (lines.Revoke client number) = is_client opening client && is_call_line client number before
 may_follow opening before (lines.Drop client) = is_client opening client
+may_follow opening before (lines.Rejoin client) = is_client opening client && opening.numbered
 may_follow opening before (lines.Raw client side bytes) = is_client opening client
 may_follow opening before (lines.Grant client credits) = is_client opening client && credits_in_range opening credits
 may_follow opening before lines.Drain = true
@@ -82,10 +83,11 @@ abbrev pub is_skipped : List ℕ → Bool
 is_skipped [] = true
 is_skipped (c ∷ others) = c == hash
 
--- what is read so far, with one line more: at first nothing, then the first line, then the others
+-- What is read so far, with one line more: at first nothing, then the first line, then the others. A first line whose clients have numbers is
+-- invalid as long as drills run none.
 abbrev pub opened_by : Option Opening → Option ScriptLines
 opened_by None = None
-opened_by (Some opening) = Some (record { opening = opening; lines = [] })
+opened_by (Some opening) = if opening.numbered then None else Some (record { opening = opening; lines = [] })
 
 abbrev pub followed_by : ScriptLines → Option Line → Option ScriptLines
 followed_by script None = None
@@ -166,6 +168,7 @@ pub record IsScript (script : ScriptLines) : Type 0 where
   pub few_client_units : script.opening.client_units ≤ UNITS_MAX
   pub some_server_units : 1 ≤ script.opening.server_units
   pub few_server_units : script.opening.server_units ≤ UNITS_MAX
+  pub unnumbered : script.opening.numbered ≡ false
   pub few_lines : length script.lines ≤ lines_max
   pub follow_on : FollowOn script.opening [] script.lines
   pub creds : AllByRecursion HasWritableCred script.lines

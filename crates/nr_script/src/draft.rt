@@ -100,6 +100,12 @@ impl Draft {
         self.is_client(client) && 1 <= credits && credits <= self.opening.credits
     }
 
+    fn may_rejoin(&self, client: u32) -> bool
+        ensures { result ≡ (is_client self.now.opening client && self.now.opening.numbered) }
+    {
+        self.is_client(client) && self.opening.numbered
+    }
+
     fn may_tick(&self, seconds: u32) -> bool
         ensures { result ≡ nat_le (seconds_after self.now.lines + seconds) number_max }
     {
@@ -122,6 +128,7 @@ impl Draft {
             Line::Forget { client, number } | Line::Revoke { client, number } => {
                 self.is_call_line(*client, *number)
             }
+            Line::Rejoin { client } => self.may_rejoin(*client),
             Line::Grant { client, credits } => self.may_grant(*client, *credits),
             Line::Drain => true,
         }

@@ -267,6 +267,7 @@ pub fn make_script(alloc: Global, seed: u64, clients: u32, calls: u64) -> Result
         capacity: DEFAULT_CAPACITY,
         client_units: DEFAULT_UNITS,
         server_units: DEFAULT_UNITS,
+        numbered: false,
         invalidates: false,
     };
     Ok(Script::new(opening, lines))

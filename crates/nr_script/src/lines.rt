@@ -168,6 +168,9 @@ fn later_line(name: &[u8], words: &[&[u8]]) -> Option<Line>
     } else if is(name, b"drop") {
         let client = one_number(words)?;
         Some(Line::Drop { client })
+    } else if is(name, b"rejoin") {
+        let client = one_number(words)?;
+        Some(Line::Rejoin { client })
     } else if is(name, b"grant") {
         let (client, credits) = two_numbers(words)?;
         Some(Line::Grant { client, credits })

@@ -10,7 +10,7 @@ use nr_wire::Side;
 use nr_xdr::{Memory, Octets};
 use std::marker::Model;
 
-/// Any other line of a script. A client is named by its number, from 1, and so is its link.
+/// Any other line of a script. A client is named by its number, from 1, and so is its last link.
 #[derive(Drop)]
 pub enum Line {
     /// The client's later calls have this credential.
@@ -76,6 +76,11 @@ pub enum Line {
     /// The link is dropped.
     Drop {
         /// The client of the link.
+        client: u32,
+    },
+    /// The client leaves its link, which is dropped if it isn't yet, and begins another one. Nothing happens if the client has ended.
+    Rejoin {
+        /// The client.
         client: u32,
     },
     /// The server of the link is told to grant this many credits from here on (RFC 8166 section 3.3).

@@ -368,11 +368,11 @@ all_answered all reads (HandedOver xid outcome ∷ rest) later has =
 all_answered all reads (GivenUp xid ∷ rest) later has = all_answered all reads rest later has
 
 some_parameters : (terms : SideTerms) → LinkParameters
-some_parameters terms = record { first_xid = 1; first_stag = 1; wished = 16; granted = 1; low = 1; receives = 1; client = terms; server = default_terms }
+some_parameters terms = record { first_xid = 1; first_stag = 1; wished = 16; granted = 1; low = 1; receives = 1; client = terms; server = default_terms; resumed = []; agreed = None }
 
 some_opened : (terms : SideTerms) → IsOpened (some_parameters terms)
 unfolding some_parameters
-some_opened terms = record { xid = omega arith; xid_fits = omega arith; stag = omega arith; stag_fits = omega arith; wished = omega arith; wished_fits = omega arith; granted = omega arith; granted_fits = omega arith; receives = omega arith }
+some_opened terms = record { xid = omega arith; xid_fits = omega arith; stag = omega arith; stag_fits = omega arith; resumed = omega arith; wished = omega arith; wished_fits = omega arith; granted = omega arith; granted_fits = omega arith; receives = omega arith }
 
 -- what a command gives that opened a session
 pub given_by_peer : (c : Client Text) (before dialed : DialerAt) (s s' : SessionAt) (input input' : SourceAt) (out out' : SinkAt) (result : Result (Unit {0}) ClientEnd) → Opens c.addr (terms_of c) before dialed s
@@ -385,4 +385,4 @@ given_by_peer c before dialed s s' input input' out out' result opens prints =
     let I = Rises input.faults input'.faults in
     let O = Rises out.faults out'.faults in
     opened_is (IsAnsweredBy made) Any (PeerEnd c input made I O) c before dialed s s' input input' out out' result opens prints (some_parameters (terms_of c)) 0
-    (peer_judgement c input made I O) (words_give c input made I O) (λ rose. rose) (λ rose. rose) (some_opened (terms_of c)) refl refl (refl, refl) (all_answered (IsAnsweredBy made) [] made (λ xid call o is handed. absurd is) (λ call o is. is))
+    (peer_judgement c input made I O) (words_give c input made I O) (λ rose. rose) (λ rose. rose) (some_opened (terms_of c)) refl refl (refl, (refl, record { resumed = refl; agreed = refl })) (all_answered (IsAnsweredBy made) [] made (λ xid call o is handed. absurd is) (λ call o is. is))

@@ -1,5 +1,5 @@
 -- What holds of the client's marks of a run holds of the complete run: its law, the last grant, and what is written.
-use Rattle.std.proofs.Common.{◌≡◌, ℕ, Bool, true, false, cond, ◌&&◌, ◌||◌, eqb, List, [], ◌∷◌, ◌++◌, length, None, Ok, refl, sym, ap, subst, ◌∙◌, append-nil}
+use Rattle.std.proofs.Common.{◌≡◌, ℕ, Bool, true, false, cond, ◌&&◌, ◌||◌, eqb, List, [], ◌∷◌, ◌++◌, length, map, None, Ok, refl, sym, ap, subst, ◌∙◌, append-nil}
 use Rattle.std.specs.Prelude.{◌<◌, ◌+◌, ◌≤◌, Contains}
 use Rattle.std.specs.List.{AllByRecursion, filter, list_any}
 use Rattle.std.proofs.lemmas.List.Elements.{filter-append}
@@ -10,9 +10,10 @@ use Rattle.nr_reduce.specs.declared.call.Submission.TheVariants as submissions
 use Rattle.nr_reduce.specs.declared.mark.LinkParameters.{LinkParameters}
 use Rattle.nr_reduce.specs.declared.mark.Mark.{Mark}
 use Rattle.nr_reduce.specs.declared.mark.Mark.TheVariants as marks
-use Rattle.nr_reduce.specs.Asked.{AskedMark, IsAccepted, IsAll, IsAwaited}
+use Rattle.nr_reduce.specs.Asked.{AskedMark, IsAccepted, IsAll, IsAwaited, IsAwaitedOrWaits, IsResent, as_accepted}
 use Rattle.nr_reduce.specs.AtEachMark.{AtEachMark}
-use Rattle.nr_reduce.specs.ClientState.{ClientState, plan_for}
+use Rattle.nr_reduce.specs.ClientState.{ClientState, plan_for, stags_taken}
+use Rattle.nr_reduce.specs.SubmitAnswer.{next_sent_xid}
 use Rattle.nr_reduce.specs.Credits.{WithinGrant, calls_outstanding, credits_granted}
 use Rattle.nr_reduce.specs.EndRules.{EndState, end_state_after, output_for_all}
 use Rattle.nr_reduce.specs.Events.{RunEvent, events}
@@ -20,7 +21,6 @@ use Rattle.nr_reduce.specs.History.{AcceptedCall, CompletedCall, abandons, accep
 use Rattle.nr_reduce.specs.Client.{client_rules, initial_client}
 use Rattle.nr_reduce.specs.Limits.{numbers_end}
 use Rattle.nr_reduce.specs.Matched.{IsPrefixOf}
-use Rattle.nr_reduce.specs.Plans.{regions_needed}
 use Rattle.nr_reduce.specs.Run.{client, HasWritten, output_due}
 use Rattle.nr_reduce.proofs.Standing.{itself}
 use Rattle.nr_reduce.specs.Hellos.{client_hello}
@@ -106,10 +106,19 @@ abandoned_same link xid both = any_kept (abandons link xid) (is_client_mark link
 -- ---- The law of each mark
 
 module _ (Relates : List ℕ → List ℕ → Type 0) (opened : LinkParameters) (link : ℕ) (before : List Mark) where
-  pub awaited_back : (xid : ℕ) → IsAwaited link (client_marks link before) xid → IsAwaited link before xid
+  awaited_back : (xid : ℕ) → IsAwaited link (client_marks link before) xid → IsAwaited link before xid
   awaited_back xid w = record {
     asked = w.asked;
     is_asked = subst (λ (l : List AcceptedCall). Contains l w.asked) (sym (accepted_same link before)) w.is_asked;
+    own = w.own;
+    first = λ c there. w.first c (subst (λ (l : List CompletedCall). Contains l c) (completed_same link before) there);
+    kept = abandoned_same link xid before ∙ w.kept;
+  }
+
+  pub waits_back : (xid : ℕ) → IsAwaitedOrWaits opened link (client_marks link before) xid → IsAwaitedOrWaits opened link before xid
+  waits_back xid w = record {
+    asked = w.asked;
+    is_asked = subst (λ (l : List AcceptedCall). Contains (map as_accepted opened.resumed ++ l) w.asked) (sym (accepted_same link before)) w.is_asked;
     own = w.own;
     first = λ c there. w.first c (subst (λ (l : List CompletedCall). Contains l c) (completed_same link before) there);
     kept = abandoned_same link xid before ∙ w.kept;
@@ -120,11 +129,12 @@ module _ (Relates : List ℕ → List ℕ → Type 0) (opened : LinkParameters) 
       let back : client opened link (client_marks link before) ≡ client opened link before = sym (client_same opened link before) in
       record {
         stays = subst (λ (c : EndState ClientState). c.ended ≡ None) back a.stays;
-        next = subst (λ (c : EndState ClientState). xid ≡ c.state.next_xid) back a.next;
+        next = subst (λ (c : EndState ClientState). xid ≡ next_sent_xid c.state) back a.next;
+        resent = subst (λ (c : EndState ClientState). IsResent c.state.has_hello c.state.next_xid c.state.waiting call form) back a.resent;
         plan = a.plan;
         planned = subst (λ (c : EndState ClientState). plan_for c.state xid call form ≡ Ok a.plan) back a.planned;
         xids = a.xids;
-        stags = subst (λ (c : EndState ClientState). c.state.stag + regions_needed a.plan ≤ numbers_end) back a.stags;
+        stags = subst (λ (c : EndState ClientState). c.state.stag + stags_taken c.state xid a.plan ≤ numbers_end) back a.stags;
         writable = a.writable;
       }
 
@@ -141,7 +151,7 @@ module _ (Relates : List ℕ → List ℕ → Type 0) (opened : LinkParameters) 
   asked_back (marks.Done l xid outcome) own h = λ same.
       record { awaited = awaited_back xid (h same).awaited; is_received = subst (λ (c : EndState ClientState). Contains c.state.outcomes (record { xid = xid; outcome = outcome })) (sym (client_same opened link before)) (h same).is_received }
   asked_back (marks.Lost l xid) own h = absurd own
-  asked_back (marks.Forget l xid) own h = λ same. awaited_back xid (h same)
+  asked_back (marks.Forget l xid) own h = λ same. waits_back xid (h same)
   asked_back (marks.Revoke l xid bytes) own h = absurd own
   asked_back (marks.Drop l) own h = tt
   asked_back (marks.Told l what) own h = tt

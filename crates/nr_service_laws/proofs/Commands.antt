@@ -7,6 +7,7 @@ use Rattle.nr_wire.specs.declared.hello.Side.TheVariants.{Initiator}
 use Rattle.nr_reduce.specs.declared.mark.LinkParameters.{LinkParameters}
 use Rattle.nr_reduce.specs.declared.mark.Mark.{Mark}
 use Rattle.nr_reduce.specs.Asked.{AskedSoFar}
+use Rattle.nr_reduce.specs.Opening.{IsFirstLink}
 use Rattle.nr_reduce.specs.Credits.{KeepsGrant}
 use Rattle.nr_reduce.specs.History.{bytes_received}
 use Rattle.nr_requester.specs.RequesterState.{RequesterSide}
@@ -149,12 +150,14 @@ asked_of result opened link h ahead run (inl (live, fed)) = (live.asked, live.gr
 asked_of result opened link h ahead run (inr (is, out)) = (out.asked, out.granted)
 
 is_run : (opened : LinkParameters) (link : ℕ) (s s' : SessionAt) (addr : List ℕ) (terms : SideTerms) (before dialed after : DialerAt) (result : Result (Unit {0}) ClientEnd) (exchanges : Exchanges)
-    → (opens : Opens addr terms before dialed s) → Closes opens.number s' dialed after → Does result opened link [] s.bytes s'.bytes s'.requester exchanges
+    → IsFirstLink opened → opened.client.number ≡ 0 → (opens : Opens addr terms before dialed s) → Closes opens.number s' dialed after → Does result opened link [] s.bytes s'.bytes s'.requester exchanges
     → IsCommandRun opened link s s' dialed.ended after.ended result exchanges
-is_run opened link s s' addr terms before dialed after result exchanges opens closes done =
+is_run opened link s s' addr terms before dialed after result exchanges first none opens closes done =
     let laws = asked_of result opened link s'.requester done.ahead done.more done.stands in
     record {
       run = done.more;
+      first_link = first;
+      unnumbered = none;
       own = done.extends.own;
       asked = laws.0;
       granted = laws.1;
@@ -186,4 +189,4 @@ commands_have_a_run_lem c before after input input' out out' result (Opened dial
     let has = has_text_of c.uid c.gid c.export c.action input input' out prints.written s s' prints.text prints.made in
     let does = does_as {A = List ℕ} {B = Unit {0}} prints.text result s.bytes s'.bytes s.requester s'.requester exchanges
     (λ end is. printed_end prints.text result prints.written out' end prints.prints is) has in
-    is_run opened link s s' c.addr (terms_of c) before dialed after result exchanges opens closes (does opened link [] fine (sessions_begin_lem c.addr (terms_of c) before dialed s opened link opens xid stag wished))
+    is_run opened link s s' c.addr (terms_of c) before dialed after result exchanges wished.1.1 (ap (λ (t : SideTerms). t.number) wished.1.0) opens closes (does opened link [] fine (sessions_begin_lem c.addr (terms_of c) before dialed s opened link opens xid stag wished))

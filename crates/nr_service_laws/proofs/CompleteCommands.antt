@@ -164,7 +164,7 @@ served_commands_have_causes_lem setup opened link c before after input input' ou
     has_cause result s s' input input' out out'
     (opened_is (IsServedReply setup) IsHandle (OwnEnd I O) c before dialed s s' input input' out out' result opens prints opened link (judged_plainly I O setup c.uid c.gid sane)
     (any_words I O c.export c.action input) (λ rose. rose) (λ rose. rose)
-    session.fine session.first_xid session.first_stag session.wished (exchanges_judged setup opened link ran.run both made sane plain ran.marks_are))
+    session.fine session.first_xid session.first_stag session.wished (exchanges_judged setup opened link ran.run both made sane session.fine plain ran.marks_are))
     (served_commands_end_lem opened link c before after input input' out out' result (Opened dialed s s' opens prints closes) ran
     (λ entries moment payload. plain_reply setup entries (length entries) moment payload) entries_of_call both
     (side_of (λ entries moment payload. plain_reply setup entries (length entries) moment payload) entries_of_call opened link ran.run both server plain.matched)).0

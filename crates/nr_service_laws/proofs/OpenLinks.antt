@@ -1,5 +1,5 @@
 -- The client's side of a link has the events of its own marks, and on a matched link it stays open.
-use Rattle.std.proofs.Common.{◌≡◌, ◌⊎◌, ℕ, Bool, true, false, cond, ◌&&◌, eqb, List, [], ◌∷◌, ◌++◌, length, None, Result, Err, inl, inr, refl, sym, ap, subst, ◌∙◌, append-nil, eq-eqb}
+use Rattle.std.proofs.Common.{◌≡◌, ◌⊎◌, ℕ, Bool, true, false, cond, ◌&&◌, eqb, List, [], ◌∷◌, ◌++◌, length, Option, None, Result, Err, inl, inr, refl, sym, ap, subst, ◌∙◌, append-nil, eq-eqb}
 use Rattle.std.specs.List.{AllByRecursion, filter}
 use Rattle.nr_wire.specs.declared.hello.Side.TheVariants.{Initiator}
 use Rattle.nr_link.specs.declared.end.End.TheVariants as ends
@@ -17,8 +17,14 @@ use Rattle.nr_reduce.specs.Client.{client_rules, initial_client}
 use Rattle.nr_reduce.specs.EndRules.{end_state_after}
 use Rattle.nr_reduce.specs.Run.{client as client_of, end_of_side}
 use Rattle.nr_reduce.proofs.Standing.{one_more}
+use Rattle.nr_link.specs.declared.agreement.Agreement.{Agreement}
+use Rattle.nr_link.specs.Agreement.{agreement, responder_private}
+use Rattle.nr_reduce.specs.Client.{has_same_sizes}
+use Rattle.nr_reduce.specs.Hellos.{client_private}
+use Rattle.nr_laws.specs.EndCauses.{AgreesAgain}
 use Rattle.nr_laws.specs.Stays.{ConveyedMark, NotRevokedMark}
 use Rattle.nr_laws.proofs.NeitherEnds.{links_stay}
+use Rattle.nr_laws.proofs.NoOldCalls.{no_old_call}
 use Rattle.nr_requester.specs.RequesterState.{RequesterSide}
 use Rattle.nr_client.specs.declared.client_end.ClientEnd.{ClientEnd}
 use Rattle.nr_client.specs.declared.client_end.ClientEnd.TheVariants as client
@@ -144,10 +150,14 @@ conveyed opened link before (marks.Told l what) own = tt
 
 -- ---- The link stays open
 
+-- no earlier hello agreed on anything
+pub agrees_first : (opened : LinkParameters) → opened.agreed ≡ None → AgreesAgain opened
+agrees_first opened none = ap (λ (a : Option Agreement). has_same_sizes a (agreement (client_private opened) (responder_private opened.server (client_private opened)))) none
+
 pub served_clients_stay_lem : ServedClientsStayOpen
-served_clients_stay_lem reply_to adds opened link run both is_opened own served laws =
+served_clients_stay_lem reply_to adds opened link run both is_opened again own served laws fresh =
     let owns = subst (λ (r : List Mark). AllByRecursion (IsOwn link) r) (sym served.client_side) own in
-    let stays = links_stay reply_to adds opened link both is_opened served.typed laws (own_each (NotRevokedMark link) link [] both (not_revoked link) owns)
+    let stays = links_stay reply_to adds opened link both is_opened again served.typed laws fresh (own_each (NotRevokedMark link) link [] both (not_revoked link) owns)
     (own_each (ConveyedMark opened link) link [] both (conveyed opened link) owns) served.limits served.plain in
     ap (λ (r : List Mark). end_of_side opened link Initiator r) (sym served.client_side) ∙ sym (client_kept opened link both) ∙ stays.0
 
@@ -161,4 +171,5 @@ requester_open result opened link h ahead run (inr (is, out)) stays = inr is
 pub served_commands_stay_lem : ServedCommandsStayOpen
 served_commands_stay_lem opened link c before after input input' out out' result (NotOpened end is fails same_input same_out) = tt
 served_commands_stay_lem opened link c before after input input' out out' result (Opened dialed s s' opens prints closes) = λ ran reply_to adds both is_opened served laws.
-    requester_open result opened link s'.requester ran.ahead ran.run ran.stands (served_clients_stay_lem reply_to adds opened link ran.run both is_opened ran.own served laws)
+    let fresh = no_old_call opened link both served.typed served.matched ran.unnumbered in
+    requester_open result opened link s'.requester ran.ahead ran.run ran.stands (served_clients_stay_lem reply_to adds opened link ran.run both is_opened (agrees_first opened ran.first_link.agreed) ran.own served laws fresh)

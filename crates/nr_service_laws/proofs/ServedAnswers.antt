@@ -10,6 +10,7 @@ use Rattle.nr_reduce.specs.declared.call.Outcome.TheVariants as outcomes
 use Rattle.nr_reduce.specs.declared.call.Submission.TheVariants as submissions
 use Rattle.nr_reduce.specs.declared.mark.Entry.{Entry}
 use Rattle.nr_reduce.specs.declared.mark.LinkParameters.{LinkParameters}
+use Rattle.nr_reduce.specs.Opening.{IsOpened}
 use Rattle.nr_reduce.specs.declared.mark.Mark.{Mark}
 use Rattle.nr_reduce.specs.declared.mark.Mark.TheVariants as marks
 use Rattle.nr_reduce.specs.Asked.{AskedMark, IsAccepted}
@@ -25,6 +26,7 @@ use Rattle.nr_laws.proofs.Basics.{some_is_lem}
 use Rattle.nr_laws.proofs.LaterMarks.{mark_later}
 use Rattle.nr_laws.proofs.OnceByXid.{at_mark}
 use Rattle.nr_laws.proofs.OwnReplies.{executed_replies_are_handed_over}
+use Rattle.nr_laws.proofs.WaitingCalls.{resumes_planned}
 use Rattle.nr_tree.specs.Sane.{IsSane}
 use Rattle.nr_plain.specs.Added.{entries_of_call}
 use Rattle.nr_plain.specs.ReplyLaws.{plain_server}
@@ -103,7 +105,7 @@ pub record IsPlainSide (setup : Setup) (opened : LinkParameters) (link : ℕ) (r
   pub matched : MatchedSoFar opened link both
   pub plain : HasPlainReplies (plain_server setup) link both
 
-module _ (setup : Setup) (sane : IsSane setup.tree) (opened : LinkParameters) (link : ℕ) (run both : List Mark) (served : IsPlainSide setup opened link run both) where
+module _ (setup : Setup) (sane : IsSane setup.tree) (opened : LinkParameters) (link : ℕ) (run both : List Mark) (fine : IsOpened opened) (served : IsPlainSide setup opened link run both) where
   replies_to : List Entry → Moment → List ℕ → Option (List ℕ)
   replies_to entries moment payload = plain_reply setup entries (length entries) moment payload
 
@@ -143,7 +145,7 @@ module _ (setup : Setup) (sane : IsSane setup.tree) (opened : LinkParameters) (l
       let done = marks.Done link xid outcome in
       let at_submit : MarkAt both p.before submit = record { after = p.between ++ done ∷ p.after; is = p.is } in
       let at_done : MarkAt both (p.before ++ submit ∷ p.between) done = record { after = p.after; is = p.is ∙ sym (append_assoc p.before (submit ∷ p.between) (done ∷ p.after)) } in
-      let reply = auto_has_replies replies_to entries_of_call opened link both p.before (p.before ++ submit ∷ p.between) call xid outcome (server_is_plain setup sane) served.plain served.typed served.matched at_submit at_done in
+      let reply = auto_has_replies replies_to entries_of_call opened link both p.before (p.before ++ submit ∷ p.between) call xid outcome (resumes_planned opened fine) (server_is_plain setup sane) served.plain served.typed served.matched at_submit at_done in
       subst (λ (o : Outcome). IsServedReply setup call o) (sym reply.1)
       (one_reply call xid reply.0 (subst (λ (o : Outcome). Precede both (submit_of link call xid) (marks.Done link xid o)) reply.1 p))
 
@@ -210,8 +212,8 @@ judged_from R link all judge (GivenUp number ∷ made) reads before later is the
     let one = marks.Forget link number ∷ [] in
     judged_from R link all judge made reads (before ++ one) rest (is ∙ ap (λ (l : List Mark). before ++ l) same ∙ sym (append_assoc before one rest)) (λ x c of. has_more before one (submit_of link c x) (there x c of)) more
 
-pub exchanges_judged : (setup : Setup) (opened : LinkParameters) (link : ℕ) (run both : List Mark) (made : List Exchange) → IsSane setup.tree → IsPlainSide setup opened link run both → AreMarksOf link made (without_bytes run)
+pub exchanges_judged : (setup : Setup) (opened : LinkParameters) (link : ℕ) (run both : List Mark) (made : List Exchange) → IsSane setup.tree → IsOpened opened → IsPlainSide setup opened link run both → AreMarksOf link made (without_bytes run)
     → AreJudged (IsServedReply setup) [] made
 unfolding AllSubmitted
-exchanges_judged setup opened link run both made sane served are =
-    judged_from (IsServedReply setup) link (without_bytes run) (own_outcome setup sane opened link run both served) made [] [] (without_bytes run) refl (λ x c of. absurd of) are
+exchanges_judged setup opened link run both made sane fine served are =
+    judged_from (IsServedReply setup) link (without_bytes run) (own_outcome setup sane opened link run both fine served) made [] [] (without_bytes run) refl (λ x c of. absurd of) are

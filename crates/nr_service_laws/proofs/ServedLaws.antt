@@ -14,6 +14,7 @@ use Rattle.nr_reduce.specs.Served.{ServedMark}
 use Rattle.nr_reduce.proofs.SoFarLaws.{AtEachMark_each, served_mark}
 use Rattle.nr_laws.specs.EndCauses.{KeepLaws}
 use Rattle.nr_laws.specs.MatchedSoFar.{MatchedSoFar}
+use Rattle.nr_laws.proofs.NoOldCalls.{no_old_call}
 use Rattle.nr_client.specs.declared.call_end.CallEnd.TheVariants as calls
 use Rattle.nr_client.specs.declared.client_end.ClientEnd.{ClientEnd}
 use Rattle.nr_client.specs.declared.client_end.ClientEnd.TheVariants as client
@@ -23,7 +24,7 @@ use Rattle.nr_service_laws.specs.ClientMarks.{IsOwn, IsWholeFor}
 use Rattle.nr_service_laws.specs.ServedCommands.{IsClientSideOf, client_marks}
 use Rattle.nr_service_laws.specs.ServedLinks.{IsServedBy, ServedCommandsHaveNotEnded, ServedCommandsKeepLaws}
 use Rattle.nr_service_laws.proofs.ClientLaws.{asked_in_both, grant_in_both, whole_each}
-use Rattle.nr_service_laws.proofs.OpenLinks.{requester_open, served_clients_stay_lem}
+use Rattle.nr_service_laws.proofs.OpenLinks.{agrees_first, requester_open, served_clients_stay_lem}
 
 -- the server's law and the link
 pub record ServerKeeps (opened : LinkParameters) (link : ℕ) (run both : List Mark) : Type 0 where
@@ -78,7 +79,8 @@ served_not_ended_lem opened link c before after input input' out out' result (No
 served_not_ended_lem opened link c before after input input' out out' result (Opened dialed s s' opens prints closes) = λ ran reply_to adds both fine served.
     let laws = served_keep_laws_lem opened link c before after input input' out out' result (Opened dialed s s' opens prints closes) ran reply_to adds both fine served in
     let side = side_of reply_to adds opened link ran.run both served laws.0 in
-    by (λ kept. requester_open result opened link s'.requester ran.ahead ran.run ran.stands (served_clients_stay_lem reply_to adds opened link ran.run both fine ran.own side kept)) laws.1
+    let fresh = no_old_call opened link both served.typed laws.0 ran.unnumbered in
+    by (λ kept. requester_open result opened link s'.requester ran.ahead ran.run ran.stands (served_clients_stay_lem reply_to adds opened link ran.run both fine (agrees_first opened ran.first_link.agreed) ran.own side kept fresh)) laws.1
   where
     memory_or : (A : Type 0) → A ⊎ (result ≡ Err (client.Link (calls.Ended ends.Memory))) → A ⊎ ((result ≡ Err (client.Link (calls.Ended ends.Memory))) ⊎ (result ≡ Err (client.Link calls.LinkWrite)))
     memory_or A (inl stays) = inl stays

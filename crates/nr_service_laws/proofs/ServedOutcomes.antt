@@ -14,14 +14,17 @@ use Rattle.nr_reduce.specs.declared.mark.Mark.{Mark}
 use Rattle.nr_reduce.specs.declared.mark.Mark.TheVariants as marks
 use Rattle.nr_reduce.specs.declared.outline.Plan.{Plan}
 use Rattle.nr_reduce.specs.History.{CompletedCall, completed_at, completed_calls}
+use Rattle.nr_reduce.specs.Opening.{lengths_before}
+use Rattle.nr_reduce.proofs.Unresumed.{none_waits}
 use Rattle.nr_reduce.proofs.Standing.{itself}
 use Rattle.nr_laws.specs.ChunkOutcomes.{HasChunkCause}
 use Rattle.nr_laws.specs.MarkAt.{MarkAt}
 use Rattle.nr_laws.specs.Payloads.{HasPlan}
-use Rattle.nr_laws.proofs.AutoReplies.{auto_has_replies}
+use Rattle.nr_laws.proofs.AutoReplies.{ArePlannedBefore, auto_replies}
 use Rattle.nr_laws.proofs.ChunkCauses.{chunk_has_cause}
 use Rattle.nr_laws.proofs.LaterMarks.{mark_later}
 use Rattle.nr_laws.proofs.Completed.{version_never}
+use Rattle.nr_laws.proofs.WaitingCalls.{IsPlannedBefore, planned_then}
 use Rattle.nr_commands.specs.Running.Runs.{NotOpened, Opened}
 use Rattle.nr_service_laws.specs.ClientMarks.{IsOwn}
 use Rattle.nr_service_laws.specs.CommandEnds.{AreReplies, IsReplyOutcome}
@@ -81,9 +84,17 @@ auto_of link both earlier later call form xid own is =
     (kept_one (IsOwn link) (is_client_mark link) earlier (marks.Submit link call form (submissions.Accepted xid)) later
     (subst (λ (r : List Mark). AllByRecursion (IsOwn link) (client_marks link r)) is own) (itself link))
 
+-- what waits is planned for lengths that an earlier hello agreed on, at each mark
+abbrev pub WaitsAsPlanned : LinkParameters → ℕ → Type 0
+WaitsAsPlanned opened link = (run : List Mark) → ArePlannedBefore opened link run
+
+-- nothing waits on a link that was not reopened
+pub first_waits : (opened : LinkParameters) (link : ℕ) → opened.resumed ≡ [] → WaitsAsPlanned opened link
+first_waits opened link none run = subst (AllByRecursion (IsPlannedBefore (lengths_before opened.agreed))) (sym (none_waits opened link run none)) tt
+
 one_reply : (reply_to : List Entry → Moment → List ℕ → Option (List ℕ)) (adds : Moment → List ℕ → List ℕ → List Entry) (opened : LinkParameters) (link : ℕ) (run both : List Mark)
-    → AllByRecursion (IsOwn link) (client_marks link both) → IsClientSideOf reply_to adds opened link run both → (before : List Mark) (xid : ℕ) (outcome : Outcome) → MarkAt both before (marks.Done link xid outcome) → IsReplyOutcome outcome
-one_reply reply_to adds opened link run both own served before xid outcome at = by outcome at
+    → WaitsAsPlanned opened link → AllByRecursion (IsOwn link) (client_marks link both) → IsClientSideOf reply_to adds opened link run both → (before : List Mark) (xid : ℕ) (outcome : Outcome) → MarkAt both before (marks.Done link xid outcome) → IsReplyOutcome outcome
+one_reply reply_to adds opened link run both waits own served before xid outcome at = by outcome at
   where
     no_chunk : (o : Outcome) → (reply : List ℕ) × (o ≡ outcomes.Reply reply) → o ≡ outcomes.Chunk → ⊥
     no_chunk (outcomes.Reply payload) has is = cc
@@ -95,7 +106,7 @@ one_reply reply_to adds opened link run both own served before xid outcome at = 
         let submit = mark_later both before (marks.Done link xid outcomes.Chunk) there.after has.before (marks.Submit link has.call has.form (submissions.Accepted xid)) there.is has.at in
         let auto = auto_of link both has.before submit.after has.call has.form xid own submit.is in
         no_chunk outcomes.Chunk
-        (auto_has_replies reply_to adds opened link both has.before before has.call xid outcomes.Chunk served.limits served.plain served.typed served.matched
+        (auto_replies reply_to adds opened link both has.before before has.call xid outcomes.Chunk (waits has.before) served.limits served.plain served.typed served.matched
         (subst (λ (f : Form). MarkAt both has.before (marks.Submit link has.call f (submissions.Accepted xid))) auto submit) there)
         refl
 
@@ -109,14 +120,14 @@ one_reply reply_to adds opened link run both own served before xid outcome at = 
     by (outcomes.Version low high) there = version_never opened link both before there.after xid low high served.typed served.matched there.is
 
 each_reply : (reply_to : List Entry → Moment → List ℕ → Option (List ℕ)) (adds : Moment → List ℕ → List ℕ → List Entry) (opened : LinkParameters) (link : ℕ) (run both : List Mark)
-    → AllByRecursion (IsOwn link) (client_marks link both) → IsClientSideOf reply_to adds opened link run both → (before rest : List Mark) → both ≡ before ++ rest → AreReplies (map (λ (c : CompletedCall). c.outcome) (flat_map (completed_at link) rest))
-each_reply reply_to adds opened link run both own served before [] is = tt
-each_reply reply_to adds opened link run both own served before (m ∷ rest) is = by m is (each_reply reply_to adds opened link run both own served (before ++ m ∷ []) rest (is ∙ sym (append_assoc before (m ∷ []) rest)))
+    → WaitsAsPlanned opened link → AllByRecursion (IsOwn link) (client_marks link both) → IsClientSideOf reply_to adds opened link run both → (before rest : List Mark) → both ≡ before ++ rest → AreReplies (map (λ (c : CompletedCall). c.outcome) (flat_map (completed_at link) rest))
+each_reply reply_to adds opened link run both waits own served before [] is = tt
+each_reply reply_to adds opened link run both waits own served before (m ∷ rest) is = by m is (each_reply reply_to adds opened link run both waits own served (before ++ m ∷ []) rest (is ∙ sym (append_assoc before (m ∷ []) rest)))
   where
     at_done : (l xid : ℕ) (outcome : Outcome) (b : Bool) → eqb l link ≡ b → both ≡ before ++ marks.Done l xid outcome ∷ rest → AreReplies (map (λ (c : CompletedCall). c.outcome) (flat_map (completed_at link) rest))
         → AreReplies (map (λ (c : CompletedCall). c.outcome) (cond b (record { xid = xid; outcome = outcome } ∷ []) [] ++ flat_map (completed_at link) rest))
     at_done l xid outcome true own_link is later = (
-      one_reply reply_to adds opened link run both own served before xid outcome
+      one_reply reply_to adds opened link run both waits own served before xid outcome
           (record { after = rest; is = subst (λ (n : ℕ). both ≡ before ++ marks.Done n xid outcome ∷ rest) (eqb-true l link own_link) is }),
       later,
     )
@@ -135,14 +146,18 @@ each_reply reply_to adds opened link run both own served before (m ∷ rest) is 
     by (marks.Drop l) is later = later
     by (marks.Told l what) is later = later
 
-pub served_clients_have_replies_lem : ServedClientsHaveReplies
+have_replies : (reply_to : List Entry → Moment → List ℕ → Option (List ℕ)) (adds : Moment → List ℕ → List ℕ → List Entry) (opened : LinkParameters) (link : ℕ) (run both : List Mark)
+    → WaitsAsPlanned opened link → AllByRecursion (IsOwn link) run → IsClientSideOf reply_to adds opened link run both → AreReplies (outcomes_handed_over link run)
 unfolding completed_calls
-served_clients_have_replies_lem reply_to adds opened link run both own served =
+have_replies reply_to adds opened link run both waits own served =
     subst AreReplies (outcomes_kept link both ∙ ap (λ (r : List Mark). outcomes_handed_over link r) served.client_side)
-    (each_reply reply_to adds opened link run both (subst (λ (r : List Mark). AllByRecursion (IsOwn link) r) (sym served.client_side) own) served [] both refl)
+    (each_reply reply_to adds opened link run both waits (subst (λ (r : List Mark). AllByRecursion (IsOwn link) r) (sym served.client_side) own) served [] both refl)
+
+pub served_clients_have_replies_lem : ServedClientsHaveReplies
+served_clients_have_replies_lem reply_to adds opened link run both resumes own served = have_replies reply_to adds opened link run both (λ earlier. planned_then opened link earlier resumes) own served
 
 pub served_commands_end_lem : ServedCommandsExcludeEnds
 served_commands_end_lem opened link c before after input input' out out' result (NotOpened end is fails same_input same_out) = tt
 served_commands_end_lem opened link c before after input input' out out' result (Opened dialed s s' opens prints closes) = λ ran reply_to adds both served.
     let excludes = replies_exclude_ends_lem c before after input input' out out' result (Opened dialed s s' opens prints closes) in
-    (excludes.0, excludes.2 (subst AreReplies ran.outcomes (served_clients_have_replies_lem reply_to adds opened link ran.run both ran.own served)))
+    (excludes.0, excludes.2 (subst AreReplies ran.outcomes (have_replies reply_to adds opened link ran.run both (first_waits opened link ran.first_link.resumed) ran.own served)))

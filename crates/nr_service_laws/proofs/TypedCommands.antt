@@ -19,8 +19,8 @@ use Rattle.nr_reduce.specs.History.{bytes_received, fed_at}
 use Rattle.nr_reduce.specs.Run.{client}
 use Rattle.nr_reduce.proofs.Standing.{AtEachMark_more, itself}
 use Rattle.nr_laws.specs.Typed.{IsTyped, TypedMark}
-use Rattle.nr_byte_laws.specs.DueBytes.{CompletedInBytes, OutcomeIsBytes}
-use Rattle.nr_byte_laws.proofs.ByteClients.{outcome_bytes}
+use Rattle.nr_byte_laws.specs.DueBytes.{AreInBytes, CompletedInBytes, OutcomeIsBytes}
+use Rattle.nr_byte_laws.proofs.ByteClients.{none_again, outcome_bytes}
 use Rattle.nr_commands.specs.Running.Runs.{NotOpened, Opened}
 use Rattle.nr_service_laws.specs.ClientMarks.{AreMarksOf, IsOwn, without_bytes}
 use Rattle.nr_service_laws.specs.Exchanges.{Exchange, tells_text}
@@ -68,49 +68,49 @@ with_bytes (marks.Drop l ∷ run) h = with_bytes run h
 with_bytes (marks.Told l what ∷ run) h = with_bytes run h
 
 -- an outcome that is handed over is one that messages brought to a client that was fed bytes
-handed_over : (opened : LinkParameters) (link : ℕ) (front : List Mark) (xid : ℕ) (outcome : Outcome) → IsTyped front → IsCompleted opened link front xid outcome → OutcomeIsBytes outcome
-handed_over opened link front xid outcome typed completed =
+handed_over : (opened : LinkParameters) (link : ℕ) → AreInBytes Initiator opened → (front : List Mark) (xid : ℕ) (outcome : Outcome) → IsTyped front → IsCompleted opened link front xid outcome → OutcomeIsBytes outcome
+handed_over opened link again front xid outcome typed completed =
     All-contains CompletedInBytes (client opened link front).state.outcomes (record { xid = xid; outcome = outcome })
-    (All-from_recursion CompletedInBytes (client opened link front).state.outcomes (outcome_bytes opened link front typed)) completed.is_received
+    (All-from_recursion CompletedInBytes (client opened link front).state.outcomes (outcome_bytes opened link front again typed)) completed.is_received
 
 more_typed : (front : List Mark) (mark : Mark) → IsTyped front → TypedMark front mark → IsTyped (front ++ mark ∷ [])
 more_typed front mark h t = AtEachMark_more TypedMark [] front mark h t
 
-typed_from : (opened : LinkParameters) (link : ℕ) (front run : List Mark) → IsTyped front → AllByRecursion (IsOwn link) run → IsBytes (flat_map (fed_at link Initiator) run)
+typed_from : (opened : LinkParameters) (link : ℕ) → AreInBytes Initiator opened → (front run : List Mark) → IsTyped front → AllByRecursion (IsOwn link) run → IsBytes (flat_map (fed_at link Initiator) run)
     → AtEachMark (AskedMark IsPrefixOf opened link) front run → MarksOfBytes run → AtEachMark TypedMark front run
-typed_from opened link front [] h own fed asked calls = tt
-typed_from opened link front (marks.Fed l Initiator bytes ∷ run) h own fed asked calls =
+typed_from opened link again front [] h own fed asked calls = tt
+typed_from opened link again front (marks.Fed l Initiator bytes ∷ run) h own fed asked calls =
     let t = subst IsBytes (fed_bytes link l bytes own.0) (IsBytes_left (fed_at link Initiator (marks.Fed l Initiator bytes)) (flat_map (fed_at link Initiator) run) fed) in (
       t,
-      typed_from opened link (front ++ marks.Fed l Initiator bytes ∷ []) run (more_typed front (marks.Fed l Initiator bytes) h t) own.1
+      typed_from opened link again (front ++ marks.Fed l Initiator bytes ∷ []) run (more_typed front (marks.Fed l Initiator bytes) h t) own.1
           (IsBytes_right (fed_at link Initiator (marks.Fed l Initiator bytes)) (flat_map (fed_at link Initiator) run) fed) asked.1 calls,
     )
-typed_from opened link front (marks.Wrote l Initiator bytes ∷ run) h own fed asked calls =
-    (tt, typed_from opened link (front ++ marks.Wrote l Initiator bytes ∷ []) run (more_typed front (marks.Wrote l Initiator bytes) h tt) own.1 fed asked.1 calls)
-typed_from opened link front (marks.Submit l call forms.Auto (submissions.Accepted xid) ∷ run) h own fed asked calls =
+typed_from opened link again front (marks.Wrote l Initiator bytes ∷ run) h own fed asked calls =
+    (tt, typed_from opened link again (front ++ marks.Wrote l Initiator bytes ∷ []) run (more_typed front (marks.Wrote l Initiator bytes) h tt) own.1 fed asked.1 calls)
+typed_from opened link again front (marks.Submit l call forms.Auto (submissions.Accepted xid) ∷ run) h own fed asked calls =
     let mark : Mark = marks.Submit l call forms.Auto (submissions.Accepted xid) in
     let t : TypedMark front mark = (calls.0.1 xid, tt, calls.0.0) in
-    (t, typed_from opened link (front ++ mark ∷ []) run (more_typed front mark h t) own.1 fed asked.1 calls.1)
-typed_from opened link front (marks.Done l xid outcome ∷ run) h own fed asked calls = (
+    (t, typed_from opened link again (front ++ mark ∷ []) run (more_typed front mark h t) own.1 fed asked.1 calls.1)
+typed_from opened link again front (marks.Done l xid outcome ∷ run) h own fed asked calls = (
   tt,
-  typed_from opened link (front ++ marks.Done l xid outcome ∷ []) run (more_typed front (marks.Done l xid outcome) h tt) own.1 fed asked.1
-      (calls (handed_over opened link front xid outcome h (asked.0 own.0))),
+  typed_from opened link again (front ++ marks.Done l xid outcome ∷ []) run (more_typed front (marks.Done l xid outcome) h tt) own.1 fed asked.1
+      (calls (handed_over opened link again front xid outcome h (asked.0 own.0))),
 )
-typed_from opened link front (marks.Forget l xid ∷ run) h own fed asked calls =
-    (tt, typed_from opened link (front ++ marks.Forget l xid ∷ []) run (more_typed front (marks.Forget l xid) h tt) own.1 fed asked.1 calls)
-typed_from opened link front (marks.Fed l Responder bytes ∷ run) h own fed asked calls = absurd own.0
-typed_from opened link front (marks.Wrote l Responder bytes ∷ run) h own fed asked calls = absurd own.0
-typed_from opened link front (marks.Submit l call forms.Auto (submissions.Refused why) ∷ run) h own fed asked calls = absurd own.0
-typed_from opened link front (marks.Submit l call forms.Auto submissions.Dropped ∷ run) h own fed asked calls = absurd own.0
-typed_from opened link front (marks.Submit l call forms.Inline answer ∷ run) h own fed asked calls = absurd own.0
-typed_from opened link front (marks.Submit l call forms.Chunk answer ∷ run) h own fed asked calls = absurd own.0
-typed_from opened link front (marks.Submit l call forms.Long answer ∷ run) h own fed asked calls = absurd own.0
-typed_from opened link front (marks.Submit l call (forms.Given offer) answer ∷ run) h own fed asked calls = absurd own.0
-typed_from opened link front (marks.Execute l xid moment payload place reply ∷ run) h own fed asked calls = absurd own.0
-typed_from opened link front (marks.Lost l xid ∷ run) h own fed asked calls = absurd own.0
-typed_from opened link front (marks.Revoke l xid bytes ∷ run) h own fed asked calls = absurd own.0
-typed_from opened link front (marks.Drop l ∷ run) h own fed asked calls = absurd own.0
-typed_from opened link front (marks.Told l what ∷ run) h own fed asked calls = absurd own.0
+typed_from opened link again front (marks.Forget l xid ∷ run) h own fed asked calls =
+    (tt, typed_from opened link again (front ++ marks.Forget l xid ∷ []) run (more_typed front (marks.Forget l xid) h tt) own.1 fed asked.1 calls)
+typed_from opened link again front (marks.Fed l Responder bytes ∷ run) h own fed asked calls = absurd own.0
+typed_from opened link again front (marks.Wrote l Responder bytes ∷ run) h own fed asked calls = absurd own.0
+typed_from opened link again front (marks.Submit l call forms.Auto (submissions.Refused why) ∷ run) h own fed asked calls = absurd own.0
+typed_from opened link again front (marks.Submit l call forms.Auto submissions.Dropped ∷ run) h own fed asked calls = absurd own.0
+typed_from opened link again front (marks.Submit l call forms.Inline answer ∷ run) h own fed asked calls = absurd own.0
+typed_from opened link again front (marks.Submit l call forms.Chunk answer ∷ run) h own fed asked calls = absurd own.0
+typed_from opened link again front (marks.Submit l call forms.Long answer ∷ run) h own fed asked calls = absurd own.0
+typed_from opened link again front (marks.Submit l call (forms.Given offer) answer ∷ run) h own fed asked calls = absurd own.0
+typed_from opened link again front (marks.Execute l xid moment payload place reply ∷ run) h own fed asked calls = absurd own.0
+typed_from opened link again front (marks.Lost l xid ∷ run) h own fed asked calls = absurd own.0
+typed_from opened link again front (marks.Revoke l xid bytes ∷ run) h own fed asked calls = absurd own.0
+typed_from opened link again front (marks.Drop l ∷ run) h own fed asked calls = absurd own.0
+typed_from opened link again front (marks.Told l what ∷ run) h own fed asked calls = absurd own.0
 
 given_bytes : (left : List ℕ) (after : Option (List ℕ)) (bytes : List ℕ) → Consumes (Some left) after bytes → IsBytes left → IsBytes bytes
 given_bytes left None bytes takes h = absurd takes
@@ -151,7 +151,7 @@ pub commands_are_typed_lem : CommandsAreTyped
 unfolding bytes_received
 commands_are_typed_lem opened link c before after input input' out out' result (NotOpened end is fails same_input same_out) = tt
 commands_are_typed_lem opened link c before after input input' out out' result (Opened dialed s s' opens prints closes) = λ ran is of.
-    typed_from opened link [] ran.run tt ran.own
+    typed_from opened link (none_again opened ran.first_link.resumed) [] ran.run tt ran.own
     (IsBytes_left (flat_map (fed_at link Initiator) ran.run) ran.ahead
     (given_bytes is.left s'.bytes.left (flat_map (fed_at link Initiator) ran.run ++ ran.ahead)
     (subst (λ (o : Option (List ℕ)). Consumes o s'.bytes.left (flat_map (fed_at link Initiator) ran.run ++ ran.ahead)) is.known ran.left) is.bytes))

@@ -12,7 +12,7 @@ use Rattle.nr_reduce.specs.declared.mark.Mark.{Mark}
 use Rattle.nr_reduce.specs.Asked.{AskedSoFar}
 use Rattle.nr_reduce.specs.Credits.{KeepsGrant}
 use Rattle.nr_reduce.specs.History.{AcceptedCall, CompletedCall, accepted_calls, bytes_received, bytes_sent, completed_calls}
-use Rattle.nr_reduce.specs.Opening.{IsOpened, ClientOpened}
+use Rattle.nr_reduce.specs.Opening.{IsOpened, IsFirstLink, ClientOpened}
 use Rattle.nr_words.specs.Lines.{Text}
 use Rattle.nr_words.specs.declared.commands.Client.{Client}
 use Rattle.nr_client.specs.declared.client_end.ClientEnd.{ClientEnd}
@@ -38,6 +38,9 @@ outcomes_handed_over link run = map (λ (c : CompletedCall). c.outcome) (complet
 -- One run of a link has all that a command did over a session, from its opening to the moment at which its link was hung up.
 pub record IsCommandRun (opened : LinkParameters) (link : ℕ) (s s' : SessionAt) (log log' : Option LinkLog) (result : Result (Unit {0}) ClientEnd) (exchanges : Exchanges) : Type 0 where
   pub run : List Mark
+  -- its link was not reopened, and its client has no number
+  pub first_link : IsFirstLink opened
+  pub unnumbered : opened.client.number ≡ 0
   -- It is a run of the client's side alone. The client keeps its law and the last grant.
   pub own : AllByRecursion (IsOwn link) run
   pub asked : AskedSoFar opened link run

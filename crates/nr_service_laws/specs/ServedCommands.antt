@@ -13,6 +13,7 @@ use Rattle.nr_reduce.specs.KeepsReplyLimits.{KeepsReplyLimits}
 use Rattle.nr_laws.specs.MatchedSoFar.{MatchedSoFar}
 use Rattle.nr_laws.specs.PlainLinks.{HasPlainReplies, server_with}
 use Rattle.nr_laws.specs.Typed.{IsTyped}
+use Rattle.nr_laws.specs.Resuming.{ResumesArePlanned}
 use Rattle.nr_words.specs.Lines.{Text}
 use Rattle.nr_words.specs.declared.commands.Client.{Client}
 use Rattle.nr_client.specs.declared.client_end.ClientEnd.{ClientEnd}
@@ -48,11 +49,11 @@ pub record IsClientSideOf (reply_to : List Entry → Moment → List ℕ → Opt
   pub limits : KeepsReplyLimits (server_with reply_to adds)
   pub plain : HasPlainReplies (server_with reply_to adds) link both
 
--- Then each outcome that a client of such marks handed over is a reply.
+-- Then each outcome that a client of such marks handed over is a reply, if it sends no calls again but such as were planned.
 abbrev pub ServedClientsHaveReplies : Type 0
 ServedClientsHaveReplies =
     (reply_to : List Entry → Moment → List ℕ → Option (List ℕ)) (adds : Moment → List ℕ → List ℕ → List Entry) (opened : LinkParameters) (link : ℕ) (run both : List Mark) →
-    AllByRecursion (IsOwn link) run → IsClientSideOf reply_to adds opened link run both → AreReplies (outcomes_handed_over link run)
+    ResumesArePlanned opened → AllByRecursion (IsOwn link) run → IsClientSideOf reply_to adds opened link run both → AreReplies (outcomes_handed_over link run)
 
 -- So a command of which a run of its link is such a side ends by the replies or for another reason, but not for ERR_CHUNK or another version.
 abbrev pub EndsServed : (opened : LinkParameters) (link : ℕ) (c : Client Text) (before after : DialerAt) (input input' : SourceAt) (out out' : SinkAt) (result : Result (Unit {0}) ClientEnd)

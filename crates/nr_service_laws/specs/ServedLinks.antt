@@ -16,7 +16,7 @@ use Rattle.nr_reduce.specs.Matched.{Matched}
 use Rattle.nr_reduce.specs.Run.{end_of_side, HasWritten}
 use Rattle.nr_reduce.specs.Served.{ServedMark}
 use Rattle.nr_laws.specs.Completion.{NothingInTransit}
-use Rattle.nr_laws.specs.EndCauses.{KeepLaws}
+use Rattle.nr_laws.specs.EndCauses.{KeepLaws, AgreesAgain, HasNoOldCall}
 use Rattle.nr_laws.specs.MatchedSoFar.{MatchedSoFar}
 use Rattle.nr_requester.specs.RequesterState.{RequesterSide}
 use Rattle.nr_laws.specs.PlainLinks.{HasPlainReplies, server_with}
@@ -49,11 +49,12 @@ pub record OwesNothing (opened : LinkParameters) (link : ℕ) (both : List Mark)
   pub written : HasWritten opened link Responder both
   pub nothing_waits : NothingInTransit opened link both
 
--- If both sides of the link also keep their laws with each Wrote in full, the client's side of these marks has not ended.
+-- If both sides of the link also keep their laws with each Wrote in full, no call is refused as old, and the hellos agree on the lengths of an
+-- earlier one, if there was one, the client's side of these marks has not ended.
 abbrev pub ServedClientsStayOpen : Type 0
 ServedClientsStayOpen =
     (reply_to : List Entry → Moment → List ℕ → Option (List ℕ)) (adds : Moment → List ℕ → List ℕ → List Entry) (opened : LinkParameters) (link : ℕ) (run both : List Mark) →
-    IsOpened opened → AllByRecursion (IsOwn link) run → IsClientSideOf reply_to adds opened link run both → KeepLaws opened link both → end_of_side opened link Initiator run ≡ None
+    IsOpened opened → AgreesAgain opened → AllByRecursion (IsOwn link) run → IsClientSideOf reply_to adds opened link run both → KeepLaws opened link both → HasNoOldCall link both → end_of_side opened link Initiator run ≡ None
 
 -- So the requester of a command over such a link has not ended when the link is hung up, unless memory ran out for a frame.
 abbrev pub EndsOpen : (opened : LinkParameters) (link : ℕ) (c : Client Text) (before after : DialerAt) (input input' : SourceAt) (out out' : SinkAt) (result : Result (Unit {0}) ClientEnd)

@@ -110,7 +110,7 @@ abbrev end_in : Submission → Option End
 end_in (submissions.Refused why) = end_in_refused why
 end_in answer = None
 
--- an answer for another cause than that no credit is left
+-- an answer for another cause than that no credit is left, or that an xid is too far above the least one
 abbrev Credited : Submission → Type 0
 Credited (submissions.Refused why) = HasCredit why
 Credited answer = ⊤
@@ -169,13 +169,14 @@ SaysSo r call form why = why ≢ refusals.Memory → answer_of r call form ≡ s
 said : (r : RequesterState) (call : Call) (form : Form) (why : Refused) → NotMemory why → SaysSo r call form why → answer_of r call form ≡ submissions.Refused why
 said r call form why other says = says (λ same. subst NotMemory same other)
 
--- a call isn't refused with NoCredit while a credit is left
+-- a call isn't refused with NoCredit while a credit is left, and never with Window, since the client has no number
 pub credit_left : (r : RequesterState) (call : Call) (form : Form) (why : Refused) → length r.outstanding < r.grant → SaysSo r call form why → HasCredit why
 credit_left r call form refusals.Memory credit says = tt
 credit_left r call form (refusals.Ended end) credit says = tt
 credit_left r call form (refusals.TooLarge need room) credit says = tt
 credit_left r call form (refusals.Spent left need) credit says = tt
 credit_left r call form (refusals.NoCredit out grant) credit says = subst Credited (said r call form (refusals.NoCredit out grant) tt says) (credited r call form credit)
+credit_left r call form (refusals.Window oldest next) credit says = subst Credited (said r call form (refusals.Window oldest next) tt says) (credited r call form credit)
 
 none_memory : None ≡ Some ends.Memory → ⊥
 none_memory e = absurd cc
@@ -208,6 +209,7 @@ module _ {O C : Type 0} (taken : O → Option (List ℕ)) (faults : O → ℕ) (
       ended_is taken faults allows m h end st (sym (answers_end m.requester.state call form) ∙ ap end_in (said m.requester.state call form (refusals.Ended end) tt says))
   refused_is m h call form (refusals.TooLarge need room) st says = client_refuses m h call form (refusals.TooLarge need room) st refl tt says
   refused_is m h call form (refusals.NoCredit out grant) st says = client_refuses m h call form (refusals.NoCredit out grant) st refl tt says
+  refused_is m h call form (refusals.Window oldest next) st says = client_refuses m h call form (refusals.Window oldest next) st refl tt says
   refused_is m h call form (refusals.Spent left need) st says = client_refuses m h call form (refusals.Spent left need) st refl tt says
 
   -- whether a credit is left

@@ -32,7 +32,7 @@ pub enum CallEnd {
 impl CallEnd {
     ghost use Rattle.nr_shared.specs.Ending.{HasCredit, IsCause, IsRefused};
 
-    /// The end of a call that was refused so, while a credit is left.
+    /// The end of a call that was refused so while a credit is left, by a client without a number.
     pub(crate) fn of_refused(refused: Refused) -> CallEnd
         requires { HasCredit refused }
         ensures { (call : Call) (form : Form) (history : List Entry) → IsRefused refused call form history → IsCause result call form history }
@@ -40,7 +40,7 @@ impl CallEnd {
         match refused {
             Refused::Ended(end) => CallEnd::Ended(end),
             Refused::TooLarge { need, room } => CallEnd::TooLarge { need, room },
-            Refused::NoCredit { .. } => unreachable!(),
+            Refused::NoCredit { .. } | Refused::Window { .. } => unreachable!(),
             Refused::Spent { left, need } => CallEnd::Spent { left, need },
             Refused::Memory => CallEnd::Memory,
         }

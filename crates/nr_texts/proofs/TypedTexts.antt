@@ -20,7 +20,7 @@ use Rattle.nr_reduce.specs.Plans.{HasWordPosition}
 use Rattle.nr_texts.specs.Forms.{OfferPart, comma, semicolon, equals, at_sign, dot, lengths_in, write_lengths_in, position_by, read_part, write_part, reply_part, named_part, part_by, part_in, nothing_offered, with_part, offer_by, offer_in, given, given_form, form_in, numbered_program, program_in, IsPosition, IsWritableOffer, IsWritableForm}
 use Rattle.nr_texts.specs.Forms.OfferPart.{Read, Write, Reply}
 use Rattle.nr_texts.proofs.Pieces.{split}
-use Rattle.nr_texts.specs.Openings.{capacity_in, sizes_of, sizes_in, invalidate_in, opening_of, opening_in, IsOpening}
+use Rattle.nr_texts.specs.Openings.{capacity_in, sizes_of, sizes_in, numbered_in, invalidate_in, opening_of, opening_in, IsOpening}
 
 abbrev pub If : {A : Type 0} → (A → Type 0) → Option A → Type 0
 If P None = Unit {0}
@@ -283,16 +283,16 @@ bool_if (Some b) = tt
 opening_of_if : (clients credits : List ℕ) (others : List (List ℕ)) → If IsOpening (opening_of clients credits others)
 opening_of_if clients credits others =
     then_if (λ n. (1 ≤ n) × (n ≤ clients_max)) IsOpening (number_within 1 clients_max clients)
-    (λ n. number_within 1 credits_max credits >>= λ g. capacity_in others >>= λ p. sizes_in p.1 >>= λ s. invalidate_in s.1 >>= λ v. made n g p s v) (within_if 1 clients_max clients)
+    (λ n. number_within 1 credits_max credits >>= λ g. capacity_in others >>= λ p. sizes_in p.1 >>= λ s. invalidate_in (numbered_in s.1).1 >>= λ v. made n g p s v) (within_if 1 clients_max clients)
     (λ n h. then_if (λ g. (1 ≤ g) × (g ≤ credits_max)) IsOpening (number_within 1 credits_max credits)
-    (λ g. capacity_in others >>= λ p. sizes_in p.1 >>= λ s. invalidate_in s.1 >>= λ v. made n g p s v) (within_if 1 credits_max credits)
-    (λ g k. then_if CapacityFits IsOpening (capacity_in others) (λ p. sizes_in p.1 >>= λ s. invalidate_in s.1 >>= λ v. made n g p s v) (capacity_if others)
-    (λ p f. then_if SizesFit IsOpening (sizes_in p.1) (λ s. invalidate_in s.1 >>= λ v. made n g p s v) (sizes_if p.1)
-    (λ s u. then_if AnyBool IsOpening (invalidate_in s.1) (λ v. made n g p s v) (bool_if (invalidate_in s.1))
+    (λ g. capacity_in others >>= λ p. sizes_in p.1 >>= λ s. invalidate_in (numbered_in s.1).1 >>= λ v. made n g p s v) (within_if 1 credits_max credits)
+    (λ g k. then_if CapacityFits IsOpening (capacity_in others) (λ p. sizes_in p.1 >>= λ s. invalidate_in (numbered_in s.1).1 >>= λ v. made n g p s v) (capacity_if others)
+    (λ p f. then_if SizesFit IsOpening (sizes_in p.1) (λ s. invalidate_in (numbered_in s.1).1 >>= λ v. made n g p s v) (sizes_if p.1)
+    (λ s u. then_if AnyBool IsOpening (invalidate_in (numbered_in s.1).1) (λ v. made n g p s v) (bool_if (invalidate_in (numbered_in s.1).1))
     (λ v t. record { some_clients = h.0; few_clients = h.1; some_credits = k.0; few_credits = k.1; capacity = f; some_client_units = u.0.0; few_client_units = u.0.1; some_server_units = u.1.0; few_server_units = u.1.1 })))))
   where
     made : ℕ → ℕ → ℕ × List (List ℕ) → (ℕ × ℕ) × List (List ℕ) → Bool → Option Opening
-    made n g p s v = Some (record { clients = n; credits = g; capacity = p.0; client_units = s.0.0; server_units = s.0.1; invalidates = v })
+    made n g p s v = Some (record { clients = n; credits = g; capacity = p.0; client_units = s.0.0; server_units = s.0.1; numbered = (numbered_in s.1).0; invalidates = v })
 
 pub opening_if : (words : List (List ℕ)) → If IsOpening (opening_in words)
 unfolding opening_in

@@ -1,5 +1,5 @@
 -- The first line of a script and of a capture: `clients N credits G`, and then, each if it is given and in this order, ` capacity B`,
--- ` sizes A B`, ` invalidate`.
+-- ` sizes A B`, ` numbered`, ` invalidate`.
 use Rattle.std.specs.Prelude.{ℕ, ◌≤◌, Bool, true, false, ◌&&◌, if◌then◌else◌, List, [], ◌∷◌, codes, Option, None, Some}
 use Rattle.std.specs.Str.{bytes_eq}
 use Rattle.nr_rpc.specs.declared.cred.Cred.{Cred}
@@ -25,6 +25,11 @@ sizes_in (name ∷ client ∷ server ∷ others) =
     if bytes_eq name (codes "sizes") then (sizes_of client server >>= λ units. Some (units, others)) else Some ((default_units, default_units), name ∷ client ∷ server ∷ others)
 sizes_in words = Some ((default_units, default_units), words)
 
+-- whether `numbered` is there, and the words that are left
+abbrev pub numbered_in : List (List ℕ) → Bool × List (List ℕ)
+numbered_in (name ∷ others) = if bytes_eq name (codes "numbered") then (true, others) else (false, name ∷ others)
+numbered_in words = (false, words)
+
 -- whether `invalidate` is there, if no other words are left
 abbrev pub invalidate_in : List (List ℕ) → Option Bool
 invalidate_in [] = Some false
@@ -37,8 +42,8 @@ opening_of clients credits others = do
   g ← number_within 1 credits_max credits
   capacity ← capacity_in others
   sizes ← sizes_in capacity.1
-  invalidates ← invalidate_in sizes.1
-  Some (record { clients = n; credits = g; capacity = capacity.0; client_units = sizes.0.0; server_units = sizes.0.1; invalidates = invalidates })
+  invalidates ← invalidate_in (numbered_in sizes.1).1
+  Some (record { clients = n; credits = g; capacity = capacity.0; client_units = sizes.0.0; server_units = sizes.0.1; numbered = (numbered_in sizes.1).0; invalidates = invalidates })
 
 unfoldable pub opening_in : List (List ℕ) → Option Opening
 opening_in (first ∷ clients ∷ second ∷ credits ∷ others) =

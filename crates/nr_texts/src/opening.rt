@@ -2,7 +2,7 @@
 
 ghost use Rattle.std.specs.Prelude.{◌≡◌, None, Some, IfOk, option_map, []};
 ghost use Rattle.nr_wire.specs.Constants.{UNITS_MAX as units_max};
-ghost use Rattle.nr_texts.specs.Openings.{capacity_in, invalidate_in, opening_in, opening_of, sizes_in, sys_cred};
+ghost use Rattle.nr_texts.specs.Openings.{capacity_in, invalidate_in, numbered_in, opening_in, opening_of, sizes_in, sys_cred};
 ghost use Rattle.nr_texts.specs.Pieces.{texts};
 ghost use Rattle.nr_texts.specs.Words.{number_within};
 
@@ -25,7 +25,7 @@ pub const DEFAULT_UNITS: u8 = 1;
 /// The maximum number of clients.
 pub const CLIENTS_MAX: u32 = 16;
 
-/// The first line of a script, and of the capture of its run. Each client has a link of its own.
+/// The first line of a script, and of the capture of its run. Each client has a link of its own at first.
 #[derive(Clone, Copy)]
 pub struct Opening {
     /// How many clients there are: 1 to 16.
@@ -38,6 +38,8 @@ pub struct Opening {
     pub client_units: u8,
     /// The units of the Sends of each server: 1 to 16.
     pub server_units: u8,
+    /// Whether each client has its number, from 1. Only such a client may begin another link.
+    pub numbered: bool,
     /// Whether both ends of each link make or take Sends with Invalidate (RFC 5040 section 4).
     pub invalidates: bool,
 }
@@ -87,6 +89,22 @@ fn sizes_in<'a>(words: &'a [&'a [u8]]) -> Option<((u8, u8), &'a [&'a [u8]])>
     }
 }
 
+/// Whether `numbered` is there, and the words that are left.
+fn numbered_in<'a>(words: &'a [&'a [u8]]) -> (bool, &'a [&'a [u8]])
+    ensures { (result.0, texts result.1.now) ≡ numbered_in (texts words.now) }
+{
+    match words {
+        [name, others @ ..] => {
+            if is(name, b"numbered") {
+                (true, others)
+            } else {
+                (false, words)
+            }
+        }
+        _ => (false, words),
+    }
+}
+
 /// Whether `invalidate` is there, if no other words are left.
 fn invalidate_in(words: &[&[u8]]) -> Option<bool>
     ensures { result ≡ invalidate_in (texts words.now) }
@@ -121,6 +139,7 @@ fn opening_of(clients: &[u8], credits: &[u8], others: &[&[u8]]) -> Option<Openin
     let credits = count_in(CREDITS_MAX, credits)?;
     let (capacity, others) = capacity_in(others)?;
     let ((client_units, server_units), others) = sizes_in(others)?;
+    let (numbered, others) = numbered_in(others);
     let invalidates = invalidate_in(others)?;
     Some(Opening {
         clients,
@@ -128,11 +147,12 @@ fn opening_of(clients: &[u8], credits: &[u8], others: &[&[u8]]) -> Option<Openin
         capacity,
         client_units,
         server_units,
+        numbered,
         invalidates,
     })
 }
 
-/// The first line: `clients N credits G`, and then, each if it is given and in this order, ` capacity B`, ` sizes A B`, ` invalidate`.
+/// The first line: `clients N credits G`, and then, each if it is given and in this order, ` capacity B`, ` sizes A B`, ` numbered`, ` invalidate`.
 #[tactic(auto, unfolding(crate::specs::Openings::opening_in))]
 pub fn opening_in(words: &[&[u8]]) -> Option<Opening>
     ensures { result ≡ opening_in (texts words.now) }

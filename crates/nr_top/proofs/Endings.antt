@@ -119,7 +119,8 @@ ends_of log OverBudget source status input input' out out' err err' stopped said
     said_or log OverBudget source status input input' out out' err err' stopped said said (over_budget log source status input input' out out' err err' stopped)
 
 -- the text of a report is what is printed of its run
-same_text : (log : Bool) (source : ScriptSource) (script : ScriptLines) (report : Report) (gives : GivesReport script report) → report_text log source script.opening report ≡ printed log source gives.0 script report.marks
+same_text : (log : Bool) (source : ScriptSource) (script : ScriptLines) (report : Report) (gives : GivesReport script report) →
+    report_text log source script.opening report ≡ printed log source gives.0 script report.marks (record { first = gives.1; keeps = gives.2.drill })
 same_text true source script report gives = refl
 same_text false sources.Input script report gives = (reports_tell (server_of (drill_setup gives.0 script.opening)) script report gives.2).text
 same_text false (sources.Seed seed clients calls) script report gives = (reports_tell (server_of (drill_setup gives.0 script.opening)) script report gives.2).sums

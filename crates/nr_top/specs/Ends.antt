@@ -11,7 +11,7 @@ use Rattle.nr_outside.specs.Whole.{input_max}
 use Rattle.nr_script.specs.Script.{ScriptLines, script_of}
 use Rattle.nr_capture.specs.Captured.{Captured}
 use Rattle.nr_drill.specs.DrillSetup.{drill_setup, server_of}
-use Rattle.nr_drill.specs.Follows.{setting_of}
+use Rattle.nr_drill.specs.Follows.{last_setting}
 use Rattle.nr_drill.specs.Headline.{IsDrillRun}
 use Rattle.nr_drill.specs.Shown.{shown, summary}
 use Rattle.nr_top.specs.Statuses as statuses
@@ -20,17 +20,17 @@ use Rattle.nr_top.specs.declared.drill.ScriptSource.{ScriptSource}
 use Rattle.nr_top.specs.declared.drill.ScriptSource.TheVariants as sources
 use Rattle.nr_top.specs.Sources.{due_status}
 
--- What a drill prints of a run of a script: with `log` the capture of the run; without it what is shown of the run, or, of a script that was
--- made from a seed, the line of sums.
-abbrev pub printed : (log : Bool) → ScriptSource → Tree → ScriptLines → List Mark → List ℕ
-printed true source tree script run = Captured script.opening run
-printed false sources.Input tree script run = shown (setting_of (server_of (drill_setup tree script.opening)) script.opening) script.opening.clients run
-printed false (sources.Seed seed clients calls) tree script run = summary (setting_of (server_of (drill_setup tree script.opening)) script.opening) run
-
 -- a run of the script over the tree of a drill, which keeps the promise of a drill
 pub record IsRunOf (tree : Tree) (script : ScriptLines) (run : List Mark) : Type 0 where
   pub first : IsDrill tree
   pub keeps : IsDrillRun (server_of (drill_setup tree script.opening)) script run
+
+-- What a drill prints of a run of a script: with `log` the capture of the run; without it what is shown of the run, or, of a script that was
+-- made from a seed, the line of sums. The links that are shown are the last ones of the clients.
+abbrev pub printed : (log : Bool) → ScriptSource → (tree : Tree) (script : ScriptLines) (run : List Mark) → IsRunOf tree script run → List ℕ
+printed true source tree script run drill = Captured script.opening run
+printed false sources.Input tree script run drill = shown (last_setting drill.keeps.follows) drill.keeps.follows.last.last_links run
+printed false (sources.Seed seed clients calls) tree script run drill = summary (last_setting drill.keeps.follows) drill.keeps.follows.last.last_links run
 
 -- the input was read, and it says this script
 pub record ReadsScript (input input' : SourceAt) (script : ScriptLines) : Type 0 where
@@ -54,12 +54,12 @@ pub record Ran (source : ScriptSource) (input input' : SourceAt) : Type 0 where
 -- and what is printed of the run was written
 pub record Done (log : Bool) (source : ScriptSource) (input input' : SourceAt) (out out' : SinkAt) : Type 0 where
   pub ran : Ran source input input'
-  pub prints : Writes out out' (printed log source ran.tree ran.script ran.run)
+  pub prints : Writes out out' (printed log source ran.tree ran.script ran.run ran.drill)
 
 -- and a proper prefix of that was written
 pub record PrintsSome (log : Bool) (source : ScriptSource) (input input' : SourceAt) (out out' : SinkAt) : Type 0 where
   pub ran : Ran source input input'
-  pub cut : WritesSome out out' (printed log source ran.tree ran.script ran.run)
+  pub cut : WritesSome out out' (printed log source ran.tree ran.script ran.run ran.drill)
 
 -- the input is no script: this is the number of its first invalid line
 pub record BadLine (number : ℕ) (source : ScriptSource) (input input' : SourceAt) : Type 0 where
@@ -121,7 +121,7 @@ StoppedReading OverBudget input input' =
 
 -- the text is what is printed of a run of the script that keeps the promise of a drill
 abbrev pub IsPrinted : (log : Bool) → ScriptSource → ScriptLines → List ℕ → Type 0
-IsPrinted log source script text = (tree : Tree) × (run : List Mark) × IsRunOf tree script run × (text ≡ printed log source tree script run)
+IsPrinted log source script text = (tree : Tree) × (run : List Mark) × (drill : IsRunOf tree script run) × (text ≡ printed log source tree script run drill)
 
 -- a script was read or made, and this is printed of a run of it
 pub record Shown (log : Bool) (source : ScriptSource) (input input' : SourceAt) (text : List ℕ) : Type 0 where

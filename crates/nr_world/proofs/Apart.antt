@@ -12,18 +12,18 @@ use Rattle.nr_requester.specs.Standing.{RequesterRepresents}
 use Rattle.nr_requester.specs.Laws.{GivesUpNothing}
 use Rattle.nr_requester.proofs.AllMarks.{others_leave_it}
 use Rattle.nr_responder.specs.Standing.{RepresentsServer}
-use Rattle.nr_drill.specs.Drill.{link_of, Setting, Drill, pipes_of, with_mark, answer_at}
+use Rattle.nr_drill.specs.Drill.{link_of, Setting, Drill, pipes_of, with_mark}
 use Rattle.nr_drill.proofs.Carried.{not_drop, not_fed, same_dropped}
 use Rattle.nr_drill.proofs.Followed.{apart, unconcerned, not_written, no_event, Extends}
 use Rattle.nr_world.specs.DrillLinkState.{DrillLinkState}
-use Rattle.nr_world.specs.LinkStands.{answers_of, awaited_lines, LinkStands}
+use Rattle.nr_world.specs.LinkStands.{answers_of, awaited_lines, LinkStands, answer_on, AnswersAreOwn}
 use Rattle.nr_world.specs.Laws.{OtherLinksStand}
-use Rattle.nr_world.proofs.CallLines.{answers_same, awaited_same}
+use Rattle.nr_world.proofs.CallLines.{answers_same, awaited_same, own_one, own_none}
 use Rattle.nr_world.proofs.Writes.{server_stays}
 
 -- ---- A mark of another link
 
-not_answered : (link : ℕ) (mark : Mark) → link_of mark ≢ link → answer_at link mark ≡ []
+not_answered : (link : ℕ) (mark : Mark) → link_of mark ≢ link → answer_on link mark ≡ []
 not_answered link (marks.Submit l call form answer) ne = ap (λ (b : Bool). if b then answer ∷ [] else []) (apart l link ne)
 not_answered link (marks.Fed l s bytes) ne = refl
 not_answered link (marks.Wrote l s bytes) ne = refl
@@ -46,6 +46,7 @@ not_given_up link mark ne xid =
 pub stands_by : (s : Setting) (link : ℕ) (d d2 : Drill) (v : DrillLinkState) → d2.marks ≡ d.marks → pipes_of link d2 ≡ pipes_of link d → length d2.pipes ≡ length d.pipes → LinkStands s link d v → LinkStands s link d2 v
 stands_by s link d d2 v run pipes room h = record {
   number = h.number;
+  firsts = h.firsts;
   first = h.first;
   room = subst (λ (n : ℕ). link ≤ n) (sym room) h.room;
   pipes = h.pipes ∙ sym pipes;
@@ -56,11 +57,13 @@ stands_by s link d d2 v run pipes room h = record {
   server_memory = h.server_memory;
   lines = h.lines ∙ ap (λ (r : List Mark). length (answers_of link r)) (sym run);
   awaited = h.awaited ∙ ap (λ (r : List Mark). awaited_lines link r) (sym run);
+  own = subst (AnswersAreOwn s link) (sym run) h.own;
 }
 
 one_elsewhere : (s : Setting) (link : ℕ) (d : Drill) (v : DrillLinkState) (mark : Mark) → link_of mark ≢ link → LinkStands s link d v → LinkStands s link (with_mark mark d) v
 one_elsewhere s link d v mark ne h = record {
   number = h.number;
+  firsts = h.firsts;
   first = h.first;
   room = h.room;
   pipes = h.pipes;
@@ -71,6 +74,7 @@ one_elsewhere s link d v mark ne h = record {
   server_memory = h.server_memory;
   lines = h.lines ∙ ap length (sym (answers_same link d.marks mark (not_answered link mark ne)));
   awaited = h.awaited ∙ sym (awaited_same link d.marks mark (not_answered link mark ne) (not_given_up link mark ne));
+  own = own_one s link d.marks mark (own_none s link mark h.firsts (not_answered link mark ne)) h.own;
 }
 
 abbrev with_marks : List Mark → Drill → Drill

@@ -13,7 +13,7 @@ use Rattle.nr_drill.proofs.Carried.{own_pipes, dropped_at_last}
 use Rattle.nr_world.specs.DrillLinkState.{DrillLinkState}
 use Rattle.nr_world.specs.LinkStands.{LinkStands}
 use Rattle.nr_world.specs.Steps.{Goes, StandsAt}
-use Rattle.nr_world.proofs.CallLines.{answers_same, awaited_same}
+use Rattle.nr_world.proofs.CallLines.{answers_same, awaited_same, own_one}
 use Rattle.nr_world.proofs.Standing.{with_ends, ends_of, other_pipes, replied_one, below_room}
 use Rattle.nr_world.proofs.Writes.{server_stays, one_more_mark}
 
@@ -28,6 +28,7 @@ drops v run run2 more s link d at =
     record {
       stands = record {
         number = h.number;
+        firsts = h.firsts;
         first = h.first;
         room = subst (λ (n : ℕ). link ≤ n) (sym (length-set d.pipes (link - 1) empty_pipes)) h.room;
         pipes = sym (own_pipes link empty_pipes (with_mark mark d) (below_room link (length d.pipes) h.first h.room));
@@ -38,6 +39,7 @@ drops v run run2 more s link d at =
         server_memory = h.server_memory;
         lines = h.lines ∙ ap length (sym (answers_same link d.marks mark refl));
         awaited = h.awaited ∙ sym (awaited_same link d.marks mark refl (λ xid. refl));
+        own = own_one s link d.marks mark refl h.own;
       };
       marks = one_more_mark v.number link (λ (l : ℕ). marks.Drop l) run run2 d.marks h.number at.marks more;
       replies = subst RepliedInBytes (sym more) (replied_one run (marks.Drop v.number) (λ before. tt) at.replies);

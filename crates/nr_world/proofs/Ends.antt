@@ -68,6 +68,7 @@ requester_quiet o link run h n none before after =
     record {
       keeps = record {
         wished = k.wished;
+        first = k.first;
         kept = record {
           keeps = subst (λ (e : EndState ClientState). ClientKeeps o (kept_client (after_drain n h).state) e (length (bytes_received link Initiator run))) same
               (subst (λ (bytes : List ℕ). ClientKeeps o (kept_client (after_drain n h).state) (client o link (run ++ mark ∷ [])) (length bytes)) received k.kept.keeps);

@@ -23,16 +23,17 @@ use Rattle.nr_responder.proofs.Answered.{answer_link}
 use Rattle.nr_plain.specs.Setup.{Setup}
 use Rattle.nr_plain.specs.Replies.{plain_reply}
 use Rattle.nr_plain.specs.Stands.{PlainServerState, RepresentsJournal, ExecutesCall}
-use Rattle.nr_drill.specs.Drill.{Setting, Drill, plain_of, with_mark, now, settled, if_standing, waiting_call, after_answer, after_execution, after_work}
+use Rattle.nr_drill.specs.Drill.{Setting, Drill, plain_of, with_mark, now, settled, if_standing, waiting_call, after_answer, after_execution, after_work, given}
 use Rattle.nr_drill.specs.DrillSetup.{server_of}
 use Rattle.nr_drill.specs.InBytes.{RepliedInBytes}
 use Rattle.nr_world.specs.DrillLinkState.{DrillLinkState}
 use Rattle.nr_world.specs.LinkStands.{LinkStands}
-use Rattle.nr_world.specs.Steps.{Goes, StandsAt, Works, Executes, ExecutedAt, ServerStands, setting_over}
+use Rattle.nr_world.specs.Steps.{Goes, StandsAt, Works, Executes, ExecutedAt, ServerStands, setting_over, IsPlainAt}
 use Rattle.nr_world.proofs.Ends.{represents_of}
 use Rattle.nr_world.proofs.Standing.{with_ends, IsPlain, EndsStand, plain_mark, replied_one}
 use Rattle.nr_world.proofs.Writes.{not_own, one_more_mark}
 use Rattle.nr_world.proofs.QuietSteps.{IsQuietStep, journal_one, quiet_settled}
+use Rattle.nr_world.proofs.PlainAt.{new_call}
 
 -- an answer does not end a side
 pub live_answered : (v v2 : ResponderSide) (xid : ℕ) (reply : List ℕ) (sent : Sent) → Answers v v2 xid reply sent → end_of v ≡ None → end_of v2 ≡ None
@@ -43,13 +44,14 @@ live_answered v v2 xid reply sent a live =
     ∙ live
 
 -- a step of the drill, by the call that waits and the reply to it
-work_is : (s : Setting) (link : ℕ) (d : Drill) (call : ReadyCall) (reply : List ℕ) → waiting_call s link d.marks ≡ Some call →
+work_is : (s : Setting) (link : ℕ) (d : Drill) (call : ReadyCall) (reply : List ℕ) → IsPlainAt s link d → waiting_call s link d.marks ≡ Some call →
     s.server.reply_to (journal (plain_of s.server) d.marks) (now d) call.payload ≡ Some reply →
     after_work s link d ≡ settled s link (with_mark (marks.Execute link call.xid (now d) call.payload (length (journal (plain_of s.server) d.marks)) reply) d)
 unfolding after_work
-work_is s link d call reply waits replies =
+work_is s link d call reply p waits replies =
     ap (λ (c : Option ReadyCall). after_execution s link c d) waits
-    ∙ ap (λ (r : Option (List ℕ)). after_answer s link call r d) replies
+    ∙ new_call s link d call p
+    ∙ ap (λ (r : Option (List ℕ)). after_answer s link call (given (now d) (length (journal (plain_of s.server) d.marks)) r) d) replies
 
 waits_is : (s : Setting) (link : ℕ) (run : List Mark) (call : ReadyCall) → is_dropped link run ≡ false → next_call (s.opened link) link run ≡ Some call → waiting_call s link run ≡ Some call
 unfolding waiting_call
@@ -75,7 +77,7 @@ pub executes : (seconds : ℕ) (v : DrillLinkState) (server : ResponderSide) (ru
     IsServed kept (record { seconds = seconds; nanos = 0 }) payload reply place kept2 →
     run2 ≡ run ++ marks.Execute v.number xid (record { seconds = seconds; nanos = 0 }) payload place reply ∷ [] →
     Executes seconds v (with_ends v v.client server v.pipes) run run2 kept kept2
-executes seconds v server run run2 kept kept2 xid payload reply place stands has takes live bytes served more setup opened link d second stood at =
+executes seconds v server run run2 kept kept2 xid payload reply place stands has takes live bytes served more setup opened link d second stood p at =
     let h = at.stands in
     let s : Setting = setting_over setup opened in
     let o : LinkParameters = opened link in
@@ -96,7 +98,7 @@ executes seconds v server run run2 kept kept2 xid payload reply place stands has
     } in
     record {
       next = with_mark mark d;
-      work = work_is s link d ex.call reply (waits_is s link d.marks ex.call (sym h.dropped ∙ stands) ex.is_next) replied
+      work = work_is s link d ex.call reply p (waits_is s link d.marks ex.call (sym h.dropped ∙ stands) ex.is_next) replied
           ∙ (λ i. settled s link (with_mark (marks.Execute link (sym ex.own i) (sym moments i) (sym ex.conveyed i) (sym plain.place_is i) reply) d));
       stands = record {
         stands = plain_mark s link d v v.client server mark (plain_execute link xid moment payload place reply bytes) h e;
@@ -109,9 +111,9 @@ executes seconds v server run run2 kept kept2 xid payload reply place stands has
 -- then the answer is written
 pub works_then : (seconds : ℕ) (v v1 v2 : DrillLinkState) (run run1 run2 : List Mark) (kept kept1 : PlainServerState) → Executes seconds v v1 run run1 kept kept1 → Goes settled v1 v2 run1 run2 →
     Works after_work seconds v v2 run run2 kept kept1
-works_then seconds v v1 v2 run run1 run2 kept kept1 executed writes setup opened link d second stood at =
+works_then seconds v v1 v2 run run1 run2 kept kept1 executed writes setup opened link d second stood p at =
     let s : Setting = setting_over setup opened in
-    let x : ExecutedAt setup s link d v1 run1 kept1 = executed setup opened link d second stood at in
+    let x : ExecutedAt setup s link d v1 run1 kept1 = executed setup opened link d second stood p at in
     let q : IsQuietStep s.server x.next (settled s link x.next) = quiet_settled s link x.next in (
       subst (λ (y : Drill). StandsAt s link y v2 run2) (sym x.work) (writes s link x.next x.stands),
       subst (λ (y : Drill). ServerStands setup y kept1) (sym x.work) (subst (λ (es : List Entry). RepresentsJournal setup es kept1) (sym q.journal) x.server),
@@ -125,7 +127,7 @@ nothing_to_do s link d none = ap (λ (c : Option ReadyCall). after_execution s l
 
 pub works_none : (seconds : ℕ) (v : DrillLinkState) (run : List Mark) (kept : PlainServerState) → ((s : Setting) (link : ℕ) (d : Drill) → LinkStands s link d v → waiting_call s link d.marks ≡ None) →
     Works after_work seconds v v run run kept kept
-works_none seconds v run kept none setup opened link d second stood at =
+works_none seconds v run kept none setup opened link d second stood p at =
     let s : Setting = setting_over setup opened in
     let same : after_work s link d ≡ d = nothing_to_do s link d (none s link d at.stands) in (
       subst (λ (y : Drill). StandsAt s link y v run) (sym same) at,

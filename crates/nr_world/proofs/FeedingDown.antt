@@ -7,13 +7,14 @@ use Rattle.nr_reduce.specs.declared.mark.Mark.TheVariants as marks
 use Rattle.nr_reduce.proofs.Unconcerned.{fed_elsewhere}
 use Rattle.nr_requester.specs.RequesterState.{RequesterSide}
 use Rattle.nr_requester.specs.Standing.{StandsOn}
-use Rattle.nr_drill.specs.Drill.{Setting, Drill, Pipes, pipes_of, with_pipes, with_mark, after_feeding, after_feeding_down, after_outcomes, after_down, settled}
+use Rattle.nr_drill.specs.Drill.{Drill, Pipes, pipes_of, with_pipes, with_mark, after_feeding, after_feeding_down, after_outcomes, after_down, settled}
 use Rattle.nr_drill.specs.InBytes.{RepliedInBytes}
 use Rattle.nr_world.specs.DrillLinkState.{DrillLinkState}
 use Rattle.nr_world.specs.LinkStands.{LinkStands}
 use Rattle.nr_world.specs.Steps.{Goes, StandsAt}
 use Rattle.nr_world.proofs.Standing.{with_ends, IsPlain, EndsStand, other_pipes, plain_mark, replied_one}
 use Rattle.nr_world.proofs.Writes.{server_stays, one_more_mark}
+use Rattle.nr_drill.proofs.FirstLinks.{down_is}
 
 pub down_nothing : (v : DrillLinkState) (n : ℕ) (run : List Mark) → take n v.pipes.down ≡ [] → Goes (λ s link. after_feeding_down link n) v v run run
 down_nothing v n run none s link d at =
@@ -49,13 +50,9 @@ down_fed v client n (b ∷ bytes) pipes run run2 taken some takes ends_not is mo
       replies = subst RepliedInBytes (sym more) (replied_one run (marks.Fed v.number Initiator piece) (λ before. tt) at.replies);
     })
 
--- fed, handed over, settled
-abbrev pub fed_and_handed : ℕ → Setting → ℕ → Drill → Drill
-fed_and_handed n s link d = after_outcomes s link (after_feeding_down link n d)
-
-pub handed_is : (n : ℕ) (s : Setting) (link : ℕ) (d : Drill) → fed_and_handed n s link d ≡ after_outcomes s link (after_feeding_down link n d)
-handed_is n s link d = refl
-
-pub down_is : (n : ℕ) (s : Setting) (link : ℕ) (d : Drill) → after_down s link n d ≡ settled s link (fed_and_handed n s link d)
-unfolding after_down
-down_is n s link d = refl
+-- fed, handed over, settled: on a link that was not reopened nothing is sent again between
+pub downs : (n : ℕ) (v v1 v2 : DrillLinkState) (run run1 run2 : List Mark) → Goes (λ s link d. after_outcomes s link (after_feeding_down link n d)) v v1 run run1 → Goes settled v1 v2 run1 run2 →
+    Goes (λ s link. after_down s link n) v v2 run run2
+downs n v v1 v2 run run1 run2 hands writes s link d at =
+    subst (λ (x : Drill). StandsAt s link x v2 run2) (sym (down_is s link n d (at.stands.firsts.on link)))
+    (writes s link (after_outcomes s link (after_feeding_down link n d)) (hands s link d at))

@@ -1,7 +1,7 @@
 -- A call that is submitted.
 use Rattle.std.specs.Prelude.{◌&&◌, is_some, IfOk}
 use Rattle.std.specs.List.{AllByRecursion}
-use Rattle.std.proofs.Common.{◌≡◌, ◌≢◌, ℕ, ◌+◌, ◌-◌, ◌≤◌, arith, leb, ltb, suc, Bool, true, false, cond, List, [], ◌∷◌, ◌++◌, length, filter, Option, None, Some, Result, Ok, Err, refl, ap, sym, subst, ◌∙◌, append-nil, length-append}
+use Rattle.std.proofs.Common.{◌≡◌, ◌≢◌, ℕ, ◌+◌, ◌-◌, ◌≤◌, arith, leb, ltb, suc, Bool, true, false, cond, List, [], ◌∷◌, ◌++◌, length, filter, Option, None, Some, Result, Ok, Err, refl, ap, sym, subst, ◌∙◌, append-nil, length-append, ltb-true}
 use Rattle.nr_link.specs.declared.end.End.{End}
 use Rattle.nr_link.specs.declared.end.End.TheVariants as ends
 use Rattle.nr_wire.specs.declared.hello.Side.TheVariants.{Initiator}
@@ -36,17 +36,19 @@ use Rattle.nr_requester.specs.Standing.{RequesterRepresents}
 use Rattle.nr_requester.proofs.Accepting.{answers_as_client}
 use Rattle.nr_requester.proofs.AllMarks.{others_leave_it}
 use Rattle.nr_requester.proofs.AnswerSteps.{due_same}
-use Rattle.nr_drill.specs.Drill.{Setting, Drill, with_mark, settled, after_submit}
+use Rattle.nr_drill.specs.Drill.{Setting, Drill, with_mark, settled, after_submit, is_sent_again}
 use Rattle.nr_drill.specs.InBytes.{RepliedInBytes}
 use Rattle.nr_drill.proofs.Carried.{same_dropped}
 use Rattle.nr_world.specs.DrillLinkState.{AwaitedLine, DrillLinkState}
 use Rattle.nr_world.specs.LinkStands.{answers_of, accepted_line, lines_from, awaited_lines, is_awaited, LinkStands}
 use Rattle.nr_world.specs.OpenTickets.{LinesOpen, SubmitsLine, AnswersCall}
 use Rattle.nr_world.specs.Steps.{Goes, StandsAt}
-use Rattle.nr_world.proofs.CallLines.{filter_as, filter_parts, answers_one}
+use Rattle.nr_world.proofs.CallLines.{filter_as, filter_parts, answers_one, own_one, own_submit}
 use Rattle.nr_world.proofs.Standing.{replied_one}
 use Rattle.nr_world.proofs.Writes.{server_stays, one_more_mark}
 use Rattle.nr_world.proofs.GivenLines.{open_others}
+use Rattle.nr_reduce.specs.declared.mark.ResumedCall.{ResumedCall}
+use Rattle.nr_reduce.proofs.XidsFollow.{next_xid_follows}
 
 -- the link after one call line more, with another client and these lines
 abbrev pub with_line : DrillLinkState → RequesterSide → List AwaitedLine → DrillLinkState
@@ -147,14 +149,15 @@ awaited_more link run call form answer =
 
 -- ---- The link with the mark of the call
 
-marked : (s : Setting) (link : ℕ) (d : Drill) (v : DrillLinkState) (asks : RequesterSide) (left : List AwaitedLine) (call : Call) (form : Form) (answer : Submission) → LinkStands s link d v →
+marked : (s : Setting) (link : ℕ) (d : Drill) (v : DrillLinkState) (asks : RequesterSide) (left : List AwaitedLine) (call : Call) (form : Form) (answer : Submission) → LinkStands s link d v → is_sent_again s link answer ≡ false →
     RequesterRepresents (s.opened link) link asks (d.marks ++ marks.Submit link call form answer ∷ []) → asks.state.side.ended ≢ Some ends.Memory →
     left ≡ v.awaited ++ filter (is_awaited link d.marks) (accepted_line v.lines answer) → LinkStands s link (with_mark (marks.Submit link call form answer) d) (with_line v asks left)
-marked s link d v asks left call form answer h represents lives is =
+marked s link d v asks left call form answer h new represents lives is =
     let mark : Mark = marks.Submit link call form answer in
     let count : v.lines + 1 ≡ length (answers_of link d.marks ++ answer ∷ []) = (let e = h.lines in omega (arith, e, length-append (answers_of link d.marks) (answer ∷ []))) in
     record {
       number = h.number;
+      firsts = h.firsts;
       first = h.first;
       room = h.room;
       pipes = h.pipes;
@@ -165,6 +168,7 @@ marked s link d v asks left call form answer h represents lives is =
       server_memory = h.server_memory;
       lines = count ∙ ap length (sym (own_answer link d.marks call form answer));
       awaited = is ∙ (λ i. h.awaited i ++ filter (is_awaited link d.marks) (accepted_line (h.lines i) answer)) ∙ sym (awaited_more link d.marks call form answer);
+      own = own_one s link d.marks mark (own_submit s link call form answer h.firsts new) h.own;
     }
 
 -- on a dropped link
@@ -174,7 +178,7 @@ dropped_call v h v2 call form same gone is s link d stands =
     let at : LinkStands s link d v = subst (λ (x : DrillLinkState). LinkStands s link d x) (sym same) stands in (
       ap (λ (b : Bool). unless_dropped b (submit_answer (client (s.opened link) link d.marks) call form)) (sym gone ∙ at.dropped),
       subst (λ (x : DrillLinkState). LinkStands s link (with_mark (marks.Submit link call form submissions.Dropped) d) x) (sym is)
-          (marked s link d v v.client v.awaited call form submissions.Dropped at
+          (marked s link d v v.client v.awaited call form submissions.Dropped at refl
           (others_leave_it (s.opened link) link v.client d.marks (marks.Submit link call form submissions.Dropped) at.client refl refl refl (λ xid. refl)) at.client_memory (sym (append-nil v.awaited))),
     )
 
@@ -199,6 +203,23 @@ accepted_lives o link run call form xid none =
     ∙ ap (λ (b : Bool). (end_state_after (client_rules o) (client o link run) (if_own (b && true) (CallSubmitted place a ∷ []))).ended) (itself link)
     ∙ lives_on o (client o link run).state (client o link run).ended place a none
 
+-- it is a new call: the next xid isn't below the first
+not_below : (n m : ℕ) → m ≤ n → ltb n m ≡ false
+not_below n m le = by (ltb n m) refl
+  where
+    by : (b : Bool) → ltb n m ≡ b → b ≡ false
+    by true is = absurd (let lt = ltb-true n m is in omega (arith, lt, le))
+    by false is = refl
+
+is_new : (s : Setting) (link : ℕ) (d : Drill) (v : DrillLinkState) (xid : ℕ) → LinkStands s link d v → xid ≡ v.client.state.next_xid → is_sent_again s link (submissions.Accepted xid) ≡ false
+is_new s link d v xid h next =
+    let o : LinkParameters = s.opened link in
+    let k : ClientState = (client o link d.marks).state in
+    let follows : k.next_xid + length o.resumed ≡ o.first_xid + k.sends + length k.waiting = next_xid_follows o link d.marks in
+    let kept : v.client.state.next_xid ≡ k.next_xid = h.client.keeps.kept.keeps.xid in
+    let none : length o.resumed ≡ 0 = ap (λ (rs : List ResumedCall). length rs) (h.firsts.on link).resumed in
+    not_below xid o.first_xid (omega (arith, follows, kept, none, next))
+
 not_memory : (ended : Option End) → ended ≡ None → ended ≢ Some ends.Memory
 not_memory None none e = absurd cc
 not_memory (Some end) none e = absurd cc
@@ -216,14 +237,14 @@ client_call v h v2 asks left call form (submissions.Accepted xid) same standing 
     let due : is_due link d.marks xid ≡ true = at.client.answers.to_come xid first in (
       client_answer s link d v call form (submissions.Accepted xid) standing at t.0,
       subst (λ (x : DrillLinkState). LinkStands s link (with_mark mark d) x) (sym is)
-          (marked s link d v asks left call form (submissions.Accepted xid) at represents (not_memory asks.state.side.ended ended)
+          (marked s link d v asks left call form (submissions.Accepted xid) at (is_new s link d v xid at next.1) represents (not_memory asks.state.side.ended ended)
           (t.1.1 ∙ ap (λ (b : Bool). v.awaited ++ cond b (record { xid = xid; index = v.lines } ∷ []) []) (sym due))),
     )
 client_call v h v2 asks left call form (submissions.Refused why) same standing t is s link d stands =
     let at : LinkStands s link d v = subst (λ (x : DrillLinkState). LinkStands s link d x) (sym same) stands in
     let mark : Mark = marks.Submit link call form (submissions.Refused why) in
     let rest : LinkStands s link (with_mark mark d) (with_line v v.client v.awaited) =
-    marked s link d v v.client v.awaited call form (submissions.Refused why) at (others_leave_it (s.opened link) link v.client d.marks mark at.client refl refl refl (λ xid. refl)) at.client_memory (sym (append-nil v.awaited)) in (
+    marked s link d v v.client v.awaited call form (submissions.Refused why) at refl (others_leave_it (s.opened link) link v.client d.marks mark at.client refl refl refl (λ xid. refl)) at.client_memory (sym (append-nil v.awaited)) in (
       client_answer s link d v call form (submissions.Refused why) standing at t.0,
       subst (λ (x : DrillLinkState). LinkStands s link (with_mark mark d) x) (sym is) (subst (λ (ls : List AwaitedLine). LinkStands s link (with_mark mark d) (with_line v asks ls)) (sym t.1.1)
           (subst (λ (x : RequesterSide). LinkStands s link (with_mark mark d) (with_line v x v.awaited)) (sym t.1.0) rest)),

@@ -13,10 +13,9 @@ use Rattle.nr_requester.specs.OpenCalls.{open_call, KeepsTickets}
 use Rattle.nr_requester.specs.KeptAnswers.{is_due}
 use Rattle.nr_requester.specs.Laws.{gives_up}
 use Rattle.nr_requester.proofs.AnswerSteps.{due_one, all_as, all_filter}
-use Rattle.nr_drill.specs.Drill.{answer_at}
 use Rattle.nr_world.specs.declared.awaited.AwaitedCall.{AwaitedCall}
 use Rattle.nr_world.specs.DrillLinkState.{AwaitedLine}
-use Rattle.nr_world.specs.LinkStands.{answers_of, lines_from, is_awaited, awaited_lines}
+use Rattle.nr_world.specs.LinkStands.{answers_of, lines_from, is_awaited, awaited_lines, answer_on}
 use Rattle.nr_world.specs.OpenTickets.{LinesOpen, IsTakenOut, TakesLine}
 use Rattle.nr_world.specs.Views.{line_view}
 use Rattle.nr_world.proofs.CallLines.{filter_as, filter_parts, answers_same}
@@ -225,7 +224,7 @@ one_less xid index before after h =
     ∙ ap (λ (rest : List AwaitedLine). before ++ rest) (others_of xid after (right_part (λ (line : AwaitedLine). line.xid ≢ xid) before after h))
 
 -- a mark that gives up this call and no other
-pub awaited_less : (link : ℕ) (run : List Mark) (mark : Mark) (r : RequesterState) (index xid : ℕ) (lines left : List AwaitedLine) → answer_at link mark ≡ [] → ((x : ℕ) → gives_up link x mark ≡ eqb xid x) → LinesOpen r lines →
+pub awaited_less : (link : ℕ) (run : List Mark) (mark : Mark) (r : RequesterState) (index xid : ℕ) (lines left : List AwaitedLine) → answer_on link mark ≡ [] → ((x : ℕ) → gives_up link x mark ≡ eqb xid x) → LinesOpen r lines →
     lines ≡ awaited_lines link run → IsTakenOut index xid lines left → left ≡ awaited_lines link (run ++ mark ∷ [])
 unfolding awaited_lines
 awaited_less link run mark r index xid lines left none gives h is t =

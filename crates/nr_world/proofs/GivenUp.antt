@@ -23,17 +23,18 @@ use Rattle.nr_requester.proofs.RevokedBytes.{left_are_placed}
 use Rattle.nr_requester.proofs.HandedBack.{open_remains}
 use Rattle.nr_reduce.specs.Concerns.{concerns}
 use Rattle.nr_reduce.proofs.Unconcerned.{of_other_side}
-use Rattle.nr_drill.specs.Drill.{Setting, Drill, with_mark, settled, answer_at, answer_of_line, is_open, open_xid, after_giving_up, after_forget, after_taking_back, after_revoke}
+use Rattle.nr_drill.specs.Drill.{Setting, Drill, with_mark, settled, answer_of_line, is_open, open_xid, after_giving_up, after_forget, after_taking_back, after_revoke, client_of}
 use Rattle.nr_drill.specs.InBytes.{RepliedInBytes, RepliedMark}
 use Rattle.nr_drill.proofs.Carried.{same_dropped}
 use Rattle.nr_world.specs.DrillLinkState.{AwaitedLine, DrillLinkState}
-use Rattle.nr_world.specs.LinkStands.{answers_of, LinkStands}
+use Rattle.nr_world.specs.LinkStands.{answers_of, LinkStands, answer_on}
 use Rattle.nr_world.specs.OpenTickets.{LinesOpen, IsTakenOut, TakesLine}
 use Rattle.nr_world.specs.Steps.{Goes, StandsAt}
-use Rattle.nr_world.proofs.CallLines.{answers_same}
+use Rattle.nr_world.proofs.CallLines.{answers_same, own_one, own_none}
 use Rattle.nr_world.proofs.Standing.{replied_one, from_view}
 use Rattle.nr_world.proofs.Writes.{server_stays, one_more_mark}
 use Rattle.nr_world.proofs.GivenLines.{line_answer, line_awaited, not_awaited, awaited_less}
+use Rattle.nr_world.proofs.Settled.{settled_is}
 
 -- the link with another client, and these lines
 abbrev pub with_client : DrillLinkState → RequesterSide → List AwaitedLine → DrillLinkState
@@ -42,11 +43,11 @@ with_client v client awaited = record { number = v.number; client = client; serv
 -- ---- Which call is open
 
 abbrev xid_of : Setting → ℕ → Drill → ℕ → Option ℕ
-xid_of s link d number = open_xid s link d.marks (answer_of_line link number d.marks)
+xid_of s link d number = open_xid s link d.marks (answer_of_line s (client_of s link) number d.marks)
 
-answer_is : (link number : ℕ) (run : List Mark) → answer_of_line link number run ≡ slice_get (answers_of link run) (number - 1)
+answer_is : (s : Setting) (link number : ℕ) (d : Drill) (v : DrillLinkState) → LinkStands s link d v → answer_of_line s (client_of s link) number d.marks ≡ slice_get (answers_of link d.marks) (number - 1)
 unfolding answer_of_line
-answer_is link number run = refl
+answer_is s link number d v h = ap (λ (answers : List Submission). slice_get answers (number - 1)) h.own
 
 none_open : (s : Setting) (link : ℕ) (run : List Mark) (answer : Option Submission) → ((xid : ℕ) → answer ≡ Some (submissions.Accepted xid) → is_open s link xid run ≡ false) → open_xid s link run answer ≡ None
 none_open s link run (Some (submissions.Accepted xid)) h = ap (λ (b : Bool). if b then Some xid else None) (h xid refl)
@@ -57,6 +58,10 @@ none_open s link run None h = refl
 -- the parts of `is_open`
 abbrev opened_if : Bool → Bool → Bool → Option End → Bool
 opened_if dropped completed abandoned ended = not (dropped || (completed || abandoned)) && is_none ended
+
+open_is : (s : Setting) (link xid : ℕ) (d : Drill) (v : DrillLinkState) → LinkStands s link d v →
+    is_open s link xid d.marks ≡ opened_if (is_dropped link d.marks) (is_completed link xid d.marks) (is_abandoned link xid d.marks) (client (s.opened link) link d.marks).ended
+open_is s link xid d v h = ap (λ (b : Bool). not (is_dropped link d.marks || b) && is_none (client (s.opened link) link d.marks).ended) (settled_is s link xid d.marks h.firsts)
 
 shut_if_ended : (dropped completed abandoned : Bool) (ended : Option End) → is_some ended ≡ true → opened_if dropped completed abandoned ended ≡ false
 shut_if_ended true completed abandoned ended e = refl
@@ -86,24 +91,24 @@ ended_is : (s : Setting) (link : ℕ) (d : Drill) (v : DrillLinkState) → LinkS
 ended_is s link d v h = h.client.keeps.kept.keeps.ended
 
 pub none_if_dropped : (number : ℕ) (v : DrillLinkState) → v.is_dropped ≡ true → NoneOpen number v
-none_if_dropped number v gone s link d h = none_open s link d.marks (answer_of_line link number d.marks) (λ xid is.
-    ap (λ (b : Bool). opened_if b (is_completed link xid d.marks) (is_abandoned link xid d.marks) (client (s.opened link) link d.marks).ended) (sym h.dropped ∙ gone))
+none_if_dropped number v gone s link d h = none_open s link d.marks (answer_of_line s (client_of s link) number d.marks) (λ xid is.
+    open_is s link xid d v h ∙ ap (λ (b : Bool). opened_if b (is_completed link xid d.marks) (is_abandoned link xid d.marks) (client (s.opened link) link d.marks).ended) (sym h.dropped ∙ gone))
 
 pub none_if_ended : (number : ℕ) (v : DrillLinkState) → is_some v.client.state.side.ended ≡ true → NoneOpen number v
-none_if_ended number v ended s link d h = none_open s link d.marks (answer_of_line link number d.marks) (λ xid is.
-    shut_if_ended (is_dropped link d.marks) (is_completed link xid d.marks) (is_abandoned link xid d.marks) (client (s.opened link) link d.marks).ended
+none_if_ended number v ended s link d h = none_open s link d.marks (answer_of_line s (client_of s link) number d.marks) (λ xid is.
+    open_is s link xid d v h ∙ shut_if_ended (is_dropped link d.marks) (is_completed link xid d.marks) (is_abandoned link xid d.marks) (client (s.opened link) link d.marks).ended
     (ap (λ (o : Option End). is_some o) (sym (ended_is s link d v h)) ∙ ended))
 
 none_if_absent : (number : ℕ) (v : DrillLinkState) → AllByRecursion (λ (line : AwaitedLine). line.index ≢ number - 1) v.awaited → NoneOpen number v
-none_if_absent number v none s link d h = none_open s link d.marks (answer_of_line link number d.marks) (λ xid is.
-    shut_if_over (is_dropped link d.marks) (is_completed link xid d.marks) (is_abandoned link xid d.marks) (client (s.opened link) link d.marks).ended
-    (not_awaited link d.marks (number - 1) xid (subst (λ (lines : List AwaitedLine). AllByRecursion (λ (line : AwaitedLine). line.index ≢ number - 1) lines) h.awaited none) (sym (answer_is link number d.marks) ∙ is)))
+none_if_absent number v none s link d h = none_open s link d.marks (answer_of_line s (client_of s link) number d.marks) (λ xid is.
+    open_is s link xid d v h ∙ shut_if_over (is_dropped link d.marks) (is_completed link xid d.marks) (is_abandoned link xid d.marks) (client (s.opened link) link d.marks).ended
+    (not_awaited link d.marks (number - 1) xid (subst (λ (lines : List AwaitedLine). AllByRecursion (λ (line : AwaitedLine). line.index ≢ number - 1) lines) h.awaited none) (sym (answer_is s link number d v h) ∙ is)))
 
 open_one : (s : Setting) (link : ℕ) (d : Drill) (v : DrillLinkState) (number xid : ℕ) (left : List AwaitedLine) → v.is_dropped ≡ false → v.client.state.side.ended ≡ None → IsTakenOut (number - 1) xid v.awaited left → LinkStands s link d v →
     xid_of s link d number ≡ Some xid
 open_one s link d v number xid left stands live t h =
-    ap (λ (answer : Option Submission). open_xid s link d.marks answer) (answer_is link number d.marks ∙ line_answer link d.marks (number - 1) xid v.awaited left h.awaited t)
-    ∙ ap (λ (b : Bool). if b then Some xid else None) (open_if (is_dropped link d.marks) (is_completed link xid d.marks) (is_abandoned link xid d.marks) (client (s.opened link) link d.marks).ended
+    ap (λ (answer : Option Submission). open_xid s link d.marks answer) (answer_is s link number d v h ∙ line_answer link d.marks (number - 1) xid v.awaited left h.awaited t)
+    ∙ ap (λ (b : Bool). if b then Some xid else None) (open_is s link xid d v h ∙ open_if (is_dropped link d.marks) (is_completed link xid d.marks) (is_abandoned link xid d.marks) (client (s.opened link) link d.marks).ended
     (sym h.dropped ∙ stands) (sym (ended_is s link d v h) ∙ live) (line_awaited link d.marks (number - 1) xid v.awaited left h.awaited t))
 
 -- ---- No call of this number is open
@@ -135,7 +140,7 @@ stays_absent number f v h None left run idle is none t =
 -- a mark that gives up the call of an xid
 pub record GivesUpOne (link xid : ℕ) (mark : Mark) : Type 0 where
   pub drops : is_drop_of link mark ≡ false
-  pub answer : answer_at link mark ≡ []
+  pub answer : answer_on link mark ≡ []
   pub gives : (x : ℕ) → gives_up link x mark ≡ eqb xid x
   pub others : concerns link Responder mark ≡ false
   pub replied : (before : List Mark) → RepliedMark before mark
@@ -164,6 +169,7 @@ given_up : (s : Setting) (link : ℕ) (d : Drill) (v : DrillLinkState) (client :
     RequesterRepresents (s.opened link) link client (d.marks ++ mark ∷ []) → client.state.side.ended ≡ v.client.state.side.ended → LinkStands s link (with_mark mark d) (with_client v client left)
 given_up s link d v client number xid left mark g t h represents same = record {
   number = h.number;
+  firsts = h.firsts;
   first = h.first;
   room = h.room;
   pipes = h.pipes;
@@ -174,6 +180,7 @@ given_up s link d v client number xid left mark g t h represents same = record {
   server_memory = h.server_memory;
   lines = h.lines ∙ ap length (sym (answers_same link d.marks mark g.answer));
   awaited = awaited_less link d.marks mark v.client.state (number - 1) xid v.awaited left g.answer g.gives t.tickets h.awaited t.taken;
+  own = own_one s link d.marks mark (own_none s link mark h.firsts g.answer) h.own;
 }
 
 forgotten_end : (h : RequesterSide) (xid : ℕ) → (forgotten h xid).state.side.ended ≡ h.state.side.ended

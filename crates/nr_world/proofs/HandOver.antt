@@ -27,9 +27,9 @@ use Rattle.nr_requester.specs.OpenCalls.{found_answer}
 use Rattle.nr_requester.specs.Standing.{RequesterRepresents, AnswersAfter}
 use Rattle.nr_requester.proofs.AnswerSteps.{due_one, done_gives}
 use Rattle.nr_requester.proofs.FirstDue.{first_is_due_first}
-use Rattle.nr_drill.specs.Drill.{Setting, Drill, answer_at, after_handing, after_done, after_dones, after_outcomes}
+use Rattle.nr_drill.specs.Drill.{Setting, Drill, after_handing, after_done, after_dones, after_outcomes}
 use Rattle.nr_world.specs.DrillLinkState.{AwaitedLine}
-use Rattle.nr_world.specs.LinkStands.{answers_of, lines_from, is_awaited, awaited_lines}
+use Rattle.nr_world.specs.LinkStands.{answers_of, lines_from, is_awaited, awaited_lines, answer_on}
 use Rattle.nr_world.specs.private.HandsOver.{HaveNoOutcome}
 use Rattle.nr_world.proofs.CallLines.{filter_as, answers_same}
 
@@ -57,7 +57,7 @@ given_as (submissions.Accepted xid) call form = refl
 given_as (submissions.Refused why) call form = refl
 given_as submissions.Dropped call form = refl
 
-one_given : (link : ℕ) (mark : Mark) → flat_map given_id (answer_at link mark) ≡ call_ids (accepted_at link mark)
+one_given : (link : ℕ) (mark : Mark) → flat_map given_id (answer_on link mark) ≡ call_ids (accepted_at link mark)
 one_given link (marks.Submit l call form answer) = by (eqb l link)
   where
     by : (b : Bool) → flat_map given_id (cond b (answer ∷ []) []) ≡ call_ids (cond b (accepted_as answer call form) [])
@@ -73,10 +73,10 @@ one_given link (marks.Revoke l xid bytes) = refl
 one_given link (marks.Drop l) = refl
 one_given link (marks.Told l what) = refl
 
-all_given : (link : ℕ) (run : List Mark) → flat_map given_id (flat_map (answer_at link) run) ≡ call_ids (flat_map (accepted_at link) run)
+all_given : (link : ℕ) (run : List Mark) → flat_map given_id (flat_map (answer_on link) run) ≡ call_ids (flat_map (accepted_at link) run)
 all_given link [] = refl
 all_given link (mark ∷ run) =
-    flat_map-append given_id (answer_at link mark) (flat_map (answer_at link) run)
+    flat_map-append given_id (answer_on link mark) (flat_map (answer_on link) run)
     ∙ (λ i. one_given link mark i ++ all_given link run i)
     ∙ sym (map-append (λ (call : AcceptedCall). call.xid) (accepted_at link mark) (flat_map (accepted_at link) run))
 

@@ -26,7 +26,7 @@ use Rattle.nr_world.specs.OpenTickets.{AreApart, AreOpen}
 use Rattle.nr_world.specs.Steps.{Goes, StandsAt}
 use Rattle.nr_world.specs.Views.{line_view}
 use Rattle.nr_world.proofs.HandOver.{first_awaited, none_awaited, awaited_done, dones_more, outcomes_are}
-use Rattle.nr_world.proofs.CallLines.{answers_same}
+use Rattle.nr_world.proofs.CallLines.{answers_same, own_one}
 use Rattle.nr_world.proofs.OpenTickets.{less_open}
 use Rattle.nr_world.proofs.Standing.{replied_one}
 use Rattle.nr_world.proofs.Writes.{server_stays, one_more_mark}
@@ -124,6 +124,7 @@ hands_at v client at l xid outcome run run2 within apart own t more = record {
         subst (λ (x : Drill). StandsAt s link x (handed v client (remove v.awaited at)) run2) (sym (done_is s link d (completed_of a) due.0 due.1)) (record {
           stands = record {
             number = h.number;
+            firsts = h.firsts;
             first = h.first;
             room = h.room;
             pipes = h.pipes;
@@ -136,6 +137,7 @@ hands_at v client at l xid outcome run run2 within apart own t more = record {
             awaited = sym (left_out v.awaited at l within apart)
                 ∙ (λ i. filter (differs_from (sym own i)) (h.awaited i))
                 ∙ sym (awaited_done link d.marks xid outcome);
+            own = own_one s link d.marks mark refl h.own;
           };
           marks = one_more_mark v.number link (λ (n : ℕ). marks.Done n xid outcome) run run2 d.marks h.number stands_at.marks more;
           replies = subst RepliedInBytes (sym more) (replied_one run (marks.Done v.number xid outcome) (λ before. tt) stands_at.replies);

@@ -1,6 +1,7 @@
 pub mod OpenTickets
 pub mod OpenLines
 pub mod CallLines
+pub mod Settled
 pub mod Ends
 pub mod Standing
 pub mod Writes
@@ -15,6 +16,7 @@ pub mod Apart
 pub mod Dropping
 pub mod Granting
 pub mod QuietSteps
+pub mod PlainAt
 pub mod Executions
 pub mod ReadyCalls
 pub mod LinkOpening

@@ -1,6 +1,6 @@
 -- What a line makes of a world, and lines one after another.
 use Rattle.std.specs.Prelude.{slice_set, slice_index_or, ◌-◌}
-use Rattle.std.specs.List.{AllByRecursion, list_all}
+use Rattle.std.specs.List.{AllByRecursion, list_all, range_with_len}
 use Rattle.std.proofs.Common.{◌≡◌, Bool, false, ℕ, ◌+◌, ◌<◌, ◌≤◌, arith, zero, suc, List, [], ◌∷◌, length, drop, add-zero, add-one, get_or, refl, sym, ap, subst, ◌∙◌}
 use Rattle.std.proofs.lemmas.List.{length-set}
 use Rattle.std.proofs.Math.Seq.{drop-cons}
@@ -17,7 +17,7 @@ use Rattle.nr_texts.specs.Limits.{number_max}
 use Rattle.nr_script.specs.Script.{seconds_in}
 use Rattle.nr_drill.specs.Drill.{Setting, Drill, cred_of, with_cred, links_of, after_moves, after_round}
 use Rattle.nr_drill.specs.DrillSetup.{drill_setup}
-use Rattle.nr_drill.specs.Follows.{Drains, Makes, MakeAll, is_still}
+use Rattle.nr_drill.specs.Follows.{Drains, is_still}
 use Rattle.nr_drill.proofs.LessPlain.{plain_answers_calls}
 use Rattle.nr_drill.proofs.Followed.{cred_at, with_cred_at}
 use Rattle.nr_world.specs.DrillLinkState.{DrillLinkState}
@@ -31,6 +31,8 @@ use Rattle.nr_world.specs.private.Within.{IsClient, MayGrant, IsLineWithin, AreW
 use Rattle.nr_world.proofs.Others.{link_stays}
 use Rattle.nr_world.proofs.Progress.{round_more}
 use Rattle.nr_world.proofs.SameServer.{up_leaves, down_leaves, submit_leaves, forget_leaves, revoke_leaves, drop_leaves, raw_leaves, work_clock, moves_clock}
+use Rattle.nr_drill.specs.Unnumbered.{HeardNone, FirstMakes, FirstMakeAll}
+use Rattle.nr_reduce.specs.declared.mark.Mark.{Mark}
 
 -- ===== what a line needs
 
@@ -58,6 +60,7 @@ Names (lines.Tick more) c = ⊥
 Names (lines.Forget client number) c = client ≡ c
 Names (lines.Revoke client number) c = client ≡ c
 Names (lines.Drop client) c = client ≡ c
+Names (lines.Rejoin client) c = client ≡ c
 Names (lines.Grant client credits) c = client ≡ c
 Names (lines.Raw client side bytes) c = client ≡ c
 Names lines.Drain c = ⊥
@@ -72,6 +75,7 @@ names_client opening seconds client (lines.Tick more) e h = absurd e
 names_client opening seconds client (lines.Forget c number) e h = subst (IsClient opening.clients) e h
 names_client opening seconds client (lines.Revoke c number) e h = subst (IsClient opening.clients) e h
 names_client opening seconds client (lines.Drop c) e h = subst (IsClient opening.clients) e h
+names_client opening seconds client (lines.Rejoin c) e h = subst (IsClient opening.clients) e h
 names_client opening seconds client (lines.Grant c credits) e h = subst (IsClient opening.clients) e h.0
 names_client opening seconds client (lines.Raw c side bytes) e h = subst (IsClient opening.clients) e h
 names_client opening seconds client lines.Drain e h = absurd e
@@ -100,10 +104,11 @@ pub record IsAfterLine (w n : World) : Type 0 where
   pub server : n.server ≡ w.server
 
 others_same : (tree : Tree) (opening : Opening) (seconds : ℕ) (all : List Cred) (d : Drill) (w n : World) → WorldStands tree opening d w → IsAfterLine w n → n.seconds ≡ seconds → n.creds.items ≡ all →
-    length all ≡ opening.clients → AllByRecursion CanWriteCred all → WorldStands tree opening (record { marks = d.marks; pipes = d.pipes; seconds = seconds; creds = all }) n
+    length all ≡ opening.clients → AllByRecursion CanWriteCred all → WorldStands tree opening (record d { seconds = seconds; creds = all }) n
 others_same tree opening seconds all d w n h a clock creds count fit =
-    let new : Drill = record { marks = d.marks; pipes = d.pipes; seconds = seconds; creds = all } in
+    let new : Drill = record d { seconds = seconds; creds = all } in
     record {
+      unnumbered = h.unnumbered;
       count = ap length a.links ∙ h.count;
       links = λ link v first last. subst (λ (links : List DrillLinkState). LinkStands (drill_setting tree opening) link new (slice_index_or links (link - 1) v)) (sym a.links)
           (link_stays (drill_setting tree opening) link d seconds all (slice_index_or w.links.items (link - 1) v) (h.links link v first last));
@@ -114,6 +119,8 @@ others_same tree opening seconds all d w n h a clock creds count fit =
       creds_count = ap length creds ∙ count;
       creds_fit = subst (AllByRecursion CanWriteCred) (sym creds) fit;
       server = subst (ServerStands (drill_setup tree opening) new) (sym a.server) h.server;
+      plain = h.plain;
+      hear = h.hear;
     }
 
 pub tick_makes : (more : ℕ) (w n : World) → IsAfterLine w n → n.seconds ≡ w.seconds + more → n.creds.items ≡ w.creds.items → MakesLine (lines.Tick more) w n
@@ -136,8 +143,12 @@ pub cred_fits : (w : World) (client : ℕ) (cred : Cred) → CanMake (lines.Cred
 cred_fits w client cred (tree, opening, d, stands, within) = within.1
 
 -- a step of one link is a line
-pub step_makes : (line : Line) (step : Setting → Drill → Drill) (w n : World) → ((s : Setting) (clients : ℕ) (d : Drill) → Makes s clients line d (step s d)) → Steps step w n → MakesLine line w n
+pub step_makes : (line : Line) (step : Setting → Drill → Drill) (w n : World) → ((s : Setting) (clients : ℕ) (d : Drill) → FirstMakes s clients line d (step s d)) → Steps step w n → MakesLine line w n
 step_makes line step w n is steps tree opening d h = (step (drill_setting tree opening) d, is (drill_setting tree opening) opening.clients d, steps tree opening d h)
+
+-- no line begins another link
+pub rejoin_makes : (client : ℕ) (w : World) → MakesLine (lines.Rejoin client) w w
+rejoin_makes client w tree opening d h = (d, refl, h)
 
 pub line_is : (old new : World) (line is : Line) → line ≡ is → MakesLine is old new → MakesLine line old new
 line_is old new line is e h = subst (λ (l : Line). MakesLine l old new) (sym e) h
@@ -147,7 +158,7 @@ line_is old new line is e h = subst (λ (l : Line). MakesLine l old new) (sym e)
 -- lines that are made so far, and what is left
 abbrev pub LinesSoFar : World → World → List Line → ℕ → Type 0
 LinesSoFar old now all at = CanMakeAll (drop at all) now × ((tree : Tree) (opening : Opening) (d : Drill) → WorldStands tree opening d old →
-    (mid : Drill) × WorldStands tree opening mid now × ((last : Drill) → MakeAll (drill_setting tree opening) opening.clients (drop at all) mid last → MakeAll (drill_setting tree opening) opening.clients all d last))
+    (mid : Drill) × WorldStands tree opening mid now × ((last : Drill) → FirstMakeAll (drill_setting tree opening) opening.clients (drop at all) mid last → FirstMakeAll (drill_setting tree opening) opening.clients all d last))
 
 -- the clock after a line
 round_clock : (s : Setting) (links : List ℕ) (d : Drill) → (after_round s links d).seconds ≡ d.seconds
@@ -158,7 +169,7 @@ drain_clock : (s : Setting) (links : List ℕ) (rounds : ℕ) (d new : Drill) �
 drain_clock s links zero d new h = ap (λ (x : Drill). x.seconds) h.1
 drain_clock s links (suc rounds) d new h = drain_clock s links rounds (after_round s links d) new h.1 ∙ round_clock s links d
 
-line_clock : (s : Setting) (clients : ℕ) (line : Line) (d new : Drill) → Makes s clients line d new → new.seconds ≡ d.seconds + seconds_in line
+line_clock : (s : Setting) (clients : ℕ) (line : Line) (d new : Drill) → FirstMakes s clients line d new → new.seconds ≡ d.seconds + seconds_in line
 line_clock s clients (lines.Cred client cred) d new h = ap (λ (x : Drill). x.seconds) h ∙ sym (add-zero d.seconds)
 line_clock s clients (lines.Call client form prog vers proc args) d new h =
     ap (λ (x : Drill). x.seconds) h ∙ (submit_leaves s client (record { prog = prog; vers = vers; proc = proc; cred = cred_of client d; args = args }) form d).seconds ∙ sym (add-zero d.seconds)
@@ -169,6 +180,7 @@ line_clock s clients (lines.Tick more) d new h = ap (λ (x : Drill). x.seconds) 
 line_clock s clients (lines.Forget client number) d new h = ap (λ (x : Drill). x.seconds) h ∙ (forget_leaves s client number d).seconds ∙ sym (add-zero d.seconds)
 line_clock s clients (lines.Revoke client number) d new h = ap (λ (x : Drill). x.seconds) h ∙ (revoke_leaves s client number d).seconds ∙ sym (add-zero d.seconds)
 line_clock s clients (lines.Drop client) d new h = ap (λ (x : Drill). x.seconds) h ∙ (drop_leaves s client d).seconds ∙ sym (add-zero d.seconds)
+line_clock s clients (lines.Rejoin client) d new h = ap (λ (x : Drill). x.seconds) h ∙ sym (add-zero d.seconds)
 line_clock s clients (lines.Grant client credits) d new h = ap (λ (x : Drill). x.seconds) h ∙ sym (add-zero d.seconds)
 line_clock s clients (lines.Raw client side bytes) d new h = ap (λ (x : Drill). x.seconds) h ∙ (raw_leaves s client side bytes (is_dropped client d.marks) d).seconds ∙ sym (add-zero d.seconds)
 line_clock s clients lines.Drain d new h = drain_clock s (links_of clients) h.0 d new h.1 ∙ sym (add-zero d.seconds)
@@ -188,17 +200,17 @@ lines_on old now next all at e lt (can, goes) makes = (still can, further)
         (tree, opening, new, there, subst (λ (n : ℕ). AreWithin opening n (drop (at + 1) all)) (sym clock) all_within.1)
 
     further : (tree : Tree) (opening : Opening) (d : Drill) → WorldStands tree opening d old →
-        (mid : Drill) × WorldStands tree opening mid next × ((last : Drill) → MakeAll (drill_setting tree opening) opening.clients (drop (at + 1) all) mid last → MakeAll (drill_setting tree opening) opening.clients all d last)
+        (mid : Drill) × WorldStands tree opening mid next × ((last : Drill) → FirstMakeAll (drill_setting tree opening) opening.clients (drop (at + 1) all) mid last → FirstMakeAll (drill_setting tree opening) opening.clients all d last)
     further tree opening d h =
         let s : Setting = drill_setting tree opening in
         let (mid, stands, rest) = goes tree opening d h in
         let (new, made, there) = makes tree opening mid stands in
-        (new, there, λ last after. rest last (subst (λ (xs : List Line). MakeAll s opening.clients xs mid last) (sym left) (new, made, after)))
+        (new, there, λ last after. rest last (subst (λ (xs : List Line). FirstMakeAll s opening.clients xs mid last) (sym left) (new, made, after)))
 
 pub lines_end : (old now : World) (all : List Line) (at : ℕ) → length all ≤ at → LinesSoFar old now all at → MakesLines all old now
 lines_end old now all at le (can, goes) tree opening d h =
     let (mid, stands, rest) = goes tree opening d h in
-    (mid, rest mid (subst (λ (xs : List Line). MakeAll (drill_setting tree opening) opening.clients xs mid mid) (sym (drop_of_length-le all le)) refl), stands)
+    (mid, rest mid (subst (λ (xs : List Line). FirstMakeAll (drill_setting tree opening) opening.clients xs mid mid) (sym (drop_of_length-le all le)) refl), stands)
 
 pub line_within : (w : World) (all : List Line) (at : ℕ) (e : Line) → at < length all → CanMakeAll (drop at all) w → CanMake (get_or all at e) w
 line_within w all at e lt (tree, opening, d, stands, within) =
@@ -207,6 +219,11 @@ line_within w all at e lt (tree, opening, d, stands, within) =
     (tree, opening, d, stands, all_within.0)
 
 -- ===== drains
+
+all_hear : (s : Setting) (clients : ℕ) (run : List Mark) (from n : ℕ) → 1 ≤ from → from + n ≤ clients + 1 → ((link : ℕ) → 1 ≤ link → link ≤ clients → HeardNone s link run) →
+    AllByRecursion (λ (link : ℕ). HeardNone s link run) (range_with_len from n)
+all_hear s clients run from zero some le hear = tt
+all_hear s clients run from (suc n) some le hear = (hear from some (omega (arith, le)), all_hear s clients run (from + 1) n (omega (arith, some)) (omega (arith, le)) hear)
 
 -- a round in which something moves makes a mark
 pub more_marks : (w n : World) (still : Bool) → still ≡ false → CanMake lines.Drain w →
@@ -217,5 +234,5 @@ more_marks w n still moves (tree, opening, d, stands, within) are round =
     let s = drill_setting tree opening in
     let new = round tree opening d stands in
     let more : length d.marks < length (after_round s (links_of opening.clients) d).marks =
-    round_more s (plain_answers_calls (drill_setup tree opening) opening) (links_of opening.clients) d (sym (are tree opening d stands) ∙ moves) in
+    round_more s (plain_answers_calls (drill_setup tree opening) opening) (links_of opening.clients) d (all_hear s opening.clients d.marks 1 opening.clients (omega arith) (omega arith) stands.hear) (sym (are tree opening d stands) ∙ moves) in
     omega (arith, more, ap length stands.marks, ap length new.marks)

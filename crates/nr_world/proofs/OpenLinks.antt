@@ -25,25 +25,26 @@ use Rattle.nr_world.specs.DrillLinkState.{DrillLinkState}
 use Rattle.nr_world.specs.LinkStands.{LinkStands}
 use Rattle.nr_world.specs.Steps.{ServerStands, IsBeforeOpening, Opens}
 use Rattle.nr_world.specs.declared.world.World.{World}
-use Rattle.nr_world.specs.private.Stands.{drill_setting, HasOpened, WorldStands}
+use Rattle.nr_world.specs.private.Stands.{drill_setting, HasOpened}
 use Rattle.nr_world.specs.private.Opened.{OpensAll}
 use Rattle.nr_world.proofs.Others.{others_stand}
 use Rattle.nr_world.proofs.Rounds.{openings_from, openings_end}
 use Rattle.nr_world.proofs.SameServer.{opening_leaves}
+use Rattle.nr_drill.proofs.FirstLinks.{opened_firsts}
 
 -- the links from a place on haven't opened
 abbrev Unopened : ℕ → ℕ → Drill → Type 0
 Unopened clients at d = (link : ℕ) → at < link → link ≤ clients → IsBeforeOpening link d
 
 abbrev pub OpenedSoFar : Opening → World → World → ℕ → Type 0
-OpenedSoFar opening old now at = (tree : Tree) → HasOpened tree opening 0 (start opening.clients) old →
-    (d : Drill) × HasOpened tree opening at d now × Unopened opening.clients at d
-    × (after_openings (drill_setting tree opening) (range_with_len (at + 1) (opening.clients - at)) d ≡ after_openings (drill_setting tree opening) (links_of opening.clients) (start opening.clients))
+OpenedSoFar opening old now at = (tree : Tree) → HasOpened tree opening 0 0 (start (drill_setting tree opening) opening.clients) old →
+    (d : Drill) × HasOpened tree opening at 0 d now × Unopened opening.clients at d
+    × (after_openings (drill_setting tree opening) (range_with_len (at + 1) (opening.clients - at)) d ≡ after_openings (drill_setting tree opening) (links_of opening.clients) (start (drill_setting tree opening) opening.clients))
 
 -- ===== before anything happened
 
-pub start_unopened : (clients : ℕ) → Unopened clients 0 (start clients)
-start_unopened clients link first last = record {
+pub start_unopened : (s : Setting) (clients : ℕ) → Unopened clients 0 (start s clients)
+start_unopened s clients link first last = record {
   first = first;
   room = subst (λ (n : ℕ). link ≤ n) (sym (length-replicate clients)) last;
   pipes = get_or-replicate clients (link - 1) empty_pipes empty_pipes (omega (arith, first, last));
@@ -57,7 +58,7 @@ start_unopened clients link first last = record {
 pub openings_begin : (opening : Opening) (w : World) → OpenedSoFar opening w w 0
 openings_begin opening w tree h =
     let all : opening.clients - 0 ≡ opening.clients = omega arith in
-    (start opening.clients, h, start_unopened opening.clients, ap (λ (n : ℕ). after_openings (drill_setting tree opening) (range_with_len 1 n) (start opening.clients)) all)
+    (start (drill_setting tree opening) opening.clients, h, start_unopened (drill_setting tree opening) opening.clients, ap (λ (n : ℕ). after_openings (drill_setting tree opening) (range_with_len 1 n) (start (drill_setting tree opening) opening.clients)) all)
 
 no_entries : (plain : PlainServer) → journal plain [] ≡ []
 unfolding journal
@@ -79,9 +80,10 @@ one_more_cred n = by n ∙ ap (λ (k : ℕ). replicate k creds.None) (sym (add-o
     by (suc k) = ap (λ (all : List Cred). creds.None ∷ all) (by k)
 
 -- a world in which nothing happened yet
-pub start_stands : (tree : Tree) (opening : Opening) (w : World) → w.links.items ≡ [] → w.marks ≡ [] → w.seconds ≡ 0 → w.creds.items ≡ replicate opening.clients creds.None →
-    RepresentsJournal (drill_setup tree opening) [] w.server → HasOpened tree opening 0 (start opening.clients) w
-start_stands tree opening w links run seconds all server = record {
+pub start_stands : (tree : Tree) (opening : Opening) (w : World) → opening.numbered ≡ false → w.links.items ≡ [] → w.marks ≡ [] → w.seconds ≡ 0 → w.creds.items ≡ replicate opening.clients creds.None →
+    RepresentsJournal (drill_setup tree opening) [] w.server → HasOpened tree opening 0 0 (start (drill_setting tree opening) opening.clients) w
+start_stands tree opening w none links run seconds all server = record {
+  unnumbered = none;
   count = ap length links;
   links = λ link v first last. absurd (omega (arith, first, last));
   marks = run;
@@ -91,6 +93,8 @@ start_stands tree opening w links run seconds all server = record {
   creds_count = ap length all ∙ no_creds_count opening.clients;
   creds_fit = subst (AllByRecursion CanWriteCred) (sym all) (no_creds_fit opening.clients);
   server = subst (λ (J : List Entry). RepresentsJournal (drill_setup tree opening) J w.server) (sym (no_entries (plain_of (server_of (drill_setup tree opening))))) server;
+  plain = record { placed = tt; plain_replies = tt; unnumbered = tt };
+  hear = λ link first last. absurd (omega (arith, first, last));
 }
 
 -- a tree that is far below a limit
@@ -139,16 +143,17 @@ open_links s at old new links v count x own each link e first last = by (eqb lin
         differs : false ≡ true → ⊥
         differs e = absurd cc
 
-pub opens_one : (tree : Tree) (opening : Opening) (at : ℕ) (d : Drill) (w n : World) (v : DrillLinkState) → at < opening.clients → HasOpened tree opening at d w → Unopened opening.clients at d →
+pub opens_one : (tree : Tree) (opening : Opening) (at : ℕ) (d : Drill) (w n : World) (v : DrillLinkState) → at < opening.clients → HasOpened tree opening at 0 d w → Unopened opening.clients at d →
     Opens (at + 1) opening v w.marks n.marks → IsAfterOpening w v n →
-    HasOpened tree opening (at + 1) (after_opening (drill_setting tree opening) (at + 1) d) n
+    HasOpened tree opening (at + 1) 0 (after_opening (drill_setting tree opening) (at + 1) d) n
 opens_one tree opening at d w n v lt h un opens a =
     let s = drill_setting tree opening in
     let new = after_opening s (at + 1) d in
     let leaves = opening_leaves s (at + 1) d in
     let x = opening_adds s (at + 1) d in
-    let stands = opens s d refl (un (at + 1) (omega arith) (omega (arith, lt))) h.marks (subst RepliedInBytes (sym h.marks) h.replies) in
+    let stands = opens s d (opened_firsts (server_of (drill_setup tree opening)) opening h.unnumbered) refl (un (at + 1) (omega arith) (omega (arith, lt))) h.marks (subst RepliedInBytes (sym h.marks) h.replies) in
     record {
+      unnumbered = h.unnumbered;
       count = ap length a.links ∙ length-append w.links.items (v ∷ []) ∙ ap (λ (k : ℕ). k + 1) h.count;
       links = λ link e first last. subst (λ (links : List DrillLinkState). LinkStands s link new (slice_index_or links (link - 1) e)) (sym a.links)
           (open_links s at d new w.links.items v h.count x stands.stands h.links link e first last);
@@ -160,6 +165,8 @@ opens_one tree opening at d w n v lt h un opens a =
       creds_fit = subst (AllByRecursion CanWriteCred) (sym a.creds) h.creds_fit;
       server = subst (λ (k : PlainServerState). ServerStands (drill_setup tree opening) new k) (sym a.server)
           (subst (λ (J : List Entry). RepresentsJournal (drill_setup tree opening) J w.server) (sym leaves.journal) h.server);
+      plain = leaves.plain h.plain;
+      hear = λ link first last. absurd (omega (arith, first, last));
     }
 
 pub openings_on : (opening : Opening) (old w n : World) (at : ℕ) (v : DrillLinkState) → at < opening.clients → OpenedSoFar opening old w at → Opens (at + 1) opening v w.marks n.marks →
@@ -179,5 +186,5 @@ unfolding opened_drill
 openings_all opening old w at e so_far tree h =
     let s = drill_setting tree opening in
     let (d, stands, un, rest) = so_far tree h in
-    subst (λ (x : Drill). WorldStands tree opening x w) (openings_end s opening.clients at d (omega (arith, e)) ∙ rest)
-    (subst (λ (k : ℕ). HasOpened tree opening k d w) e stands)
+    subst (λ (x : Drill). HasOpened tree opening opening.clients 0 x w) (openings_end s opening.clients at d (omega (arith, e)) ∙ rest)
+    (subst (λ (k : ℕ). HasOpened tree opening k 0 d w) e stands)

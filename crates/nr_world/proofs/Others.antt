@@ -10,5 +10,5 @@ use Rattle.nr_world.proofs.Apart.{stands_by, stands_elsewhere}
 pub others_stand : (s : Setting) (acted link : ℕ) (old new : Drill) (v : DrillLinkState) → 1 ≤ acted → link ≢ acted → Extends acted old new → LinkStands s link old v → LinkStands s link new v
 others_stand s acted link old new v first ne x h = stands_elsewhere s link acted old new v first (λ same. ne (sym same)) x h
 
-pub link_stays : (s : Setting) (link : ℕ) (d : Drill) (seconds : ℕ) (creds : List Cred) (v : DrillLinkState) → LinkStands s link d v → LinkStands s link (record { marks = d.marks; pipes = d.pipes; seconds = seconds; creds = creds }) v
-link_stays s link d seconds creds v h = stands_by s link d (record { marks = d.marks; pipes = d.pipes; seconds = seconds; creds = creds }) v refl refl refl h
+pub link_stays : (s : Setting) (link : ℕ) (d : Drill) (seconds : ℕ) (creds : List Cred) (v : DrillLinkState) → LinkStands s link d v → LinkStands s link (record d { seconds = seconds; creds = creds }) v
+link_stays s link d seconds creds v h = stands_by s link d (record d { seconds = seconds; creds = creds }) v refl refl refl h

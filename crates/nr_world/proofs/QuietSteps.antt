@@ -1,5 +1,5 @@
 -- Steps that execute no call leave the journal and the clock.
-use Rattle.std.proofs.Common.{◌≡◌, ℕ, zero, suc, Bool, true, false, List, [], ◌∷◌, ◌++◌, length, Option, None, Some, refl, ap, ◌∙◌, append-nil}
+use Rattle.std.proofs.Common.{◌≡◌, ℕ, zero, suc, Bool, true, false, List, [], ◌∷◌, ◌++◌, length, Option, None, Some, refl, ap, ◌∙◌, append-nil, append_assoc, sym, map}
 use Rattle.nr_wire.specs.declared.hello.Side.{Side}
 use Rattle.nr_wire.specs.declared.hello.Side.TheVariants.{Initiator, Responder}
 use Rattle.nr_reduce.specs.declared.call.Call.{Call}
@@ -11,7 +11,10 @@ use Rattle.nr_reduce.specs.History.{CompletedCall}
 use Rattle.nr_reduce.specs.PlainJournal.{entries_added, journal}
 use Rattle.nr_reduce.specs.OutcomesDue.{outcomes_due}
 use Rattle.nr_reduce.proofs.Standing.{one_more}
-use Rattle.nr_drill.specs.Drill.{SerialServer, Setting, Drill, Pipes, plain_of, with_mark, after_output, after_all_output, unwritten, settled, after_feeding, after_feeding_up, after_feeding_down, after_up, after_handing, after_done, after_dones, after_outcomes, after_down, after_submit, after_giving_up, after_forget, after_taking_back, after_revoke, after_drop, after_raw}
+use Rattle.nr_drill.specs.Drill.{SerialServer, Setting, Drill, Pipes, plain_of, with_mark, after_output, after_all_output, unwritten, settled, after_feeding, after_feeding_up, after_feeding_down, after_up, after_handing, after_done, after_dones, after_outcomes, after_down, after_submit, after_giving_up, after_forget, after_taking_back, after_revoke, after_drop, after_raw, resend_mark, after_resends}
+use Rattle.nr_reduce.specs.ClientState.{WaitingCall}
+use Rattle.nr_reduce.specs.SubmitAnswer.{calls_to_resend}
+use Rattle.nr_reduce.specs.Run.{client}
 
 pub record IsQuietStep (server : SerialServer) (old new : Drill) : Type 0 where
   pub journal : journal (plain_of server) new.marks ≡ journal (plain_of server) old.marks
@@ -73,13 +76,30 @@ pub quiet_dones : (s : Setting) (link n : ℕ) (d : Drill) → IsQuietStep s.ser
 quiet_dones s link zero d = quiet_none s.server d
 quiet_dones s link (suc n) d = quiet_then s.server d (after_done s link d) (after_dones s link n (after_done s link d)) (quiet_done s link d) (quiet_dones s link n (after_done s link d))
 
+-- calls that are sent again add no entry
+quiet_resends : (s : Setting) (link : ℕ) (d : Drill) → IsQuietStep s.server d (after_resends s link d)
+unfolding after_resends
+quiet_resends s link d = resent (calls_to_resend (client (s.opened link) link d.marks)) d
+  where
+    resent : (ws : List WaitingCall) (d : Drill) → IsQuietStep s.server d (record d { marks = d.marks ++ map (resend_mark link) ws })
+    resent [] d = record { journal = ap (λ (run : List Mark). journal (plain_of s.server) run) (append-nil d.marks); seconds = refl }
+    resent (w ∷ ws) d =
+        let one = quiet_mark s.server (resend_mark link w) d refl in
+        let rest = resent ws (with_mark (resend_mark link w) d) in
+        record {
+          journal = ap (λ (run : List Mark). journal (plain_of s.server) run) (sym (append_assoc d.marks (resend_mark link w ∷ []) (map (resend_mark link) ws))) ∙ rest.journal ∙ one.journal;
+          seconds = refl;
+        }
+
 pub quiet_down : (s : Setting) (link n : ℕ) (d : Drill) → IsQuietStep s.server d (after_down s link n d)
 unfolding after_down after_outcomes
 quiet_down s link n d =
     let fed : Drill = after_feeding_down link n d in
-    let handed : Drill = after_outcomes s link fed in
+    let again : Drill = after_resends s link fed in
+    let handed : Drill = after_outcomes s link again in
     quiet_then s.server d fed (settled s link handed) (quiet_feeding s.server link Initiator _ _ d)
-    (quiet_then s.server fed handed (settled s link handed) (quiet_dones s link (length (outcomes_due (s.opened link) link fed.marks)) fed) (quiet_settled s link handed))
+    (quiet_then s.server fed again (settled s link handed) (quiet_resends s link fed)
+    (quiet_then s.server again handed (settled s link handed) (quiet_dones s link (length (outcomes_due (s.opened link) link again.marks)) again) (quiet_settled s link handed)))
 
 pub quiet_submit : (s : Setting) (link : ℕ) (call : Call) (form : Form) (d : Drill) → IsQuietStep s.server d (after_submit s link call form d)
 unfolding after_submit

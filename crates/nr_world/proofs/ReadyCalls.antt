@@ -8,7 +8,6 @@ use Rattle.nr_reduce.specs.declared.mark.Entry.{Entry}
 use Rattle.nr_reduce.specs.declared.mark.Mark.{Mark}
 use Rattle.nr_reduce.specs.declared.mark.Mark.TheVariants as marks
 use Rattle.nr_reduce.specs.History.{ExecutedCall, is_dropped}
-use Rattle.nr_reduce.specs.PlainJournal.{journal}
 use Rattle.nr_reduce.specs.Events.RunEvent.{CallExecuted}
 use Rattle.nr_reduce.specs.EndRules.{EndState, end_state_after}
 use Rattle.nr_reduce.specs.ServerState.{PendingCall, ReadyCall, ServerState}
@@ -18,12 +17,17 @@ use Rattle.nr_reduce.specs.Served.{first_ready, next_call}
 use Rattle.nr_responder.specs.Keeping.{IsReadyOf, IsServer, Keeps, KeepsEnded}
 use Rattle.nr_responder.proofs.Executed.{executed, answered_server, one_out_lem}
 use Rattle.nr_plain.specs.Stands.{PlainServerState, RepresentsJournal}
-use Rattle.nr_drill.specs.Drill.{Setting, Drill, plain_of, pipes_of, with_mark, now, settled, if_standing, waiting_call, after_answer, after_execution, after_work, after_calls, after_all_up, after_all_work, after_all_down, after_moves}
+use Rattle.nr_drill.specs.Drill.{Setting, Drill, pipes_of, with_mark, settled, if_standing, waiting_call, after_answer, after_execution, after_work, after_calls, after_all_up, after_all_work, after_all_down, after_moves, GivenReply}
 use Rattle.nr_drill.proofs.LessWork.{is_next_lem, same_server, settled_leaves, own}
 use Rattle.nr_world.specs.DrillLinkState.{DrillLinkState}
 use Rattle.nr_world.specs.LinkStands.{LinkStands}
-use Rattle.nr_world.specs.Steps.{StandsAt, ServerStands, Works, Goes, setting_over}
-use Rattle.nr_world.proofs.QuietSteps.{IsQuietStep, quiet_settled, quiet_up, quiet_down}
+use Rattle.nr_world.specs.Steps.{StandsAt, ServerStands, Works, Goes, setting_over, IsPlainAt}
+use Rattle.nr_world.proofs.QuietSteps.{IsQuietStep, quiet_up, quiet_down}
+use Rattle.nr_drill.specs.Unnumbered.{HeardNone}
+use Rattle.nr_world.proofs.PlainAt.{new_called, calls_plain_at}
+use Rattle.nr_world.proofs.SameServer.{up_leaves, work_clock}
+use Rattle.nr_drill.proofs.Followed.{work_adds, up_adds}
+use Rattle.nr_drill.proofs.Journals.{still_none}
 
 -- ---- A call that is ready is pending
 
@@ -50,14 +54,13 @@ one_fewer (r ∷ ready) call e = omega arith
 abbrev pub ready_count : Setting → ℕ → Drill → ℕ
 ready_count s link d = length (server (s.opened link) link d.marks).state.ready
 
-answer_takes : (s : Setting) (link : ℕ) (call : ReadyCall) (reply : List ℕ) (d : Drill) → next_call (s.opened link) link d.marks ≡ Some call →
-    ready_count s link (after_answer s link call (Some reply) d) + 1 ≡ ready_count s link d
+answer_takes : (s : Setting) (link : ℕ) (call : ReadyCall) (g : GivenReply) (d : Drill) → next_call (s.opened link) link d.marks ≡ Some call →
+    ready_count s link (after_answer s link call (Some g) d) + 1 ≡ ready_count s link d
 unfolding next_call
-answer_takes s link call reply d next =
+answer_takes s link call g d next =
     let o : LinkParameters = s.opened link in
-    let place : ℕ = length (journal (plain_of s.server) d.marks) in
-    let mark : Mark = marks.Execute link call.xid (now d) call.payload place reply in
-    let done : ExecutedCall = record { xid = call.xid; moment = now d; payload = call.payload; place = place; reply = reply } in
+    let mark : Mark = marks.Execute link call.xid g.moment call.payload g.place g.reply in
+    let done : ExecutedCall = record { xid = call.xid; moment = g.moment; payload = call.payload; place = g.place; reply = g.reply } in
     let before : EndState ServerState = server o link d.marks in
     let first = is_next_lem before.state.ready before.ended call next in
     let after : server o link (d.marks ++ mark ∷ []) ≡ end_state_after (server_rules o) (record { state = before.state; ended = None }) (CallExecuted done ∷ []) =
@@ -72,22 +75,26 @@ answer_takes s link call reply d next =
 abbrev Taken : Setting → ℕ → Drill → Drill → Type 0
 Taken s link d new = (new ≡ d) ⊎ (ready_count s link new + 1 ≡ ready_count s link d)
 
-taken_answer : (s : Setting) (link : ℕ) (call : ReadyCall) (reply : Option (List ℕ)) (d : Drill) → next_call (s.opened link) link d.marks ≡ Some call → Taken s link d (after_answer s link call reply d)
+taken_answer : (s : Setting) (link : ℕ) (call : ReadyCall) (answer : Option GivenReply) (d : Drill) → next_call (s.opened link) link d.marks ≡ Some call → Taken s link d (after_answer s link call answer d)
 taken_answer s link call None d next = inl refl
-taken_answer s link call (Some reply) d next = inr (answer_takes s link call reply d next)
+taken_answer s link call (Some g) d next = inr (answer_takes s link call g d next)
 
 waits_next : (dropped : Bool) (call : ReadyCall) (next : Option ReadyCall) → if_standing dropped next ≡ Some call → next ≡ Some call
 waits_next true call next e = absurd cc
 waits_next false call next e = e
 
-taken_execution : (s : Setting) (link : ℕ) (call : Option ReadyCall) (d : Drill) → if_standing (is_dropped link d.marks) (next_call (s.opened link) link d.marks) ≡ call →
+taken_execution : (s : Setting) (link : ℕ) (call : Option ReadyCall) (d : Drill) → HeardNone s link d.marks → if_standing (is_dropped link d.marks) (next_call (s.opened link) link d.marks) ≡ call →
     Taken s link d (after_execution s link call d)
-taken_execution s link None d e = inl refl
-taken_execution s link (Some call) d e = taken_answer s link call _ d (waits_next (is_dropped link d.marks) call (next_call (s.opened link) link d.marks) e)
+taken_execution s link None d heard e = inl refl
+taken_execution s link (Some call) d heard e =
+    subst (λ (new : Drill). Taken s link d new) (sym (new_called s link d call heard)) (taken_answer s link call _ d (waits_next (is_dropped link d.marks) call (next_call (s.opened link) link d.marks) e))
 
-taken_work : (s : Setting) (link : ℕ) (d : Drill) → Taken s link d (after_work s link d)
+taken_work : (s : Setting) (link : ℕ) (d : Drill) → HeardNone s link d.marks → Taken s link d (after_work s link d)
 unfolding after_work waiting_call
-taken_work s link d = taken_execution s link (waiting_call s link d.marks) d refl
+taken_work s link d heard = taken_execution s link (waiting_call s link d.marks) d heard refl
+
+still_heard : (s : Setting) (link : ℕ) (d : Drill) → HeardNone s link d.marks → HeardNone s link (after_work s link d).marks
+still_heard s link d heard = still_none s link link d (after_work s link d) (work_adds s link d) heard
 
 -- ---- So more steps than calls are ready change nothing
 
@@ -99,11 +106,11 @@ none_taken : (s : Setting) (link : ℕ) (d : Drill) → ready_count s link d ≤
 none_taken s link d none (inl same) = same
 none_taken s link d none (inr one) = absurd (omega (arith, none, one))
 
-enough : (s : Setting) (link n m : ℕ) (d : Drill) → ready_count s link d ≤ n → ready_count s link d ≤ m → after_calls s link n d ≡ after_calls s link m d
-enough s link zero zero d a b = refl
-enough s link zero (suc m) d a b = sym (calls_same s link (suc m) d (none_taken s link d a (taken_work s link d)))
-enough s link (suc n) zero d a b = calls_same s link (suc n) d (none_taken s link d b (taken_work s link d))
-enough s link (suc n) (suc m) d a b = by (taken_work s link d) (λ x y. enough s link n m (after_work s link d) x y)
+enough : (s : Setting) (link n m : ℕ) (d : Drill) → HeardNone s link d.marks → ready_count s link d ≤ n → ready_count s link d ≤ m → after_calls s link n d ≡ after_calls s link m d
+enough s link zero zero d heard a b = refl
+enough s link zero (suc m) d heard a b = sym (calls_same s link (suc m) d (none_taken s link d a (taken_work s link d heard)))
+enough s link (suc n) zero d heard a b = calls_same s link (suc n) d (none_taken s link d b (taken_work s link d heard))
+enough s link (suc n) (suc m) d heard a b = by (taken_work s link d heard) (λ x y. enough s link n m (after_work s link d) (still_heard s link d heard) x y)
   where
     by : Taken s link d (after_work s link d) →
         (ready_count s link (after_work s link d) ≤ n → ready_count s link (after_work s link d) ≤ m → after_calls s link n (after_work s link d) ≡ after_calls s link m (after_work s link d)) →
@@ -111,9 +118,9 @@ enough s link (suc n) (suc m) d a b = by (taken_work s link d) (λ x y. enough s
     by (inl same) rest = calls_same s link (suc n) d same ∙ sym (calls_same s link (suc m) d same)
     by (inr one) rest = rest (omega (arith, one, a)) (omega (arith, one, b))
 
-calls_all : (s : Setting) (link n : ℕ) (d : Drill) → ready_count s link d ≤ n → after_calls s link n d ≡ after_all_work s link d
+calls_all : (s : Setting) (link n : ℕ) (d : Drill) → HeardNone s link d.marks → ready_count s link d ≤ n → after_calls s link n d ≡ after_all_work s link d
 unfolding after_all_work
-calls_all s link n d le = enough s link n (ready_count s link d) d le (omega arith)
+calls_all s link n d heard le = enough s link n (ready_count s link d) d heard le (omega arith)
 
 -- ---- The drill of a link, whose pending calls the code counts
 
@@ -131,9 +138,9 @@ ended_idle s link d e =
     let k : EndState ServerState = server (s.opened link) link d.marks in
     ap (λ (c : Option ReadyCall). after_execution s link c d) (ap (λ (c : Option ReadyCall). if_standing (is_dropped link d.marks) c) (ended_next k.state.ready k.ended e) ∙ if_none (is_dropped link d.marks))
 
-all_calls : (s : Setting) (link : ℕ) (d : Drill) (v : DrillLinkState) → LinkStands s link d v → after_calls s link (length v.server.calls) d ≡ after_all_work s link d
+all_calls : (s : Setting) (link : ℕ) (d : Drill) (v : DrillLinkState) → HeardNone s link d.marks → LinkStands s link d v → after_calls s link (length v.server.calls) d ≡ after_all_work s link d
 unfolding after_all_work
-all_calls s link d v h = by h.server.keeps
+all_calls s link d v heard h = by h.server.keeps
   where
     o : LinkParameters
     o = s.opened link
@@ -146,7 +153,7 @@ all_calls s link d v h = by h.server.keeps
         let le : length h.server.end.state.ready ≤ length h.server.end.state.calls = few v.server.link.state.place h.server.end.state.ready h.server.end.state refl k.server in
         let ready : length h.server.end.state.ready ≡ ready_count s link d = ap (λ (e : EndState ServerState). length e.state.ready) same in
         let calls : length v.server.calls ≡ length h.server.end.state.calls = ap (λ (cs : List PendingCall). length cs) k.calls in
-        calls_all s link (length v.server.calls) d (omega (arith, le, ready, calls))
+        calls_all s link (length v.server.calls) d heard (omega (arith, le, ready, calls))
     by (inr k) =
         let idle : after_work s link d ≡ d = ended_idle s link d (ap (λ (e : EndState ServerState). is_some e.ended) (sym same) ∙ k.over) in
         calls_same s link (length v.server.calls) d idle ∙ sym (calls_same s link (ready_count s link d) d idle)
@@ -154,16 +161,7 @@ all_calls s link d v h = by h.server.keeps
 -- ---- The clock
 
 work_seconds : (s : Setting) (link : ℕ) (d : Drill) → (after_work s link d).seconds ≡ d.seconds
-unfolding after_work
-work_seconds s link d = by (waiting_call s link d.marks)
-  where
-    answered : (call : ReadyCall) (reply : Option (List ℕ)) → (after_answer s link call reply d).seconds ≡ d.seconds
-    answered call None = refl
-    answered call (Some reply) = (quiet_settled s link (with_mark (marks.Execute link call.xid (now d) call.payload (length (journal (plain_of s.server) d.marks)) reply) d)).seconds
-
-    by : (c : Option ReadyCall) → (after_execution s link c d).seconds ≡ d.seconds
-    by None = refl
-    by (Some call) = answered call (s.server.reply_to (journal (plain_of s.server) d.marks) (now d) call.payload)
+work_seconds s link d = work_clock s link d
 
 pub calls_seconds : (s : Setting) (link n : ℕ) (d : Drill) → (after_calls s link n d).seconds ≡ d.seconds
 calls_seconds s link zero d = refl
@@ -180,15 +178,15 @@ abbrev pub HasWorked : (n seconds : ℕ) → (before after : DrillLinkState) →
 HasWorked n seconds before after run run2 kept kept2 = Works (λ s link d. after_calls s link n d) seconds before after run run2 kept kept2
 
 pub worked_none : (seconds : ℕ) (v : DrillLinkState) (run : List Mark) (kept : PlainServerState) → HasWorked 0 seconds v v run run kept kept
-worked_none seconds v run kept setup opened link d second stood at = (at, stood)
+worked_none seconds v run kept setup opened link d second stood p at = (at, stood)
 
 pub worked_more : (n seconds : ℕ) (v v1 v2 : DrillLinkState) (run run1 run2 : List Mark) (kept kept1 kept2 : PlainServerState) →
     HasWorked n seconds v v1 run run1 kept kept1 → Works after_work seconds v1 v2 run1 run2 kept1 kept2 → HasWorked (n + 1) seconds v v2 run run2 kept kept2
-worked_more n seconds v v1 v2 run run1 run2 kept kept1 kept2 before one setup opened link d second stood at =
+worked_more n seconds v v1 v2 run run1 run2 kept kept1 kept2 before one setup opened link d second stood p at =
     let s : Setting = setting_over setup opened in
     let mid : Drill = after_calls s link n d in
-    let x = before setup opened link d second stood at in
-    let y = one setup opened link mid (calls_seconds s link n d ∙ second) x.1 x.0 in
+    let x = before setup opened link d second stood p at in
+    let y = one setup opened link mid (calls_seconds s link n d ∙ second) x.1 (calls_plain_at s link n d p) x.0 in
     let count : suc n ≡ n + 1 = omega arith in
     let is : after_work s link mid ≡ after_calls s link (n + 1) d = sym (calls_more s link n d) ∙ ap (λ (m : ℕ). after_calls s link m d) count in (
       subst (λ (z : Drill). StandsAt s link z v2 run2) is y.0,
@@ -197,10 +195,10 @@ worked_more n seconds v v1 v2 run run1 run2 kept kept1 kept2 before one setup op
 
 pub worked_all : (n seconds : ℕ) (v v1 : DrillLinkState) (run run1 : List Mark) (kept kept1 : PlainServerState) → n ≡ length v.server.calls → HasWorked n seconds v v1 run run1 kept kept1 →
     Works after_all_work seconds v v1 run run1 kept kept1
-worked_all n seconds v v1 run run1 kept kept1 count worked setup opened link d second stood at =
+worked_all n seconds v v1 run run1 kept kept1 count worked setup opened link d second stood p at =
     let s : Setting = setting_over setup opened in
-    let x = worked setup opened link d second stood at in
-    let is : after_calls s link n d ≡ after_all_work s link d = ap (λ (m : ℕ). after_calls s link m d) count ∙ all_calls s link d v at.stands in (
+    let x = worked setup opened link d second stood p at in
+    let is : after_calls s link n d ≡ after_all_work s link d = ap (λ (m : ℕ). after_calls s link m d) count ∙ all_calls s link d v p.heard at.stands in (
       subst (λ (z : Drill). StandsAt s link z v1 run1) is x.0,
       subst (λ (z : Drill). ServerStands setup z kept1) is x.1,
     )
@@ -210,11 +208,13 @@ worked_all n seconds v v1 run run1 kept kept1 count worked setup opened link d s
 pub moves_go : (seconds : ℕ) (v v1 v2 v3 : DrillLinkState) (run run1 run2 run3 : List Mark) (kept kept2 : PlainServerState) →
     Goes after_all_up v v1 run run1 → Works after_all_work seconds v1 v2 run1 run2 kept kept2 → Goes after_all_down v2 v3 run2 run3 → Works after_moves seconds v v3 run run3 kept kept2
 unfolding after_moves
-moves_go seconds v v1 v2 v3 run run1 run2 run3 kept kept2 rises worked falls setup opened link d second stood at =
+moves_go seconds v v1 v2 v3 run run1 run2 run3 kept kept2 rises worked falls setup opened link d second stood p at =
     let s : Setting = setting_over setup opened in
     let above : Drill = after_all_up s link d in
     let up : IsQuietStep s.server d above = quiet_up s link (length (pipes_of link d).up) d in
-    let x = worked setup opened link above (up.seconds ∙ second) (subst (λ (es : List Entry). RepresentsJournal setup es kept) (sym up.journal) stood) (rises s link d at) in
+    let n = length (pipes_of link d).up in
+    let p_up : IsPlainAt s link above = record { plain = (up_leaves s link n d).plain p.plain; heard = still_none s link link d above (up_adds s link n d) p.heard } in
+    let x = worked setup opened link above (up.seconds ∙ second) (subst (λ (es : List Entry). RepresentsJournal setup es kept) (sym up.journal) stood) p_up (rises s link d at) in
     let done : Drill = after_all_work s link above in
     let down : IsQuietStep s.server done (after_all_down s link done) = quiet_down s link (length (pipes_of link done).down) done in
     (falls s link done x.0, subst (λ (es : List Entry). RepresentsJournal setup es kept2) (sym down.journal) x.1)

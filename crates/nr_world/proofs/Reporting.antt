@@ -16,6 +16,8 @@ use Rattle.nr_world.specs.declared.world.World.{World}
 use Rattle.nr_world.specs.private.Stands.{drill_setting, WorldStands}
 use Rattle.nr_world.specs.private.Results.{AreEndsOf, ReportsWorld}
 use Rattle.nr_world.proofs.Rounds.{links_from, no_links}
+use Rattle.nr_drill.specs.Follows.{last_setting}
+use Rattle.nr_drill.proofs.Followed.{follows_first}
 
 abbrev pub ends_from : Option End → Option End → Bool → LinkEnds
 ends_from client server dropped = record { client = client; server = server; dropped = dropped }
@@ -54,4 +56,8 @@ pub tells_world : (w : World) (run : List Mark) (ends : List LinkEnds) (report :
 tells_world w run ends report same are tells tree script d h is drill =
     let s = server_of (drill_setup tree script.opening) in
     let run_is : run ≡ d.marks = same ∙ h.marks in
-    tells s script is (subst (IsDrillRun s script) (sym run_is) drill) refl (are tree script.opening d h ∙ sym (ap (λ (r : List Mark). map (ends_of (drill_setting tree script.opening) r) (links_of script.opening.clients)) run_is))
+    let own = subst (IsDrillRun s script) (sym run_is) drill in
+    let first = follows_first s script run is h.unnumbered own.follows in
+    let ends_are : ends ≡ map (ends_of (last_setting own.follows) run) own.follows.last.last_links =
+    are tree script.opening d h ∙ sym (λ i. map (ends_of (first.setting i) (run_is i)) (first.last_links i)) in
+    tells s script is h.unnumbered own refl ends_are

@@ -12,14 +12,17 @@ use Rattle.nr_drill.specs.declared.report.Report.{Report}
 use Rattle.nr_drill.specs.Drill.{start, links_of}
 use Rattle.nr_drill.specs.DrillSetup.{drill_setup, server_of, GivesReport}
 use Rattle.nr_drill.specs.Follows.{Follows, opened_drill}
-use Rattle.nr_drill.proofs.Carried.{both_true}
 use Rattle.nr_drill.proofs.Headed.{drill_is_run}
 use Rattle.nr_world.specs.declared.world.World.{World}
 use Rattle.nr_world.specs.private.Opened.{HasOpenLinks}
 use Rattle.nr_world.specs.private.Results.{ReportsWorld}
-use Rattle.nr_world.specs.private.Stands.{drill_setting, MakesLines}
+use Rattle.nr_world.specs.private.Stands.{drill_setting, MakesLines, HasOpened, WorldStands}
 use Rattle.nr_world.specs.private.Within.{IsClient, IsLineWithin, AreWithin, CanMakeAll}
 use Rattle.nr_world.proofs.SameServer.{openings_clock}
+use Rattle.nr_drill.proofs.Followed.{all_fit, opened_first_links}
+use Rattle.nr_drill.proofs.FirstLines.{all_makes, all_name, both_true}
+use Rattle.nr_drill.proofs.FirstLinks.{opened_firsts}
+use Rattle.nr_drill.proofs.LessScripts.{opened_heard}
 
 client_is : (opening : Opening) (client : ℕ) → is_client opening client ≡ true → IsClient opening.clients client
 client_is opening client e =
@@ -36,6 +39,7 @@ within opening before (lines.Tick more) e w = leb-true (seconds_after before + m
 within opening before (lines.Forget client number) e w = client_is opening client (both_true (is_client opening client) (is_call_line client number before) e).0
 within opening before (lines.Revoke client number) e w = client_is opening client (both_true (is_client opening client) (is_call_line client number before) e).0
 within opening before (lines.Drop client) e w = client_is opening client e
+within opening before (lines.Rejoin client) e w = client_is opening client (both_true (is_client opening client) opening.numbered e).0
 within opening before (lines.Grant client credits) e w =
     let both = both_true (is_client opening client) (credits_in_range opening credits) e in
     let credits_fit = both_true (leb 1 credits) (leb credits opening.credits) both.1 in
@@ -58,7 +62,27 @@ none_before = refl
 
 opened_clock : (tree : Tree) (opening : Opening) → (opened_drill (server_of (drill_setup tree opening)) opening).seconds ≡ 0
 unfolding opened_drill
-opened_clock tree opening = openings_clock (drill_setting tree opening) (links_of opening.clients) (start opening.clients)
+opened_clock tree opening = openings_clock (drill_setting tree opening) (links_of opening.clients) (start (drill_setting tree opening) opening.clients)
+
+-- each server has heard its client
+all_heard : (tree : Tree) (script : ScriptLines) (w : World) → IsScript script → HasOpened tree script.opening script.opening.clients 0 (opened_drill (server_of (drill_setup tree script.opening)) script.opening) w →
+    WorldStands tree script.opening (opened_drill (server_of (drill_setup tree script.opening)) script.opening) w
+all_heard tree script w is h =
+    let server = server_of (drill_setup tree script.opening) in
+    record {
+      unnumbered = h.unnumbered;
+      count = h.count;
+      links = h.links;
+      marks = h.marks;
+      replies = h.replies;
+      seconds = h.seconds;
+      creds = h.creds;
+      creds_count = h.creds_count;
+      creds_fit = h.creds_fit;
+      server = h.server;
+      plain = h.plain;
+      hear = λ link first last. record { heard = opened_heard server script is h.unnumbered link (first, last); none = (opened_firsts server script.opening h.unnumbered).unnumbered link };
+    }
 
 -- a world that has just opened can make all lines of the script
 pub lines_fit : (script : ScriptLines) (w : World) → IsScript script → HasOpenLinks script.opening w → CanMakeAll script.lines w
@@ -66,21 +90,24 @@ lines_fit script w is (tree, sane, stands) = (
   tree,
   script.opening,
   opened_drill (server_of (drill_setup tree script.opening)) script.opening,
-  stands,
+  all_heard tree script w is stands,
   subst (λ (n : ℕ). AreWithin script.opening n script.lines) (none_before ∙ sym (opened_clock tree script.opening)) (all_within script.opening [] script.lines is.follow_on is.creds),
 )
 
 pub runs_script : (script : ScriptLines) (w n : World) (report : Report) → IsScript script → HasOpenLinks script.opening w → MakesLines script.lines w n → ReportsWorld n report → GivesReport script report
 runs_script script w n report is (tree, sane, stands) makes told =
     let server = server_of (drill_setup tree script.opening) in
-    let (last, made, there) = makes tree script.opening (opened_drill server script.opening) stands in
-    let follows : Follows server script last.marks = record { last = last; makes = made; marks_are = refl } in
-    (tree, sane.drill, told tree script last there is (drill_is_run tree script last.marks sane.sane is there.replies follows))
+    let (last, made, there) = makes tree script.opening (opened_drill server script.opening) (all_heard tree script w is stands) in
+    let none = stands.unnumbered in
+    let first = opened_first_links server script.opening none in
+    let all = all_makes (drill_setting tree script.opening) script.opening.clients script.lines (opened_drill server script.opening) last first.setting first.last_links (all_fit server script is none) (all_name script.opening [] script.lines is.follow_on) made in
+    let follows : Follows server script last.marks = record { last = last; makes = all; marks_are = refl } in
+    (tree, sane.drill, told tree script last there is (drill_is_run tree script last.marks sane.sane is none there.replies follows))
 
 -- as many links as clients, at most as many as a script has
 pub few_links : (script : ScriptLines) (w n : World) → IsScript script → HasOpenLinks script.opening w → MakesLines script.lines w n → length n.links.items ≤ clients_max
 few_links script w n is (tree, sane, stands) makes =
-    let (last, made, there) = makes tree script.opening (opened_drill (server_of (drill_setup tree script.opening)) script.opening) stands in
+    let (last, made, there) = makes tree script.opening (opened_drill (server_of (drill_setup tree script.opening)) script.opening) (all_heard tree script w is stands) in
     omega (arith, there.count, is.few_clients)
 
 -- ===== as the code has it: the first line and the lines of a script

@@ -11,13 +11,13 @@ use Rattle.nr_requester.specs.Standing.{RequesterRepresents}
 use Rattle.nr_requester.specs.Laws.{GivesUpNothing}
 use Rattle.nr_responder.specs.ResponderState.{ResponderSide, end_of}
 use Rattle.nr_responder.specs.Standing.{RepresentsServer}
-use Rattle.nr_drill.specs.Drill.{Setting, Drill, Pipes, with_pipes, with_mark, answer_at}
+use Rattle.nr_drill.specs.Drill.{Setting, Drill, Pipes, with_pipes, with_mark}
 use Rattle.nr_drill.specs.InBytes.{RepliedInBytes, RepliedMark}
 use Rattle.nr_drill.proofs.Carried.{own_pipes, same_dropped}
 use Rattle.nr_world.specs.DrillLinkState.{DrillLinkState}
-use Rattle.nr_world.specs.LinkStands.{LinkStands}
+use Rattle.nr_world.specs.LinkStands.{LinkStands, answer_on}
 use Rattle.nr_world.specs.Steps.{Goes, StandsAt}
-use Rattle.nr_world.proofs.CallLines.{answers_same, awaited_same}
+use Rattle.nr_world.proofs.CallLines.{answers_same, awaited_same, own_one, own_none}
 
 -- the link with other ends and pipes
 abbrev pub with_ends : DrillLinkState → RequesterSide → ResponderSide → Pipes → DrillLinkState
@@ -26,7 +26,7 @@ with_ends v client server pipes = record { number = v.number; client = client; s
 -- a mark that is no Submit and no Drop, and gives up no call
 pub record IsPlain (link : ℕ) (mark : Mark) : Type 0 where
   pub drops : is_drop_of link mark ≡ false
-  pub answer : answer_at link mark ≡ []
+  pub answer : answer_on link mark ≡ []
   pub kept : GivesUpNothing link mark
   pub replied : (before : List Mark) → RepliedMark before mark
 
@@ -48,6 +48,7 @@ pub other_pipes : (s : Setting) (link : ℕ) (d : Drill) (v : DrillLinkState) (c
     LinkStands s link (with_pipes link pipes d) (with_ends v client server pipes)
 other_pipes s link d v client server pipes h e = record {
   number = h.number;
+  firsts = h.firsts;
   first = h.first;
   room = subst (λ (n : ℕ). link ≤ n) (sym (length-set d.pipes (link - 1) pipes)) h.room;
   pipes = sym (own_pipes link pipes d (below_room link (length d.pipes) h.first h.room));
@@ -58,6 +59,7 @@ other_pipes s link d v client server pipes h e = record {
   server_memory = e.server_memory;
   lines = h.lines;
   awaited = h.awaited;
+  own = h.own;
 }
 
 -- a mark, and the same pipes
@@ -65,6 +67,7 @@ pub plain_mark : (s : Setting) (link : ℕ) (d : Drill) (v : DrillLinkState) (cl
     EndsStand s link (d.marks ++ mark ∷ []) client server → LinkStands s link (with_mark mark d) (with_ends v client server v.pipes)
 plain_mark s link d v client server mark p h e = record {
   number = h.number;
+  firsts = h.firsts;
   first = h.first;
   room = h.room;
   pipes = h.pipes;
@@ -75,6 +78,7 @@ plain_mark s link d v client server mark p h e = record {
   server_memory = e.server_memory;
   lines = h.lines ∙ ap length (sym (answers_same link d.marks mark p.answer));
   awaited = h.awaited ∙ sym (awaited_same link d.marks mark p.answer p.kept);
+  own = own_one s link d.marks mark (own_none s link mark h.firsts p.answer) h.own;
 }
 
 pub replied_one : (run : List Mark) (mark : Mark) → ((before : List Mark) → RepliedMark before mark) → RepliedInBytes run → RepliedInBytes (run ++ mark ∷ [])

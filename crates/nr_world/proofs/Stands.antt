@@ -14,18 +14,22 @@ use Rattle.nr_tree.specs.Tree.{Tree}
 use Rattle.nr_plain.specs.Stands.{PlainServerState, RepresentsJournal}
 use Rattle.nr_texts.specs.declared.opening.Opening.{Opening}
 use Rattle.nr_drill.specs.Drill.{Setting, Drill, after_submit}
-use Rattle.nr_drill.specs.DrillSetup.{drill_setup}
+use Rattle.nr_drill.specs.DrillSetup.{drill_setup, server_of}
 use Rattle.nr_drill.specs.Follows.{parameters_of}
 use Rattle.nr_drill.specs.InBytes.{RepliedInBytes}
 use Rattle.nr_drill.proofs.Followed.{Extends}
 use Rattle.nr_world.specs.DrillLinkState.{DrillLinkState}
 use Rattle.nr_world.specs.LinkStands.{LinkStands}
-use Rattle.nr_world.specs.Steps.{StandsAt, Goes, Works, ServerStands}
+use Rattle.nr_world.specs.Steps.{StandsAt, Goes, Works, ServerStands, IsPlainAt}
 use Rattle.nr_world.specs.declared.world.World.{World}
 use Rattle.nr_world.specs.private.Stands.{drill_setting, HasOpened, WorldStands, Steps}
 use Rattle.nr_world.specs.private.Within.{IsClient}
 use Rattle.nr_world.proofs.SameServer.{Leaves}
 use Rattle.nr_world.proofs.Others.{others_stand}
+use Rattle.nr_drill.specs.Unnumbered.{IsPlainRun}
+use Rattle.nr_drill.proofs.Journals.{still_none}
+use Rattle.nr_drill.proofs.FirstLinks.{opened_firsts}
+use Rattle.nr_reduce.specs.Opening.{IsFirstLink}
 
 pub on_ok : {T E : Type 0} (r : Result T E) (P Q : Type 0) → OnOk r P → (P → Q) → OnOk r Q
 on_ok (Ok x) P Q h f = f h
@@ -36,12 +40,12 @@ if_ok (Ok x) P Q h f = f x h
 if_ok (Err e) P Q h f = tt
 
 -- the link of a client
-pub link_of_client : (tree : Tree) (opening : Opening) (opened : ℕ) (d : Drill) (w : World) (client : ℕ) (v : DrillLinkState) → HasOpened tree opening opened d w → IsClient (length w.links.items) client →
+pub link_of_client : (tree : Tree) (opening : Opening) (opened : ℕ) {heard : ℕ} (d : Drill) (w : World) (client : ℕ) (v : DrillLinkState) → HasOpened tree opening opened heard d w → IsClient (length w.links.items) client →
     v ≡ slice_index_or w.links.items (client - 1) v → LinkStands (drill_setting tree opening) client d v
 link_of_client tree opening opened d w client v h is e =
     subst (LinkStands (drill_setting tree opening) client d) (sym e) (h.links client v is.0 (omega (arith, h.count, is.1)))
 
-pub stands_at : (tree : Tree) (opening : Opening) (opened : ℕ) (d : Drill) (w : World) (client : ℕ) (v : DrillLinkState) → HasOpened tree opening opened d w → IsClient (length w.links.items) client →
+pub stands_at : (tree : Tree) (opening : Opening) (opened : ℕ) {heard : ℕ} (d : Drill) (w : World) (client : ℕ) (v : DrillLinkState) → HasOpened tree opening opened heard d w → IsClient (length w.links.items) client →
     v ≡ slice_index_or w.links.items (client - 1) v → StandsAt (drill_setting tree opening) client d v w.marks
 stands_at tree opening opened d w client v h is e = record {
   stands = link_of_client tree opening opened d w client v h is e;
@@ -75,10 +79,11 @@ pub record IsAfterStep (w : World) (client : ℕ) (v : DrillLinkState) (n : Worl
   pub seconds : n.seconds ≡ w.seconds
   pub creds : n.creds.items ≡ w.creds.items
 
-pub world_steps : (tree : Tree) (opening : Opening) (opened client : ℕ) (d new : Drill) (w n : World) (v : DrillLinkState) → HasOpened tree opening opened d w → IsClient (length w.links.items) client →
+pub world_steps : (tree : Tree) (opening : Opening) (opened heard client : ℕ) (d new : Drill) (w n : World) (v : DrillLinkState) → HasOpened tree opening opened heard d w → IsClient (length w.links.items) client →
     Extends client d new → new.seconds ≡ d.seconds → IsAfterStep w client v n → StandsAt (drill_setting tree opening) client new v n.marks → ServerStands (drill_setup tree opening) new n.server →
-    HasOpened tree opening opened new n
-world_steps tree opening opened client d new w n v h is x clock a at server = record {
+    IsPlainRun (server_of (drill_setup tree opening)) new.marks → HasOpened tree opening opened heard new n
+world_steps tree opening opened heard client d new w n v h is x clock a at server plain = record {
+  unnumbered = h.unnumbered;
   count = ap length a.links ∙ length-set w.links.items (client - 1) v ∙ h.count;
   links = λ link e first last. subst (λ (links : List DrillLinkState). LinkStands (drill_setting tree opening) link new (slice_index_or links (link - 1) e)) (sym a.links)
       (each_stands (drill_setting tree opening) client opened d new w.links.items v h.count (is.0, omega (arith, is.1, h.count)) x at.stands h.links link e first last);
@@ -89,6 +94,8 @@ world_steps tree opening opened client d new w n v h is x clock a at server = re
   creds_count = ap length a.creds ∙ h.creds_count;
   creds_fit = subst (AllByRecursion CanWriteCred) (sym a.creds) h.creds_fit;
   server = server;
+  plain = plain;
+  hear = λ link first last. still_none (drill_setting tree opening) link client d new x (h.hear link first last);
 }
 
 -- what a step of a link makes of a drill, if it executes no call
@@ -103,23 +110,26 @@ world_goes step quiet client w n before after e is a same goes tree opening d h 
     let kept : ServerStands (drill_setup tree opening) (step s client d) n.server =
     subst (λ (k : PlainServerState). ServerStands (drill_setup tree opening) (step s client d) k) (sym same)
     (subst (λ (J : List Entry). RepresentsJournal (drill_setup tree opening) J w.server) (sym both.1.journal) h.server) in
-    world_steps tree opening opening.clients client d (step s client d) w n after h is both.0 both.1.seconds a
-    (goes s client d (stands_at tree opening opening.clients d w client before h is e)) kept
+    world_steps tree opening opening.clients opening.clients client d (step s client d) w n after h is both.0 both.1.seconds a
+    (goes s client d (stands_at tree opening opening.clients d w client before h is e)) kept (both.1.plain h.plain)
 
 -- and if it executes calls
-abbrev pub KeepsClock : (Setting → ℕ → Drill → Drill) → Type 0
-KeepsClock step = (s : Setting) (link : ℕ) (d : Drill) → Extends link d (step s link d) × ((step s link d).seconds ≡ d.seconds)
+abbrev pub WorksPlainly : (Setting → ℕ → Drill → Drill) → Type 0
+WorksPlainly step = (s : Setting) (link : ℕ) (d : Drill) →
+    Extends link d (step s link d) × ((step s link d).seconds ≡ d.seconds) × (IsFirstLink (s.opened link) → IsPlainAt s link d → IsPlainRun s.server (step s link d).marks)
 
-pub world_works : (step : Setting → ℕ → Drill → Drill) → KeepsClock step → (client : ℕ) (w n : World) (before after : DrillLinkState) → before ≡ slice_index_or w.links.items (client - 1) before → IsClient (length w.links.items) client →
+pub world_works : (step : Setting → ℕ → Drill → Drill) → WorksPlainly step → (client : ℕ) (w n : World) (before after : DrillLinkState) → before ≡ slice_index_or w.links.items (client - 1) before → IsClient (length w.links.items) client →
     IsAfterStep w client after n → Works step w.seconds before after w.marks n.marks w.server n.server → Steps (λ s d. step s client d) w n
 world_works step quiet client w n before after e is a works tree opening d h =
     let s = drill_setting tree opening in
     let both = quiet s client d in
-    let new = works (drill_setup tree opening) (parameters_of opening) client d (sym h.seconds) h.server (stands_at tree opening opening.clients d w client before h is e) in
-    world_steps tree opening opening.clients client d (step s client d) w n after h is both.0 both.1 a new.0 new.1
+    let plain : IsPlainAt s client d = record { plain = h.plain; heard = h.hear client is.0 (omega (arith, is.1, h.count)) } in
+    let first = (opened_firsts (server_of (drill_setup tree opening)) opening h.unnumbered).on client in
+    let new = works (drill_setup tree opening) (parameters_of opening) client d (sym h.seconds) h.server plain (stands_at tree opening opening.clients d w client before h is e) in
+    world_steps tree opening opening.clients opening.clients client d (step s client d) w n after h is both.0 both.1 a new.0 new.1 (both.2 first plain)
 
 -- the link at a place
-pub link_at : (tree : Tree) (opening : Opening) (opened : ℕ) (d : Drill) (w : World) (at : ℕ) (v : DrillLinkState) → HasOpened tree opening opened d w → at < opened → v ≡ slice_index_or w.links.items at v →
+pub link_at : (tree : Tree) (opening : Opening) (opened : ℕ) {heard : ℕ} (d : Drill) (w : World) (at : ℕ) (v : DrillLinkState) → HasOpened tree opening opened heard d w → at < opened → v ≡ slice_index_or w.links.items at v →
     LinkStands (drill_setting tree opening) (at + 1) d v
 link_at tree opening opened d w at v h lt e =
     let place : at + 1 - 1 ≡ at = omega arith in

@@ -41,6 +41,7 @@ pub other_ends : (s : Setting) (link : ℕ) (d : Drill) (v : DrillLinkState) (cl
     LinkStands s link d (with_ends v client server v.pipes)
 other_ends s link d v client server h e = record {
   number = h.number;
+  firsts = h.firsts;
   first = h.first;
   room = h.room;
   pipes = h.pipes;
@@ -51,6 +52,7 @@ other_ends s link d v client server h e = record {
   server_memory = e.server_memory;
   lines = h.lines;
   awaited = h.awaited;
+  own = h.own;
 }
 
 -- ---- The client

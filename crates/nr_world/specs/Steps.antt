@@ -22,6 +22,7 @@ use Rattle.nr_drill.specs.Follows.{parameters_of}
 use Rattle.nr_drill.specs.InBytes.{RepliedInBytes}
 use Rattle.nr_world.specs.DrillLinkState.{DrillLinkState}
 use Rattle.nr_world.specs.LinkStands.{LinkStands}
+use Rattle.nr_drill.specs.Unnumbered.{AreFirst, HeardNone, IsPlainRun}
 
 -- A link stands for a drill, and these are the drill's marks, each of whose replies is bytes.
 pub record StandsAt (s : Setting) (link : ℕ) (d : Drill) (v : DrillLinkState) (run : List Mark) : Type 0 where
@@ -41,10 +42,15 @@ setting_over setup opened = record { server = server_of setup; opened = opened }
 abbrev pub ServerStands : Setup → Drill → PlainServerState → Type 0
 ServerStands setup d kept = RepresentsJournal setup (journal (plain_of (server_of setup)) d.marks) kept
 
+-- All calls so far were executed one after another, as those of clients without numbers, and the server of a link heard that its client has none.
+pub record IsPlainAt (s : Setting) (link : ℕ) (d : Drill) : Type 0 where
+  pub plain : IsPlainRun s.server d.marks
+  pub heard : HeardNone s link d.marks
+
 -- The same of a step that executes calls at this second, on a server that stands for the drill's journal.
 abbrev pub Works : (Setting → ℕ → Drill → Drill) → (seconds : ℕ) → (before after : DrillLinkState) → (run run' : List Mark) → (kept kept' : PlainServerState) → Type 0
 Works step seconds before after run run' kept kept' =
-    (setup : Setup) (opened : ℕ → LinkParameters) (link : ℕ) (d : Drill) → d.seconds ≡ seconds → ServerStands setup d kept → StandsAt (setting_over setup opened) link d before run →
+    (setup : Setup) (opened : ℕ → LinkParameters) (link : ℕ) (d : Drill) → d.seconds ≡ seconds → ServerStands setup d kept → IsPlainAt (setting_over setup opened) link d → StandsAt (setting_over setup opened) link d before run →
     StandsAt (setting_over setup opened) link (step (setting_over setup opened) link d) after run' × ServerStands setup (step (setting_over setup opened) link d) kept'
 
 -- ---- A link opens
@@ -56,10 +62,10 @@ pub record IsBeforeOpening (link : ℕ) (d : Drill) : Type 0 where
   pub pipes : pipes_of link d ≡ empty_pipes
   pub none : AllByRecursion (λ (mark : Mark). link_of mark ≢ link) d.marks
 
--- a new link opens in a drill whose ends of the link are opened with what this first line says
+-- a new link opens in a drill whose ends of the link are opened with what this first line says, if no client has a number
 abbrev pub Opens : (link : ℕ) → Opening → DrillLinkState → (run run' : List Mark) → Type 0
 Opens link opening v run run' =
-    (s : Setting) (d : Drill) → s.opened link ≡ parameters_of opening link → IsBeforeOpening link d → run ≡ d.marks → RepliedInBytes run → StandsAt s link (after_opening s link d) v run'
+    (s : Setting) (d : Drill) → AreFirst s → s.opened link ≡ parameters_of opening link → IsBeforeOpening link d → run ≡ d.marks → RepliedInBytes run → StandsAt s link (after_opening s link d) v run'
 
 -- ---- For the code
 
@@ -99,5 +105,5 @@ pub record ExecutedAt (setup : Setup) (s : Setting) (link : ℕ) (d : Drill) (af
 
 abbrev pub Executes : (seconds : ℕ) → (before after : DrillLinkState) → (run run' : List Mark) → (kept kept' : PlainServerState) → Type 0
 Executes seconds before after run run' kept kept' =
-    (setup : Setup) (opened : ℕ → LinkParameters) (link : ℕ) (d : Drill) → d.seconds ≡ seconds → ServerStands setup d kept → StandsAt (setting_over setup opened) link d before run →
+    (setup : Setup) (opened : ℕ → LinkParameters) (link : ℕ) (d : Drill) → d.seconds ≡ seconds → ServerStands setup d kept → IsPlainAt (setting_over setup opened) link d → StandsAt (setting_over setup opened) link d before run →
     ExecutedAt setup (setting_over setup opened) link d after run' kept'

@@ -65,6 +65,11 @@ impl World {
             Line::Forget { client, number } => self.forget(*client as usize, *number),
             Line::Revoke { client, number } => self.revoke(*client as usize, *number),
             Line::Drop { client } => self.drop_link(*client as usize),
+            // Clients have no numbers, so none begins another link.
+            Line::Rejoin { client } => {
+                let _ = client;
+                Ok(())
+            }
             Line::Grant { client, credits } => self.grant(*client as usize, *credits),
             Line::Raw {
                 client,

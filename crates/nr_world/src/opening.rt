@@ -1,6 +1,6 @@
 //! A drill opens: its server, and each link in turn.
 
-ghost use Rattle.std.specs.Prelude.{◌≡◌, ◌≤◌, [], replicate, IfOk, OnOk};
+ghost use Rattle.std.specs.Prelude.{◌≡◌, ◌≤◌, [], false, replicate, IfOk, OnOk};
 ghost use Rattle.nr_rpc.specs.declared.cred.Cred.TheVariants as credentials;
 ghost use Rattle.nr_texts.specs.Limits.{capacity_max};
 ghost use Rattle.nr_world.specs.private.Opened.{IsDrillServer, HasOpenLinks, IsStarted, OpensAll};
@@ -49,7 +49,8 @@ fn push_creds(creds: &mut Vec<Cred>, clients: u32) -> Result<(), Memory>
 
 impl World {
     fn start(alloc: Global, opening: Opening) -> Result<World, Memory>
-        requires { opening.capacity ≤ capacity_max }
+        requires capacity { opening.capacity ≤ capacity_max }
+        requires unnumbered { opening.numbered ≡ false }
         ensures { IfOk result (IsStarted opening) }
     {
         let mut creds = Vec::new(alloc);
@@ -81,7 +82,8 @@ impl World {
 
     /// The world of a drill whose links are open.
     pub(crate) fn open(alloc: Global, opening: Opening) -> Result<World, Memory>
-        requires { opening.capacity ≤ capacity_max }
+        requires capacity { opening.capacity ≤ capacity_max }
+        requires unnumbered { opening.numbered ≡ false }
         ensures { IfOk result (HasOpenLinks opening) }
     {
         let mut world = World::start(alloc, opening)?;

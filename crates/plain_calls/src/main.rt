@@ -182,6 +182,8 @@ fn write_fault<W: Write>(fault: Fault, out: &mut W) -> Result<(), Stop> {
             Ok(())
         }
         Fault::Memory => Err(Stop::Memory),
+        // no call is old: none is of a client with a number
+        Fault::Old { .. } => Err(Stop::Memory),
     }
 }
 

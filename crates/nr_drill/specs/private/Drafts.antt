@@ -22,7 +22,7 @@ use Rattle.nr_drill.specs.declared.report.LinkLog.{LinkLog}
 use Rattle.nr_drill.specs.declared.draft.CallTable.{CallTable}
 use Rattle.nr_drill.specs.declared.draft.Draft.{Draft}
 use Rattle.nr_drill.specs.Drill.{link_of}
-use Rattle.nr_drill.specs.Reports.{submitted_state, becomes, place_shown, is_open_as, number_of, last_place, lost_if, side_report, reports_after}
+use Rattle.nr_drill.specs.Reports.{submitted_state, becomes, place_shown, is_open_as, number_of, last_place, lost_if, side_report}
 
 -- ===== what a mark makes of a draft
 
@@ -103,6 +103,31 @@ Noted (marks.Fed l side bytes) old new = Same old new
 Noted (marks.Drop l) old new = Same old new
 Noted (marks.Told l what) old new = Same old new
 
+-- ===== the reports of links each of which is that of one client, which has its number
+
+unfoldable pub done_on : PlainServer → ℕ → ℕ → Outcome → List Mark → CallState
+done_on plain link xid outcome before = states.Done (place_shown (length (journal plain before)) (last_place link xid before) outcome) outcome
+
+abbrev pub calls_with : PlainServer → List Mark → Mark → List CallReport → List CallReport
+calls_with plain before (marks.Submit l call form answer) reports =
+    reports ++ record { client = l; number = number_of l reports; state = submitted_state answer } ∷ []
+calls_with plain before (marks.Done l xid outcome) reports = map (becomes l xid (done_on plain l xid outcome before)) reports
+calls_with plain before (marks.Lost l xid) reports = map (becomes l xid states.Lost) reports
+calls_with plain before (marks.Forget l xid) reports = map (becomes l xid states.Forgotten) reports
+calls_with plain before (marks.Revoke l xid bytes) reports = map (becomes l xid (states.Revoked bytes)) reports
+calls_with plain before (marks.Wrote l side bytes) reports = reports
+calls_with plain before (marks.Fed l side bytes) reports = reports
+calls_with plain before (marks.Execute l xid moment payload place reply) reports = reports
+calls_with plain before (marks.Drop l) reports = reports
+calls_with plain before (marks.Told l what) reports = reports
+
+abbrev pub calls_from : PlainServer → List CallReport → List Mark → List Mark → List CallReport
+calls_from plain reports before [] = reports
+calls_from plain reports before (mark ∷ others) = calls_from plain (calls_with plain before mark reports) (before ++ mark ∷ []) others
+
+unfoldable pub calls_after : PlainServer → List Mark → List CallReport
+calls_after plain run = calls_from plain [] [] run
+
 -- ===== what a draft stands for
 
 -- the marks of a run are those of this many links, and the xids of each link's accepted calls rise by one from 1
@@ -140,7 +165,7 @@ pub record IsTable (all before : List Mark) (link : ℕ) (calls : List CallRepor
 
 pub record IsDraft (clients : ℕ) (all before : List Mark) (d : Draft) : Type 0 where
   pub room : length d.tables.items ≡ clients
-  pub calls : d.calls.items ≡ reports_after adding before
+  pub calls : d.calls.items ≡ calls_after adding before
   pub journal : d.journal.items ≡ journal adding before
   pub within : (j : ℕ) (r : CallReport) → slice_get d.calls.items j ≡ Some r → (1 ≤ r.client) × (r.client ≤ clients)
   pub tables : (link : ℕ) → 1 ≤ link → link ≤ clients → (t : CallTable) → slice_get d.tables.items (link - 1) ≡ Some t → IsTable all before link d.calls.items t
@@ -187,6 +212,6 @@ pub record AddsToLog (link : ℕ) (mark : Mark) (old new : LinkLog) : Type 0 whe
 
 -- the call lines and the journal after all marks, with the calls that are lost in the end
 pub record AreCalls (all : List Mark) (ends : List LinkEnds) (calls : List CallReport) (entries : List Entry) : Type 0 where
-  pub calls_are : calls ≡ map (at_last_by ends) (reports_after adding all)
+  pub calls_are : calls ≡ map (at_last_by ends) (calls_after adding all)
   pub journal_is : entries ≡ journal adding all
-  pub within : (j : ℕ) (r : CallReport) → slice_get (reports_after adding all) j ≡ Some r → (1 ≤ r.client) × (r.client ≤ length ends)
+  pub within : (j : ℕ) (r : CallReport) → slice_get (calls_after adding all) j ≡ Some r → (1 ≤ r.client) × (r.client ≤ length ends)

@@ -41,8 +41,8 @@ pub record BeginsReads (number : ℕ) (read : List ReadSegment) (chunks : List �
 abbrev pub with_room : Pending → ℕ → Pending
 with_room c room = record c { room = Some room }
 
--- A call that came in a receive that the end still holds beside those of its calls and of its queue: nothing of the call is read yet, and it has no
--- room so far.
+-- A call that came in a receive that the end, which hasn't ended, still holds beside those of its calls and of its queue. It has no room and no bytes
+-- around a sink so far, and this is its read list.
 pub record IsNewCall (r : ServerEnd) (c : Pending) (read : List ReadSegment) : Type 0 where
   pub sound : ServerEndInvariantWith 1 r
   pub windows : WindowsAreRead r.calls.items r.reads.items

@@ -9,7 +9,7 @@ use Rattle.nr_drill.specs.Drill.{start}
 use Rattle.nr_drill.specs.DrillSetup.{drill_setup, server_of}
 use Rattle.nr_drill.specs.Follows.{opened_drill}
 use Rattle.nr_world.specs.declared.world.World.{World}
-use Rattle.nr_world.specs.private.Stands.{HasOpened, WorldStands}
+use Rattle.nr_world.specs.private.Stands.{HasOpened, drill_setting}
 
 -- the tree of a drill, which is sane
 pub record IsDrillTree (tree : Tree) : Type 0 where
@@ -22,10 +22,11 @@ IsDrillServer opening kept = (tree : Tree) × IsDrillTree tree × RepresentsJour
 
 -- the world of a drill in which nothing happened yet, and one whose links are open
 abbrev pub IsStarted : Opening → World → Type 0
-IsStarted opening w = (tree : Tree) × IsDrillTree tree × HasOpened tree opening 0 (start opening.clients) w
+IsStarted opening w = (tree : Tree) × IsDrillTree tree × HasOpened tree opening 0 0 (start (drill_setting tree opening) opening.clients) w
 
 abbrev pub OpensAll : Opening → World → World → Type 0
-OpensAll opening old new = (tree : Tree) → HasOpened tree opening 0 (start opening.clients) old → WorldStands tree opening (opened_drill (server_of (drill_setup tree opening)) opening) new
+OpensAll opening old new = (tree : Tree) → HasOpened tree opening 0 0 (start (drill_setting tree opening) opening.clients) old →
+    HasOpened tree opening opening.clients 0 (opened_drill (server_of (drill_setup tree opening)) opening) new
 
 abbrev pub HasOpenLinks : Opening → World → Type 0
-HasOpenLinks opening w = (tree : Tree) × IsDrillTree tree × WorldStands tree opening (opened_drill (server_of (drill_setup tree opening)) opening) w
+HasOpenLinks opening w = (tree : Tree) × IsDrillTree tree × HasOpened tree opening opening.clients 0 (opened_drill (server_of (drill_setup tree opening)) opening) w

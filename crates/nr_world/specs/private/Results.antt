@@ -5,7 +5,7 @@ use Rattle.nr_texts.specs.declared.opening.Opening.{Opening}
 use Rattle.nr_script.specs.Script.{ScriptLines, IsScript}
 use Rattle.nr_drill.specs.declared.report.LinkEnds.{LinkEnds}
 use Rattle.nr_drill.specs.declared.report.Report.{Report}
-use Rattle.nr_drill.specs.Drill.{Drill}
+use Rattle.nr_drill.specs.Drill.{Drill, links_of}
 use Rattle.nr_drill.specs.DrillSetup.{drill_setup, server_of}
 use Rattle.nr_drill.specs.Headline.{IsDrillRun, Reports}
 use Rattle.nr_drill.specs.LinkEnds.{AreEnds}
@@ -14,7 +14,7 @@ use Rattle.nr_world.specs.private.Stands.{drill_setting, WorldStands}
 
 -- what the links of each drill that the world stands for came to
 abbrev pub AreEndsOf : World → List LinkEnds → Type 0
-AreEndsOf w ends = (tree : Tree) (opening : Opening) (d : Drill) → WorldStands tree opening d w → AreEnds (drill_setting tree opening) opening.clients d.marks ends
+AreEndsOf w ends = (tree : Tree) (opening : Opening) (d : Drill) → WorldStands tree opening d w → AreEnds (drill_setting tree opening) (links_of opening.clients) d.marks ends
 
 -- If a drill that the world stands for has the run of a script's drill, the report is that of the run.
 abbrev pub ReportsWorld : World → Report → Type 0

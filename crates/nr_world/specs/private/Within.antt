@@ -33,6 +33,7 @@ IsLineWithin opening seconds (lines.Tick more) = seconds + more ≤ number_max
 IsLineWithin opening seconds (lines.Forget client number) = IsClient opening.clients client
 IsLineWithin opening seconds (lines.Revoke client number) = IsClient opening.clients client
 IsLineWithin opening seconds (lines.Drop client) = IsClient opening.clients client
+IsLineWithin opening seconds (lines.Rejoin client) = IsClient opening.clients client
 IsLineWithin opening seconds (lines.Grant client credits) = IsClient opening.clients client × CreditsInRange opening.credits credits
 IsLineWithin opening seconds (lines.Raw client side bytes) = IsClient opening.clients client
 IsLineWithin opening seconds lines.Drain = Unit {0}

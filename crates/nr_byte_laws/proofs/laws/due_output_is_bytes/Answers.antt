@@ -6,7 +6,7 @@ pub returns-clause-client : goal.returns-clause-client
 returns-clause-client c = client_due
 
 pub returns-clause-server : goal.returns-clause-server
-returns-clause-server c = server_due
+returns-clause-server c = λ opened link run none typed. server_due opened link run typed
 
 pub returns-clause-payloads : goal.returns-clause-payloads
 returns-clause-payloads c = ready_bytes

@@ -10,5 +10,5 @@ unfolding made_script
 new-requires c =
     let all : List Line = drawn_lines c.args.clients c.args.calls c.args.seed in
     let is : c.push_all.new.lines.items ≡ all = c.in_ok-push_all.ensures ∙ ap (λ (ls : List Line). ls ++ all) c.new-lines.ensures.items in
-    subst (λ (ls : List Line). IsScript (record { opening = record { clients = c.args.clients; credits = 8; capacity = 1099511627776; client_units = 1; server_units = 1; invalidates = false }; lines = ls })) (sym is)
+    subst (λ (ls : List Line). IsScript (record { opening = record { clients = c.args.clients; credits = 8; capacity = 1099511627776; client_units = 1; server_units = 1; numbered = false; invalidates = false }; lines = ls })) (sym is)
     (made_is c.args.seed c.args.clients c.args.calls (omega (arith, c.requires.0)) c.requires.1 c.requires.2)

@@ -12,5 +12,5 @@ returns-clause-opens g c =
       moment = c.now-moment.result;
       gave = c.now-moment.ensures.gave;
       stands = subst (λ (s : Setup). RepresentsJournal s [] c.open.result)
-          (λ i. record { tree = tree i; parameters = record { capacity = c.args.config.now.capacity; verifier = record { number = number i }; export = export i } }) c.open.ensures;
+          (λ i. record { tree = tree i; parameters = record { capacity = c.args.config.now.capacity; verifier = record { number = number i }; export = export i } }) c.open.ensures.journal;
     }

@@ -1,4 +1,4 @@
-use Rattle.std.proofs.Common.{◌≡◌, ℕ, ◌+◌, arith, [], ◌∷◌, ◌++◌, Some, sym, ap, subst, refl, ◌∙◌}
+use Rattle.std.proofs.Common.{◌≡◌, ℕ, arith, [], ◌∷◌, ◌++◌, Some, sym, ap, subst, refl, ◌∙◌}
 use Rattle.nr_turnstile.specs.declared.plays.View.{View}
 use Rattle.nr_turnstile.specs.Passes.{Steps, seen_by, mine_of}
 use Rattle.nr_turnstile.specs.Turns.{pass_of}

@@ -1,4 +1,4 @@
-use Rattle.std.proofs.Common.{ℕ, ◌+◌, arith, [], ◌∷◌, ◌++◌, Option, refl, sym, ap, subst}
+use Rattle.std.proofs.Common.{ℕ, arith, [], ◌∷◌, ◌++◌, Option, refl, sym, ap, subst}
 use Rattle.nr_turnstile.specs.Passes.{seen_by}
 use Rattle.nr_turnstile.specs.declared.plays.View.{View}
 use Rattle.nr_turnstile.specs.Turns.{pass_of}

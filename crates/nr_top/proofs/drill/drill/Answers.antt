@@ -7,7 +7,7 @@ pub returns-in-Ok : goal.returns-in-Ok
 returns-in-Ok g c =
     let shown = c.in_ok-printed.ensures in
     let run = shown.prints in
-    let text : c.as_slice.result.now ≡ printed c.args.log c.args.source run.0 shown.script run.1 = c.as_slice.ensures ∙ run.3 in
+    let text : c.as_slice.result.now ≡ printed c.args.log c.args.source run.0 shown.script run.1 run.2 = c.as_slice.ensures ∙ run.3 in
     record {
       ran = record { script = shown.script; tree = run.0; run = run.1; given = shown.given; drill = run.2 };
       prints = record {
@@ -20,7 +20,7 @@ pub returns : goal.returns
 returns g c =
     let shown = c.in_ok-printed.ensures in
     let run = shown.prints in
-    let text : c.as_slice.result.now ≡ printed c.args.log c.args.source run.0 shown.script run.1 = c.as_slice.ensures ∙ run.3 in
+    let text : c.as_slice.result.now ≡ printed c.args.log c.args.source run.0 shown.script run.1 run.2 = c.as_slice.ensures ∙ run.3 in
     let part = c.in-Err.ensures.err in
     record {
       ran = record { script = shown.script; tree = run.0; run = run.1; given = shown.given; drill = run.2 };

@@ -14,5 +14,5 @@ returns c = (
   c.in-Ok.tree,
   record { drill = c.in-Ok.ensures.ok; sane = c.facts.ensures },
   subst (λ (export : List ℕ). RepresentsJournal (record { tree = c.in-Ok.tree; parameters = record { capacity = c.args.opening.capacity; verifier = record { number = 1 }; export = export } }) [] c.open.result)
-      c.in_ok-export.ensures c.open.ensures,
+      c.in_ok-export.ensures c.open.ensures.journal,
 )

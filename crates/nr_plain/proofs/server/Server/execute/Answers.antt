@@ -1,14 +1,14 @@
-use Rattle.std.proofs.Common.{ap, subst, arith}
-use Rattle.nr_plain.specs.Stands.{IsServing, PlainServerState, state_kept}
+use Rattle.std.proofs.Common.{refl}
+use Rattle.std.proofs.lemmas.Result.{IfOk-weaker}
 use Rattle.nr_plain.proofs.Executed.{executed}
-use Rattle.nr_plain.proofs.ReplyLimits.{any_reply_small}
+use Rattle.nr_plain.proofs.NumberedAnswers.{unnumbered_executes}
 use Rattle.nr_plain.proofs.server.Server.execute.Goals as goal
 
 pub returns-clause-executed : goal.returns-clause-executed
-returns-clause-executed c = λ s J is.
-    executed s J c.args.self.now c.answer-reply.new.self c.args.now c.args.payload.now c.in_ok-reply.field-0 c.self.inside.count c.in-Ok.head is c.in-Ok.ensures.exact (ap (λ (k : PlainServerState). k.count) c.self.view_is) c.in_ok-reply.ensures.reply c.in_ok-reply.ensures.kept
+returns-clause-executed c =
+    IfOk-weaker c.execute_now.result _ _ (λ r x s J is. executed s J c.args.self.now c.execute_now.new.self c.args.now c.args.payload.now r.payload r.place is x) c.execute_now.ensures.executed
 
-pub returns-clause-limit : goal.returns-clause-limit
-returns-clause-limit c =
-    any_reply_small c.args.self.now.parameters (state_kept c.args.self.now) c.args.now c.args.payload.now c.in-Ok.head c.in_ok-reply.field-0 (λ i. omega (arith, c.type_inv.payload i))
-    (subst IsServing c.self.view_is c.self.invariant).sane c.in-Ok.ensures.exact c.in_ok-reply.ensures.reply
+pub returns-clause-numbered : goal.returns-clause-numbered
+returns-clause-numbered c =
+    IfOk-weaker c.execute_now.result _ _
+    (λ r x s T is. (unnumbered_executes c.args.now c.args.payload.now r.payload r.place c.args.self.now c.execute_now.new.self x s T 0 is refl).stands) c.execute_now.ensures.executed

@@ -18,20 +18,20 @@ overflow_add-self-then-change c =
 
 pub invariant_of-self-then-change : goal.invariant_of-self-then-change
 invariant_of-self-then-change c =
-    subst (λ (k : PlainServerState). IsServing (record { tree = c.executed.new.tree; count = k.count + 1; cost = k.cost + c.entry_cost.result; parameters = k.parameters })) (sym c.self.view_is)
+    subst (λ (k : PlainServerState). IsServing (record { tree = c.executed.new.tree; count = k.count + 1; cost = k.cost + c.entry_cost.result; parameters = k.parameters; cache = k.cache })) (sym c.self.view_is)
     (serving_entry c.args.self.now (entry_of c.args.request.now) c.args.request.now.xid c.args.p c.self.inside.tree c.space-space.result (ap (λ (k : PlainServerState). k.tree) c.self.view_is) c.space-space.ensures c.executed.new.tree c.in_ok-change.change.is_entry c.in_ok-change.ensures.tree c.in_ok-change.ensures.result.1 c.entry_cost.result c.entry_cost.ensures c.if-change.true (subst IsServing c.self.view_is c.self.invariant) c.facts.ensures)
 
 pub invariant_of-self-else-change : goal.invariant_of-self-else-change
 invariant_of-self-else-change c =
-    subst (λ (k : PlainServerState). IsServing (record { tree = c.executed.new.tree; count = k.count; cost = k.cost; parameters = k.parameters })) (sym c.self.view_is)
+    subst (λ (k : PlainServerState). IsServing (record { tree = c.executed.new.tree; count = k.count; cost = k.cost; parameters = k.parameters; cache = k.cache })) (sym c.self.view_is)
     (serving_same c.args.self.now (entry_of c.args.request.now) c.args.request.now.xid c.args.p c.self.inside.tree c.space-space.result (ap (λ (k : PlainServerState). k.tree) c.self.view_is) c.space-space.ensures c.executed.new.tree c.in_ok-change.change.is_entry c.in_ok-change.ensures.tree c.in_ok-change.ensures.result.1 c.if-change.false (subst IsServing c.self.view_is c.self.invariant))
 
 pub returns-clause-kept : goal.returns-clause-kept
 returns-clause-kept c = elim c.if-change.branch [
   | then-change w ↦ w.self-is
-      ∙ ap (λ (k : PlainServerState). record { tree = c.executed.new.tree; count = k.count + 1; cost = k.cost + w.entry_cost.result; parameters = k.parameters }) c.self.view_is
+      ∙ ap (λ (k : PlainServerState). record { tree = c.executed.new.tree; count = k.count + 1; cost = k.cost + w.entry_cost.result; parameters = k.parameters; cache = k.cache }) c.self.view_is
       ∙ entry_kept c.args.self.now (entry_of c.args.request.now) c.args.request.now.xid c.args.p c.self.inside.tree c.space-space.result (ap (λ (k : PlainServerState). k.tree) c.self.view_is) c.space-space.ensures c.executed.new.tree c.in_ok-change.change.is_entry c.in_ok-change.ensures.tree c.in_ok-change.ensures.result.1 w.entry_cost.result w.entry_cost.ensures w.if-change.true c.requires
   | else-change w ↦ w.self-is
-      ∙ ap (λ (k : PlainServerState). record { tree = c.executed.new.tree; count = k.count; cost = k.cost; parameters = k.parameters }) c.self.view_is
+      ∙ ap (λ (k : PlainServerState). record { tree = c.executed.new.tree; count = k.count; cost = k.cost; parameters = k.parameters; cache = k.cache }) c.self.view_is
       ∙ same_kept c.args.self.now (entry_of c.args.request.now) c.args.request.now.xid c.args.p c.self.inside.tree c.space-space.result (ap (λ (k : PlainServerState). k.tree) c.self.view_is) c.space-space.ensures c.executed.new.tree c.in_ok-change.change.is_entry c.in_ok-change.ensures.tree c.in_ok-change.ensures.result.1 w.if-change.false
 ]

@@ -26,3 +26,6 @@ returns-in-Err-Memory-clause-err g c = (
   λ first xs did. did_none (g.C.Clock.gave c.args.self.now.clock.now) (g.C.Clock.gave c.now-moment.new.self) (pass_view c.args.self.now.pass.now) (pass_view c.execute.new.pass) c.now-moment.result
       c.now-moment.ensures.gave (g.C.Clock.gave first.clock.now) (pass_view first.pass.now) xs did c.in-Err-Memory.ensures.err c.args.call.now reasons.Memory tt,
 )
+
+pub unreachable-requires : goal.unreachable-requires
+unreachable-requires g c = subst (λ (e : Fault). IsCause e (call_of c.args.call.now)) c.in-Err-Old.field-0-is c.in-Err-Old.ensures.cause

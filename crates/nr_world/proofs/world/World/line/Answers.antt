@@ -6,7 +6,7 @@ use Rattle.nr_drill.specs.Drill.{Setting, Drill, cred_of, after_submit, after_up
 use Rattle.nr_world.specs.private.Stands.{Steps}
 use Rattle.nr_world.specs.private.Within.{CanMake}
 use Rattle.nr_world.proofs.Stands.{on_ok}
-use Rattle.nr_world.proofs.LineSteps.{client_of, line_is, may_grant, step_makes, tick_makes}
+use Rattle.nr_world.proofs.LineSteps.{client_of, line_is, may_grant, step_makes, tick_makes, rejoin_makes}
 use Rattle.nr_world.proofs.world.World.line.Goals as goal
 
 pub up-requires : goal.up-requires
@@ -72,6 +72,9 @@ returns-in-Raw c = on_ok c.raw.result _ _ c.raw.ensures (λ steps. line_is c.arg
 pub returns-in-Tick : goal.returns-in-Tick
 returns-in-Tick c = line_is c.args.self.now _ c.args.line.now (lines.Tick c.in-Tick.seconds) c.in-Tick.is
     (tick_makes c.in-Tick.seconds c.args.self.now _ (record { links = refl; marks = refl; server = refl }) refl refl)
+
+pub returns-in-Rejoin : goal.returns-in-Rejoin
+returns-in-Rejoin c = line_is c.args.self.now _ c.args.line.now (lines.Rejoin c.in-Rejoin.client) c.in-Rejoin.is (rejoin_makes c.in-Rejoin.client c.args.self.now)
 
 pub returns-in-Call : goal.returns-in-Call
 returns-in-Call c = on_ok c.submit.result _ _ c.submit.ensures (λ steps. line_is c.args.self.now c.submit.new.self c.args.line.now (lines.Call c.in-Call.client c.in-Call.form c.in-Call.prog c.in-Call.vers c.in-Call.proc c.in-Call.args) c.in-Call.is

@@ -1,0 +1,21 @@
+use Rattle.nr_laws.proofs.CompletedChanges.{completed_changes_have_entries}
+use Rattle.nr_laws.proofs.EntriesApart.{no_entry_twice}
+use Rattle.nr_laws.proofs.NumberedPlaces.{numbered_links_are_at_places}
+use Rattle.nr_laws.proofs.NumbersHeard.{numbers_are_heard}
+use Rattle.nr_laws.proofs.PlacesByNumber.{places_follow_by_number}
+use Rattle.nr_laws.proofs.laws.once_each.Goals as goal
+
+pub returns-clause-entries : goal.returns-clause-entries
+returns-clause-entries c = no_entry_twice
+
+pub returns-clause-heard : goal.returns-clause-heard
+returns-clause-heard c = numbers_are_heard
+
+pub returns-clause-completed : goal.returns-clause-completed
+returns-clause-completed c = completed_changes_have_entries
+
+pub returns-clause-plain : goal.returns-clause-plain
+returns-clause-plain c = numbered_links_are_at_places
+
+pub returns-clause-places : goal.returns-clause-places
+returns-clause-places c = places_follow_by_number

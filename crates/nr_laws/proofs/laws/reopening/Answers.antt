@@ -1,0 +1,8 @@
+use Rattle.nr_laws.proofs.ReopenedLinks.{reopened_links_agree, no_call_is_left_over}
+use Rattle.nr_laws.proofs.laws.reopening.Goals as goal
+
+pub returns-clause-agree : goal.returns-clause-agree
+returns-clause-agree c = reopened_links_agree
+
+pub returns-clause-calls : goal.returns-clause-calls
+returns-clause-calls c = no_call_is_left_over
