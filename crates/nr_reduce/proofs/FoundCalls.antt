@@ -77,10 +77,10 @@ find_new opened sends (x ∷ calls) a opens own h = by (eqb x.xid a.xid) refl (f
   where
     by : (b : Bool) → eqb x.xid a.xid ≡ b → find (λ (y : AcceptedCall). eqb y.xid a.xid) (calls ++ a ∷ []) ≡ Some a → cond b (Some x) (find (λ (y : AcceptedCall). eqb y.xid a.xid) (calls ++ a ∷ [])) ≡ Some a
     by true e rest = (
-      let same = eqb-true x.xid a.xid e in
-      let of = h.0.1.0 in
-      let lt = xids_rise opened h.0.0 sends opens h.0.1.1 in
-      absurd (omega (arith, same, of, own, lt)))
+        let same = eqb-true x.xid a.xid e in
+        let of = h.0.1.0 in
+        let lt = xids_rise opened h.0.0 sends opens h.0.1.1 in
+        absurd (omega (arith, same, of, own, lt)))
     by false e rest = rest
 
 found_more : (calls : List AcceptedCall) (a : AcceptedCall) (os : List OutstandingCall) → AllFound calls os → AllFound (calls ++ a ∷ []) os

@@ -26,15 +26,15 @@ here x xs = Contains-append_left (x ∷ []) xs x (0, omega arith, refl)
 of_all : {X : Type 0} (P : X → Type 0) (xs : List X) (x : X) → AllByRecursion P xs → Contains xs x → P x
 of_all P [] x h c = absurd (no_element x c)
 of_all P (y ∷ ys) x h c = elim (Contains-append_cases (y ∷ []) ys x c) [
-    inl own ↦ subst P (one_element x y own) h.0
-    | inr more ↦ of_all P ys x h.1 more
+  | inl own ↦ subst P (one_element x y own) h.0
+  | inr more ↦ of_all P ys x h.1 more
 ]
 
 in_filter : {X : Type 0} (p : X → Bool) (xs : List X) (x : X) → Contains xs x → p x ≡ true → Contains (filter p xs) x
 in_filter p [] x c is = absurd (no_element x c)
 in_filter p (y ∷ ys) x c is = elim (Contains-append_cases (y ∷ []) ys x c) [
-    inl own ↦ by_own (p y) (ap p (one_element x y own) ∙ is) (one_element x y own)
-    | inr more ↦ by_more (p y) (in_filter p ys x more is)
+  | inl own ↦ by_own (p y) (ap p (one_element x y own) ∙ is) (one_element x y own)
+  | inr more ↦ by_more (p y) (in_filter p ys x more is)
 ]
   where
     by_own : (b : Bool) → b ≡ true → y ≡ x → Contains (cond b (y ∷ filter p ys) (filter p ys)) x
@@ -48,15 +48,15 @@ in_filter p (y ∷ ys) x c is = elim (Contains-append_cases (y ∷ []) ys x c) [
 in_flat_map : {X Y : Type 0} (f : X → List Y) (xs : List X) (x : X) (y : Y) → Contains xs x → Contains (f x) y → Contains (flat_map f xs) y
 in_flat_map f [] x y c is = absurd (no_element x c)
 in_flat_map f (z ∷ zs) x y c is = elim (Contains-append_cases (z ∷ []) zs x c) [
-    inl own ↦ Contains-append_left (f z) (flat_map f zs) y (subst (λ w. Contains (f w) y) (sym (one_element x z own)) is)
-    | inr more ↦ Contains-append_right (f z) (flat_map f zs) y (in_flat_map f zs x y more is)
+  | inl own ↦ Contains-append_left (f z) (flat_map f zs) y (subst (λ w. Contains (f w) y) (sym (one_element x z own)) is)
+  | inr more ↦ Contains-append_right (f z) (flat_map f zs) y (in_flat_map f zs x y more is)
 ]
 
 in_map : {X Y : Type 0} (f : X → Y) (xs : List X) (x : X) → Contains xs x → Contains (map f xs) (f x)
 in_map f [] x c = absurd (no_element x c)
 in_map f (z ∷ zs) x c = elim (Contains-append_cases (z ∷ []) zs x c) [
-    inl own ↦ subst (λ w. Contains (f z ∷ map f zs) (f w)) (one_element x z own) (here (f z) (map f zs))
-    | inr more ↦ Contains-append_right (f z ∷ []) (map f zs) (f x) (in_map f zs x more)
+  | inl own ↦ subst (λ w. Contains (f z ∷ map f zs) (f w)) (one_element x z own) (here (f z) (map f zs))
+  | inr more ↦ Contains-append_right (f z ∷ []) (map f zs) (f x) (in_map f zs x more)
 ]
 
 -- ---- The calls

@@ -19,8 +19,8 @@ use Rattle.nr_reduce.proofs.GoingOn.{no_element, one_element}
 within : (n : ℕ) (regions : List Region) (r : Region) → AreNumbered n regions → Contains regions r → (n ≤ r.stag) × (r.stag < n + length regions)
 within n [] r h c = absurd (no_element r c)
 within n (q ∷ regions) r h c = elim (Contains-append_cases (q ∷ []) regions r c) [
-    inl own ↦ (let e = ap (λ (x : Region). x.stag) (one_element r q own) in let s = h.0 in (omega (arith, e, s), omega (arith, e, s)))
-    | inr more ↦ (let both = within (n + 1) regions r h.1 more in let low = both.0 in let high = both.1 in (omega (arith, low), omega (arith, high)))
+  | inl own ↦ (let e = ap (λ (x : Region). x.stag) (one_element r q own) in let s = h.0 in (omega (arith, e, s), omega (arith, e, s)))
+  | inr more ↦ (let both = within (n + 1) regions r h.1 more in let low = both.0 in let high = both.1 in (omega (arith, low), omega (arith, high)))
 ]
 
 -- a client that was left stays as it was

@@ -262,9 +262,9 @@ waiting_chunks first stag low (r ∷ rs) numbered next =
     let count = buffers_length r.xid 0 stag r.plan in
     let rest = waiting_chunks first more (low ++ own) rs (numbered_append first stag low own numbered next (numbered_buffers r.xid 0 stag r.plan)) (let l = length-append low own in omega (arith, l, next, count)) in (
       λ some. (
-        (let here = first_chunk first stag low later r numbered next both.0 some in
-        (here.0, (here.1, (let n = needs_one r.plan some in let a = both.1 in omega (arith, n, a)))))
-      ),
+          (let here = first_chunk first stag low later r numbered next both.0 some in
+          (here.0, (here.1, (let n = needs_one r.plan some in let a = both.1 in omega (arith, n, a)))))
+          ),
       subst (λ (regions : List Region). AllByRecursion (HasChunk regions (stag_after more rs)) (waiting_from more rs)) (append_assoc low own later) rest,
     )
 
