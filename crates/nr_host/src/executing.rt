@@ -17,14 +17,6 @@ use nr_xdr::Memory;
 use std::alloc::Global;
 use std::sync::Wait;
 
-/// The number of the client at the other end, with which its entries stand in the server's history: 0, since no hello
-/// tells one.
-fn client_number(_responder: &Responder) -> u64
-    ensures { result ≡ 0 }
-{
-    0
-}
-
 /// A call with more bytes than this is large: it has the data of a WRITE.
 const LARGE_CALL_LEN: usize = 1 << 16;
 
@@ -56,10 +48,9 @@ pub(crate) fn execute_one<C: Clock, R: Wait>(
     ensures err { OnErr result (RunsOut (C.gave clock.old) (C.gave clock.new) (pass_view pass.old) (pass_view pass.new) responder.old.side) }
 {
     let moment = clock.now();
-    let client = client_number(responder);
     let payload = responder.payload(&call);
     grow_heap(alloc, payload.len());
-    let Ok(reply) = execute(rt, alloc, shared, pass, client, moment, payload) else {
+    let Ok(reply) = execute(rt, alloc, shared, pass, moment, payload) else {
         return Err(Memory);
     };
     match responder.answer(call, reply.payload.as_slice()) {

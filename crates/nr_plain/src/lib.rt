@@ -50,4 +50,4 @@ pub use laws::{
 };
 pub use numbered::{changes_once, finding_is_standing, first_replies_are_kept};
 pub use server::{Reply, Server};
-pub use turns::{execute, journal_len, share};
+pub use turns::{execute, execute_for, journal_len, share};
