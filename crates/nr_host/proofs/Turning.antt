@@ -192,7 +192,7 @@ taken_none client view first T is = record {
 history_more : (first : Opening) (T more : List TaggedEntry) → history first (T ++ more) ≡ history first T ++ additions more
 history_more first T more = ap (λ (l : List HistoryEntry). Opened first ∷ l) (map-append Added T more)
 
-alone_more : (T more : List TaggedEntry) → entries_alone (T ++ more) ≡ entries_alone T ++ entries_alone more
+pub alone_more : (T more : List TaggedEntry) → entries_alone (T ++ more) ≡ entries_alone T ++ entries_alone more
 alone_more T more = map-append (λ (t : TaggedEntry). t.entry) T more
 
 joined_calls : (s : Setup) (T xs ys : List TaggedEntry) → AreOfCalls s (entries_alone T) (entries_alone xs) → AreOfCalls s (entries_alone (T ++ xs)) (entries_alone ys) → AreOfCalls s (entries_alone T) (entries_alone (xs ++ ys))

@@ -22,9 +22,9 @@ use Rattle.nr_host.specs.Turns.{AreTurns, TakenOver, Turn, answered_in, given_fo
 use Rattle.nr_host.specs.declared.connection_limits.ConnectionLimits.{ConnectionLimits}
 
 -- Marks that a connection may have made when it has read the first bytes of this stream, or all: it fed them frame by
--- frame, executed each call that was complete, and then wrote what was due, before the next frame. Each call was
--- answered as the plain server answers at its place in a journal that begins with the entries J, and goes on with its
--- own and those of others.
+-- frame, executed each call that was complete, and then wrote what was due, before the next frame. It took a turn for
+-- each call, over a journal that begins with the entries J, of whatever clients, and goes on with its own and those of
+-- others.
 pub record MayHaveMade (s : Setup) (J : List Entry) (opened : LinkParameters) (link : ℕ) (stream : List ℕ) (run : List Mark) : Type 0 where
   pub own : AtEachMark (λ earlier mark. IsOwn link mark) [] run
   pub begins : IsPrefixOf (bytes_received link Responder run) stream
