@@ -287,7 +287,7 @@ module _ (before now after : PassView) (client : ℕ) where
   pub taken_refused : (given : Moment) (xid : ℕ) (payload : List ℕ) (turns : List Turn) → xid ≡ xid_in payload → Taken client before turns now → RefusesAsOld now after client payload → Taken client before (turns ++ Refuses given xid ∷ []) after
   taken_refused given xid payload turns own taken refuses first T is =
       let o = taken first T is in
-      let x = refuses first (T ++ o.more) o.seen in
+      let x = refuses.at first (T ++ o.more) o.seen in
       let U : List TaggedEntry = (T ++ o.more) ++ x.others in
       let all : U ≡ T ++ (o.more ++ x.others) = append_assoc T o.more x.others in
       record {
