@@ -111,7 +111,7 @@ client_of : (frames : List (List ℕ)) → AreFrames (HelloFrom Initiator) frame
 client_of [] each = refl
 client_of (bytes ∷ frames) each = (let long = each.0.fields in sym (later_heard (client_number (private_of (record { at = 0; end = 0 + length bytes; bytes = bytes }))) (0 + length bytes) frames (omega (arith, long))))
 
-events_of : List ℕ → List RunEvent
+abbrev events_of : List ℕ → List RunEvent
 events_of stream = received_events (initial_input Initiator) stream
 
 last_stream : (stream : List ℕ) → last_at (frames_of Initiator stream) ≡ last_after_all 0 (events_of stream)

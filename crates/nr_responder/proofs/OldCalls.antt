@@ -1,14 +1,18 @@
 -- A responder whose next call is refused since it is old: it ends, as the server of a run does that is told so.
 use Rattle.std.proofs.Common.{◌≡◌, ◌≢◌, ℕ, ◌+◌, ◌<◌, Bool, true, false, List, [], ◌∷◌, ◌++◌, length, Option, Some, None, refl, sym, ap, subst, ◌∙◌, inl, inr, arith}
 use Rattle.std.specs.Prelude.{map}
+use Rattle.std.specs.List.{concat}
 use Rattle.std.proofs.lemmas.List.{append-nil}
 use Rattle.nr_wire.specs.Constants.{REASON_FLAGS}
 use Rattle.nr_wire.specs.declared.hello.Side.{Side}
-use Rattle.nr_wire.specs.declared.hello.Side.TheVariants.{Responder}
+use Rattle.nr_wire.specs.declared.hello.Side.TheVariants.{Initiator, Responder}
+use Rattle.nr_wire.specs.declared.stream.Awaited.TheVariants.{Hello as HelloFrom}
+use Rattle.nr_wire.specs.Stream.{split}
 use Rattle.nr_link.specs.declared.end.End.{End}
 use Rattle.nr_link.specs.declared.end.End.TheVariants as ends
 use Rattle.nr_link.specs.Ending.{last_output}
-use Rattle.nr_link.specs.Input.{InputState}
+use Rattle.nr_link.specs.Frames.{frames_from, frames_of}
+use Rattle.nr_link.specs.Input.{InputState, input_of}
 use Rattle.nr_link.specs.Reasons.{REASON_OLD}
 use Rattle.nr_endpoint.specs.SendQueue.{SendQueue, with_end, writable}
 use Rattle.nr_endpoint.specs.LinkState.{LinkState, LinkSide}
@@ -70,6 +74,21 @@ ready_behind v live some s =
     let h : RepresentsServer s.0 s.1.0 s.1.1.0 v = represents s.0 s.1.0 s.1.1.0 v live s.1.1.1 in
     let both : (h.end.ended ≡ None) × Keeps s.0 h.end.state h.input v = not_ended_lem s.0 h.end h.input v live h.keeps in
     keeps_behind s.0 h.end.state h.input v both.1 some
+
+no_place : (frames : List (List ℕ)) → frames_from 0 frames ≡ [] → length (concat frames) ≡ 0
+no_place [] none = refl
+no_place (bytes ∷ frames) none = absurd (let two : record { at = 0; end = 0 + length bytes; bytes = bytes } ∷ frames_from (0 + length bytes) frames ≡ [] = none in cc)
+
+pub ready_heard : (opened : LinkParameters) (link : ℕ) (run : List Mark) (v : ResponderSide) → end_of v ≡ None → v.ready ≢ [] → ResponderRepresents opened link run v → frames_of Initiator (bytes_received link Responder run) ≢ []
+unfolding frames_of
+ready_heard opened link run v live some stands none =
+    let h : RepresentsServer opened link run v = represents opened link run v live stands in
+    let both : (h.end.ended ≡ None) × Keeps opened h.end.state h.input v = not_ended_lem opened h.end h.input v live h.keeps in
+    let stream : List ℕ = bytes_received link Responder run in
+    let received : h.input ≡ input_of Initiator stream = h.stands.received (ap (λ (e : EndState ServerState). e.ended) (sym h.stands.keeps) ∙ both.0) in
+    let zero_place : v.link.state.place ≡ 0 = both.1.input.place ∙ ap (λ (i : InputState). i.place) received ∙ no_place (split (HelloFrom Initiator) stream).frames none in
+    let behind = keeps_behind opened h.end.state h.input v both.1 some in
+    absurd (omega (arith, behind, zero_place))
 
 -- ---- It ends
 

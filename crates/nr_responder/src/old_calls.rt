@@ -2,8 +2,10 @@
 
 ghost use Rattle.std.specs.Prelude.{◌≡◌, ◌≢◌, ℕ, ◌≤◌, List, [], ◌∷◌, ◌++◌, None, Some};
 ghost use Rattle.nr_endpoint.specs.FedBytes.{fed_bytes};
+ghost use Rattle.nr_link.specs.Frames.{frames_of};
 ghost use Rattle.nr_link.specs.Reasons.{REASON_OLD};
 ghost use Rattle.nr_link.specs.declared.end.End.TheVariants as ends;
+ghost use Rattle.nr_reduce.specs.History.{bytes_received};
 ghost use Rattle.nr_reduce.specs.NumberedJournal.{number_heard};
 ghost use Rattle.nr_reduce.specs.Served.{last_frame_at};
 ghost use Rattle.nr_reduce.specs.declared.mark.LinkParameters.{LinkParameters};
@@ -14,6 +16,7 @@ ghost use Rattle.nr_responder.specs.HeldBytes.{KeptFits};
 ghost use Rattle.nr_responder.specs.ResponderState.{end_of};
 ghost use Rattle.nr_responder.specs.Sound.{state_of, ServerEndInvariant, WindowsInvariant};
 ghost use Rattle.nr_responder.specs.Standing.{RepresentsSome, ResponderRepresents};
+ghost use Rattle.nr_wire.specs.declared.hello.Side.TheVariants.{Initiator, Responder as ResponderSide};
 
 use crate::server_end::ServerEnd;
 use nr_link::End;
@@ -23,6 +26,8 @@ impl ServerEnd {
     pub fn client(&self) -> u64
         ensures exact { result ≡ self.now.endpoint.link.state.client }
         ensures of_run { end_of (state_of self.now) ≡ None → (opened : LinkParameters) (link : ℕ) (run : List Mark) → ResponderRepresents opened link run (state_of self.now) → result ≡ number_heard run link }
+        ensures heard { end_of (state_of self.now) ≡ None → (state_of self.now).ready ≢ [] → (opened : LinkParameters) (link : ℕ) (run : List Mark) → ResponderRepresents opened link run (state_of self.now) →
+            frames_of Initiator (bytes_received link ResponderSide run) ≢ [] }
     {
         self.endpoint.client()
     }

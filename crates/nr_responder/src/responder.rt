@@ -3,7 +3,7 @@
 ghost use Rattle.std.specs.Prelude.{◌≡◌, ◌≢◌, ℕ, ◌+◌, ◌*◌, ◌<◌, ◌≤◌, ◌^◌, List, [], ◌∷◌, ◌++◌, length, take, None, Some, Ok, Err, IfOk, OnOk, IfErr, IfSome, is_some, MatchOption, MatchResult, true, nat_lt, OnErr, ◌⊎◌};
 ghost use Rattle.std.specs.Result.{result_err};
 ghost use Rattle.nr_outside.specs.Faults.{Rises};
-ghost use Rattle.nr_wire.specs.declared.hello.Side.TheVariants.{Responder as ResponderSide};
+ghost use Rattle.nr_wire.specs.declared.hello.Side.TheVariants.{Initiator, Responder as ResponderSide};
 ghost use Rattle.nr_wire.specs.Constants.{FPDU_MAX};
 ghost use Rattle.nr_wire.specs.Feeding.{bytes_taken};
 ghost use Rattle.nr_wire.specs.Stream.{bytes_needed};
@@ -15,6 +15,7 @@ ghost use Rattle.nr_reduce.specs.declared.mark.Mark.{Mark};
 ghost use Rattle.nr_reduce.specs.declared.mark.Mark.TheVariants as marks;
 ghost use Rattle.nr_reduce.specs.declared.mark.Told.TheVariants.{Granted, Old};
 ghost use Rattle.nr_outside.specs.declared.moment.Moment.{Moment};
+ghost use Rattle.nr_reduce.specs.History.{bytes_received};
 ghost use Rattle.nr_reduce.specs.NumberedJournal.{number_heard};
 ghost use Rattle.nr_reduce.specs.Served.{last_frame_at, next_call, IsExecuted};
 ghost use Rattle.nr_responder.specs.Answering.{Answers};
@@ -23,6 +24,7 @@ ghost use Rattle.nr_link.specs.declared.end.End.TheVariants as ends;
 ghost use Rattle.nr_header.specs.Constants.{PAYLOAD_MAX};
 ghost use Rattle.nr_link.specs.Agreement.{default_terms, terms_with, IsSendLimit};
 ghost use Rattle.nr_link.specs.Limits.{open_reads_max};
+ghost use Rattle.nr_link.specs.Frames.{frames_of};
 ghost use Rattle.nr_link.specs.Reasons.{REASON_OLD};
 ghost use Rattle.nr_link.specs.SegmentFaults.{is_begun};
 ghost use Rattle.nr_regions.specs.RegisteredMemory.{bytes_held};
@@ -281,6 +283,9 @@ impl Responder {
     pub fn client(&self) -> u64
         ensures exact { result ≡ self.now.side.link.state.client }
         ensures of_run { end_of self.now.side ≡ None → (opened : LinkParameters) (link : ℕ) (run : List Mark) → ResponderRepresents opened link run self.now.side → result ≡ number_heard run link }
+        // A call is ready only after the client's hello was received.
+        ensures heard { end_of self.now.side ≡ None → self.now.side.ready ≢ [] → (opened : LinkParameters) (link : ℕ) (run : List Mark) → ResponderRepresents opened link run self.now.side →
+            frames_of Initiator (bytes_received link ResponderSide run) ≢ [] }
     {
         self.end.client()
     }
