@@ -23,11 +23,11 @@ use Rattle.std.specs.Prelude.{slice_get}
 use Rattle.nr_responder.specs.Standing.{ResponderRepresents}
 use Rattle.nr_responder.proofs.Answered.{answer_link}
 use Rattle.nr_plain.specs.History.{PassView, OnlyOthersAdded, xid_in}
-use Rattle.nr_plain.specs.Turns.{AnswersFor, RefusesAsOld}
 use Rattle.nr_host.specs.Connections.{Outside, Runs, SinkState}
 use Rattle.nr_host.specs.Steps.{IsLive, GoesOn, Leaves, RunsOut, outside}
 use Rattle.nr_host.proofs.Marks.{executed, given_alone, refused}
 use Rattle.nr_host.proofs.Numbers.{frames_received}
+use Rattle.nr_host.proofs.Turning.{AnswersEach, FindsOld}
 use Rattle.nr_host.specs.declared.connection_limits.ConnectionLimits.{ConnectionLimits}
 
 -- an answer does not end a side
@@ -56,7 +56,7 @@ pub runs_on : (limits : ConnectionLimits) (read link : ℕ) (before : Outside) (
     → ((opened : LinkParameters) (l : ℕ) (r : List Mark) → ResponderRepresents opened l r v → client ≡ number_heard r l)
     → ((opened : LinkParameters) (l : ℕ) (r : List Mark) → ResponderRepresents opened l r v → frames_received l r ≢ [])
     → Gives gave gave' now
-    → AnswersFor view view' client now moment payload reply place
+    → AnswersEach view view' client now moment payload reply place
     → Runs limits read link before (outside left given sink gave' view') ahead [] (run ++ marks.Execute link xid moment payload place sent ∷ [])
 runs_on limits read link before left given sink gave gave' view view' ahead run v client xid place now moment payload reply sent same live exact number heard gives done =
     let stands = live.stands (opened_for limits) (refl, refl, refl, refl) in
@@ -79,13 +79,13 @@ pub stops_on : (limits : ConnectionLimits) (read link : ℕ) (before : Outside) 
     → ((opened : LinkParameters) (l : ℕ) (r : List Mark) → ResponderRepresents opened l r v → client ≡ number_heard r l)
     → ((opened : LinkParameters) (l : ℕ) (r : List Mark) → ResponderRepresents opened l r v → frames_received l r ≢ [])
     → Gives gave gave' now
-    → RefusesAsOld view view' client payload
+    → client ≢ 0 → FindsOld view view' client payload
     → Runs limits read link before (outside left given sink gave' view') ahead [] (run ++ marks.Told link (Old xid (last_frame_at link run)) ∷ [])
-stops_on limits read link before left given sink gave gave' view view' ahead run v client xid now payload live exact number heard gives old =
+stops_on limits read link before left given sink gave gave' view view' ahead run v client xid now payload live exact number heard gives numbered old =
     let stands = live.stands (opened_for limits) (refl, refl, refl, refl) in
     refused limits read link before left given sink gave gave' view view' ahead run client xid now payload live.runs
     (λ opened granted. exact opened link run (live.stands opened granted)) (own_xid (opened_for limits) link run xid payload (exact (opened_for limits) link run stands))
-    (number (opened_for limits) link run stands) (heard (opened_for limits) link run stands) gives old
+    (number (opened_for limits) link run stands) (heard (opened_for limits) link run stands) gives numbered old
 
 -- It ends the responder, or memory ran out for that.
 pub leaves_old : (gave gave' : Option (List Moment)) (view view' : PassView) (v v' : ResponderSide) (client xid : ℕ) (now : Moment) (payload : List ℕ) (end : End) → end_of v' ≡ Some end
@@ -93,14 +93,14 @@ pub leaves_old : (gave gave' : Option (List Moment)) (view view' : PassView) (v 
     → ((opened : LinkParameters) (l : ℕ) (r : List Mark) → ResponderRepresents opened l r v → client ≡ number_heard r l)
     → ((opened : LinkParameters) (l : ℕ) (r : List Mark) → ResponderRepresents opened l r v → frames_received l r ≢ [])
     → Gives gave gave' now
-    → RefusesAsOld view view' client payload
+    → client ≢ 0 → FindsOld view view' client payload
     → ((opened : LinkParameters) (l : ℕ) (r : List Mark) (x : ℕ) → ResponderRepresents opened l r v → ResponderRepresents opened l (r ++ marks.Told l (Old x (last_frame_at l r)) ∷ []) v')
     → Leaves end gave gave' view view' v v'
-leaves_old gave gave' view view' v v' client xid now payload end ended exact number heard gives old stops = by end ended
+leaves_old gave gave' view view' v v' client xid now payload end ended exact number heard gives numbered old stops = by end ended
   where
     told : (limits : ConnectionLimits) (read link : ℕ) (before : Outside) (left given : Option (List ℕ)) (sink : SinkState) (ahead : List ℕ) (run : List Mark) → IsLive limits read link before (outside left given sink gave view) ahead run v
         → Runs limits read link before (outside left given sink gave' view') ahead [] (run ++ marks.Told link (Old xid (last_frame_at link run)) ∷ [])
-    told limits read link before left given sink ahead run live = stops_on limits read link before left given sink gave gave' view view' ahead run v client xid now payload live exact number heard gives old
+    told limits read link before left given sink ahead run live = stops_on limits read link before left given sink gave gave' view view' ahead run v client xid now payload live exact number heard gives numbered old
 
     goes : GoesOn gave gave' view view' v v'
     goes limits read link before left given sink ahead run live =

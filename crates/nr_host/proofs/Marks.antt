@@ -18,14 +18,13 @@ use Rattle.nr_reduce.specs.Run.{output_due}
 use Rattle.nr_reduce.specs.Served.{IsExecuted, ServedMark, last_frame_at, next_call}
 use Rattle.nr_reduce.proofs.Standing.{AtEachMark_more, itself, one_more, received_one, sent_one}
 use Rattle.nr_plain.specs.History.{Answered, OnlyOthersAdded, PassView, xid_in}
-use Rattle.nr_plain.specs.Turns.{AnswersFor, RefusesAsOld}
 use Rattle.nr_host.specs.Connections.{Outside, Runs, SinkState, Takes, IsOwn, QuietMark, FrameMark, WriteMark, GivesAll, answer_of, answers_of, refusal_of, refusals_of, IsOpenedWith}
 use Rattle.nr_host.specs.Steps.{AllQuiet, outside}
 use Rattle.nr_host.specs.Turns.{Taken, Turn, answered_at, answered_in, given_for, refused_at, refused_in}
 use Rattle.nr_host.specs.Turns.Turn.{Answers, Refuses}
 use Rattle.nr_host.proofs.Numbers.{frames_received, frames_same, number_fed, number_same, some_fed}
 use Rattle.nr_host.proofs.Sinks.{TakesMore}
-use Rattle.nr_host.proofs.Turning.{answered_one, given_one, refused_one, taken_answered, taken_by, taken_others, taken_refused}
+use Rattle.nr_host.proofs.Turning.{answered_one, given_one, refused_one, taken_answered, taken_by, taken_others, taken_refused, AnswersEach, FindsOld}
 use Rattle.nr_host.specs.declared.connection_limits.ConnectionLimits.{ConnectionLimits}
 
 -- ---- Lists of one mark more
@@ -142,7 +141,7 @@ pub executed : (limits : ConnectionLimits) (read link : ℕ) (before : Outside) 
     → ((opened : LinkParameters) → IsOpenedWith limits opened → IsExecuted opened link run xid payload)
     → client ≡ number_heard run link → frames_received link run ≢ []
     → Gives gave gave' now
-    → AnswersFor view view' client now moment payload reply place
+    → AnswersEach view view' client now moment payload reply place
     → Runs limits read link before (outside left given sink gave' view') ahead [] (run ++ marks.Execute link xid moment payload place reply ∷ [])
 executed limits read link before left given sink gave gave' view view' ahead run client xid place now moment payload reply r executes own some gives done =
     let a : Answered = record { moment = moment; payload = payload; place = place; reply = reply } in
@@ -159,16 +158,16 @@ pub refused : (limits : ConnectionLimits) (read link : ℕ) (before : Outside) (
     → xid ≡ xid_in payload
     → client ≡ number_heard run link → frames_received link run ≢ []
     → Gives gave gave' now
-    → RefusesAsOld view view' client payload
+    → client ≢ 0 → FindsOld view view' client payload
     → Runs limits read link before (outside left given sink gave' view') ahead [] (run ++ marks.Told link (Old xid (last_frame_at link run)) ∷ [])
-refused limits read link before left given sink gave gave' view view' ahead run client xid now payload r executes of own some gives old =
+refused limits read link before left given sink gave gave' view view' ahead run client xid now payload r executes of own some gives numbered old =
     let over : Taken (number_heard run link) before.view (r.turns ++ Refuses now xid ∷ []) view' =
     subst (λ (n : ℕ). Taken n before.view (r.turns ++ Refuses now xid ∷ []) view') own
     (taken_refused before.view view view' client now xid payload r.turns of (subst (λ (n : ℕ). Taken n before.view r.turns view) (sym own) r.over) old) in
     took limits read link before left given sink gave gave' view view' ahead run (marks.Told link (Old xid (last_frame_at link run))) (Refuses now xid) refl refl refl refl refl some r
     (λ opened same l.
         let x = executes opened same in
-        record { call = x.call; is_next = x.is_next; own = x.own; numbered = λ none. old.numbered (own ∙ none); last = refl })
+        record { call = x.call; is_next = x.is_next; own = x.own; numbered = λ none. numbered (own ∙ none); last = refl })
     (λ opened. (tt, (tt, tt))) gives over
 
 -- a moment was given, and no call executed

@@ -9,17 +9,18 @@ use Rattle.std.proofs.lemmas.List.{map-append}
 use Rattle.nr_outside.specs.declared.moment.Moment.{Moment}
 use Rattle.nr_reduce.specs.declared.mark.Entry.{Entry}
 use Rattle.nr_reduce.specs.declared.mark.TaggedEntry.{TaggedEntry}
-use Rattle.nr_reduce.specs.NumberedJournal.{Standing, added_by, entries_alone, standing_for, IsExecutedBy, IsOld}
+use Rattle.nr_reduce.specs.NumberedJournal.{Standing, entries_alone, standing_for, IsExecutedBy, IsOld}
+use Rattle.nr_reduce.specs.NumberedJournal.Standing.{New}
 use Rattle.nr_turnstile.specs.Rule.{Begins, places_from}
-use Rattle.nr_plain.specs.History.{Answered, AreOfCalls, IsHistory, OnlyOthersAdded, Opening, Over, PassView, additions, entries_added, history, setup_in, xid_in}
-use Rattle.nr_plain.specs.Turns.{AnswersFor, RefusesAsOld}
+use Rattle.nr_plain.specs.History.{Answered, AreOfCalls, IsHistory, OnlyOthersAdded, Opening, Over, PassView, additions, history, setup_in, xid_in}
+use Rattle.nr_plain.specs.Turns.{AnswersAt, FindsOldAt}
 use Rattle.nr_plain.specs.declared.history_entry.HistoryEntry.{HistoryEntry}
 use Rattle.nr_plain.specs.declared.history_entry.HistoryEntry.TheVariants.{Opened, Added}
 use Rattle.nr_plain.specs.ReplyLaws.{plain_server}
 use Rattle.nr_plain.specs.Setup.{Setup}
 use Rattle.nr_plain.proofs.Histories.{begins_itself, begins_on}
 use Rattle.nr_plain.proofs.OfCalls.{both_of_calls}
-use Rattle.nr_host.specs.Turns.{AreTurns, IsAnsweredAt, IsGiven, Taken, TakenOver, Turn, added_at, answered_at, answered_in, given_for, refused_at, refused_in}
+use Rattle.nr_host.specs.Turns.{AreTurns, IsAnsweredAt, Taken, TakenOver, Turn, added_at, answered_at, answered_in, given_for, refused_at, refused_in}
 use Rattle.nr_host.specs.Turns.Turn.{Answers, Refuses}
 
 -- ---- A journal that grows
@@ -38,7 +39,7 @@ answered_grows s client T more k given a low h =
     let same : take k T ≡ take k (T ++ more) = sym (take-append-le k T more low) in
     record {
       executed = subst (λ (U : List TaggedEntry). IsExecutedBy (plain_server s) U (standing_for U client (xid_in a.payload)) a.moment a.payload a.place a.reply) same h.executed;
-      moment = subst (λ (U : List TaggedEntry). IsGiven (standing_for U client (xid_in a.payload)) given a.moment) same h.moment;
+      moment_is = subst (λ (U : List TaggedEntry). (standing_for U client (xid_in a.payload) ≡ New → a.moment ≡ given)) same h.moment_is;
       there = subst (λ (U : List TaggedEntry). take (length (added_at client U given a)) (drop k (T ++ more)) ≡ added_at client U given a) same
           (entry_stays T more (added_at client (take k T) given a) k low h.there);
     }
@@ -93,20 +94,20 @@ all_of T more = take-append-le (length T) T more (omega arith) ∙ take_all (len
 
 -- a call is answered there
 answered_last : (s : Setup) (client : ℕ) (T : List TaggedEntry) (given : Moment) (a : Answered) →
-    IsExecutedBy (plain_server s) T (standing_for T client (xid_in a.payload)) a.moment a.payload a.place a.reply → IsGiven (standing_for T client (xid_in a.payload)) given a.moment →
+    IsExecutedBy (plain_server s) T (standing_for T client (xid_in a.payload)) a.moment a.payload a.place a.reply → (standing_for T client (xid_in a.payload) ≡ New → a.moment ≡ given) →
     IsAnsweredAt s client (T ++ added_at client T given a) (length T) given a
 answered_last s client T given a executed moment =
     let added : List TaggedEntry = added_at client T given a in
     let same : T ≡ take (length T) (T ++ added) = sym (all_of T added) in
     record {
       executed = subst (λ (U : List TaggedEntry). IsExecutedBy (plain_server s) U (standing_for U client (xid_in a.payload)) a.moment a.payload a.place a.reply) same executed;
-      moment = subst (λ (U : List TaggedEntry). IsGiven (standing_for U client (xid_in a.payload)) given a.moment) same moment;
+      moment_is = subst (λ (U : List TaggedEntry). (standing_for U client (xid_in a.payload) ≡ New → a.moment ≡ given)) same moment;
       there = subst (λ (U : List TaggedEntry). take (length (added_at client U given a)) (drop (length T) (T ++ added)) ≡ added_at client U given a) same
           (ap (λ (l : List TaggedEntry). take (length added) l) (drop-append_seam T added) ∙ take-length added);
     }
 
 turn_answered : (s : Setup) (client : ℕ) (T : List TaggedEntry) (n : ℕ) (turns : List Turn) (mine : List ℕ) (given : Moment) (a : Answered) → AreTurns s client T n turns mine →
-    IsExecutedBy (plain_server s) T (standing_for T client (xid_in a.payload)) a.moment a.payload a.place a.reply → IsGiven (standing_for T client (xid_in a.payload)) given a.moment →
+    IsExecutedBy (plain_server s) T (standing_for T client (xid_in a.payload)) a.moment a.payload a.place a.reply → (standing_for T client (xid_in a.payload) ≡ New → a.moment ≡ given) →
     AreTurns s client (T ++ added_at client T given a) n (turns ++ Answers given a ∷ []) (mine ++ places_from (suc (length T)) (length (added_at client T given a)))
 turn_answered s client T n [] mine given a h executed moment =
     let added : List TaggedEntry = added_at client T given a in
@@ -245,6 +246,13 @@ tagged_others before after added first T is =
 pub taken_by : (client other : ℕ) (before after : PassView) → Taken client before [] after → Taken other before [] after
 taken_by client other before after taken first T is = (let o = taken first T is in record { more = o.more; begins = o.begins; seen = o.seen; of_calls = o.of_calls; mine = o.mine; turned = o.turned; mine_is = o.mine_is })
 
+-- a call was answered, or found old, whatever history the pass had seen
+abbrev pub AnswersEach : (before after : PassView) (client : ℕ) (given moment : Moment) (payload reply : List ℕ) (place : ℕ) → Type 0
+AnswersEach before after client given moment payload reply place = (first : Opening) (T : List TaggedEntry) → before.seen ≡ history first T → AnswersAt first T before after client given moment payload reply place
+
+abbrev pub FindsOld : (before after : PassView) (client : ℕ) (payload : List ℕ) → Type 0
+FindsOld before after client payload = (top : ℕ) × ((first : Opening) (T : List TaggedEntry) → before.seen ≡ history first T → FindsOldAt first T before after client (xid_in payload) top)
+
 module _ (before now after : PassView) (client : ℕ) where
   -- others may have added entries
   pub taken_others : (turns : List Turn) → Taken client before turns now → OnlyOthersAdded now after → Taken client before turns after
@@ -263,7 +271,7 @@ module _ (before now after : PassView) (client : ℕ) where
       }
 
   -- a call was answered
-  pub taken_answered : (given moment : Moment) (payload reply : List ℕ) (place : ℕ) (turns : List Turn) → Taken client before turns now → AnswersFor now after client given moment payload reply place
+  pub taken_answered : (given moment : Moment) (payload reply : List ℕ) (place : ℕ) (turns : List Turn) → Taken client before turns now → AnswersEach now after client given moment payload reply place
       → Taken client before (turns ++ Answers given (record { moment = moment; payload = payload; place = place; reply = reply }) ∷ []) after
   taken_answered given moment payload reply place turns taken answers first T is =
       let o = taken first T is in
@@ -279,15 +287,15 @@ module _ (before now after : PassView) (client : ℕ) where
         of_calls = joined_calls (setup_in first) T o.more (x.others ++ added) o.of_calls x.of_calls;
         mine = o.mine ++ places_from (suc (length U)) (length added);
         turned = subst (λ (V : List TaggedEntry). AreTurns (setup_in first) client V (length T) (turns ++ Answers given a ∷ []) (o.mine ++ places_from (suc (length U)) (length added))) all
-            (turn_answered (setup_in first) client U (length T) turns o.mine given a (turns_grow (setup_in first) client (T ++ o.more) x.others (length T) turns o.mine o.turned) x.executed x.given);
+            (turn_answered (setup_in first) client U (length T) turns o.mine given a (turns_grow (setup_in first) client (T ++ o.more) x.others (length T) turns o.mine o.turned) x.executed x.moment_is);
         mine_is = x.mine_is ∙ ap (λ (l : List ℕ). l ++ places_from (suc (length U)) (length added)) o.mine_is ∙ append_assoc before.mine o.mine (places_from (suc (length U)) (length added));
       }
 
   -- a call was refused, since it is old
-  pub taken_refused : (given : Moment) (xid : ℕ) (payload : List ℕ) (turns : List Turn) → xid ≡ xid_in payload → Taken client before turns now → RefusesAsOld now after client payload → Taken client before (turns ++ Refuses given xid ∷ []) after
+  pub taken_refused : (given : Moment) (xid : ℕ) (payload : List ℕ) (turns : List Turn) → xid ≡ xid_in payload → Taken client before turns now → FindsOld now after client payload → Taken client before (turns ++ Refuses given xid ∷ []) after
   taken_refused given xid payload turns own taken refuses first T is =
       let o = taken first T is in
-      let x = refuses.at first (T ++ o.more) o.seen in
+      let x = refuses.1 first (T ++ o.more) o.seen in
       let U : List TaggedEntry = (T ++ o.more) ++ x.others in
       let all : U ≡ T ++ (o.more ++ x.others) = append_assoc T o.more x.others in
       record {
@@ -298,7 +306,7 @@ module _ (before now after : PassView) (client : ℕ) where
         mine = o.mine;
         turned = subst (λ (V : List TaggedEntry). AreTurns (setup_in first) client V (length T) (turns ++ Refuses given xid ∷ []) o.mine) all
             (turn_refused (setup_in first) client U (length T) turns o.mine given xid (turns_grow (setup_in first) client (T ++ o.more) x.others (length T) turns o.mine o.turned)
-            (subst (λ (n : ℕ). IsOld (standing_for U client n)) (sym own) x.old));
+            (subst (λ (n : ℕ). IsOld (standing_for U client n)) (sym own) (subst IsOld (sym x.old) tt)));
         mine_is = x.mine_is ∙ o.mine_is;
       }
 

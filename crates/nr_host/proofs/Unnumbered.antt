@@ -49,7 +49,7 @@ record IsPlaced (s : Setup) (T : List TaggedEntry) (k : ℕ) (given : Moment) (a
 one_placed : (s : Setup) (T : List TaggedEntry) (k : ℕ) (given : Moment) (a : Answered) → k ≤ length T → IsAnsweredAt s 0 T k given a → IsPlaced s T k given a
 one_placed s T k given a low is =
     let es : List Entry = entries_of_call given a.payload a.reply in
-    let same : es ≡ entries_in a = ap (λ (m : Moment). entries_of_call m a.payload a.reply) (sym is.moment) in
+    let same : es ≡ entries_in a = ap (λ (m : Moment). entries_of_call m a.payload a.reply) (sym (is.moment_is refl)) in
     let len : length (take k T) ≡ k = omega (arith, length-take k T, low) in
     let place : a.place ≡ k = is.executed.0 ∙ len in
     let alone : take k (entries_alone T) ≡ entries_alone (take k T) = take-map (λ (t : TaggedEntry). t.entry) k T in
@@ -57,7 +57,7 @@ one_placed s T k given a low is =
     let count : length (entries_added 0 given a.payload a.reply) ≡ length es = length-map es (tagged 0 (xid_in a.payload)) in
     record {
       place = place;
-      moment = is.moment;
+      moment = is.moment_is refl;
       replied =
           ap (λ (n : ℕ). plain_reply s (entries_alone T) n a.moment a.payload) place
           ∙ reply_before s (entries_alone T) k a.moment a.payload (omega (arith, low, many))

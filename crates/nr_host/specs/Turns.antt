@@ -1,14 +1,15 @@
 -- The turns that a connection took at the server, one for each call whose turn came: it is answered, or refused since it is old.
-use Rattle.std.specs.Prelude.{◌≡◌, ⊤, ⊥, ℕ, suc, ◌+◌, ◌≤◌, List, [], ◌∷◌, ◌++◌, length, take, drop}
+use Rattle.std.specs.Prelude.{◌≡◌, ℕ, suc, ◌+◌, ◌≤◌, List, [], ◌∷◌, ◌++◌, length, take, drop}
 use Rattle.std.specs.List.{flat_map}
 use Rattle.nr_outside.specs.declared.moment.Moment.{Moment}
-use Rattle.nr_reduce.specs.NumberedJournal.{Standing, added_by, entries_alone, standing_for, IsExecutedBy, IsOld}
-use Rattle.nr_reduce.specs.NumberedJournal.Standing.{Old, Kept, New}
+use Rattle.nr_reduce.specs.NumberedJournal.{entries_alone, standing_for, IsExecutedBy, IsOld}
+use Rattle.nr_reduce.specs.NumberedJournal.Standing.{New}
 use Rattle.nr_reduce.specs.declared.mark.TaggedEntry.{TaggedEntry}
 use Rattle.nr_turnstile.specs.Rule.{Begins, places_from}
-use Rattle.nr_plain.specs.History.{Answered, AreOfCalls, Opening, PassView, entries_added, history, setup_in, xid_in}
+use Rattle.nr_plain.specs.History.{Answered, AreOfCalls, Opening, PassView, history, setup_in, xid_in}
 use Rattle.nr_plain.specs.ReplyLaws.{plain_server}
 use Rattle.nr_plain.specs.Setup.{Setup}
+use Rattle.nr_plain.specs.Turns.{added_to}
 
 -- A turn, with the moment that the clock gave for it: a call was answered, or the call of an xid was refused.
 pub data Turn : Type 0 where
@@ -36,21 +37,15 @@ refused_in turns = flat_map refused_at turns
 
 -- ---- A turn after the first entries of the journal
 
--- a new call is executed at the moment that the clock gives
-abbrev pub IsGiven : Standing → (given moment : Moment) → Type 0
-IsGiven (Old top) given moment = ⊤
-IsGiven (Kept place) given moment = ⊤
-IsGiven New given moment = moment ≡ given
-
 -- what a call adds to the journal then: its entry, if it is new and has one
 abbrev pub added_at : (client : ℕ) → List TaggedEntry → Moment → Answered → List TaggedEntry
-added_at client T given a = added_by (standing_for T client (xid_in a.payload)) (entries_added client given a.payload a.reply)
+added_at client T given a = added_to T client given a.payload a.reply
 
--- A call of a client was answered after the first k entries of the journal T. If it is new, it is executed at their end, and its entry is
--- the next one of T. If it is kept, it has the place, the moment and the reply of its entry, and adds none. It isn't old.
+-- A call of a client was answered after the first k entries of the journal T. If it is new, it is executed at their end, at the moment that the
+-- clock gave, and its entry is the next one of T. If it is kept, it has the place, the moment and the reply of its entry, and adds none. It isn't old.
 pub record IsAnsweredAt (s : Setup) (client : ℕ) (T : List TaggedEntry) (k : ℕ) (given : Moment) (a : Answered) : Type 0 where
   pub executed : IsExecutedBy (plain_server s) (take k T) (standing_for (take k T) client (xid_in a.payload)) a.moment a.payload a.place a.reply
-  pub moment : IsGiven (standing_for (take k T) client (xid_in a.payload)) given a.moment
+  pub moment_is : standing_for (take k T) client (xid_in a.payload) ≡ New → a.moment ≡ given
   pub there : take (length (added_at client (take k T) given a)) (drop k T) ≡ added_at client (take k T) given a
 
 -- The turns of a client in a journal: each after the first k entries of T, the first one after n of them at least, and each later one after what the

@@ -77,7 +77,7 @@ fn same_reply<R: Abort + Wait>(
 {
     let payload = bytes(rt, alloc, call);
     let ending = bytes(rt, alloc, ending);
-    let Ok(reply) = execute(rt, alloc, shared, pass, 0, NOW, payload.as_slice()) else {
+    let Ok(reply) = execute(rt, alloc, shared, pass, NOW, payload.as_slice()) else {
         panic!(rt; "row {row}: not executed")
     };
     same(rt, row, reply.place, place);
