@@ -4,7 +4,7 @@ use Rattle.nr_outside.specs.declared.moment.Moment.{Moment}
 use Rattle.nr_rpc.specs.Reading.{call_of}
 use Rattle.nr_turnstile.specs.Rule.{Begins, places_from}
 use Rattle.nr_reduce.specs.declared.mark.TaggedEntry.{TaggedEntry}
-use Rattle.nr_reduce.specs.NumberedJournal.{IsExecutedBy, added_by, entries_alone, standing_for}
+use Rattle.nr_reduce.specs.NumberedJournal.{Standing, IsExecutedBy, added_by, entries_alone, standing_for}
 use Rattle.nr_reduce.specs.NumberedJournal.Standing.{Old, New}
 use Rattle.nr_plain.specs.Stands.{PlainServerState}
 use Rattle.nr_plain.specs.Numbered.{HasCall, RepresentsTagged}
