@@ -75,9 +75,12 @@ ready_behind v live some s =
     let both : (h.end.ended ≡ None) × Keeps s.0 h.end.state h.input v = not_ended_lem s.0 h.end h.input v live h.keeps in
     keeps_behind s.0 h.end.state h.input v both.1 some
 
+no_cons : {X : Type 0} (x : X) (xs : List X) → x ∷ xs ≡ [] → ⊥
+no_cons x xs is = absurd cc
+
 no_place : (frames : List (List ℕ)) → frames_from 0 frames ≡ [] → length (concat frames) ≡ 0
 no_place [] none = refl
-no_place (bytes ∷ frames) none = absurd (let two : record { at = 0; end = 0 + length bytes; bytes = bytes } ∷ frames_from (0 + length bytes) frames ≡ [] = none in cc)
+no_place (bytes ∷ frames) none = absurd (no_cons _ _ none)
 
 pub ready_heard : (opened : LinkParameters) (link : ℕ) (run : List Mark) (v : ResponderSide) → end_of v ≡ None → v.ready ≢ [] → ResponderRepresents opened link run v → frames_of Initiator (bytes_received link Responder run) ≢ []
 unfolding frames_of
