@@ -28,6 +28,7 @@ use Rattle.nr_reduce.specs.EndRules.{EndState, end_state_after, next_end_state_b
 use Rattle.nr_reduce.specs.Events.RunEvent.{ServerTold}
 use Rattle.nr_reduce.specs.History.{bytes_sent, bytes_received, fed_at}
 use Rattle.nr_reduce.specs.Served.{last_frame_at}
+use Rattle.nr_reduce.specs.Run.{server}
 use Rattle.nr_reduce.specs.Server.{old_end, server_end, server_rules}
 use Rattle.nr_reduce.specs.ServerState.{ReadyCall, ServerState}
 use Rattle.nr_reduce.specs.Standing.{input_events}
@@ -75,9 +76,12 @@ ready_behind v live some s =
     let both : (h.end.ended ≡ None) × Keeps s.0 h.end.state h.input v = not_ended_lem s.0 h.end h.input v live h.keeps in
     keeps_behind s.0 h.end.state h.input v both.1 some
 
+no_cons : {X : Type 0} (x : X) (xs : List X) → x ∷ xs ≡ [] → ⊥
+no_cons x xs is = absurd cc
+
 no_place : (frames : List (List ℕ)) → frames_from 0 frames ≡ [] → length (concat frames) ≡ 0
 no_place [] none = refl
-no_place (bytes ∷ frames) none = absurd (let two : record { at = 0; end = 0 + length bytes; bytes = bytes } ∷ frames_from (0 + length bytes) frames ≡ [] = none in cc)
+no_place (bytes ∷ frames) none = absurd (no_cons _ _ none)
 
 pub ready_heard : (opened : LinkParameters) (link : ℕ) (run : List Mark) (v : ResponderSide) → end_of v ≡ None → v.ready ≢ [] → ResponderRepresents opened link run v → frames_of Initiator (bytes_received link Responder run) ≢ []
 unfolding frames_of
@@ -179,7 +183,7 @@ out_stands opened link run v xid at live stands =
       ready = both.1.ready ∙ ap (λ (e : EndState ServerState). map (λ (q : ReadyCall). q.xid) e.state.ready) h.stands.keeps;
       credits = both.1.credits ∙ ap (λ (e : EndState ServerState). grant_of e.state) h.stands.keeps;
       agreed =
-          subst (λ (l : LinkSide). KeepsAgreed _ l.state.agreed) (sym is)
+          subst (λ (l : LinkSide). KeepsAgreed (server opened link run).state l.state.agreed) (sym is)
           (subst (λ (e : EndState ServerState). KeepsAgreed e.state v.link.state.agreed) h.stands.keeps (keeps_agreed opened h.end.state v.link.state v.link.state.place both.1.link both.1.server));
     })
 
