@@ -166,8 +166,8 @@ refused limits read link before left given sink gave gave' view view' ahead run 
     (taken_refused before.view view view' client now xid payload r.turns of (subst (λ (n : ℕ). Taken n before.view r.turns view) (sym own) r.over) old) in
     took limits read link before left given sink gave gave' view view' ahead run (marks.Told link (Old xid (last_frame_at link run))) (Refuses now xid) refl refl refl refl refl some r
     (λ opened same l.
-        let x = executes opened same in
-        record { call = x.call; is_next = x.is_next; own = x.own; numbered = λ none. numbered (own ∙ none); last = refl })
+    let x = executes opened same in
+    record { call = x.call; is_next = x.is_next; own = x.own; numbered = λ none. numbered (own ∙ none); last = refl })
     (λ opened. (tt, (tt, tt))) gives over
 
 -- a moment was given, and no call executed

@@ -97,10 +97,10 @@ fed_represents opened link run v after piece fed h =
     let stream : List ℕ = bytes_received link Responder run in
     let heard : (end_state_after (server_rules opened) h.end (received_events h.input piece)).ended ≡ None → KeepsHeard link (run ++ marks.Fed link Responder piece ∷ []) after.link.state =
     λ lives.
-        let live : h.end.ended ≡ None = live_before (server_rules opened) h.end (received_events h.input piece) lives in
-        let received : h.input ≡ input_of Initiator stream = h.stands.received (ap (λ (e : EndState ServerState). e.ended) (sym h.stands.keeps) ∙ live) in
-        fed_heard link run (marks.Fed link Responder piece) piece v.link.state after.link.state (own_bytes link piece) (h.heard live)
-        (subst (λ (i : InputState). Hears v.link.state (received_events i piece) after.link.state) received (goes.heard lives)) in
+    let live : h.end.ended ≡ None = live_before (server_rules opened) h.end (received_events h.input piece) lives in
+    let received : h.input ≡ input_of Initiator stream = h.stands.received (ap (λ (e : EndState ServerState). e.ended) (sym h.stands.keeps) ∙ live) in
+    fed_heard link run (marks.Fed link Responder piece) piece v.link.state after.link.state (own_bytes link piece) (h.heard live)
+    (subst (λ (i : InputState). Hears v.link.state (received_events i piece) after.link.state) received (goes.heard lives)) in
     one_mark_lem opened link run (marks.Fed link Responder piece) v after piece [] (λ (input : InputState). received_events input piece)
     (own_bytes link piece) refl (λ (input : InputState). own link true (received_events input piece)) h goes.keeps goes.output heard
 

@@ -28,9 +28,12 @@ put_back-requires-then-not-adds g c =
     let seen = c.take_turn-turn.result.pass.now.seat.me.0.seen in
     let stood = subst (λ (v : PlainServerState). StandsFor v seen) (same_value _ t.0 f t.1.1 e) t.2 in
     let r = c.in-Ok.both in
-    let call : NumberedCall = record { client = c.args.client; moment = c.args.now; payload = c.args.payload.now; reply = r.0.payload } in
-    (w, (t.1.0, written _ _ w e, t.1.2), stands_none f w seen c.args.client c.args.now c.args.payload.now r.0.payload r.0.place c.execute_once.ensures.bytes c.in-Ok.ensures.answered stood
-    (λ s T is. subst (λ (b : Bool). MatchBool b (IsOne (added_for s T call)) (◌≡◌ {A = List TaggedEntry} (added_for s T call) [])) c.if-not-adds.true (c.in-Ok.ensures.adds s T is)))
+    let call : NumberedCall = record { client = c.args.client; moment = c.args.now; payload = c.args.payload.now; reply = r.0.payload } in (
+      w,
+      (t.1.0, written _ _ w e, t.1.2),
+      stands_none f w seen c.args.client c.args.now c.args.payload.now r.0.payload r.0.place c.execute_once.ensures.bytes c.in-Ok.ensures.answered stood
+          (λ s T is. subst (λ (b : Bool). MatchBool b (IsOne (added_for s T call)) (◌≡◌ {A = List TaggedEntry} (added_for s T call) [])) c.if-not-adds.true (c.in-Ok.ensures.adds s T is)),
+    )
 
 pub append-requires-clause-value : goal.append-requires-clause-value
 append-requires-clause-value g c =
