@@ -18,7 +18,7 @@ use Rattle.nr_client.specs.Results.{Gives, IsOfCall, IsOfReply, result_by_readin
 use Rattle.nr_client.proofs.Sequences.{gives_itself}
 
 -- the results from where they begin, or an end
-results_then : {A : Type 0} → Codec A → List ℕ → Result ℕ ClientEnd → Result A ClientEnd
+abbrev results_then : {A : Type 0} → Codec A → List ℕ → Result ℕ ClientEnd → Result A ClientEnd
 results_then codec payload (Ok at) = results_or (results_in codec payload at)
 results_then codec payload (Err end) = Err end
 

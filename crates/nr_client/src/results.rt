@@ -85,13 +85,14 @@ fn results_start(payload: &[u8]) -> Result<usize, ClientEnd>
                 ..
             },
         ) => {
-            if stat != 0 {
-                return Err(ClientEnd::Rpc {
+            if stat == 0 {
+                Ok(results_at)
+            } else {
+                Err(ClientEnd::Rpc {
                     kind: RpcKind::Accept,
                     code: stat,
-                });
+                })
             }
-            Ok(results_at)
         }
         Ok(ReplyHead::ProgMismatch { .. }) => Err(ClientEnd::Rpc {
             kind: RpcKind::Accept,
