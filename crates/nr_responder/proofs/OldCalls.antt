@@ -27,6 +27,7 @@ use Rattle.nr_reduce.specs.declared.mark.Told.TheVariants.{Old}
 use Rattle.nr_reduce.specs.EndRules.{EndState, end_state_after, next_end_state_by, next_end_state_in, output_for_all, output_for_by, output_for_in}
 use Rattle.nr_reduce.specs.Events.RunEvent.{ServerTold}
 use Rattle.nr_reduce.specs.History.{bytes_sent, bytes_received, fed_at}
+use Rattle.nr_reduce.specs.Run.{server}
 use Rattle.nr_reduce.specs.Served.{last_frame_at}
 use Rattle.nr_reduce.specs.Server.{old_end, server_end, server_rules}
 use Rattle.nr_reduce.specs.ServerState.{ReadyCall, ServerState}
@@ -182,7 +183,7 @@ out_stands opened link run v xid at live stands =
       ready = both.1.ready ∙ ap (λ (e : EndState ServerState). map (λ (q : ReadyCall). q.xid) e.state.ready) h.stands.keeps;
       credits = both.1.credits ∙ ap (λ (e : EndState ServerState). grant_of e.state) h.stands.keeps;
       agreed =
-          subst (λ (l : LinkSide). KeepsAgreed _ l.state.agreed) (sym is)
+          subst (λ (l : LinkSide). KeepsAgreed (server opened link run).state l.state.agreed) (sym is)
           (subst (λ (e : EndState ServerState). KeepsAgreed e.state v.link.state.agreed) h.stands.keeps (keeps_agreed opened h.end.state v.link.state v.link.state.place both.1.link both.1.server));
     })
 
