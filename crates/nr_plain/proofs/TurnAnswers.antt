@@ -92,7 +92,7 @@ module _ (s : Setup) (T : List TaggedEntry) (client : ℕ) (m : Moment) (payload
       by true more (inl none) = absurd (let less = ltb-true n len more in let zero_more = ap length none in omega (arith, less, short, long, zero_more))
       by true more (inr one) = one
       by false more (inl none) = none
-      by false more (inr one) = absurd (let not_less = ltb-false n len more in let one_more = ap length one.1 in not_less (omega (arith, short, long, one_more)))
+      by false more (inr one) = absurd (let no_more = ltb-false n len more in let one_more = ap length one.1 in omega (arith, no_more, short, long, one_more))
 
 -- the journal is short
 pub few_by : (s : Setup) (T : List TaggedEntry) (kept : PlainServerState) (n : ℕ) → ((r : Setup) (J : List Entry) → RepresentsJournal r J kept → n ≡ length J) → n < 2 ^ 60 → RepresentsTagged s T kept
@@ -209,13 +209,13 @@ module _ (before at after : PassView) (kept kept' : PlainServerState) (client : 
       (finding_is_standing s T client (xid_in payload)) (answers s T stands.represents).answer
 
   module _ (first : Opening) (T : List TaggedEntry) (is : before.seen ≡ history first T) where
-    f : Found first T at.seen kept stood
+    abbrev f : Found first T at.seen kept stood
     f = found first T before.seen at.seen kept is begins stood
 
-    all : List TaggedEntry
+    abbrev all : List TaggedEntry
     all = T ++ f.others
 
-    added : List TaggedEntry
+    abbrev added : List TaggedEntry
     added = added_to all client m payload reply
 
     run_here : IsRunAt (setup_in first) all client m ran.0 payload reply place (standing_for all client (xid_in payload))

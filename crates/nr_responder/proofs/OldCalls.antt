@@ -29,6 +29,7 @@ use Rattle.nr_reduce.specs.Events.RunEvent.{ServerTold}
 use Rattle.nr_reduce.specs.History.{bytes_sent, bytes_received, fed_at}
 use Rattle.nr_reduce.specs.Run.{server}
 use Rattle.nr_reduce.specs.Served.{last_frame_at}
+use Rattle.nr_reduce.specs.Run.{server}
 use Rattle.nr_reduce.specs.Server.{old_end, server_end, server_rules}
 use Rattle.nr_reduce.specs.ServerState.{ReadyCall, ServerState}
 use Rattle.nr_reduce.specs.Standing.{input_events}

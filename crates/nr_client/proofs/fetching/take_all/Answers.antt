@@ -36,7 +36,7 @@ returns-in-Err-clause-done g c =
     let some : 0 < length c.pieces.asked.items = grind (arith, c.pieces-test.true, c.len.ensures) in
     let is : c.pieces.asked.items ≡ c.remove-at.result ∷ c.remove-at.new.self.items = front c.pieces.asked.items c.remove-at.new.self.items c.remove-at.result some c.remove-at.ensures.value c.remove-at.ensures.items in
     let asked = subst (AreAsked c.args._file.now.uid c.args._file.now.gid c.args._file.now.handle.now c.args._file.now.size p) is c.pieces.invariant.1 in
-    let (others, step) = oldest_given_up c.args._file.now.uid c.args._file.now.gid c.args._file.now.handle.now c.args._file.now.size p q c.remove-at.result c.remove-at.new.self.items c.in-Err.end c.in-Err.ensures.waited asked in
+    let (others, step) = oldest_given_up c.args._file.now.uid c.args._file.now.gid c.args._file.now.handle.now c.args._file.now.size p q c.remove-at.result c.remove-at.new.self.items c.in-Err.field-0 c.in-Err.ensures.waited asked in
     (c.wait.ensures.rests, fetched_on (seen_by p) (seen_by q) (mine_of p) (mine_of q) c.args._file.now.uid c.args._file.now.gid c.args._file.now.handle.now c.args._file.now.size c.pieces.job.fetched.items step.seen step.mine c.pieces.invariant.0.1)
 
 pub returns-in-Err-clause-asked : goal.returns-in-Err-clause-asked
@@ -45,7 +45,7 @@ returns-in-Err-clause-asked g c =
     let some : 0 < length c.pieces.asked.items = grind (arith, c.pieces-test.true, c.len.ensures) in
     let is : c.pieces.asked.items ≡ c.remove-at.result ∷ c.remove-at.new.self.items = front c.pieces.asked.items c.remove-at.new.self.items c.remove-at.result some c.remove-at.ensures.value c.remove-at.ensures.items in
     let asked = subst (AreAsked c.args._file.now.uid c.args._file.now.gid c.args._file.now.handle.now c.args._file.now.size p) is c.pieces.invariant.1 in
-    (oldest_given_up c.args._file.now.uid c.args._file.now.gid c.args._file.now.handle.now c.args._file.now.size p q c.remove-at.result c.remove-at.new.self.items c.in-Err.end c.in-Err.ensures.waited asked).0
+    (oldest_given_up c.args._file.now.uid c.args._file.now.gid c.args._file.now.handle.now c.args._file.now.size p q c.remove-at.result c.remove-at.new.self.items c.in-Err.field-0 c.in-Err.ensures.waited asked).0
 
 pub returns-in-Err-push-clause-done : goal.returns-in-Err-push-clause-done
 returns-in-Err-push-clause-done g c =
@@ -54,7 +54,8 @@ returns-in-Err-push-clause-done g c =
     let is : c.pieces.asked.items ≡ c.remove-at.result ∷ c.remove-at.new.self.items = front c.pieces.asked.items c.remove-at.new.self.items c.remove-at.result some c.remove-at.ensures.value c.remove-at.ensures.items in
     let asked = subst (AreAsked c.args._file.now.uid c.args._file.now.gid c.args._file.now.handle.now c.args._file.now.size p) is c.pieces.invariant.1 in
     let (made, (others, step)) = oldest_taken c.args._file.now.uid c.args._file.now.gid c.args._file.now.handle.now c.args._file.now.size p q c.remove-at.result c.remove-at.new.self.items c.in-Ok.done c.in-Ok.ensures.waited asked in
-    (c.wait.ensures.rests, fetched_on (seen_by p) (seen_by q) (mine_of p) (mine_of q) c.args._file.now.uid c.args._file.now.gid c.args._file.now.handle.now c.args._file.now.size c.pieces.job.fetched.items step.seen step.mine c.pieces.invariant.0.1)
+    let kept = fetched_on (seen_by p) (seen_by q) (mine_of p) (mine_of q) c.args._file.now.uid c.args._file.now.gid c.args._file.now.handle.now c.args._file.now.size c.pieces.job.fetched.items step.seen step.mine c.pieces.invariant.0.1 in
+    (c.wait.ensures.rests, subst (AreFetched c.args._file.now.uid c.args._file.now.gid c.args._file.now.handle.now c.args._file.now.size (seen_by q) (mine_of q)) (sym c.in-Err-push.ensures.items) kept)
 
 pub returns-in-Err-push-clause-asked : goal.returns-in-Err-push-clause-asked
 returns-in-Err-push-clause-asked g c =
