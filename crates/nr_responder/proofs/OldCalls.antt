@@ -27,7 +27,6 @@ use Rattle.nr_reduce.specs.declared.mark.Told.TheVariants.{Old}
 use Rattle.nr_reduce.specs.EndRules.{EndState, end_state_after, next_end_state_by, next_end_state_in, output_for_all, output_for_by, output_for_in}
 use Rattle.nr_reduce.specs.Events.RunEvent.{ServerTold}
 use Rattle.nr_reduce.specs.History.{bytes_sent, bytes_received, fed_at}
-use Rattle.nr_reduce.specs.Run.{server}
 use Rattle.nr_reduce.specs.Served.{last_frame_at}
 use Rattle.nr_reduce.specs.Run.{server}
 use Rattle.nr_reduce.specs.Server.{old_end, server_end, server_rules}
