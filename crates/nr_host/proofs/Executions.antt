@@ -107,7 +107,7 @@ leaves_old gave gave' view view' v v' client xid now payload end ended exact num
         (run ++ marks.Told link (Old xid (last_frame_at link run)) ∷ [], record { runs = told limits read link before left given sink ahead run live; stands = λ opened granted. stops opened link run xid (live.stands opened granted) })
 
     by : (end : End) → end_of v' ≡ Some end → Leaves end gave gave' view view' v v'
-    by link_ends.Memory is limits read link before left given sink ahead run live =
+    by link_ends.Memory is = λ limits read link before left given sink ahead run live.
         (run ++ marks.Told link (Old xid (last_frame_at link run)) ∷ [], [], (let none : 0 ≤ 1 = omega arith in none), told limits read link before left given sink ahead run live)
     by (link_ends.Bad at reason) is = (is, goes)
     by (link_ends.Denied stag offset why) is = (is, goes)
