@@ -23,6 +23,9 @@ use Rattle.std.specs.Prelude.{slice_get}
 use Rattle.nr_responder.specs.Standing.{ResponderRepresents}
 use Rattle.nr_responder.proofs.Answered.{answer_link}
 use Rattle.nr_plain.specs.History.{PassView, OnlyOthersAdded, xid_in}
+use Rattle.nr_plain.specs.Turns.{IsCauseFor}
+use Rattle.nr_plain.specs.declared.fault.Fault.{Fault}
+use Rattle.nr_plain.specs.declared.fault.Fault.TheVariants as faults
 use Rattle.nr_host.specs.Connections.{Outside, Runs, SinkState}
 use Rattle.nr_host.specs.Steps.{IsLive, GoesOn, Leaves, RunsOut, outside}
 use Rattle.nr_host.proofs.Marks.{executed, given_alone, refused}
@@ -86,6 +89,12 @@ stops_on limits read link before left given sink gave gave' view view' ahead run
     refused limits read link before left given sink gave gave' view view' ahead run client xid now payload live.runs
     (λ opened granted. exact opened link run (live.stands opened granted)) (own_xid (opened_for limits) link run xid payload (exact (opened_for limits) link run stands))
     (number (opened_for limits) link run stands) (heard (opened_for limits) link run stands) gives numbered old
+
+-- A call that is old has a number, and its journal says so.
+pub old_cause : (before after : PassView) (client : ℕ) (payload : List ℕ) (e : Fault) (top : ℕ) → e ≡ faults.Old top → IsCauseFor before after client payload e → (client ≢ 0) × FindsOld before after client payload
+old_cause before after client payload e top is cause =
+    let old : IsCauseFor before after client payload (faults.Old top) = subst (λ (f : Fault). IsCauseFor before after client payload f) is cause in
+    (old.1, (top, old.2))
 
 -- It ends the responder, or memory ran out for that.
 pub leaves_old : (gave gave' : Option (List Moment)) (view view' : PassView) (v v' : ResponderSide) (client xid : ℕ) (now : Moment) (payload : List ℕ) (end : End) → end_of v' ≡ Some end
