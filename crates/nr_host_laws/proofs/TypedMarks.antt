@@ -21,9 +21,9 @@ use Rattle.nr_reduce.specs.declared.mark.LinkParameters.{LinkParameters}
 use Rattle.nr_reduce.specs.declared.mark.Mark.{Mark}
 use Rattle.nr_reduce.specs.declared.mark.Mark.TheVariants as marks
 use Rattle.nr_reduce.specs.declared.mark.TaggedEntry.{TaggedEntry}
-use Rattle.nr_reduce.specs.declared.mark.Told.TheVariants.{Granted, Old}
+use Rattle.nr_reduce.specs.declared.mark.Told.TheVariants as told
 use Rattle.nr_reduce.specs.NumberedJournal.{Standing, entries_alone, number_heard, standing_for, IsExecutedBy}
-use Rattle.nr_reduce.specs.NumberedJournal.Standing as standings
+use Rattle.nr_reduce.specs.NumberedJournal.Standing.{Kept, New, Old}
 use Rattle.nr_reduce.proofs.Standing.{AtEachMark_more, itself}
 use Rattle.nr_laws.specs.Typed.{IsTyped, TypedMark}
 use Rattle.nr_laws.proofs.Basics.{each_append}
@@ -78,9 +78,9 @@ left_bytes (e ∷ J) K h = (h.0, left_bytes J K h.1)
 
 -- a reply by the entries that the journal had then, whether the call is new or kept
 reply_by : (s : Setup) (U : List TaggedEntry) (o : Standing) (moment : Moment) (payload : List ℕ) (place : ℕ) (reply : List ℕ) → IsInBytes s.tree → EntriesInBytes (entries_alone U) → IsExecutedBy (plain_server s) U o moment payload place reply → IsBytes reply
-reply_by s U (standings.Old top) moment payload place reply tree entries is = absurd is
-reply_by s U standings.New moment payload place reply tree entries is = plain_reply_bytes s (entries_alone U) (length (entries_alone U)) moment payload reply tree entries is.1
-reply_by s U (standings.Kept at) moment payload place reply tree entries is =
+reply_by s U (Old top) moment payload place reply tree entries is = absurd is
+reply_by s U New moment payload place reply tree entries is = plain_reply_bytes s (entries_alone U) (length (entries_alone U)) moment payload reply tree entries is.1
+reply_by s U (Kept at) moment payload place reply tree entries is =
     let r = is.1 in
     let all : entries_alone U ≡ entries_alone r.earlier ++ entries_alone (r.own ∷ r.later) = ap entries_alone r.is_cut ∙ alone_more r.earlier (r.own ∷ r.later) in
     plain_reply_bytes s (entries_alone r.earlier) (length (entries_alone r.earlier)) moment _ reply tree (left_bytes (entries_alone r.earlier) (entries_alone (r.own ∷ r.later)) (subst EntriesInBytes all entries)) r.replied
@@ -154,9 +154,9 @@ typed_from opened link front (marks.Execute l xid moment payload place reply ∷
       replies = g.replies.1;
     }) in
     ((here, rest.0), each_append EntryInBytes (entries_in call) (flat_map entries_in (flat_map answer_of run)) added rest.1)
-typed_from opened link front (marks.Told l (Old xid at) ∷ run) g =
-    let rest = typed_from opened link (front ++ marks.Told l (Old xid at) ∷ []) run (record {
-      typed = AtEachMark_more TypedMark [] front (marks.Told l (Old xid at)) g.typed tt;
+typed_from opened link front (marks.Told l (told.Old xid at) ∷ run) g =
+    let rest = typed_from opened link (front ++ marks.Told l (told.Old xid at) ∷ []) run (record {
+      typed = AtEachMark_more TypedMark [] front (marks.Told l (told.Old xid at)) g.typed tt;
       own = g.own.1;
       served = g.served.1;
       fed = g.fed;
@@ -171,7 +171,7 @@ typed_from opened link front (marks.Lost l xid ∷ run) g = absurd g.own.0
 typed_from opened link front (marks.Forget l xid ∷ run) g = absurd g.own.0
 typed_from opened link front (marks.Revoke l xid bytes ∷ run) g = absurd g.own.0
 typed_from opened link front (marks.Drop l ∷ run) g = absurd g.own.0
-typed_from opened link front (marks.Told l (Granted credits) ∷ run) g = absurd g.own.0
+typed_from opened link front (marks.Told l (told.Granted credits) ∷ run) g = absurd g.own.0
 
 -- ---- A connection
 
