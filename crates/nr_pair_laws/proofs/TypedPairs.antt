@@ -103,14 +103,16 @@ others_reply m none false own h = h
 
 replies_on : (link : ℕ) (front run : List Mark) → RepliesInBytes (flat_map answer_of (own_marks link run)) → AtEachMark (ReplyIsBytesOn link) front run
 replies_on link front [] h = tt
-replies_on link front (marks.Execute l xid moment payload place reply ∷ run) h = by (eqb l link) refl h
+replies_on link front (marks.Execute l xid moment payload place reply ∷ run) h =
+    by (eqb l link) refl (λ (own : RepliesInBytes (flat_map answer_of (own_marks link run))). replies_on link (front ++ marks.Execute l xid moment payload place reply ∷ []) run own) h
   where
     m : Mark
     m = marks.Execute l xid moment payload place reply
 
-    by : (b : Bool) → eqb l link ≡ b → RepliesInBytes (flat_map answer_of (cond b (m ∷ own_marks link run) (own_marks link run))) → AtEachMark (ReplyIsBytesOn link) front (m ∷ run)
-    by true is h = (λ same. h.0, replies_on link (front ++ m ∷ []) run h.1)
-    by false is h = (λ same. absurd (let two : true ≡ false = sym (itself link) ∙ ap (λ (k : ℕ). eqb k link) (sym same) ∙ is in cc), replies_on link (front ++ m ∷ []) run h)
+    by : (b : Bool) → eqb l link ≡ b → (RepliesInBytes (flat_map answer_of (own_marks link run)) → AtEachMark (ReplyIsBytesOn link) (front ++ m ∷ []) run)
+        → RepliesInBytes (flat_map answer_of (cond b (m ∷ own_marks link run) (own_marks link run))) → AtEachMark (ReplyIsBytesOn link) front (m ∷ run)
+    by true is later h = (λ same. h.0, later h.1)
+    by false is later h = (λ same. absurd (let two : true ≡ false = sym (itself link) ∙ ap (λ (k : ℕ). eqb k link) (sym same) ∙ is in cc), later h)
 replies_on link front (marks.Submit l call form answer ∷ run) h = (tt, replies_on link (front ++ marks.Submit l call form answer ∷ []) run h)
 replies_on link front (marks.Fed l Responder bytes ∷ run) h =
     (tt, replies_on link (front ++ marks.Fed l Responder bytes ∷ []) run (others_reply (marks.Fed l Responder bytes) refl (is_own link (marks.Fed l Responder bytes)) (own_marks link run) h))
