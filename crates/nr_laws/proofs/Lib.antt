@@ -75,6 +75,14 @@ pub mod KeptEntries
 pub mod NumberedPlaces
 pub mod NoOldCalls
 pub mod ReopenedLinks
+pub mod AcceptedEvents
+pub mod RisingCalls
+pub mod OpenedAgain
+pub mod LaterOutcomes
+pub mod AnsweredXids
+pub mod FarCalls
+pub mod LinkedChains
+pub mod OldCalls
 pub mod PlacesByNumber
 pub mod OutputFrames
 pub mod PendingFrames

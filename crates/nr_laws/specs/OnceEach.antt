@@ -14,12 +14,15 @@ use Rattle.nr_reduce.specs.declared.mark.Mark.{Mark}
 use Rattle.nr_reduce.specs.declared.mark.Mark.TheVariants as marks
 use Rattle.nr_reduce.specs.PlainJournal.{PlainServer}
 use Rattle.nr_reduce.specs.ClientState.{call_payload}
+use Rattle.nr_reduce.specs.Asked.{AskedSoFar}
 use Rattle.nr_reduce.specs.Events.{events}
 use Rattle.nr_reduce.specs.KeepsCalls.{AddsOneAtMost, KeepsCalls}
-use Rattle.nr_reduce.specs.Opening.{IsOpened}
+use Rattle.nr_reduce.specs.Opening.{IsOpened, IsFirstLink}
 use Rattle.nr_reduce.specs.declared.mark.TaggedEntry.{TaggedEntry}
+use Rattle.nr_reduce.specs.declared.mark.Told.TheVariants.{Old}
 use Rattle.nr_reduce.specs.NumberedJournal.{tagged_journal, number_heard, entries_alone, JournaledByNumber, IsReplyOf}
 use Rattle.nr_reduce.specs.Reopening.{IsReopened}
+use Rattle.nr_laws.specs.Grant.{AcceptsByRule}
 use Rattle.nr_laws.specs.MarkAt.{MarkAt}
 use Rattle.nr_laws.specs.MatchedSoFar.{MatchedSoFar}
 use Rattle.nr_laws.specs.Payloads.{form_conveyed}
@@ -63,6 +66,10 @@ MatchedWithEarlier opened run link = (earlier : ℕ) → IsEarlier opened run ea
 abbrev pub OpenedWithEarlier : (ℕ → LinkParameters) → List Mark → ℕ → Type 0
 OpenedWithEarlier opened run link = (earlier : ℕ) → IsEarlier opened run earlier link → IsOpened (opened earlier)
 
+-- the client of each of them keeps its law so far
+abbrev pub AskedWithEarlier : (ℕ → LinkParameters) → List Mark → ℕ → Type 0
+AskedWithEarlier opened run link = (earlier : ℕ) → IsEarlier opened run earlier link → AskedSoFar (opened earlier) earlier run
+
 -- each link whose server heard this number was opened in range and is matched, and so is each that it goes on from
 abbrev pub ClientIsMatched : (ℕ → LinkParameters) → List Mark → (number : ℕ) → Type 0
 ClientIsMatched opened run number = (link : ℕ) → number_heard run link ≡ number → OpenedWithEarlier opened run link × MatchedWithEarlier opened run link
@@ -72,9 +79,27 @@ abbrev pub OneClientEach : (ℕ → LinkParameters) → List Mark → Type 0
 OneClientEach opened run = (link other : ℕ) → number_heard run link ≢ 0 → number_heard run link ≡ number_heard run other →
     IsEarlier opened run link other ⊎ IsEarlier opened run other link
 
--- a link goes on from one link only
-abbrev pub OneLinkBefore : (ℕ → LinkParameters) → List Mark → Type 0
-OneLinkBefore opened run = (old other next again : BegunLink) → IsNextLink opened run old next → IsNextLink opened run other again → next.link ≡ again.link → old.link ≡ other.link
+-- The first link of the client with this number: it was not reopened, and each link whose server heard the number goes on from it.
+pub record IsFirstOf (opened : ℕ → LinkParameters) (run : List Mark) (number first : ℕ) : Type 0 where
+  pub first : IsFirstLink (opened first)
+  pub all : (link : ℕ) → number_heard run link ≡ number → IsEarlier opened run first link
+
+-- another link goes on from this one, and has begun by then
+pub record IsLeft (opened : ℕ → LinkParameters) (run : List Mark) (link : ℕ) (before : List Mark) : Type 0 where
+  pub own : BegunLink
+  pub next : BegunLink
+  pub own_is : own.link ≡ link
+  pub goes_on : IsNextLink opened run own next
+  pub gap : List Mark
+  pub begun : before ≡ next.began ++ gap
+
+-- the client of each of a link's earlier ones, and its own, accepts calls by its rule
+abbrev pub AcceptsWithEarlier : (ℕ → LinkParameters) → List Mark → ℕ → Type 0
+AcceptsWithEarlier opened run link = (earlier : ℕ) → IsEarlier opened run earlier link → AcceptsByRule (opened earlier) earlier run
+
+-- the link is one of the client's with this number: of it and each link whose server heard the number, one goes on from the other
+abbrev pub IsLinkOf : (ℕ → LinkParameters) → List Mark → (number link : ℕ) → Type 0
+IsLinkOf opened run number link = (other : ℕ) → number_heard run other ≡ number → IsEarlier opened run link other ⊎ IsEarlier opened run other link
 
 -- ---- The theorem
 
@@ -134,9 +159,24 @@ PlacesFollowByNumber = (reply_to : List Entry → Moment → List ℕ → Option
     (opened : ℕ → LinkParameters) (link other executing : ℕ) (T : List TaggedEntry) (run before between before_first before_second : List Mark)
     (call : Call) (form : Form) (xid other_xid : ℕ) (outcome : Outcome)
     (moment other_moment : Moment) (payload other_payload : List ℕ) (place other_place : ℕ) (reply other_reply : List ℕ) →
-    IsTyped run → JournaledByNumber (server_with reply_to adds) (number_heard run) T run → AddsOneAtMost adds → OneClientEach opened run → OneLinkBefore opened run →
+    IsTyped run → JournaledByNumber (server_with reply_to adds) (number_heard run) T run → AddsOneAtMost adds → OneClientEach opened run → IsLinkOf opened run (number_heard run executing) other →
     MatchedSoFar (opened link) link run → IsEarlier opened run other executing → OpenedWithEarlier opened run executing → MatchedWithEarlier opened run executing →
     (opened other).first_xid ≤ other_xid →
     MarkAt run (before ++ marks.Done link xid outcome ∷ between) (marks.Submit other call form (submissions.Accepted other_xid)) →
     MarkAt run before_first (marks.Execute link xid moment payload place reply) →
     MarkAt run before_second (marks.Execute executing other_xid other_moment other_payload other_place other_reply) → place ≤ other_place
+
+-- The outcome of a call is handed over once, on one link of its client, whatever the servers send.
+abbrev pub NoOutcomeTwice : Type 0
+NoOutcomeTwice = (opened : ℕ → LinkParameters) (link other : ℕ) (run before other_before : List Mark) (xid : ℕ) (outcome other_outcome : Outcome) →
+    IsTyped run → IsEarlier opened run link other → OpenedWithEarlier opened run other → AskedWithEarlier opened run other →
+    MarkAt run before (marks.Done link xid outcome) → MarkAt run other_before (marks.Done other xid other_outcome) → (link ≡ other) × (before ≡ other_before)
+
+-- The links of one client are matched from its first one on. Then a server is told that a call is old only if its client has left it: another link
+-- goes on from that link, and has begun. `Refused::Window` of a client keeps the xids that it has outstanding within the window of a server.
+abbrev pub NoCallIsOld : Type 0
+NoCallIsOld = (reply_to : List Entry → Moment → List ℕ → Option (List ℕ)) (adds : Moment → List ℕ → List ℕ → List Entry)
+    (opened : ℕ → LinkParameters) (first link : ℕ) (T : List TaggedEntry) (run before : List Mark) (xid at : ℕ) →
+    IsTyped run → JournaledByNumber (server_with reply_to adds) (number_heard run) T run → AddsOneAtMost adds → OneClientEach opened run →
+    IsFirstOf opened run (number_heard run link) first → OpenedWithEarlier opened run link → MatchedWithEarlier opened run link → AcceptsWithEarlier opened run link →
+    (opened link).client.number < 2 ^ 64 → MarkAt run before (marks.Told link (Old xid at)) → IsLeft opened run link before

@@ -1,16 +1,30 @@
--- What is known of a link that goes on from another one: both hellos agree on the same lengths again, and no call is left over.
-use Rattle.std.specs.Prelude.{◌≡◌, ℕ, true, false, ◌||◌, ◌==◌, List, None}
+-- What is known of a link that goes on from another one: it is opened in range, both hellos agree on the same lengths again, and no call is left
+-- over.
+use Rattle.std.specs.Prelude.{◌≡◌, ℕ, ◌≤◌, true, false, ◌||◌, ◌==◌, List, None}
 use Rattle.std.specs.List.{list_any}
+use Rattle.nr_link.specs.Agreement.{IsSendLimit}
 use Rattle.nr_reduce.specs.declared.mark.LinkParameters.{LinkParameters}
 use Rattle.nr_reduce.specs.declared.mark.Mark.{Mark}
 use Rattle.nr_reduce.specs.declared.mark.ResumedCall.{ResumedCall}
-use Rattle.nr_reduce.specs.ClientState.{WaitingCall}
+use Rattle.nr_reduce.specs.ClientState.{WaitingCall, stag_after}
 use Rattle.nr_reduce.specs.History.{AcceptedCall, CompletedCall, accepted_calls, is_abandoned}
+use Rattle.nr_reduce.specs.Limits.{numbers_end}
+use Rattle.nr_reduce.specs.Asked.{AskedSoFar}
+use Rattle.nr_reduce.specs.Opening.{IsOpened, lengths_before}
 use Rattle.nr_reduce.specs.Reopening.{reopened, IsReopened}
 use Rattle.nr_reduce.specs.Run.{client}
 use Rattle.nr_laws.specs.EndCauses.{AgreesAgain}
 use Rattle.nr_laws.specs.MatchedSoFar.{MatchedSoFar}
 use Rattle.nr_laws.specs.Typed.{IsTyped}
+
+-- The lengths of Sends that an earlier hello agreed on, if there was one, are from one unit to the most units.
+abbrev pub AgreedInRange : LinkParameters → Type 0
+AgreedInRange opened = IsSendLimit (lengths_before opened.agreed).up × IsSendLimit (lengths_before opened.agreed).down
+
+-- If a client keeps its law on a link that was opened in range, and STags are left for its calls, the next link is opened in range.
+abbrev pub ReopenedLinksAreOpened : Type 0
+ReopenedLinksAreOpened = (opened : LinkParameters) (link : ℕ) (run : List Mark) → IsOpened opened → AgreedInRange opened → IsTyped run → AskedSoFar opened link run →
+    stag_after (reopened opened link run).first_stag (reopened opened link run).resumed ≤ numbers_end → IsOpened (reopened opened link run) × AgreedInRange (reopened opened link run)
 
 -- If a matched link's hellos agree on what an earlier one did, if there was one, those of the next link do, too.
 abbrev pub ReopenedLinksAgree : Type 0

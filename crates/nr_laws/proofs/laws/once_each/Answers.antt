@@ -1,5 +1,7 @@
 use Rattle.nr_laws.proofs.CompletedChanges.{completed_changes_have_entries}
 use Rattle.nr_laws.proofs.EntriesApart.{no_entry_twice}
+use Rattle.nr_laws.proofs.LaterOutcomes.{no_outcome_twice}
+use Rattle.nr_laws.proofs.OldCalls.{no_call_is_old}
 use Rattle.nr_laws.proofs.NumberedPlaces.{numbered_links_are_at_places}
 use Rattle.nr_laws.proofs.NumbersHeard.{numbers_are_heard}
 use Rattle.nr_laws.proofs.PlacesByNumber.{places_follow_by_number}
@@ -19,3 +21,9 @@ returns-clause-plain c = numbered_links_are_at_places
 
 pub returns-clause-places : goal.returns-clause-places
 returns-clause-places c = places_follow_by_number
+
+pub returns-clause-outcomes : goal.returns-clause-outcomes
+returns-clause-outcomes c = no_outcome_twice
+
+pub returns-clause-old : goal.returns-clause-old
+returns-clause-old c = no_call_is_old

@@ -1,5 +1,9 @@
 use Rattle.nr_laws.proofs.ReopenedLinks.{reopened_links_agree, no_call_is_left_over}
+use Rattle.nr_laws.proofs.OpenedAgain.{reopened_links_are_opened}
 use Rattle.nr_laws.proofs.laws.reopening.Goals as goal
+
+pub returns-clause-opened : goal.returns-clause-opened
+returns-clause-opened c = reopened_links_are_opened
 
 pub returns-clause-agree : goal.returns-clause-agree
 returns-clause-agree c = reopened_links_agree
