@@ -74,6 +74,7 @@ pub mod NumbersHeard
 pub mod KeptEntries
 pub mod NumberedPlaces
 pub mod NoOldCalls
+pub mod StillWaiting
 pub mod ReopenedLinks
 pub mod AcceptedEvents
 pub mod RisingCalls

@@ -6,10 +6,10 @@ use Rattle.nr_link.specs.Agreement.{IsSendLimit}
 use Rattle.nr_reduce.specs.declared.mark.LinkParameters.{LinkParameters}
 use Rattle.nr_reduce.specs.declared.mark.Mark.{Mark}
 use Rattle.nr_reduce.specs.declared.mark.ResumedCall.{ResumedCall}
-use Rattle.nr_reduce.specs.ClientState.{WaitingCall, stag_after}
-use Rattle.nr_reduce.specs.History.{AcceptedCall, CompletedCall, accepted_calls, is_abandoned}
+use Rattle.nr_reduce.specs.ClientState.{stag_after}
+use Rattle.nr_reduce.specs.History.{AcceptedCall, CompletedCall, is_abandoned}
 use Rattle.nr_reduce.specs.Limits.{numbers_end}
-use Rattle.nr_reduce.specs.Asked.{AskedSoFar}
+use Rattle.nr_reduce.specs.Asked.{AskedSoFar, client_calls}
 use Rattle.nr_reduce.specs.Opening.{IsOpened, lengths_before}
 use Rattle.nr_reduce.specs.Reopening.{reopened, IsReopened}
 use Rattle.nr_reduce.specs.Run.{client}
@@ -31,8 +31,9 @@ abbrev pub ReopenedLinksAgree : Type 0
 ReopenedLinksAgree = (opened next_opened : LinkParameters) (link : ℕ) (run before : List Mark) → IsReopened opened next_opened link run before →
     AgreesAgain opened → IsTyped run → MatchedSoFar opened link run → AgreesAgain next_opened
 
--- Of each call that was accepted, or waits to be sent again, and wasn't given up, an outcome came, or the next link sends it again.
+-- Of each call that the client has, accepted on this link or to be sent again, and that wasn't given up, an outcome came, or the next link sends it
+-- again.
 abbrev pub NoCallIsLeftOver : Type 0
 NoCallIsLeftOver = (opened : LinkParameters) (link : ℕ) (run : List Mark) (xid : ℕ) → (client opened link run).ended ≡ None → is_abandoned link xid run ≡ false →
-    (list_any (λ (a : AcceptedCall). a.xid == xid) (accepted_calls link run) || list_any (λ (w : WaitingCall). w.xid == xid) (client opened link run).state.waiting) ≡ true →
+    list_any (λ (a : AcceptedCall). a.xid == xid) (client_calls opened link run) ≡ true →
     (list_any (λ (c : CompletedCall). c.xid == xid) (client opened link run).state.outcomes || list_any (λ (r : ResumedCall). r.xid == xid) (reopened opened link run).resumed) ≡ true
