@@ -13,7 +13,10 @@ use Rattle.nr_reduce.proofs.Waiting.{accepted_one}
 use Rattle.nr_laws.proofs.ClientRun.{none_if, none_fed}
 use Rattle.nr_laws.proofs.ClientSays.{accepted_in, accepted_append}
 
-none_accepted : (b : Bool) → cond b [] [] ≡ ([] : List AcceptedCall)
+abbrev no_calls : List AcceptedCall
+no_calls = []
+
+none_accepted : (b : Bool) → no_calls ≡ cond b no_calls no_calls
 none_accepted true = refl
 none_accepted false = refl
 
@@ -26,8 +29,8 @@ accepted_mark link before (marks.Submit l call form (submissions.Accepted xid)) 
     by : (b : Bool) → accepted_in (if_own (b && true) (CallSubmitted (length (bytes_received link Initiator before)) a ∷ [])) ≡ cond b (a ∷ []) []
     by true = refl
     by false = refl
-accepted_mark link before (marks.Submit l call form (submissions.Refused why)) = sym (none_accepted (eqb l link))
-accepted_mark link before (marks.Submit l call form submissions.Dropped) = sym (none_accepted (eqb l link))
+accepted_mark link before (marks.Submit l call form (submissions.Refused why)) = none_accepted (eqb l link)
+accepted_mark link before (marks.Submit l call form submissions.Dropped) = none_accepted (eqb l link)
 accepted_mark link before (marks.Wrote l s bytes) = none_if _ (QueueWritten (length bytes)) refl
 accepted_mark link before (marks.Fed l s bytes) = none_fed _ (frames_completed Responder (bytes_received link Initiator before) bytes)
 accepted_mark link before (marks.Execute l xid moment payload place reply) = none_if _ (CallExecuted (record { xid = xid; moment = moment; payload = payload; place = place; reply = reply })) refl

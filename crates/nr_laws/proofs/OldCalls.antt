@@ -389,7 +389,10 @@ module _ (opened : ℕ → LinkParameters) (link : ℕ) (run before after : List
           (ap (λ (r : List Mark). r ++ execute ∷ []) there ∙ append_assoc front (submit ∷ mid) (execute ∷ []))
 
       by : Order front submit mid own.before own_submit own.mid → ⊥
-      by (Here same mark) = (let equal : top ≡ xid = cc in omega (arith, equal, above))
+      by (Here same mark) =
+          let both : marks.Submit link call form (submissions.Accepted top) ≡ marks.Submit link own.call own.form (submissions.Accepted xid) = mark in
+          let equal : top ≡ xid = cc in
+          omega (arith, equal, above)
       by (Behind between later then) =
           (let lt = xids_differ IsPrefixOf (opened link) link run front between (own.mid ++ refusal ∷ after) call own.call form own.form top xid
           (own_is ∙ ap (λ (r : List Mark). r ++ own_submit ∷ (own.mid ++ refusal ∷ after)) later ∙ append_assoc front (submit ∷ between) (own_submit ∷ (own.mid ++ refusal ∷ after))) far.asked in

@@ -127,21 +127,22 @@ module _ (opened : LinkParameters) (range : AgreedInRange opened) where
       let less = lengths_same opened.agreed a bounds.0 bounds.1 same in
       let own : limits k ≡ lengths_before opened.agreed =
       ap (λ (b : Bool). lengths_before (cond b (Some (record { up = k.up_max; down = k.down_max; invalidates = k.invalidates })) k.agreed)) (h.first first) ∙ ap lengths_before h.opening.1 in
-      let up : (limits k).up ≤ a.up = (let e = ap (λ (x : Agreement). x.up) own in let l = less.0 in omega (arith, e, l)) in
-      let down : (limits k).down ≤ a.down = (let e = ap (λ (x : Agreement). x.down) own in let l = less.1 in omega (arith, e, l)) in
+      let agreed : Agreement = limits (with_hello opened k f) in
+      let up : (limits k).up ≤ agreed.up = (let e = ap (λ (x : Agreement). x.up) own in let l = less.0 in omega (arith, e, l)) in
+      let down : (limits k).down ≤ agreed.down = (let e = ap (λ (x : Agreement). x.down) own in let l = less.1 in omega (arith, e, l)) in
       record {
         first = λ e. absurd (omega (arith, e, some));
         unheard = λ e. absurd cc;
         rises = rises_hello opened accepted k f h.rises;
-        calls = all_larger (limits k) a accepted k.outstanding up down h.calls;
-        waits = all_wait_larger (limits k) a k.waiting up down h.waits;
+        calls = all_larger (limits k) agreed accepted k.outstanding up down h.calls;
+        waits = all_wait_larger (limits k) agreed k.waiting up down h.waits;
         opening = h.opening;
       }
 
   opens_segment : (accepted : List AcceptedCall) (place : ℕ) (k : ClientState) (f : Frame) (r : Result Segment ℕ) → 0 < f.end → OpensAt opened accepted place k → OpensAt opened accepted f.end (with_segment k f r)
   opens_segment accepted place k f r some h = record {
     first = λ e. absurd (omega (arith, e, some));
-    unheard = λ e. (let s = h.unheard (sym hello ∙ e) in (sizes.0 ∙ s.0, sizes.1.0 ∙ s.1));
+    unheard = λ e. (let s = h.unheard (sym hello ∙ e) in (sizes.0 ∙ s.0, sizes.1 ∙ s.1));
     rises = rises_segment accepted k f r h.rises;
     calls = by_calls (segment_out k f r);
     waits = subst (λ (ws : List WaitingCall). AllWait (limits t) ws) (sym (segment_waiting k f r)) (subst (λ (a : Agreement). AllWait a k.waiting) (sym own) h.waits);
@@ -154,14 +155,14 @@ module _ (opened : LinkParameters) (range : AgreedInRange opened) where
       hello : t.has_hello ≡ k.has_hello
       hello = segment_hello k f r
 
-      sizes : (t.up_max ≡ k.up_max) × ((t.down_max ≡ k.down_max) × (t.invalidates ≡ k.invalidates))
+      sizes : (t.up_max ≡ k.up_max) × (t.down_max ≡ k.down_max) × (t.invalidates ≡ k.invalidates)
       sizes = segment_sizes k f r
 
       opening : HasOpening opened t
       opening = opening_segment opened k f r h.opening
 
       own : limits t ≡ limits k
-      own = λ i. lengths_before (cond (hello i) (Some (record { up = sizes.0 i; down = sizes.1.0 i; invalidates = sizes.1.1 i })) ((opening.1 ∙ sym h.opening.1) i))
+      own = λ i. lengths_before (cond (hello i) (Some (record { up = sizes.0 i; down = sizes.1 i; invalidates = sizes.2 i })) ((opening.1 ∙ sym h.opening.1) i))
 
       by_calls : (t.outstanding ≡ k.outstanding) ⊎ ((p : OutstandingCall → Bool) × (t.outstanding ≡ filter p k.outstanding)) → AllAgain (limits t) accepted t.outstanding
       by_calls (inl same) = subst (λ (a : Agreement). AllAgain a accepted t.outstanding) (sym own) (subst (AllAgain (limits k) accepted) (sym same) h.calls)
