@@ -16,12 +16,15 @@ use Rattle.nr_reduce.specs.PlainJournal.{PlainServer}
 use Rattle.nr_reduce.specs.ClientState.{call_payload}
 use Rattle.nr_reduce.specs.Asked.{AskedSoFar}
 use Rattle.nr_reduce.specs.Events.{events}
-use Rattle.nr_reduce.specs.KeepsCalls.{AddsOneAtMost, KeepsCalls}
+use Rattle.nr_reduce.specs.KeepsCalls.{AddsOneAtMost, KeepsCalls, FitsChanges}
+use Rattle.nr_reduce.specs.KeepsReplyLimits.{KeepsReplyLimits}
 use Rattle.nr_reduce.specs.Opening.{IsOpened, IsFirstLink}
 use Rattle.nr_reduce.specs.declared.mark.TaggedEntry.{TaggedEntry}
 use Rattle.nr_reduce.specs.declared.mark.Told.TheVariants.{Old}
 use Rattle.nr_reduce.specs.NumberedJournal.{tagged_journal, number_heard, entries_alone, JournaledByNumber, IsReplyOf}
 use Rattle.nr_reduce.specs.Reopening.{IsReopened}
+use Rattle.nr_reduce.specs.Served.{ServedSoFar}
+use Rattle.nr_laws.specs.ChunkOutcomes.{IsAnswered}
 use Rattle.nr_laws.specs.Grant.{AcceptsByRule}
 use Rattle.nr_laws.specs.MarkAt.{MarkAt}
 use Rattle.nr_laws.specs.MatchedSoFar.{MatchedSoFar}
@@ -180,3 +183,28 @@ NoCallIsOld = (reply_to : List Entry → Moment → List ℕ → Option (List �
     IsTyped run → JournaledByNumber (server_with reply_to adds) (number_heard run) T run → AddsOneAtMost adds → OneClientEach opened run →
     IsFirstOf opened run (number_heard run link) first → OpenedWithEarlier opened run link → MatchedWithEarlier opened run link → AcceptsWithEarlier opened run link →
     (opened link).client.number < 2 ^ 64 → MarkAt run before (marks.Told link (Old xid at)) → IsLeft opened run link before
+
+-- On every link, whatever its client sends, the reply to each executed call that adds an entry goes out, also the one that such a call has kept.
+abbrev pub NumberedChangesAreAnswered : Type 0
+NumberedChangesAreAnswered = (reply_to : List Entry → Moment → List ℕ → Option (List ℕ)) (adds : Moment → List ℕ → List ℕ → List Entry)
+    (opened : LinkParameters) (link : ℕ) (T : List TaggedEntry) (run before : List Mark) (xid : ℕ) (moment : Moment) (payload : List ℕ) (place : ℕ) (reply : List ℕ) →
+    KeepsReplyLimits (server_with reply_to adds) → AddsOneAtMost adds → FitsChanges (server_with reply_to adds) → IsTyped run →
+    JournaledByNumber (server_with reply_to adds) (number_heard run) T run → ServedSoFar opened link run →
+    MarkAt run before (marks.Execute link xid moment payload place reply) → adds moment payload reply ≢ [] →
+    IsAnswered opened link before xid moment payload place reply
+
+-- What is so of the changes of the clients with numbers, over all their links: no two entries are of one call, and a reply that is handed over on
+-- matched links, and that adds an entry, has its one entry. So each change takes effect once at most, and once if its reply came.
+pub record EachChangeOnce (plain : PlainServer) (T : List TaggedEntry) (opened : ℕ → LinkParameters) (run : List Mark) : Type 0 where
+  pub once : (place other : ℕ) (t u : TaggedEntry) → slice_get T place ≡ Some t → slice_get T other ≡ Some u → t.client ≢ 0 → t.client ≡ u.client → t.xid ≡ u.xid → place ≡ other
+  pub completed : (link : ℕ) (before : List Mark) (xid : ℕ) (call : Call) (form : Form) (moment : Moment) (payload reply : List ℕ) →
+      OpenedWithEarlier opened run link → MatchedWithEarlier opened run link → (opened link).client.number ≢ 0 → (opened link).client.number < 2 ^ 64 →
+      IsAskedFor opened link run xid call form → MarkAt run before (marks.Done link xid (outcomes.Reply reply)) →
+      form_conveyed form (call_payload xid call) ≡ Some payload → plain.adds moment payload reply ≢ [] →
+      HasEntry plain T (opened link).client.number xid payload reply
+
+-- Its premises: the server keeps calls, and one number names one client.
+abbrev pub ChangesTakeEffectOnce : Type 0
+ChangesTakeEffectOnce = (reply_to : List Entry → Moment → List ℕ → Option (List ℕ)) (adds : Moment → List ℕ → List ℕ → List Entry)
+    (opened : ℕ → LinkParameters) (T : List TaggedEntry) (run : List Mark) → IsTyped run → JournaledByNumber (server_with reply_to adds) (number_heard run) T run →
+    KeepsCalls reply_to adds → OneClientEach opened run → EachChangeOnce (server_with reply_to adds) T opened run

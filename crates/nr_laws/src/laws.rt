@@ -6,7 +6,7 @@ ghost use Rattle.nr_laws.specs.Agreed.{SidesAgree, ClientGoesByAgreement, Server
 ghost use Rattle.nr_laws.specs.Bounds.{ClientOffersFewSegments, ClientOwesFewResponses, ServerReadsFew, ServerUsesItsReceives};
 ghost use Rattle.nr_laws.specs.Places.{PlacesFollow};
 ghost use Rattle.nr_laws.specs.Once.{NoSendTwice, NoCallTwice, NoXidTwice};
-ghost use Rattle.nr_laws.specs.OnceEach.{NoEntryTwice, NumbersAreHeard, CompletedChangesHaveEntries, NumberedLinksAreAtPlaces, PlacesFollowByNumber, NoOutcomeTwice, NoCallIsOld};
+ghost use Rattle.nr_laws.specs.OnceEach.{NoEntryTwice, NumbersAreHeard, CompletedChangesHaveEntries, NumberedLinksAreAtPlaces, PlacesFollowByNumber, NoOutcomeTwice, NoCallIsOld, NumberedChangesAreAnswered, ChangesTakeEffectOnce};
 ghost use Rattle.nr_laws.specs.Reopened.{ReopenedLinksAreOpened, ReopenedLinksAgree, NoCallIsLeftOver};
 ghost use Rattle.nr_laws.specs.ChunkOutcomes.{ChunkHasCause, OthersHaveNoCause, CausedCallsComplete, NoOtherVersion, OffersArePlanned, NoOwnPlanIsRefused, AutoHasReplies, ChangesAreAnswered, ChunkAddsNothing};
 
@@ -33,6 +33,10 @@ pub fn once_each()
     ensures outcomes { NoOutcomeTwice }
     // No call is old until its client leaves the link.
     ensures old { NoCallIsOld }
+    // On every link an executed call that adds an entry is answered by its reply, new or sent again.
+    ensures answered { NumberedChangesAreAnswered }
+    // So each change takes effect once at most, and once if its reply is handed over on matched links.
+    ensures each { ChangesTakeEffectOnce }
 {}
 
 /// A client leaves its link, and the next one goes on from it. It is opened in range, as the old one was, if STags are left. If the hellos of the
