@@ -35,11 +35,11 @@ use Rattle.nr_laws.proofs.RisingCalls.{IsRising, xids_out, RisesAt}
 
 at_least : (first next xid : ℕ) (os : List OutstandingCall) (ys : List ℕ) → IsRising first (xids_out os ++ ys) next → is_outstanding os xid ≡ true → first ≤ xid
 at_least first next xid [] ys h e = absurd cc
-at_least first next xid (o ∷ os) ys h e = by (eqb o.xid xid) refl e
+at_least first next xid (o ∷ os) ys h e = by (eqb o.xid xid) refl e (at_least (o.xid + 1) next xid os ys h.1)
   where
-    by : (b : Bool) → eqb o.xid xid ≡ b → (b || is_outstanding os xid) ≡ true → first ≤ xid
-    by true is e = (let le = h.0 in let same = eqb-true o.xid xid is in omega (arith, le, same))
-    by false is e = (let le = h.0 in let rest = at_least (o.xid + 1) next xid os ys h.1 e in omega (arith, le, rest))
+    by : (b : Bool) → eqb o.xid xid ≡ b → (b || is_outstanding os xid) ≡ true → (is_outstanding os xid ≡ true → o.xid + 1 ≤ xid) → first ≤ xid
+    by true is e later = (let le = h.0 in let same = eqb-true o.xid xid is in omega (arith, le, same))
+    by false is e later = (let le = h.0 in let rest = later e in omega (arith, le, rest))
 
 least_of : (next xid : ℕ) (os : List OutstandingCall) (ws : List WaitingCall) → IsRising 1 (xids_out os ++ xids_waiting ws) next → is_outstanding os xid ≡ true → (oldest : ℕ) × ((least_xid os ws ≡ Some oldest) × (oldest ≤ xid))
 least_of next xid [] ws h e = absurd cc

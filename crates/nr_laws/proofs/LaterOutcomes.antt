@@ -41,16 +41,16 @@ use Rattle.nr_laws.proofs.RisingCalls.{IsGone, rises_of, waits_above, outcome_go
 -- no outstanding call has the xid
 not_out : (accepted : List AcceptedCall) (os : List OutstandingCall) (xid : ℕ) (call : Call) (form : Form) → AllByRecursion (λ (o : OutstandingCall). o.xid ≢ xid) os → IsOneOf (flat_map (resumed_of accepted) os) xid call form → ⊥
 not_out accepted [] xid call form h one = absurd one
-not_out accepted (o ∷ os) xid call form h one = by (one_append (resumed_of accepted o) (flat_map (resumed_of accepted) os) xid call form one)
+not_out accepted (o ∷ os) xid call form h one = by (not_out accepted os xid call form h.1) (one_append (resumed_of accepted o) (flat_map (resumed_of accepted) os) xid call form one)
   where
     own : (x : Option AcceptedCall) → IsOneOf (resumed_as o x) xid call form → ⊥
     own None wrong = absurd wrong
     own (Some a) (inl this) = h.0 this.xid_is
     own (Some a) (inr wrong) = absurd wrong
 
-    by : IsOneOf (resumed_of accepted o) xid call form ⊎ IsOneOf (flat_map (resumed_of accepted) os) xid call form → ⊥
-    by (inl here) = own (find (λ (a : AcceptedCall). eqb a.xid o.xid) accepted) here
-    by (inr there) = not_out accepted os xid call form h.1 there
+    by : (IsOneOf (flat_map (resumed_of accepted) os) xid call form → ⊥) → IsOneOf (resumed_of accepted o) xid call form ⊎ IsOneOf (flat_map (resumed_of accepted) os) xid call form → ⊥
+    by later (inl here) = own (find (λ (a : AcceptedCall). eqb a.xid o.xid) accepted) here
+    by later (inr there) = later there
 
 -- those that wait have larger xids
 not_waiting : (ws : List WaitingCall) (xid next : ℕ) (call : Call) (form : Form) → xid < next → AllByRecursion (λ (w : WaitingCall). next ≤ w.xid) ws → IsOneOf (map resumed_again ws) xid call form → ⊥
@@ -112,14 +112,15 @@ module _ (opened : ℕ → LinkParameters) (run : List Mark) (typed : IsTyped ru
         (waits_above (accepted_calls old.link cut) (client (opened old.link) old.link cut).state (rises_of (opened old.link) old.link cut keeps.opens typed_cut asked))
         (subst (λ (rs : List ResumedCall). IsOneOf rs xid other way) (next_opening opened run old link n).1 one)
     not_resumed link old (older ∷ links) (keeps, others) (n, g) other way one =
-        by (kept_of (opened old.link) old.link link.began xid other way (subst (λ (rs : List ResumedCall). IsOneOf rs xid other way) (next_opening opened run old link n).1 one))
+        by (λ another form again. not_resumed old older links others g another form again)
+        (kept_of (opened old.link) old.link link.began xid other way (subst (λ (rs : List ResumedCall). IsOneOf rs xid other way) (next_opening opened run old link n).1 one))
       where
         below : xid < (opened old.link).first_xid
         below = xid_below opened run first front back call form xid here old older links others g
 
-        by : WasOutstanding old.link link.began xid other way ⊎ IsOneOf (opened old.link).resumed xid other way → ⊥
-        by (inl was) = (let again = again_on old.link link.began n.reopened.after xid other way n.reopened.is_cut keeps.asked below was in not_resumed old older links others g again.0 again.1.0 again.1.1)
-        by (inr waits) = not_resumed old older links others g other way waits
+        by : ((another : Call) (form : Form) → IsOneOf (opened old.link).resumed xid another form → ⊥) → WasOutstanding old.link link.began xid other way ⊎ IsOneOf (opened old.link).resumed xid other way → ⊥
+        by earlier (inl was) = (let again = again_on old.link link.began n.reopened.after xid other way n.reopened.is_cut keeps.asked below was in earlier again.0 again.1.0 again.1.1)
+        by earlier (inr waits) = earlier other way waits
 
 -- ---- Two outcomes
 

@@ -122,11 +122,11 @@ old_numbered T client xid old none = by (eqb client 0) (eq-eqb client 0 none) ol
 
 none_out : (os : List OutstandingCall) (xid : ℕ) → is_outstanding os xid ≡ false → AllByRecursion (λ (o : OutstandingCall). o.xid ≢ xid) os
 none_out [] xid e = tt
-none_out (o ∷ os) xid e = by (eqb o.xid xid) refl e
+none_out (o ∷ os) xid e = by (eqb o.xid xid) refl e (none_out os xid)
   where
-    by : (b : Bool) → eqb o.xid xid ≡ b → (b || is_outstanding os xid) ≡ false → AllByRecursion (λ (x : OutstandingCall). x.xid ≢ xid) (o ∷ os)
-    by true is e = absurd cc
-    by false is e = ((λ same. (let wrong : true ≡ false = sym (eq-eqb o.xid xid same) ∙ is in cc)), none_out os xid e)
+    by : (b : Bool) → eqb o.xid xid ≡ b → (b || is_outstanding os xid) ≡ false → (is_outstanding os xid ≡ false → AllByRecursion (λ (x : OutstandingCall). x.xid ≢ xid) os) → AllByRecursion (λ (x : OutstandingCall). x.xid ≢ xid) (o ∷ os)
+    by true is e later = absurd cc
+    by false is e later = ((λ same. (let wrong : true ≡ false = sym (eq-eqb o.xid xid same) ∙ is in cc)), later e)
 
 -- what holds of each accepted call holds of one that was submitted
 each_at : (P : AcceptedCall → Type 0) (link : ℕ) (before after : List Mark) (call : Call) (form : Form) (xid : ℕ) → AllByRecursion P (accepted_calls link (before ++ marks.Submit link call form (submissions.Accepted xid) ∷ after)) → P (record { xid = xid; call = call; form = form })
@@ -188,14 +188,15 @@ was_new : (opened : ℕ → LinkParameters) (run : List Mark) (first : ℕ) → 
 was_new opened run first none link [] keeps same xid call form one =
     absurd (subst (λ (rs : List ResumedCall). IsOneOf rs xid call form) (ap (λ (l : ℕ). (opened l).resumed) same ∙ none) one)
 was_new opened run first none link (old ∷ links) (keeps, others) (n, g) xid call form one =
-    by (kept_of (opened old.link) old.link link.began xid call form (subst (λ (rs : List ResumedCall). IsOneOf rs xid call form) (next_opening opened run old link n).1 one))
+    by (λ other way again. was_new opened run first none old links others g xid other way again)
+    (kept_of (opened old.link) old.link link.began xid call form (subst (λ (rs : List ResumedCall). IsOneOf rs xid call form) (next_opening opened run old link n).1 one))
   where
     further : WasNewOn opened run old xid → WasNewOn opened run link xid
     further w = record { first = w.first; old = old; links = w.old ∷ w.links; goes_on = (n, w.goes_on); submitted = w.submitted }
 
-    by : WasOutstanding old.link link.began xid call form ⊎ IsOneOf (opened old.link).resumed xid call form → WasNewOn opened run link xid
-    by (inr waits) = further (was_new opened run first none old links others g xid call form waits)
-    by (inl was) = here (new_or_again (opened old.link) old.link own.before call own.form xid accepted)
+    by : ((other : Call) (way : Form) → IsOneOf (opened old.link).resumed xid other way → WasNewOn opened run old xid) → WasOutstanding old.link link.began xid call form ⊎ IsOneOf (opened old.link).resumed xid call form → WasNewOn opened run link xid
+    by older (inr waits) = further (older call form waits)
+    by older (inl was) = here (new_or_again (opened old.link) old.link own.before call own.form xid accepted)
       where
         own : HasSubmit old.link link.began xid call
         own = was.own
@@ -214,7 +215,7 @@ was_new opened run first none link (old ∷ links) (keeps, others) (n, g) xid ca
 
         here : ((opened old.link).first_xid ≤ xid) ⊎ IsOneOf (opened old.link).resumed xid call own.form → WasNewOn opened run link xid
         here (inl new) = record { first = old.link; old = old; links = []; goes_on = (n, refl); submitted = record { call = call; form = own.form; before = own.before; after = rest; is = there; new = new } }
-        here (inr again) = further (was_new opened run first none old links others g xid call own.form again)
+        here (inr again) = further (older call own.form again)
 
 -- ---- A call that a client keeps isn't far below one that it submitted later
 
@@ -271,20 +272,21 @@ module _ (opened : ℕ → LinkParameters) (run : List Mark) (typed : IsTyped ru
       (subst (λ (l : ℕ). (opened l).client.number ≢ 0) same r.numbered) r.is_cut (subst (λ (l : ℕ). events l Initiator run ≡ events l Initiator link.began) same r.left) call form
       (subst (λ (l : ℕ). IsOneOf (calls_kept (opened l) l link.began) xid call form) same kept)
   resumed_near link old (older ∷ links) (keeps, others) (n, g) call form one =
-      by (kept_of (opened old.link) old.link link.began xid call form (subst (λ (rs : List ResumedCall). IsOneOf rs xid call form) (next_opening opened run old link n).1 one))
+      by (λ other way again. resumed_near old older links others g other way again)
+      (kept_of (opened old.link) old.link link.began xid call form (subst (λ (rs : List ResumedCall). IsOneOf rs xid call form) (next_opening opened run old link n).1 one))
     where
       below : xid < (opened old.link).first_xid
       below = (let above = xid_below opened run first new.before new.after new.call new.form top new.is old older links others g in omega (arith, above, far))
 
-      by : WasOutstanding old.link link.began xid call form ⊎ IsOneOf (opened old.link).resumed xid call form → ⊥
-      by (inl was) = (let again = again_on opened run typed old.link link.began n.reopened.after xid call form n.reopened.is_cut keeps.asked below was in resumed_near old older links others g again.0 again.1.0 again.1.1)
-      by (inr waits) = resumed_near old older links others g call form waits
+      by : ((other : Call) (way : Form) → IsOneOf (opened old.link).resumed xid other way → ⊥) → WasOutstanding old.link link.began xid call form ⊎ IsOneOf (opened old.link).resumed xid call form → ⊥
+      by earlier (inl was) = (let again = again_on opened run typed old.link link.began n.reopened.after xid call form n.reopened.is_cut keeps.asked below was in earlier again.0 again.1.0 again.1.1)
+      by earlier (inr waits) = earlier call form waits
 
 -- ---- The old call
 
 module _ (opened : ℕ → LinkParameters) (link : ℕ) (run before after : List Mark) (xid at : ℕ) (typed : IsTyped run) (opens : OpenedWithEarlier opened run link) (matched : MatchedWithEarlier opened run link) (accepts : AcceptsWithEarlier opened run link)
     (fits : (opened link).client.number < 2 ^ 64) (is : run ≡ before ++ marks.Told link (told.Old xid at) ∷ after) (moment : Moment) (reply : List ℕ) (reply_bytes : IsBytes reply) where
-  refusal : Mark
+  abbrev refusal : Mark
   refusal = marks.Told link (told.Old xid at)
 
   itself : IsEarlier opened run link link
@@ -310,10 +312,10 @@ module _ (opened : ℕ → LinkParameters) (link : ℕ) (run before after : List
       by (inr own) = refused.numbered (own ∙ none)
 
   -- the server could have executed it
-  execute : Mark
+  abbrev execute : Mark
   execute = marks.Execute link xid moment refused.call.payload 0 reply
 
-  other_run : List Mark
+  abbrev other_run : List Mark
   other_run = before ++ execute ∷ []
 
   other_typed : IsTyped other_run
@@ -329,7 +331,7 @@ module _ (opened : ℕ → LinkParameters) (link : ℕ) (run before after : List
   own : SubmittedBefore link other_run before xid
   own = submitted_before (opened link) link other_run before [] xid moment refused.call.payload 0 reply other_typed other_far refl
 
-  own_submit : Mark
+  abbrev own_submit : Mark
   own_submit = marks.Submit link own.call own.form (submissions.Accepted xid)
 
   own_is : run ≡ own.before ++ own_submit ∷ (own.mid ++ refusal ∷ after)
@@ -490,7 +492,7 @@ no_call_is_old reply_to adds opened first link T run before xid at typed journal
 
     wrong : IsEarlier opened run a.link link → ⊥
     wrong e =
-        not_executed opened link run before told_at.after xid at typed opens matched accepts fits told_at.is a.moment a.reply reply_bytes first a.link begins.first.resumed (begins.all a.link same_client) e a.xid far a.before a.after a.moment a.payload a.at a.reply a.is
+        not_executed opened link run before told_at.after xid at typed opens matched accepts fits told_at.is a.moment a.reply reply_bytes first a.link begins.opening.resumed (begins.all a.link same_client) e a.xid far a.before a.after a.moment a.payload a.at a.reply a.is
 
     later : (a.link ≡ link) ⊎ IsLater opened run link a.link → IsLeft opened run link before
     later (inl same) = absurd (wrong (record { began = []; links = []; goes_on = sym same }))

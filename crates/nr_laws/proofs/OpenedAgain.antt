@@ -29,7 +29,7 @@ use Rattle.nr_reduce.specs.SubmitAnswer.{first_xid_or, next_sent_xid}
 use Rattle.nr_reduce.specs.Asked.{IsPlannedAs, IsResent, AskedSoFar}
 use Rattle.nr_reduce.specs.Opening.{IsOpened, IsResumed, AreResumed, lengths_before}
 use Rattle.nr_reduce.specs.Reopening.{resumed_as, resumed_of, resumed_again, calls_kept, last_agreement, reopened}
-use Rattle.nr_reduce.proofs.OwnLimits.{one_unit, client_limits_of}
+use Rattle.nr_reduce.proofs.OwnLimits.{client_limits_of}
 use Rattle.nr_reduce.proofs.OwnStags.{client_known}
 use Rattle.nr_reduce.proofs.Placing.{segment_waiting}
 use Rattle.nr_reduce.proofs.Unresumed.{HasOpening, opening_segment}
@@ -280,7 +280,7 @@ module _ (opened : LinkParameters) (range : AgreedInRange opened) where
   opens_step es place k (Some end) (QueueWritten taken) next good h = more_accepted es (QueueWritten taken) place k refl h
   opens_step es place k (Some end) (ServerTold what) next good h = more_accepted es (ServerTold what) place k refl h
 
-  pub opens_of : (link : ℕ) (run : List Mark) → IsOpened opened → IsTyped run → AskedSoFar opened link run → (place : ℕ) × OpensAt opened (accepted_calls link run) place (client opened link run).state
+  opens_of : (link : ℕ) (run : List Mark) → IsOpened opened → IsTyped run → AskedSoFar opened link run → (place : ℕ) × OpensAt opened (accepted_calls link run) place (client opened link run).state
   unfolding client
   opens_of link run o typed asked =
       let es : List RunEvent = events link Initiator run in

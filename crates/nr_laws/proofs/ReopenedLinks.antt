@@ -107,11 +107,11 @@ waits_again (w ∷ ws) xid e = by (eqb w.xid xid) e (waits_again ws xid)
 -- those that a client has are those that it was opened with, and those that it accepted
 asked_any : (rs : List ResumedCall) (accepted : List AcceptedCall) (xid : ℕ) → is_accepted (map as_accepted rs ++ accepted) xid ≡ (resumes rs xid || is_accepted accepted xid)
 asked_any [] accepted xid = refl
-asked_any (r ∷ rs) accepted xid = by (eqb r.xid xid)
+asked_any (r ∷ rs) accepted xid = by (asked_any rs accepted xid) (eqb r.xid xid)
   where
-    by : (b : Bool) → (b || is_accepted (map as_accepted rs ++ accepted) xid) ≡ ((b || resumes rs xid) || is_accepted accepted xid)
-    by true = refl
-    by false = asked_any rs accepted xid
+    by : is_accepted (map as_accepted rs ++ accepted) xid ≡ (resumes rs xid || is_accepted accepted xid) → (b : Bool) → (b || is_accepted (map as_accepted rs ++ accepted) xid) ≡ ((b || resumes rs xid) || is_accepted accepted xid)
+    by later true = refl
+    by later false = later
 
 pub no_call_is_left_over : NoCallIsLeftOver
 unfolding reopened calls_kept

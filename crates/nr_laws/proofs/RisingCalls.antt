@@ -33,7 +33,7 @@ use Rattle.nr_reduce.specs.Asked.{AskedSoFar}
 use Rattle.nr_reduce.specs.Opening.{IsOpened, AreResumed, lengths_before}
 use Rattle.nr_reduce.proofs.Placing.{segment_next, segment_waiting, submit_rises, sent_after, revoked_first}
 use Rattle.nr_reduce.proofs.Steps.{end_state_after_append}
-use Rattle.nr_reduce.proofs.XidsFollow.{xids_waiting, revoked_xids}
+use Rattle.nr_reduce.proofs.XidsFollow.{xids_waiting}
 use Rattle.nr_laws.specs.Typed.{IsTyped}
 use Rattle.nr_laws.proofs.AcceptedEvents.{accepted_events}
 use Rattle.nr_laws.proofs.Basics.{each_all, each_append, each_kept}
@@ -80,6 +80,14 @@ xids_revoked xid [] = refl
 xids_revoked xid (o ∷ os) = λ i. by (eqb o.xid xid) i ∷ xids_revoked xid os i
   where
     by : (b : Bool) → (cond b (record o { is_revoked = true }) o).xid ≡ o.xid
+    by true = refl
+    by false = refl
+
+revoked_xids : (xid : ℕ) (ws : List WaitingCall) → xids_waiting (map (revoked_waiting xid) ws) ≡ xids_waiting ws
+revoked_xids xid [] = refl
+revoked_xids xid (w ∷ ws) = λ i. by (eqb w.xid xid) i ∷ revoked_xids xid ws i
+  where
+    by : (b : Bool) → (cond b (record w { is_revoked = true }) w).xid ≡ w.xid
     by true = refl
     by false = refl
 
@@ -168,19 +176,22 @@ gone_kept next p os outcomes h = each_all (λ (c : CompletedCall). IsGone os nex
 -- a call that is found is one of them
 found_below : (next xid : ℕ) (p : OutstandingCall → Bool) (os : List OutstandingCall) (o : OutstandingCall) → AllByRecursion (λ (x : OutstandingCall). x.xid < next) os → find p os ≡ Some o → o.xid < next
 found_below next xid p [] o h e = absurd cc
-found_below next xid p (x ∷ os) o h e = by (p x) e
+found_below next xid p (x ∷ os) o h e = by (p x) e (found_below next xid p os o h.1)
   where
-    by : (b : Bool) → cond b (Some x) (find p os) ≡ Some o → o.xid < next
-    by true is = (let same : x ≡ o = cc in subst (λ (y : OutstandingCall). y.xid < next) same h.0)
-    by false is = found_below next xid p os o h.1 is
+    by : (b : Bool) → cond b (Some x) (find p os) ≡ Some o → (find p os ≡ Some o → o.xid < next) → o.xid < next
+    by true is later = (let same : x ≡ o = cc in subst (λ (y : OutstandingCall). y.xid < next) same h.0)
+    by false is later = later is
 
 left_apart : (xid : ℕ) (os : List OutstandingCall) → AllByRecursion (λ (o : OutstandingCall). o.xid ≢ xid) (filter (λ o. not (eqb o.xid xid)) os)
 left_apart xid [] = tt
-left_apart xid (o ∷ os) = by (eqb o.xid xid) refl
+left_apart xid (o ∷ os) = by (eqb o.xid xid) refl (left_apart xid os)
   where
-    by : (b : Bool) → eqb o.xid xid ≡ b → AllByRecursion (λ (x : OutstandingCall). x.xid ≢ xid) (cond (not b) (o ∷ filter (λ x. not (eqb x.xid xid)) os) (filter (λ x. not (eqb x.xid xid)) os))
-    by true is = left_apart xid os
-    by false is = ((λ same. (let wrong : true ≡ false = sym (eq-eqb o.xid xid same) ∙ is in cc)), left_apart xid os)
+    others : List OutstandingCall
+    others = filter (λ x. not (eqb x.xid xid)) os
+
+    by : (b : Bool) → eqb o.xid xid ≡ b → AllByRecursion (λ (x : OutstandingCall). x.xid ≢ xid) others → AllByRecursion (λ (x : OutstandingCall). x.xid ≢ xid) (cond (not b) (o ∷ others) others)
+    by true is rest = rest
+    by false is rest = ((λ same. (let wrong : true ≡ false = sym (eq-eqb o.xid xid same) ∙ is in cc)), rest)
 
 -- the outcome that a message gives
 given_gone : (k : ClientState) (place next : ℕ) (m : List ℕ) (v : ReplyVerdict) → AllByRecursion (λ (o : OutstandingCall). o.xid < next) k.outstanding → reply_verdict k place m ≡ v

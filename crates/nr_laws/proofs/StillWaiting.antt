@@ -82,7 +82,7 @@ next_waits opened xid r e h = by_ended r.ended
 
 waits_from : (opened : LinkParameters) (xid : ℕ) (r : EndState ClientState) (es : List RunEvent) → is_waiting r.state.waiting xid ≡ true → (is_accepted (accepted_in es) xid || is_waiting (end_state_after (client_rules opened) r es).state.waiting xid) ≡ true
 waits_from opened xid r [] h = h
-waits_from opened xid r (e ∷ es) h = by (next_waits opened xid r e h)
+waits_from opened xid r (e ∷ es) h = by (λ waits. waits_from opened xid (next_end_state (client_rules opened) r e) es waits) (next_waits opened xid r e h)
   where
     after : EndState ClientState
     after = end_state_after (client_rules opened) (next_end_state (client_rules opened) r e) es
@@ -94,11 +94,12 @@ waits_from opened xid r (e ∷ es) h = by (next_waits opened xid r e h)
     or_second true b c e = refl
     or_second false b c e = e
 
-    by : AcceptedOrWaits xid e (next_end_state (client_rules opened) r e).state → (is_accepted (accepted_in (e ∷ es)) xid || is_waiting after.state.waiting xid) ≡ true
-    by (inl now) = or_left_lem (is_accepted (accepted_in (e ∷ es)) xid) (is_waiting after.state.waiting xid) (parts ∙ or_left_lem (is_accepted (accepted_in (e ∷ [])) xid) (is_accepted (accepted_in es) xid) now)
-    by (inr waits) =
+    by : (is_waiting (next_end_state (client_rules opened) r e).state.waiting xid ≡ true → (is_accepted (accepted_in es) xid || is_waiting after.state.waiting xid) ≡ true) → AcceptedOrWaits xid e (next_end_state (client_rules opened) r e).state
+        → (is_accepted (accepted_in (e ∷ es)) xid || is_waiting after.state.waiting xid) ≡ true
+    by later (inl now) = or_left_lem (is_accepted (accepted_in (e ∷ es)) xid) (is_waiting after.state.waiting xid) (parts ∙ or_left_lem (is_accepted (accepted_in (e ∷ [])) xid) (is_accepted (accepted_in es) xid) now)
+    by later (inr waits) =
         ap (λ (b : Bool). b || is_waiting after.state.waiting xid) parts
-        ∙ or_second (is_accepted (accepted_in (e ∷ [])) xid) (is_accepted (accepted_in es) xid) (is_waiting after.state.waiting xid) (waits_from opened xid (next_end_state (client_rules opened) r e) es waits)
+        ∙ or_second (is_accepted (accepted_in (e ∷ [])) xid) (is_accepted (accepted_in es) xid) (is_waiting after.state.waiting xid) (later waits)
 
 waits_at_first : (stag xid : ℕ) (rs : List ResumedCall) → list_any (λ (r : ResumedCall). eqb r.xid xid) rs ≡ true → is_waiting (waiting_from stag rs) xid ≡ true
 waits_at_first stag xid [] e = e

@@ -84,7 +84,7 @@ OneClientEach opened run = (link other : ℕ) → number_heard run link ≢ 0 �
 
 -- The first link of the client with this number: it was not reopened, and each link whose server heard the number goes on from it.
 pub record IsFirstOf (opened : ℕ → LinkParameters) (run : List Mark) (number first : ℕ) : Type 0 where
-  pub first : IsFirstLink (opened first)
+  pub opening : IsFirstLink (opened first)
   pub all : (link : ℕ) → number_heard run link ≡ number → IsEarlier opened run first link
 
 -- another link goes on from this one, and has begun by then
