@@ -1,7 +1,10 @@
 -- Each change once: over any number of links of a numbered client, whatever was dropped and begun again, its calls take effect at most once, and
 -- exactly once if they complete with a reply that adds an entry.
-use Rattle.std.specs.Prelude.{◌≡◌, ◌≢◌, ℕ, ◌^◌, ◌<◌, ◌≤◌, List, [], ◌∷◌, ◌++◌, slice_get, Option, Some, ◌⊎◌}
+use Rattle.std.specs.Prelude.{◌≡◌, ◌≢◌, ℕ, ◌^◌, ◌<◌, ◌≤◌, List, [], ◌∷◌, ◌++◌, slice_get, Option, None, Some, ◌⊎◌}
 use Rattle.nr_outside.specs.declared.moment.Moment.{Moment}
+use Rattle.nr_rpc.specs.Reading.{call_of, target_of}
+use Rattle.nr_header.specs.WithinLimits.{ListsWithin}
+use Rattle.nr_header.specs.declared.header.ChunkLists.{ChunkLists}
 use Rattle.nr_wire.specs.declared.hello.Side.TheVariants.{Initiator, Responder}
 use Rattle.nr_reduce.specs.declared.call.Call.{Call}
 use Rattle.nr_reduce.specs.declared.call.Form.{Form}
@@ -16,14 +19,16 @@ use Rattle.nr_reduce.specs.PlainJournal.{PlainServer}
 use Rattle.nr_reduce.specs.ClientState.{call_payload}
 use Rattle.nr_reduce.specs.Asked.{AskedSoFar}
 use Rattle.nr_reduce.specs.Events.{events}
-use Rattle.nr_reduce.specs.KeepsCalls.{AddsOneAtMost, KeepsCalls, FitsChanges}
+use Rattle.nr_reduce.specs.KeepsCalls.{AddsOneAtMost, KeepsCalls}
 use Rattle.nr_reduce.specs.KeepsReplyLimits.{KeepsReplyLimits}
+use Rattle.nr_reduce.specs.Limits.{send_unit}
 use Rattle.nr_reduce.specs.Opening.{IsOpened, IsFirstLink}
 use Rattle.nr_reduce.specs.declared.mark.TaggedEntry.{TaggedEntry}
 use Rattle.nr_reduce.specs.declared.mark.Told.TheVariants.{Old}
-use Rattle.nr_reduce.specs.NumberedJournal.{tagged_journal, number_heard, entries_alone, JournaledByNumber, IsReplyOf}
+use Rattle.nr_reduce.specs.NumberedJournal.{tagged_journal, number_heard, entries_alone, call_of_entry, JournaledByNumber, IsReplyOf}
 use Rattle.nr_reduce.specs.Reopening.{IsReopened}
 use Rattle.nr_reduce.specs.Served.{ServedSoFar}
+use Rattle.nr_reduce.specs.Server.{answer_of_target}
 use Rattle.nr_laws.specs.ChunkOutcomes.{IsAnswered}
 use Rattle.nr_laws.specs.Grant.{AcceptsByRule}
 use Rattle.nr_laws.specs.MarkAt.{MarkAt}
@@ -183,6 +188,13 @@ NoCallIsOld = (reply_to : List Entry → Moment → List ℕ → Option (List �
     IsTyped run → JournaledByNumber (server_with reply_to adds) (number_heard run) T run → AddsOneAtMost adds → OneClientEach opened run →
     IsFirstOf opened run (number_heard run link) first → OpenedWithEarlier opened run link → MatchedWithEarlier opened run link → AcceptsWithEarlier opened run link →
     (opened link).client.number < 2 ^ 64 → MarkAt run before (marks.Told link (Old xid at)) → IsLeft opened run link before
+
+-- The reply to the call of an entry can be sent back to each call that would add an entry by it, whatever that one offers within the limits of a
+-- header: also to another call, if a client sends that under the xid of the entry.
+abbrev pub FitsChanges : PlainServer → Type 0
+FitsChanges plain = (J : List Entry) (m n o : Moment) (payload asked answer reply : List ℕ) (xid : ℕ) (e : Entry) (offer : ChunkLists) (down : ℕ) →
+    plain.adds o asked answer ≡ e ∷ [] → plain.Replies J m (call_of_entry xid e) reply → plain.adds n payload reply ≢ [] → ListsWithin offer → send_unit ≤ down →
+    answer_of_target offer down reply (target_of (call_of payload)) ≢ None
 
 -- On every link, whatever its client sends, the reply to each executed call that adds an entry goes out, also the one that such a call has kept.
 abbrev pub NumberedChangesAreAnswered : Type 0
