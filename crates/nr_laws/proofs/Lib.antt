@@ -84,6 +84,7 @@ pub mod AnsweredXids
 pub mod FarCalls
 pub mod LinkedChains
 pub mod OldCalls
+pub mod EarlierStags
 pub mod NumberedChanges
 pub mod PlacesByNumber
 pub mod OutputFrames
