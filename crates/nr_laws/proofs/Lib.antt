@@ -18,7 +18,7 @@ pub mod OutstandingSubmits
 pub mod ResumedCalls
 pub mod EarlierLinks
 mod JournalPlaces
-mod CompletedChanges
+pub mod CompletedChanges
 pub mod EntriesApart
 pub mod WaitingCalls
 pub mod ServerOutputs
