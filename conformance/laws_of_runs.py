@@ -17,9 +17,8 @@ from typing import Any
 
 from antt import ROOT
 from check_definitions import NAMES, RUNS, Names, Recorded, bytes_of, opening_of, recorded, weight
-import laws_of_links
 from ends import Ends
-from laws_of_links import Links
+from laws_of_links import LAWS as LINK_LAWS, ROLES as LINK_ROLES, USES as LINK_USES, Links
 from values import NONE, CannotEvaluate, Value, call, deeply
 
 HERE = os.path.dirname(os.path.abspath(__file__))
@@ -181,17 +180,17 @@ LAWS = (
     'segments_keep_the_rules: server',
     'matched_links_stay: stays',
     'matched_links_stay: clients',
-) + laws_of_links.LAWS
+) + LINK_LAWS
 CALL_REASONS, REPLY_REASONS = (18,), (18, 19)
 
 
 class Roles(Names):
     def __init__(self, root: str, spec: Recorded) -> None:
         super().__init__(root, spec)
-        for u in USES + laws_of_links.USES:
+        for u in USES + LINK_USES:
             self.project.use(self.module, u)
         self.role: dict[str, Value] = {}
-        for k, text in (ROLES | laws_of_links.ROLES).items():
+        for k, text in (ROLES | LINK_ROLES).items():
             self.role[k] = self.project.expression(self.module, text)
 
     def ask(self, role: str, *args: Value) -> Value:
