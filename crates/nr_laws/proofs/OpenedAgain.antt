@@ -328,6 +328,11 @@ module _ (agreed : Agreement) (accepted : List AcceptedCall) (p : ResumedCall �
 
 -- ---- The opening of the next link
 
+-- of a first link nothing was agreed on before
+pub first_in_range : (opened : LinkParameters) → opened.agreed ≡ None → AgreedInRange opened
+first_in_range opened none =
+    subst (λ (agreed : Option Agreement). IsSendLimit (lengths_before agreed).up × IsSendLimit (lengths_before agreed).down) (sym none) ((omega arith, omega arith), (omega arith, omega arith))
+
 -- what it agreed on last
 last_in_range : (opened : LinkParameters) (link : ℕ) (run : List Mark) → AgreedInRange opened → HasOpening opened (client opened link run).state
     → IsSendLimit (limits (client opened link run).state).up × IsSendLimit (limits (client opened link run).state).down
