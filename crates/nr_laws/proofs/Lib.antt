@@ -85,6 +85,7 @@ pub mod FarCalls
 pub mod LinkedChains
 pub mod OldCalls
 pub mod EarlierStags
+pub mod PlacesUntilLeft
 pub mod NumberedChanges
 pub mod PlacesByNumber
 pub mod OutputFrames

@@ -44,7 +44,7 @@ use Rattle.nr_laws.specs.Typed.{TypedMark, IsTyped}
 use Rattle.nr_laws.proofs.AccountedCalls.{is_outstanding}
 use Rattle.nr_laws.proofs.AnsweredXids.{WasHeard, heard_of, message_said}
 use Rattle.nr_laws.proofs.Basics.{each_right}
-use Rattle.nr_laws.proofs.EarlierLinks.{InFirst, AfterFirst, mark_in_first, event_at_mark, execute_event, none_is, submitted_in_time, LinkKeeps, next_opening, xid_below, each_earlier}
+use Rattle.nr_laws.proofs.EarlierLinks.{InFirst, event_at_mark, execute_event, none_is, submitted_in_time, LinkKeeps, next_opening, xid_below, each_earlier}
 use Rattle.nr_laws.proofs.FarCalls.{near_outstanding}
 use Rattle.nr_laws.proofs.Following.{far_before, not_after_message}
 use Rattle.nr_laws.proofs.JournalPlaces.{journal_from, AddedBy}
@@ -142,28 +142,13 @@ each_at P link [] after call form xid h = by (eqb link link) (eq-eqb link link r
 each_at P link (mark ∷ before) after call form xid h =
     each_at P link before after call form xid (each_right P (accepted_at link mark) (flat_map (accepted_at link) (before ++ marks.Submit link call form (submissions.Accepted xid) ∷ after)) h)
 
--- ---- The first step of a chain
+-- ---- A server that executed a call has had an event
 
-left_first : (opened : ℕ → LinkParameters) (run : List Mark) (first : ℕ) (link old : BegunLink) (links : List BegunLink) → GoesOn opened run first link (old ∷ links) → (gap : List Mark) → IsLeft opened run first (link.began ++ gap)
-left_first opened run first link old [] (n, same) gap = record { own = old; next = link; own_is = same; goes_on = n; gap = gap; begun = refl }
-left_first opened run first link old (older ∷ links) (n, g) gap =
-    let h = left_first opened run first old older links g (n.gap ++ gap) in
-    record { own = h.own; next = h.next; own_is = h.own_is; goes_on = h.goes_on; gap = h.gap; begun = ap (λ (r : List Mark). r ++ gap) n.later ∙ append_assoc old.began n.gap gap ∙ h.begun }
-
--- a link began before it executed a call
-begun_then : (opened : ℕ → LinkParameters) (run : List Mark) (link : ℕ) (began : List Mark) (old : BegunLink) → IsNextLink opened run old (record { link = link; began = began }) → (before after : List Mark) (xid : ℕ) (moment : Moment) (payload : List ℕ) (place : ℕ) (reply : List ℕ)
-    → run ≡ before ++ marks.Execute link xid moment payload place reply ∷ after → AfterFirst began before
-begun_then opened run link began old n before after xid moment payload place reply is = by (mark_in_first run began n.reopened.after before execute after n.reopened.is_cut is)
-  where
-    execute : Mark
-    execute = marks.Execute link xid moment payload place reply
-
-    by : InFirst began before execute ⊎ AfterFirst began before → AfterFirst began before
-    by (inr a) = a
-    by (inl f) =
-        let event : RunEvent = CallExecuted (record { xid = xid; moment = moment; payload = payload; place = place; reply = reply }) in
-        let all = event_at_mark link Responder before execute event f.rest (execute_event link before xid moment payload place reply) in
-        absurd (none_is (events link Responder before) event all.0 (sym all.1 ∙ ap (λ (r : List Mark). events link Responder r) (sym f.is) ∙ n.fresh.1))
+pub executed_some : (link : ℕ) (before after : List Mark) (xid : ℕ) (moment : Moment) (payload : List ℕ) (place : ℕ) (reply : List ℕ) → events link Responder (before ++ marks.Execute link xid moment payload place reply ∷ after) ≢ []
+executed_some link before after xid moment payload place reply none =
+    let event : RunEvent = CallExecuted (record { xid = xid; moment = moment; payload = payload; place = place; reply = reply }) in
+    let all = event_at_mark link Responder before (marks.Execute link xid moment payload place reply) event after (execute_event link before xid moment payload place reply) in
+    none_is (events link Responder before) event all.0 (sym all.1 ∙ none)
 
 -- ---- A call that is submitted as a new one
 
@@ -494,13 +479,15 @@ no_call_is_old reply_to adds opened first link T run before xid at typed journal
     wrong e =
         not_executed opened link run before told_at.after xid at typed opens matched accepts fits told_at.is a.moment a.reply reply_bytes first a.link begins.opening.resumed (begins.all a.link same_client) e a.xid far a.before a.after a.moment a.payload a.at a.reply a.is
 
-    later : (a.link ≡ link) ⊎ IsLater opened run link a.link → IsLeft opened run link before
-    later (inl same) = absurd (wrong (record { began = []; links = []; goes_on = sym same }))
-    later (inr l) =
-        let begun = begun_then opened run a.link l.began l.old l.goes_on.0 a.before (a.after ++ refusal ∷ told_at.after) a.xid a.moment a.payload a.at a.reply in_run in
-        let then : before ≡ l.began ++ (begun.between ++ executed ∷ a.after) = a.is ∙ ap (λ (r : List Mark). r ++ executed ∷ a.after) begun.is ∙ append_assoc l.began begun.between (executed ∷ a.after) in
-        subst (IsLeft opened run link) (sym then) (left_first opened run link (record { link = a.link; began = l.began }) l.old l.links l.goes_on (begun.between ++ executed ∷ a.after))
+    left : IsEarlier opened run link a.link → (b : Bool) → eqb a.link link ≡ b → IsLeft opened run link before
+    left e true is = absurd (wrong (record { began = []; links = []; goes_on = sym (eqb-true a.link link is) }))
+    left e false is = record {
+      next = a.link;
+      goes_on = e;
+      other = λ same. (let no : true ≡ false = sym (eq-eqb a.link link same) ∙ is in cc);
+      begun = subst (λ (r : List Mark). events a.link Responder r ≢ []) (sym a.is) (executed_some a.link a.before a.after a.xid a.moment a.payload a.at a.reply);
+    }
 
     by : IsEarlier opened run link a.link ⊎ IsEarlier opened run a.link link → IsLeft opened run link before
-    by (inl e) = later (same_or_later opened run link a.link e)
+    by (inl e) = left e (eqb a.link link) refl
     by (inr e) = absurd (wrong e)

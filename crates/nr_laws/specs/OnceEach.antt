@@ -92,14 +92,17 @@ pub record IsFirstOf (opened : ℕ → LinkParameters) (run : List Mark) (number
   pub opening : IsFirstLink (opened first)
   pub all : (link : ℕ) → number_heard run link ≡ number → IsEarlier opened run first link
 
--- another link goes on from this one, and has begun by then
+-- Its client has left a link: another one goes on from it, whose server has had an event by then.
 pub record IsLeft (opened : ℕ → LinkParameters) (run : List Mark) (link : ℕ) (before : List Mark) : Type 0 where
-  pub own : BegunLink
-  pub next : BegunLink
-  pub own_is : own.link ≡ link
-  pub goes_on : IsNextLink opened run own next
-  pub gap : List Mark
-  pub begun : before ≡ next.began ++ gap
+  pub next : ℕ
+  pub goes_on : IsEarlier opened run link next
+  pub other : next ≢ link
+  pub begun : events next Responder before ≢ []
+
+-- its server executes no call after that
+abbrev pub ExecutesUntilLeft : (ℕ → LinkParameters) → List Mark → ℕ → Type 0
+ExecutesUntilLeft opened run link = (before : List Mark) (xid : ℕ) (moment : Moment) (payload : List ℕ) (place : ℕ) (reply : List ℕ) →
+    MarkAt run before (marks.Execute link xid moment payload place reply) → IsLeft opened run link before → ⊥
 
 -- the client of each of a link's earlier ones, and its own, accepts calls by its rule
 abbrev pub AcceptsWithEarlier : (ℕ → LinkParameters) → List Mark → ℕ → Type 0
@@ -160,6 +163,14 @@ NumberedLinksAreAtPlaces = (reply_to : List Entry → Moment → List ℕ → Op
     IsTyped run → JournaledByNumber (server_with reply_to adds) (number_heard run) T run → KeepsCalls reply_to adds → OneClientEach opened run →
     (number_heard run link ≢ 0 → ClientIsMatched opened run (number_heard run link)) → AtPlacesOn (server_with reply_to adds) (entries_alone T) link run
 
+-- The same of a link that is matched with its earlier ones, whatever comes on the later ones, if its server executes no call once its client has
+-- left it.
+abbrev pub LinksAreAtPlacesUntilLeft : Type 0
+LinksAreAtPlacesUntilLeft = (reply_to : List Entry → Moment → List ℕ → Option (List ℕ)) (adds : Moment → List ℕ → List ℕ → List Entry)
+    (opened : ℕ → LinkParameters) (link : ℕ) (T : List TaggedEntry) (run : List Mark) →
+    IsTyped run → JournaledByNumber (server_with reply_to adds) (number_heard run) T run → KeepsCalls reply_to adds → OneClientEach opened run →
+    OpenedWithEarlier opened run link → MatchedWithEarlier opened run link → ExecutesUntilLeft opened run link → AtPlacesOn (server_with reply_to adds) (entries_alone T) link run
+
 -- On matched links a call is submitted for the first time after the outcome of another was handed over. If both are executed, the call on whichever
 -- later link of its client, its place isn't smaller.
 abbrev pub PlacesFollowByNumber : Type 0
@@ -180,8 +191,8 @@ NoOutcomeTwice = (opened : ℕ → LinkParameters) (link other : ℕ) (run befor
     IsTyped run → IsEarlier opened run link other → OpenedWithEarlier opened run other → AskedWithEarlier opened run other →
     MarkAt run before (marks.Done link xid outcome) → MarkAt run other_before (marks.Done other xid other_outcome) → (link ≡ other) × (before ≡ other_before)
 
--- The links of one client are matched from its first one on. Then a server is told that a call is old only if its client has left it: another link
--- goes on from that link, and has begun. `Refused::Window` of a client keeps the xids that it has outstanding within the window of a server.
+-- The links of one client are matched from its first one on. Then a call on a link is old only if its client has left that link. `Refused::Window` of a
+-- client keeps the xids that it has outstanding within the window of a server.
 abbrev pub NoCallIsOld : Type 0
 NoCallIsOld = (reply_to : List Entry → Moment → List ℕ → Option (List ℕ)) (adds : Moment → List ℕ → List ℕ → List Entry)
     (opened : ℕ → LinkParameters) (first link : ℕ) (T : List TaggedEntry) (run before : List Mark) (xid at : ℕ) →

@@ -6,7 +6,7 @@ ghost use Rattle.nr_laws.specs.Agreed.{SidesAgree, ClientGoesByAgreement, Server
 ghost use Rattle.nr_laws.specs.Bounds.{ClientOffersFewSegments, ClientOwesFewResponses, ServerReadsFew, ServerUsesItsReceives};
 ghost use Rattle.nr_laws.specs.Places.{PlacesFollow};
 ghost use Rattle.nr_laws.specs.Once.{NoSendTwice, NoCallTwice, NoXidTwice};
-ghost use Rattle.nr_laws.specs.OnceEach.{NoEntryTwice, NumbersAreHeard, CompletedChangesHaveEntries, NumberedLinksAreAtPlaces, PlacesFollowByNumber, NoOutcomeTwice, NoCallIsOld, NumberedChangesAreAnswered, ChangesTakeEffectOnce};
+ghost use Rattle.nr_laws.specs.OnceEach.{NoEntryTwice, NumbersAreHeard, CompletedChangesHaveEntries, NumberedLinksAreAtPlaces, LinksAreAtPlacesUntilLeft, PlacesFollowByNumber, NoOutcomeTwice, NoCallIsOld, NumberedChangesAreAnswered, ChangesTakeEffectOnce};
 ghost use Rattle.nr_laws.specs.Reopened.{ReopenedLinksAreOpened, ReopenedLinksAgree, NoCallIsLeftOver, EarlierStagsAreDead};
 ghost use Rattle.nr_laws.specs.ChunkOutcomes.{ChunkHasCause, OthersHaveNoCause, CausedCallsComplete, NoOtherVersion, OffersArePlanned, NoOwnPlanIsRefused, AutoHasReplies, ChangesAreAnswered, ChunkAddsNothing};
 
@@ -28,6 +28,7 @@ pub fn once_each()
     ensures heard { NumbersAreHeard }
     ensures completed { CompletedChangesHaveEntries }
     ensures plain { NumberedLinksAreAtPlaces }
+    ensures until_left { LinksAreAtPlacesUntilLeft }
     ensures places { PlacesFollowByNumber }
     // An outcome of a call is handed over once, on one link of its client.
     ensures outcomes { NoOutcomeTwice }

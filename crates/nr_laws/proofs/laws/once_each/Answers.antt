@@ -5,6 +5,7 @@ use Rattle.nr_laws.proofs.OldCalls.{no_call_is_old}
 use Rattle.nr_laws.proofs.NumberedChanges.{numbered_changes_are_answered}
 use Rattle.nr_laws.proofs.NumberedPlaces.{numbered_links_are_at_places}
 use Rattle.nr_laws.proofs.NumbersHeard.{numbers_are_heard}
+use Rattle.nr_laws.proofs.PlacesUntilLeft.{links_are_at_places_until_left}
 use Rattle.nr_laws.proofs.PlacesByNumber.{places_follow_by_number}
 use Rattle.nr_laws.proofs.laws.once_each.Goals as goal
 
@@ -34,3 +35,6 @@ returns-clause-answered c = numbered_changes_are_answered
 
 pub returns-clause-each : goal.returns-clause-each
 returns-clause-each c = changes_take_effect_once
+
+pub returns-clause-until_left : goal.returns-clause-until_left
+returns-clause-until_left c = links_are_at_places_until_left
