@@ -155,9 +155,11 @@ heard_call opened es k p a h =
     subst (AllHeard opened (es ++ CallSubmitted p a ∷ []) (k.outstanding ++ outstanding_of k a ∷ [])) (sym (accepted_append es (CallSubmitted p a ∷ [])))
     (each_append (λ (x : AcceptedCall). OutOrHeard opened (es ++ CallSubmitted p a ∷ []) (k.outstanding ++ outstanding_of k a ∷ []) x.xid) (accepted_in es) (a ∷ [])
     (still opened es (CallSubmitted p a) k.outstanding (k.outstanding ++ outstanding_of k a ∷ [])
-    (λ xid out. any_append (λ (o : OutstandingCall). eqb o.xid xid) k.outstanding (outstanding_of k a ∷ []) ∙ or_left_lem (is_outstanding k.outstanding xid) (is_outstanding (outstanding_of k a ∷ []) xid) out) (accepted_in es) h)
-    (inl (any_append (λ (o : OutstandingCall). eqb o.xid a.xid) k.outstanding (outstanding_of k a ∷ [])
-    ∙ or_right_lem (is_outstanding k.outstanding a.xid) (is_outstanding (outstanding_of k a ∷ []) a.xid) (or_left_lem (eqb a.xid a.xid) false (eq-eqb a.xid a.xid refl))), tt))
+    (λ xid out. any_append (λ (o : OutstandingCall). eqb o.xid xid) k.outstanding (outstanding_of k a ∷ []) ∙ or_left_lem (is_outstanding k.outstanding xid) (is_outstanding (outstanding_of k a ∷ []) xid) out) (accepted_in es) h) (
+      inl (any_append (λ (o : OutstandingCall). eqb o.xid a.xid) k.outstanding (outstanding_of k a ∷ [])
+          ∙ or_right_lem (is_outstanding k.outstanding a.xid) (is_outstanding (outstanding_of k a ∷ []) a.xid) (or_left_lem (eqb a.xid a.xid) false (eq-eqb a.xid a.xid refl))),
+      tt,
+    ))
 
 heard_revoked : (opened : LinkParameters) (es : List RunEvent) (k : ClientState) (p xid : ℕ) → AllHeard opened es k.outstanding (accepted_in es)
     → AllHeard opened (es ++ MemoryRevoked p xid ∷ []) (client_state_after opened k (MemoryRevoked p xid)).outstanding (accepted_in (es ++ MemoryRevoked p xid ∷ []))
