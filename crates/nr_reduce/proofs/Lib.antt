@@ -1,4 +1,6 @@
 pub mod KeptMarks
+pub mod OpenedClients
+pub mod Numbered
 pub mod Registering
 pub mod Submits
 pub mod Taking
@@ -17,6 +19,8 @@ pub mod OutcomesStay
 pub mod XidsFollow
 pub mod Unresumed
 pub mod RisingXids
+pub mod WaitingFit
+pub mod Resending
 pub mod ToldCredits
 pub mod Unconcerned
 pub mod OutputItems

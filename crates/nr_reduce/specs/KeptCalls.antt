@@ -1,5 +1,5 @@
 -- What a client keeps of its outstanding calls, and what it makes of a message by them.
-use Rattle.std.specs.Prelude.{◌≡◌, ℕ, Bool, true, false, not, ◌&&◌, ◌==◌, if◌then◌else◌, List, [], ◌∷◌, map, drop, Option, None, Some, is_none, IfSome, Result, Ok, Err}
+use Rattle.std.specs.Prelude.{◌≡◌, ℕ, ◌+◌, ◌++◌, Bool, true, false, not, ◌&&◌, ◌==◌, if◌then◌else◌, List, [], ◌∷◌, map, drop, Option, None, Some, is_none, IfSome, Result, Ok, Err}
 use Rattle.std.specs.List.{find, list_any}
 use Rattle.nr_header.specs.declared.fault.HeaderFault.{HeaderFault}
 use Rattle.nr_header.specs.declared.fault.HeaderFault.TheVariants as faults
@@ -13,7 +13,7 @@ use Rattle.nr_reduce.specs.declared.call.Call.{Call}
 use Rattle.nr_reduce.specs.declared.call.Outcome.TheVariants as outcomes
 use Rattle.nr_reduce.specs.Plans.{Buffer, buffers, lists_of}
 use Rattle.nr_reduce.specs.Chunks.{Bytes, answers_offer, reply_conveyed}
-use Rattle.nr_reduce.specs.ClientState.{OutstandingCall, ClientState, is_sent}
+use Rattle.nr_reduce.specs.ClientState.{OutstandingCall, WaitingCall, ClientState, is_sent}
 use Rattle.nr_reduce.specs.ClientMessages.{ReplyVerdict, reply_by_payload}
 use Rattle.nr_reduce.specs.ClientMessages.ReplyVerdict.{EndsLink, GivesOutcome}
 
@@ -28,6 +28,16 @@ pub record KeptCall : Type 0 where
   pub offered : ChunkLists
   pub given : List ℕ
   pub stags : List ℕ
+
+-- The calls of a client in the order of their xids, each with the number of its Send: those that are outstanding, and those that wait to be sent
+-- again, whose Sends come next, in their order.
+abbrev pub numbered_from : (send : ℕ) → List WaitingCall → List OutstandingCall
+numbered_from send [] = []
+numbered_from send (w ∷ waiting) =
+    record { xid = w.xid; send = send; call = w.call; plan = w.plan; stag = w.stag; is_revoked = w.is_revoked } ∷ numbered_from (send + 1) waiting
+
+abbrev pub numbered_calls : ClientState → List OutstandingCall
+numbered_calls k = k.outstanding ++ numbered_from k.sends k.waiting
 
 abbrev pub stags_unless : Bool → List Buffer → List ℕ
 stags_unless true bs = []

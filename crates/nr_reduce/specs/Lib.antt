@@ -36,6 +36,7 @@ pub mod SubmitAnswer
 pub mod Asked
 pub mod OutcomesDue
 pub mod Reopening
+pub mod Resending
 pub mod NumberedJournal
 pub mod Served
 pub mod Opening

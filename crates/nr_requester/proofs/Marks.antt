@@ -24,7 +24,8 @@ use Rattle.nr_reduce.specs.Written as reduce
 use Rattle.nr_reduce.specs.ClientState.{ClientState}
 use Rattle.nr_reduce.specs.Client.{client_rules, client_end, client_state_after}
 use Rattle.nr_reduce.specs.Run.{client, output_due}
-use Rattle.nr_reduce.specs.KeptClient.{KeptClient, kept_sent, kept_revoked, released_all, opened_client}
+use Rattle.nr_regions.specs.RegisteredMemory.{initial_memory}
+use Rattle.nr_reduce.specs.KeptClient.{KeptClient, kept_sent, kept_revoked, released_all, resumed_kept, resumed_memory, opened_client, RiseBelow}
 use Rattle.nr_reduce.specs.Standing.{ClientRepresents, ClientRunsOut}
 use Rattle.nr_reduce.proofs.Steps.{client_one}
 use Rattle.nr_reduce.proofs.Standing.{itself, client_stays_out_lem, client_begins_lem}
@@ -247,9 +248,17 @@ others_leave_client opened link h run mark s no_events no_write no_feed =
 
 -- ---- As it is opened
 
-kept_opened : (opened : LinkParameters) (staging : List ℕ) → opened_client opened ≡ kept_client (opened_as opened.first_xid opened.first_stag opened.wished opened.client staging).state
+none_rise : (rs : List ResumedCall) (next : ℕ) → rs ≡ [] → RiseBelow rs next
+none_rise rs next none = subst (λ (xs : List ResumedCall). RiseBelow xs next) (sym none) tt
+
+kept_opened : (opened : LinkParameters) (staging : List ℕ) → IsFirstLink opened → opened_client opened ≡ kept_client (opened_as opened.first_xid opened.first_stag opened.wished opened.client staging).state
 unfolding opened_as
-kept_opened opened staging = refl
+kept_opened opened staging first = λ i. record (opened_client opened) {
+  outstanding = length (first.resumed i);
+  calls = resumed_kept 0 opened.first_stag (first.resumed i);
+  memory = resumed_memory (initial_memory opened.first_stag) (first.resumed i);
+  agreed = first.agreed i;
+}
 
 some_units : (terms : SideTerms) → send_unit ≤ receive_length_for terms
 some_units terms = omega arith
@@ -283,13 +292,13 @@ queue_opened : (opened : LinkParameters) (staging : List ℕ) → client_hello o
 unfolding opened_as client_hello
 queue_opened opened staging = sym (append-nil (hello_with Initiator (initiator_private opened.client)))
 
-pub begins_client : (opened : LinkParameters) (link : ℕ) (staging : List ℕ) → IsFirstLink opened → opened.client.number ≡ 0 → KeepsClient opened link (opened_as opened.first_xid opened.first_stag opened.wished opened.client staging) []
+pub begins_client : (opened : LinkParameters) (link : ℕ) (staging : List ℕ) → IsFirstLink opened → KeepsClient opened link (opened_as opened.first_xid opened.first_stag opened.wished opened.client staging) []
 unfolding opened_as
-begins_client opened link staging first number = record {
+begins_client opened link staging first = record {
   wished = refl;
   first = first;
-  kept = subst (λ (k : KeptClient). ClientRepresents opened link k (initial_input Responder) (queue_of (opened_as opened.first_xid opened.first_stag opened.wished opened.client staging).state) []) (kept_opened opened staging)
-      (subst (λ (q : List ℕ). ClientRepresents opened link (opened_client opened) (initial_input Responder) q []) (queue_opened opened staging) (client_begins_lem opened link first number));
+  kept = subst (λ (k : KeptClient). ClientRepresents opened link k (initial_input Responder) (queue_of (opened_as opened.first_xid opened.first_stag opened.wished opened.client staging).state) []) (kept_opened opened staging first)
+      (subst (λ (q : List ℕ). ClientRepresents opened link (opened_client opened) (initial_input Responder) q []) (queue_opened opened staging) (client_begins_lem opened link (none_rise opened.resumed opened.first_xid first.resumed)));
   sent = λ none. refl;
   side = λ none. link_opened opened link staging;
 }

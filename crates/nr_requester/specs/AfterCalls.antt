@@ -19,6 +19,10 @@ use Rattle.nr_requester.specs.RequesterState.{stags_of, StoredCall, RequesterSid
 use Rattle.nr_requester.specs.CountedMarks.{has_bytes, one_mark_more, marks_if, with_releases}
 use Rattle.nr_requester.specs.Sending.{offered_of}
 
+-- the terms of a client with a number
+abbrev pub numbered_terms : (number units : ℕ) → (invalidates : Bool) → SideTerms
+numbered_terms number units invalidates = record { units = units; number = number; invalidates = invalidates }
+
 unfoldable pub opened_as : (first_xid first_stag wished : ℕ) → SideTerms → (staging : List ℕ) → RequesterSide
 opened_as first_xid first_stag wished terms staging = record {
   awaited = HelloFrom Responder;

@@ -100,6 +100,8 @@ kept_client r = record {
   up_max = r.side.agreed.up;
   down_max = r.side.agreed.down;
   invalidates = r.side.agreed.invalidates;
+  number = r.side.terms.number;
+  agreed = None;
 }
 
 abbrev pub input_kept : RequesterSide → InputState
