@@ -371,6 +371,14 @@ impl Endpoint {
         self.link.terms
     }
 
+    /// The number of the link's client, or 0 if it has none: an initiator's own, and a responder's by the initiator's hello, 0 before that was
+    /// accepted. Takes no memory.
+    pub fn client(&self) -> u64
+        ensures { result ≡ self.now.link.state.client }
+    {
+        self.link.client
+    }
+
     /// The length of each receive in bytes: of the units of the side's terms. It is fixed when the side is opened, and a message of the peer
     /// has at most this length.
     pub fn receive_length(&self) -> usize
