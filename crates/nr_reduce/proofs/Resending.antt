@@ -29,13 +29,13 @@ use Rattle.nr_reduce.proofs.WaitingFit.{AreFit, waiting_fit}
 -- ---- The first of the calls that can be sent again
 
 -- of `n` of these calls, if they can be sent again at all, this is the first
-record IsFirstOf (can : Bool) (n : ℕ) (ws : List WaitingCall) (w : WaitingCall) (rest : List WaitingCall) : Type 0 where
-  allowed : can ≡ true
-  fewer : ℕ
-  count : n ≡ suc fewer
-  others : List WaitingCall
-  there : ws ≡ w ∷ others
-  rest_is : take fewer others ≡ rest
+pub record IsFirstOf (can : Bool) (n : ℕ) (ws : List WaitingCall) (w : WaitingCall) (rest : List WaitingCall) : Type 0 where
+  pub allowed : can ≡ true
+  pub fewer : ℕ
+  pub count : n ≡ suc fewer
+  pub others : List WaitingCall
+  pub there : ws ≡ w ∷ others
+  pub rest_is : take fewer others ≡ rest
 
 first_of_taken : (can : Bool) (n : ℕ) (ws : List WaitingCall) (w : WaitingCall) (rest : List WaitingCall) → cond can (take n ws) [] ≡ w ∷ rest → IsFirstOf can n ws w rest
 first_of_taken false n ws w rest is = absurd cc
@@ -52,7 +52,7 @@ both None true is = (refl, refl)
 both None false is = absurd cc
 both (Some end) has_hello is = absurd cc
 
-first_to_resend : (r : EndState ClientState) (w : WaitingCall) (rest : List WaitingCall) → calls_to_resend r ≡ w ∷ rest →
+pub first_to_resend : (r : EndState ClientState) (w : WaitingCall) (rest : List WaitingCall) → calls_to_resend r ≡ w ∷ rest →
     IsFirstOf (is_none r.ended && r.state.has_hello) (r.state.grant - length r.state.outstanding) r.state.waiting w rest
 unfolding calls_to_resend
 first_to_resend r w rest is = first_of_taken (is_none r.ended && r.state.has_hello) (r.state.grant - length r.state.outstanding) r.state.waiting w rest is
@@ -74,16 +74,16 @@ module _ (opened : LinkParameters) (link : ℕ) (run : List Mark) (numbers : IsO
   abbrev r : EndState ClientState
   r = client opened link run
 
-  first : IsFirstOf (is_none r.ended && r.state.has_hello) (r.state.grant - length r.state.outstanding) r.state.waiting w rest
+  pub first : IsFirstOf (is_none r.ended && r.state.has_hello) (r.state.grant - length r.state.outstanding) r.state.waiting w rest
   first = first_to_resend r w rest is
 
   can : (r.ended ≡ None) × (r.state.has_hello ≡ true)
   can = both r.ended r.state.has_hello first.allowed
 
-  fit : AreFit opened.first_xid r.state.next_xid (w ∷ first.others)
+  pub fit : AreFit opened.first_xid r.state.next_xid (w ∷ first.others)
   fit = subst (λ (ws : List WaitingCall). AreFit opened.first_xid r.state.next_xid ws) first.there (waiting_fit opened link run numbers)
 
-  accepted : IsAccepted opened link run w.call w.form w.xid
+  pub accepted : IsAccepted opened link run w.call w.form w.xid
   accepted =
       let stags = stags_left_lem opened link run numbers asked in
       let none = no_stags r.state w first.others first.there in
@@ -101,7 +101,7 @@ module _ (opened : LinkParameters) (link : ℕ) (run : List Mark) (numbers : IsO
         writable = fit.0.writable;
       }
 
-  granted : calls_outstanding opened link run < credits_granted opened link run
+  pub granted : calls_outstanding opened link run < credits_granted opened link run
   unfolding calls_outstanding credits_granted
   granted = (let count = first.count in omega (arith, count))
 
@@ -117,7 +117,7 @@ after_resend opened k None place a w others none there own =
     (λ i. cond k.has_hello (take (k.grant - count i) (left i)) [])
 after_resend opened k (Some end) place a w others none there own = absurd cc
 
-resent_next : (opened : LinkParameters) (link : ℕ) (run : List Mark) (w : WaitingCall) (rest : List WaitingCall) → calls_to_resend (client opened link run) ≡ w ∷ rest →
+pub resent_next : (opened : LinkParameters) (link : ℕ) (run : List Mark) (w : WaitingCall) (rest : List WaitingCall) → calls_to_resend (client opened link run) ≡ w ∷ rest →
     calls_to_resend (client opened link (run ++ resend_mark link w ∷ [])) ≡ rest
 resent_next opened link run w rest is =
     let r : EndState ClientState = client opened link run in
