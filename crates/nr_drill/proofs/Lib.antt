@@ -32,3 +32,11 @@ pub mod Counting
 pub mod DraftSteps
 pub mod Numbering
 pub mod TellingMarks
+pub mod Actions
+pub mod OpenCalls
+pub mod Greeted
+pub mod Opening
+pub mod AddedMarks
+pub mod StagBounds
+pub mod Links
+pub mod BegunLinks

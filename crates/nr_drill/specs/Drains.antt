@@ -19,7 +19,7 @@ use Rattle.nr_drill.specs.Lines.{IsClient, HasNoRaw, IsUnnumbered}
 use Rattle.nr_drill.specs.InBytes.{ExecutedInBytes}
 use Rattle.nr_drill.specs.WorkLeft.{DrainStep, after_step, work_left, IsLess}
 use Rattle.nr_drill.specs.DrainSteps.{Moves}
-use Rattle.nr_reduce.specs.Opening.{IsFirstLink}
+use Rattle.nr_reduce.specs.Opening.{IsOpened, IsFirstLink}
 
 -- The state of a link of a drill before and after each step: both sides keep their laws and have written what was due; what each received and
 -- what waits is what the other sent, until the link is dropped, and then nothing waits; each side has the hello of the other, and so the server the
@@ -37,10 +37,10 @@ pub record IsRunning (s : Setting) (link : ℕ) (d : Drill) : Type 0 where
   pub server_heard : frames_of Initiator (bytes_received link Responder d.marks) ≢ []
   pub number : number_heard d.marks link ≡ (s.opened link).client.number
 
--- On a link that runs, and that was not reopened, a step that moves something leaves less work. On a link with bytes that a script put there it
+-- On a link that runs, and was opened in range, a step that moves something leaves less work. On a link with bytes that a script put there it
 -- needn't: what is read as a Read Response by its client may be read as a Send by its server.
 abbrev pub StepsLeaveLess : Type 0
-StepsLeaveLess = (s : Setting) (link : ℕ) (step : DrainStep) (old : Drill) → IsFirstLink (s.opened link) → IsRunning s link old → Moves s link step old → IsTyped (after_step s link step old).marks →
+StepsLeaveLess = (s : Setting) (link : ℕ) (step : DrainStep) (old : Drill) → IsOpened (s.opened link) → IsRunning s link old → Moves s link step old → IsTyped (after_step s link step old).marks →
     IsLess (work_left s (after_step s link step old) link) (work_left s old link)
 
 -- the server has a reply to each call that waits, if that is executed as a new one
