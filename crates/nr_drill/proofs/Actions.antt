@@ -2,7 +2,7 @@
 -- these keeps every line keeps.
 use Rattle.std.specs.Prelude.{◌-◌, ◌||◌, slice_index_or}
 use Rattle.std.specs.List.{AllByRecursion, list_any}
-use Rattle.std.proofs.Common.{◌≡◌, ◌≢◌, ℕ, zero, suc, ◌+◌, ◌≤◌, ◌<◌, arith, Bool, true, false, leb, ◌&&◌, List, [], ◌∷◌, ◌++◌, length, Option, None, Some, refl, sym, ap, subst, ◌∙◌}
+use Rattle.std.proofs.Common.{◌≡◌, ◌≢◌, ℕ, zero, suc, ◌+◌, ◌≤◌, ◌<◌, ◌^◌, arith, Bool, true, false, leb, ◌&&◌, List, [], ◌∷◌, ◌++◌, length, Option, None, Some, refl, sym, ap, subst, ◌∙◌}
 use Rattle.std.proofs.lemmas.Bool.{leb-true, eq-eqb}
 use Rattle.nr_wire.specs.declared.hello.Side.{Side}
 use Rattle.nr_rpc.specs.declared.cred.Cred.{Cred}
@@ -22,7 +22,9 @@ use Rattle.nr_laws.proofs.DistinctKeys.{any_append}
 use Rattle.nr_texts.specs.declared.opening.Opening.{Opening}
 use Rattle.nr_script.specs.declared.script.Line.{Line}
 use Rattle.nr_script.specs.declared.script.Line.TheVariants as lines
-use Rattle.nr_script.specs.Script.{ScriptLines, HasWritableCred, IsScript, FollowOn, is_client, is_call_line, credits_in_range, may_follow}
+use Rattle.nr_xdr.specs.Item.{IsBytes}
+use Rattle.nr_reduce.specs.Plans.{HasWordPosition}
+use Rattle.nr_script.specs.Script.{ScriptLines, HasWritableCred, IsTypedCred, IsTypedLine, IsScript, FollowOn, is_client, is_call_line, credits_in_range, may_follow}
 use Rattle.nr_drill.specs.Drill.{Setting, Drill, setting_now, last_link, pipes_of, cred_of, with_cred, after_submit, after_up, after_down, after_work, after_calls, after_all_up, after_all_work, after_moves, after_round, after_forget, after_revoke, after_drop, after_raw, after_grant, after_leaving, after_drop_if, after_rejoin_on, after_rejoin}
 use Rattle.nr_drill.specs.Follows.{Drains, Makes, MakeAll}
 use Rattle.nr_drill.specs.Lines.{is_raw_of}
@@ -61,14 +63,14 @@ pub record IsLastOf (clients client link : ℕ) (d : Drill) : Type 0 where
 -- A call has the credential of its client; credits are within those of the first line; bytes are put into the pipes of the links of such clients
 -- alone.
 abbrev pub MayAct : (Raws : ℕ → Type 0) → (most client : ℕ) → Drill → Action → Type 0
-MayAct Raws most client d (SubmitCall call form) = call.cred ≡ cred_of client d
+MayAct Raws most client d (SubmitCall call form) = (call.cred ≡ cred_of client d) × HasWordPosition form × (call.prog < 2 ^ 32) × (call.vers < 2 ^ 32) × (call.proc < 2 ^ 32) × IsBytes call.args
 MayAct Raws most client d (FeedUp n) = Unit {0}
 MayAct Raws most client d (FeedDown n) = Unit {0}
 MayAct Raws most client d WorkOnce = Unit {0}
 MayAct Raws most client d (ForgetCall number) = Unit {0}
 MayAct Raws most client d (RevokeCall number) = Unit {0}
 MayAct Raws most client d DropLink = Unit {0}
-MayAct Raws most client d (PutRaw side bytes) = Raws client
+MayAct Raws most client d (PutRaw side bytes) = Raws client × IsBytes bytes
 MayAct Raws most client d (GrantCredits credits) = (1 ≤ credits) × (credits ≤ most)
 
 -- how many calls were submitted and links begun, with an action more
@@ -88,7 +90,7 @@ counted (GrantCredits credits) n = n
 pub record IsKept (s : Setting) (opening : Opening) (Raws : ℕ → Type 0) (P : ℕ → Drill → Type 0) : Type 0 where
   pub count : (n : ℕ) (d : Drill) → P n d → length d.last_links ≡ opening.clients
   pub later : (n : ℕ) (d : Drill) → P n d → P (suc n) d
-  pub credential : (n client : ℕ) (cred : Cred) (d : Drill) → CanWriteCred cred → P n d → P n (with_cred client cred d)
+  pub credential : (n client : ℕ) (cred : Cred) (d : Drill) → CanWriteCred cred → IsTypedCred cred → P n d → P n (with_cred client cred d)
   pub time : (n seconds : ℕ) (d : Drill) → P n d → P n (record d { seconds = d.seconds + seconds })
   pub action : (n c link : ℕ) (a : Action) (d : Drill) → IsLastOf opening.clients c link d → MayAct Raws opening.credits c d a → P n d → P (counted a n) (after_action (setting_now s d) link a d)
   pub begins : (n c link : ℕ) (d : Drill) → IsLastOf opening.clients c link d → opening.numbered ≡ true → is_dropped link d.marks ≡ true →
@@ -144,8 +146,8 @@ IsIn opening c = (1 ≤ c) × (c ≤ opening.clients)
 
 -- what a line of a script is
 abbrev pub IsLineOf : Opening → (Raws : ℕ → Type 0) → Line → Type 0
-IsLineOf opening Raws (lines.Cred c cred) = CanWriteCred cred
-IsLineOf opening Raws (lines.Call c form prog vers proc args) = IsIn opening c
+IsLineOf opening Raws (lines.Cred c cred) = CanWriteCred cred × IsTypedCred cred
+IsLineOf opening Raws (lines.Call c form prog vers proc args) = IsIn opening c × HasWordPosition form × (prog < 2 ^ 32) × (vers < 2 ^ 32) × (proc < 2 ^ 32) × IsBytes args
 IsLineOf opening Raws (lines.Up c most) = IsIn opening c
 IsLineOf opening Raws (lines.Down c most) = IsIn opening c
 IsLineOf opening Raws (lines.Work c) = IsIn opening c
@@ -154,7 +156,7 @@ IsLineOf opening Raws (lines.Forget c number) = IsIn opening c
 IsLineOf opening Raws (lines.Revoke c number) = IsIn opening c
 IsLineOf opening Raws (lines.Drop c) = IsIn opening c
 IsLineOf opening Raws (lines.Rejoin c) = IsIn opening c × (opening.numbered ≡ true)
-IsLineOf opening Raws (lines.Raw c side bytes) = IsIn opening c × Raws c
+IsLineOf opening Raws (lines.Raw c side bytes) = IsIn opening c × Raws c × IsBytes bytes
 IsLineOf opening Raws (lines.Grant c credits) = IsIn opening c × ((1 ≤ credits) × (credits ≤ opening.credits))
 IsLineOf opening Raws lines.Drain = Unit {0}
 
@@ -249,10 +251,10 @@ module _ (s : Setting) (opening : Opening) (Raws : ℕ → Type 0) (P : ℕ → 
   on_last n c a d within may h = k.action n c (last_link c d) a d (record { low = within.0; high = within.1; is = refl }) may h
 
   pub line_kept : (n clients : ℕ) (line : Line) (old new : Drill) → IsLineOf opening Raws line → Makes s clients line old new → P n old → P (suc n) new
-  line_kept n clients (lines.Cred c cred) old new w e h = subst (P (suc n)) (sym e) (k.later n (with_cred c cred old) (k.credential n c cred old w h))
+  line_kept n clients (lines.Cred c cred) old new w e h = subst (P (suc n)) (sym e) (k.later n (with_cred c cred old) (k.credential n c cred old w.0 w.1 h))
   line_kept n clients (lines.Call c form prog vers proc args) old new w e h =
       let call : Call = record { prog = prog; vers = vers; proc = proc; cred = cred_of c old; args = args } in
-      subst (P (suc n)) (sym e) (on_last n c (SubmitCall call form) old w refl h)
+      subst (P (suc n)) (sym e) (on_last n c (SubmitCall call form) old w.0 (refl, w.1, w.2, w.3, w.4, w.5) h)
   line_kept n clients (lines.Up c most) old new w e h = subst (P (suc n)) (sym e) (k.later n (after_up (setting_now s old) (last_link c old) most old) (on_last n c (FeedUp most) old w tt h))
   line_kept n clients (lines.Down c most) old new w e h = subst (P (suc n)) (sym e) (k.later n (after_down (setting_now s old) (last_link c old) most old) (on_last n c (FeedDown most) old w tt h))
   line_kept n clients (lines.Work c) old new w e h = subst (P (suc n)) (sym e) (k.later n (after_work (setting_now s old) (last_link c old) old) (on_last n c WorkOnce old w tt h))
@@ -262,7 +264,7 @@ module _ (s : Setting) (opening : Opening) (Raws : ℕ → Type 0) (P : ℕ → 
   line_kept n clients (lines.Drop c) old new w e h = subst (P (suc n)) (sym e) (k.later n (after_drop (last_link c old) old) (on_last n c DropLink old w tt h))
   line_kept n clients (lines.Rejoin c) old new w e h = subst (P (suc n)) (sym e) (rejoined n c old w.0 w.1 h)
   line_kept n clients (lines.Raw c side bytes) old new w e h =
-      subst (P (suc n)) (sym e) (k.later n (after_raw (last_link c old) side bytes (is_dropped (last_link c old) old.marks) old) (on_last n c (PutRaw side bytes) old w.0 w.1 h))
+      subst (P (suc n)) (sym e) (k.later n (after_raw (last_link c old) side bytes (is_dropped (last_link c old) old.marks) old) (on_last n c (PutRaw side bytes) old w.0 (w.1, w.2) h))
   line_kept n clients (lines.Grant c credits) old new w e h = subst (P (suc n)) (sym e) (k.later n (after_grant (last_link c old) credits old) (on_last n c (GrantCredits credits) old w.0 w.1 h))
   line_kept n clients lines.Drain old new w e h = k.later n new (drain_kept n e.0 old new e.1 h)
 
@@ -284,31 +286,42 @@ abbrev RawOf : (ℕ → Type 0) → Line → Type 0
 RawOf Raws (lines.Raw c side bytes) = Raws c
 RawOf Raws line = Unit {0}
 
-line_of : (opening : Opening) (Raws : ℕ → Type 0) (before : List Line) (line : Line) → may_follow opening before line ≡ true → HasWritableCred line → RawOf Raws line → IsLineOf opening Raws line
-line_of opening Raws before (lines.Cred c cred) e w r = w
-line_of opening Raws before (lines.Call c form prog vers proc args) e w r = in_range opening c e
-line_of opening Raws before (lines.Up c most) e w r = in_range opening c e
-line_of opening Raws before (lines.Down c most) e w r = in_range opening c e
-line_of opening Raws before (lines.Work c) e w r = in_range opening c e
-line_of opening Raws before (lines.Tick seconds) e w r = tt
-line_of opening Raws before (lines.Forget c number) e w r = in_range opening c (both (is_client opening c) (is_call_line c number before) e).0
-line_of opening Raws before (lines.Revoke c number) e w r = in_range opening c (both (is_client opening c) (is_call_line c number before) e).0
-line_of opening Raws before (lines.Drop c) e w r = in_range opening c e
-line_of opening Raws before (lines.Rejoin c) e w r = (let h = both (is_client opening c) opening.numbered e in (in_range opening c h.0, h.1))
-line_of opening Raws before (lines.Raw c side bytes) e w r = (in_range opening c e, r)
-line_of opening Raws before (lines.Grant c credits) e w r =
+line_of : (opening : Opening) (Raws : ℕ → Type 0) (before : List Line) (line : Line) → may_follow opening before line ≡ true → HasWritableCred line → IsTypedLine line → RawOf Raws line → IsLineOf opening Raws line
+line_of opening Raws before (lines.Cred c cred) e w l r = (w, l)
+line_of opening Raws before (lines.Call c form prog vers proc args) e w l r = (in_range opening c e, l.0, l.1, l.2, l.3, l.4)
+line_of opening Raws before (lines.Up c most) e w l r = in_range opening c e
+line_of opening Raws before (lines.Down c most) e w l r = in_range opening c e
+line_of opening Raws before (lines.Work c) e w l r = in_range opening c e
+line_of opening Raws before (lines.Tick seconds) e w l r = tt
+line_of opening Raws before (lines.Forget c number) e w l r = in_range opening c (both (is_client opening c) (is_call_line c number before) e).0
+line_of opening Raws before (lines.Revoke c number) e w l r = in_range opening c (both (is_client opening c) (is_call_line c number before) e).0
+line_of opening Raws before (lines.Drop c) e w l r = in_range opening c e
+line_of opening Raws before (lines.Rejoin c) e w l r = (let h = both (is_client opening c) opening.numbered e in (in_range opening c h.0, h.1))
+line_of opening Raws before (lines.Raw c side bytes) e w l r = (in_range opening c e, r, l)
+line_of opening Raws before (lines.Grant c credits) e w l r =
     let h = both (is_client opening c) (credits_in_range opening credits) e in
     let within = both (leb 1 credits) (leb credits opening.credits) h.1 in
     (in_range opening c h.0, (leb-true 1 credits within.0, leb-true credits opening.credits within.1))
-line_of opening Raws before lines.Drain e w r = tt
+line_of opening Raws before lines.Drain e w l r = tt
 
-lines_from : (opening : Opening) (Raws : ℕ → Type 0) (before all : List Line) → FollowOn opening before all → AllByRecursion HasWritableCred all → AllByRecursion (RawOf Raws) all → AllByRecursion (IsLineOf opening Raws) all
-lines_from opening Raws before [] h w r = tt
-lines_from opening Raws before (line ∷ all) h w r = (line_of opening Raws before line h.0 w.0 r.0, lines_from opening Raws (before ++ line ∷ []) all h.1 w.1 r.1)
+lines_from : (opening : Opening) (Raws : ℕ → Type 0) (before all : List Line) → FollowOn opening before all → AllByRecursion HasWritableCred all → AllByRecursion IsTypedLine all → AllByRecursion (RawOf Raws) all → AllByRecursion (IsLineOf opening Raws) all
+lines_from opening Raws before [] h w l r = tt
+lines_from opening Raws before (line ∷ all) h w l r = (line_of opening Raws before line h.0 w.0 l.0 r.0, lines_from opening Raws (before ++ line ∷ []) all h.1 w.1 l.1 r.1)
 
 -- whatever is put into pipes
 abbrev pub AnyRaw : ℕ → Type 0
 AnyRaw c = Unit {0}
+
+pub may_any : (Raws : ℕ → Type 0) (most c : ℕ) (d : Drill) (a : Action) → MayAct Raws most c d a → MayAct AnyRaw most c d a
+may_any Raws most c d (SubmitCall call form) may = may
+may_any Raws most c d (FeedUp n) may = tt
+may_any Raws most c d (FeedDown n) may = tt
+may_any Raws most c d WorkOnce may = tt
+may_any Raws most c d (ForgetCall number) may = tt
+may_any Raws most c d (RevokeCall number) may = tt
+may_any Raws most c d DropLink may = tt
+may_any Raws most c d (PutRaw side bytes) may = (tt, may.1)
+may_any Raws most c d (GrantCredits credits) may = may
 
 any_raw : (all : List Line) → AllByRecursion (RawOf AnyRaw) all
 any_raw [] = tt
@@ -330,7 +343,7 @@ any_raw (line ∷ all) = (by line, any_raw all)
     by lines.Drain = tt
 
 pub lines_of : (script : ScriptLines) → IsScript script → AllByRecursion (IsLineOf script.opening AnyRaw) script.lines
-lines_of script is = lines_from script.opening AnyRaw [] script.lines is.follow_on is.creds (any_raw script.lines)
+lines_of script is = lines_from script.opening AnyRaw [] script.lines is.follow_on is.creds is.typed (any_raw script.lines)
 
 -- nothing is put into the pipes of the links of a client
 abbrev pub NotOf : ℕ → ℕ → Type 0
@@ -363,4 +376,4 @@ none_of_client own (line ∷ all) e = (let h = neither (is_raw_of own line) (lis
     by lines.Drain e = tt
 
 pub lines_not_of : (own : ℕ) (script : ScriptLines) → IsScript script → list_any (is_raw_of own) script.lines ≡ false → AllByRecursion (IsLineOf script.opening (NotOf own)) script.lines
-lines_not_of own script is none = lines_from script.opening (NotOf own) [] script.lines is.follow_on is.creds (none_of_client own script.lines none)
+lines_not_of own script is none = lines_from script.opening (NotOf own) [] script.lines is.follow_on is.creds is.typed (none_of_client own script.lines none)

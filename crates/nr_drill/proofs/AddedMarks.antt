@@ -29,7 +29,7 @@ pub record AddsBy (P : List Mark → Mark → Type 0) (old new : Drill) : Type 0
   pub is : new.marks ≡ old.marks ++ added
   pub each : AtEachMark P old.marks added
 
-each_both : (P : List Mark → Mark → Type 0) (before first second : List Mark) → AtEachMark P before first → AtEachMark P (before ++ first) second → AtEachMark P before (first ++ second)
+pub each_both : (P : List Mark → Mark → Type 0) (before first second : List Mark) → AtEachMark P before first → AtEachMark P (before ++ first) second → AtEachMark P before (first ++ second)
 each_both P before [] second h g = subst (λ (run : List Mark). AtEachMark P run second) (append-nil before) g
 each_both P before (mark ∷ first) second h g =
     (h.0, each_both P (before ++ mark ∷ []) first second h.1 (subst (λ (run : List Mark). AtEachMark P run second) (sym (append_assoc before (mark ∷ []) first)) g))
@@ -47,18 +47,22 @@ adds_none P old new is = record { added = []; is = is ∙ sym (append-nil old.ma
 pub adds_one : (P : List Mark → Mark → Type 0) (mark : Mark) (d new : Drill) → new.marks ≡ d.marks ++ mark ∷ [] → P d.marks mark → AddsBy P d new
 adds_one P mark d new is h = record { added = mark ∷ []; is = is; each = (h, tt) }
 
--- The marks that actions on a link add. A call that is executed is the next one, and has the reply that the server gives.
-pub record MarkRules (P : List Mark → Mark → Type 0) (s : Setting) (link : ℕ) : Type 0 where
+-- The marks that are added as bytes move on a link, and as calls are sent again.
+pub record QuietRules (P : List Mark → Mark → Type 0) (s : Setting) (link : ℕ) : Type 0 where
   pub wrote : (run : List Mark) (side : Side) (bytes : List ℕ) → P run (marks.Wrote link side bytes)
   pub fed : (run : List Mark) (side : Side) (bytes : List ℕ) → P run (marks.Fed link side bytes)
   pub done : (run : List Mark) (xid : ℕ) (outcome : Outcome) → P run (marks.Done link xid outcome)
   pub resent : (run : List Mark) (w : WaitingCall) (rest : List WaitingCall) → calls_to_resend (client (s.opened link) link run) ≡ w ∷ rest → P run (resend_mark link w)
+
+-- And those that are added as calls are executed, or given up. A call that is executed is the next one, and has the reply that the server gives.
+pub record MarkRules (P : List Mark → Mark → Type 0) (s : Setting) (link : ℕ) : Type 0 where
+  pub quiet : QuietRules P s link
   pub executes : (d : Drill) (call : ReadyCall) (g : GivenReply) → waiting_call s link d.marks ≡ Some call → reply_given s link d call ≡ Some g → P d.marks (marks.Execute link call.xid g.moment call.payload g.place g.reply)
   pub told_old : (d : Drill) (call : ReadyCall) (top : ℕ) → waiting_call s link d.marks ≡ Some call → standing_of s link d call ≡ Old top → P d.marks (marks.Told link (told.Old call.xid (last_frame_at link d.marks)))
   pub forgot : (run : List Mark) (xid : ℕ) → P run (marks.Forget link xid)
   pub revoked : (run : List Mark) (xid : ℕ) (bytes : List ℕ) → P run (marks.Revoke link xid bytes)
 
-module _ (P : List Mark → Mark → Type 0) (s : Setting) (link : ℕ) (rules : MarkRules P s link) where
+module _ (P : List Mark → Mark → Type 0) (s : Setting) (link : ℕ) (rules : QuietRules P s link) where
   output_by : (side : Side) (bytes : List ℕ) (d : Drill) → AddsBy P d (after_output link side bytes d)
   output_by side [] d = adds_none P d d refl
   output_by side (b ∷ bytes) d = adds_one P (marks.Wrote link side (b ∷ bytes)) d (after_output link side (b ∷ bytes) d) refl (rules.wrote d.marks side (b ∷ bytes))
@@ -115,16 +119,31 @@ module _ (P : List Mark → Mark → Type 0) (s : Setting) (link : ℕ) (rules :
       (adds_both P d sent all (adds_both P d fed sent (fed_by Initiator (take n pipes.down) (record pipes { down = drop n pipes.down }) d) (resends_by fed)) (dones_by (length (outcomes_due (s.opened link) link sent.marks)) sent))
       (settled_by all)
 
+  -- whatever the client answers
+  pub submit_by : (call : Call) (form : Form) (d : Drill) → P d.marks (marks.Submit link call form (submit_answer_after (s.opened link) link d.marks call form)) → AddsBy P d (after_submit s link call form d)
+  unfolding after_submit
+  submit_by call form d h =
+      let mark = marks.Submit link call form (submit_answer_after (s.opened link) link d.marks call form) in
+      adds_both P d (with_mark mark d) (settled s link (with_mark mark d)) (adds_one P mark d (with_mark mark d) refl h) (settled_by (with_mark mark d))
+
+  pub opening_by : (d : Drill) → AddsBy P d (after_opening s link d)
+  unfolding after_opening
+  opening_by d =
+      let one = settled s link d in
+      let two = after_all_up s link one in
+      adds_both P d two (after_all_down s link two) (adds_both P d one two (settled_by d) (up_by (length (pipes_of link one).up) one)) (down_by (length (pipes_of link two).down) two)
+
+module _ (P : List Mark → Mark → Type 0) (s : Setting) (link : ℕ) (rules : MarkRules P s link) where
   answer_by : (call : ReadyCall) (answer : Option GivenReply) (d : Drill) → waiting_call s link d.marks ≡ Some call → reply_given s link d call ≡ answer → AddsBy P d (after_answer s link call answer d)
   answer_by call None d next is = adds_none P d d refl
   answer_by call (Some g) d next is =
       let mark = marks.Execute link call.xid g.moment call.payload g.place g.reply in
-      adds_both P d (with_mark mark d) (settled s link (with_mark mark d)) (adds_one P mark d (with_mark mark d) refl (rules.executes d call g next is)) (settled_by (with_mark mark d))
+      adds_both P d (with_mark mark d) (settled s link (with_mark mark d)) (adds_one P mark d (with_mark mark d) refl (rules.executes d call g next is)) (settled_by P s link rules.quiet (with_mark mark d))
 
   call_by : (call : ReadyCall) (is : Standing) (answer : Option GivenReply) (d : Drill) → waiting_call s link d.marks ≡ Some call → standing_of s link d call ≡ is → reply_given s link d call ≡ answer → AddsBy P d (after_call s link call is answer d)
   call_by call (Old top) answer d next stood is =
       let mark = marks.Told link (told.Old call.xid (last_frame_at link d.marks)) in
-      adds_both P d (with_mark mark d) (settled s link (with_mark mark d)) (adds_one P mark d (with_mark mark d) refl (rules.told_old d call top next stood)) (settled_by (with_mark mark d))
+      adds_both P d (with_mark mark d) (settled s link (with_mark mark d)) (adds_one P mark d (with_mark mark d) refl (rules.told_old d call top next stood)) (settled_by P s link rules.quiet (with_mark mark d))
   call_by call (Kept place) answer d next stood is = answer_by call answer d next is
   call_by call New answer d next stood is = answer_by call answer d next is
 
@@ -149,25 +168,11 @@ module _ (P : List Mark → Mark → Type 0) (s : Setting) (link : ℕ) (rules :
   taking_back_by (Some xid) d =
       let bytes = revoked_bytes (s.opened link) link d.marks xid in
       let mark = marks.Revoke link xid bytes in
-      adds_both P d (with_mark mark d) (settled s link (with_mark mark d)) (adds_one P mark d (with_mark mark d) refl (rules.revoked d.marks xid bytes)) (settled_by (with_mark mark d))
+      adds_both P d (with_mark mark d) (settled s link (with_mark mark d)) (adds_one P mark d (with_mark mark d) refl (rules.revoked d.marks xid bytes)) (settled_by P s link rules.quiet (with_mark mark d))
 
   pub revoke_by : (number : ℕ) (d : Drill) → AddsBy P d (after_revoke s link number d)
   unfolding after_revoke
   revoke_by number d = taking_back_by (open_xid s link d.marks (answer_of_line s (client_of s link) number d.marks)) d
-
-  -- whatever the client answers
-  pub submit_by : (call : Call) (form : Form) (d : Drill) → P d.marks (marks.Submit link call form (submit_answer_after (s.opened link) link d.marks call form)) → AddsBy P d (after_submit s link call form d)
-  unfolding after_submit
-  submit_by call form d h =
-      let mark = marks.Submit link call form (submit_answer_after (s.opened link) link d.marks call form) in
-      adds_both P d (with_mark mark d) (settled s link (with_mark mark d)) (adds_one P mark d (with_mark mark d) refl h) (settled_by (with_mark mark d))
-
-  pub opening_by : (d : Drill) → AddsBy P d (after_opening s link d)
-  unfolding after_opening
-  opening_by d =
-      let one = settled s link d in
-      let two = after_all_up s link one in
-      adds_both P d two (after_all_down s link two) (adds_both P d one two (settled_by d) (up_by (length (pipes_of link one).up) one)) (down_by (length (pipes_of link two).down) two)
 
 pub raw_by : (P : List Mark → Mark → Type 0) (link : ℕ) (side : Side) (bytes : List ℕ) (dropped : Bool) (d : Drill) → AddsBy P d (after_raw link side bytes dropped d)
 raw_by P link side bytes true d = adds_none P d d refl

@@ -12,7 +12,12 @@ use Rattle.nr_reduce.specs.Events.{events}
 use Rattle.nr_reduce.specs.Opening.{IsOpened}
 use Rattle.nr_reduce.specs.Reopening.{calls_kept, reopened}
 use Rattle.nr_reduce.specs.Run.{client}
-use Rattle.nr_laws.proofs.ReopenedOpenings.{reopened_links_are_opened}
+use Rattle.nr_laws.proofs.OpenedAgain.{reopened_links_are_opened}
+use Rattle.nr_laws.specs.Reopened.{AgreedInRange}
+use Rattle.nr_reduce.proofs.Steps.{AtEachMark_first}
+use Rattle.nr_script.proofs.ByteLists.{no_bytes_lem}
+use Rattle.nr_drill.specs.InBytes.{RepliedMark, RepliedInBytes}
+use Rattle.nr_drill.proofs.TypedDrills.{IsTypedDrill, PipesOfBytes, TypedIf, ResumedTyped, typed_if, kept_typed, opening_keeps_steps, start_typed}
 use Rattle.nr_texts.specs.declared.opening.Opening.{Opening}
 use Rattle.nr_texts.specs.Limits.{clients_max}
 use Rattle.nr_script.specs.Limits.{lines_max}
@@ -23,9 +28,9 @@ use Rattle.nr_drill.proofs.Lawful.{asked_so_far, none_in}
 use Rattle.nr_drill.proofs.Followed.{Extends, opening_adds, opened_by_script, start_creds, AreWritable}
 use Rattle.nr_drill.proofs.OpenCalls.{HasCall, KnowsCalls, SameOn, knows_more, knows_same, knows_next}
 use Rattle.nr_drill.proofs.StagBounds.{NextStag, few_calls, few_kept, reopened_stags, reopened_fits}
-use Rattle.nr_drill.proofs.Actions.{Action, IsLastOf, counted, IsKept, AnyRaw, action_keeps, lines_kept, lines_of}
+use Rattle.nr_drill.proofs.Actions.{Action, IsLastOf, counted, IsKept, AnyRaw, may_any, action_keeps, lines_kept, lines_of}
 use Rattle.nr_drill.proofs.Actions.Action.{SubmitCall, FeedUp, FeedDown, WorkOnce, ForgetCall, RevokeCall, DropLink, PutRaw, GrantCredits}
-use Rattle.nr_drill.proofs.Links.{HasTerms, LinkHolds, IsFrame, DrillHolds, NoMarkOf, link_later, link_elsewhere, opens, drill_later, drill_acts, drill_credential, drill_time, same_frame, same_links, map_all, both_all}
+use Rattle.nr_drill.proofs.Links.{HasTerms, LinkHolds, IsFrame, DrillHolds, NoMarkOf, link_later, link_elsewhere, opens, drill_later, drill_acts, drill_credential, drill_time, same_frame, same_links, map_all, both_all, link_bytes, action_extends}
 
 -- ===== an index of longer lists
 
@@ -64,6 +69,27 @@ numbered_owner o link some = by (eqb o.client.number 0) refl
     by false is = refl
 
 -- ===== a client begins a link
+
+-- the drill with the link that a client begins next, before it opens, and the number of that link
+abbrev pub begun_drill : Setting → (c link : ℕ) → Drill → Drill
+begun_drill s c link d = with_link c (reopened ((setting_now s d).opened link) link d.marks) d
+
+abbrev pub next_link : Drill → ℕ
+next_link d = length d.pipes + 1
+
+-- what is known of it: it is the client's last link, nothing happened on it, and what the other links were opened with, and their pipes, stay
+pub record IsBegun (s : Setting) (c link : ℕ) (d : Drill) : Type 0 where
+  pub is_last : last_link c (begun_drill s c link d) ≡ next_link d
+  pub apart : NoMarkOf (next_link d) d.marks
+  pub empty : pipes_of (next_link d) (begun_drill s c link d) ≡ empty_pipes
+  pub room : next_link d - 1 < length (begun_drill s c link d).pipes
+  pub longer : length d.pipes < length (begun_drill s c link d).pipes
+  pub old_pipes : (l : ℕ) → IsLink d l → pipes_of l (begun_drill s c link d) ≡ pipes_of l d
+  pub old_link : (l : ℕ) → IsLink d l → (setting_now s (begun_drill s c link d)).opened l ≡ (setting_now s d).opened l
+  pub new_link : (setting_now s (begun_drill s c link d)).opened (next_link d) ≡ reopened ((setting_now s d).opened link) link d.marks
+  pub is_link : IsLink (begun_drill s c link d) (next_link d)
+  pub was_link : (l : ℕ) → l ≢ next_link d → IsLink (begun_drill s c link d) l → IsLink d l
+  pub owner : client_of (setting_now s (begun_drill s c link d)) (next_link d) ≡ c
 
 module _ (s : Setting) (opening : Opening) (n c link : ℕ) (d : Drill) (within : suc n ≤ lines_max) (last : IsLastOf opening.clients c link d) (numbered : opening.numbered ≡ true)
     (stays : (client ((setting_now s d).opened link) link d.marks).ended ≡ None) (h : DrillHolds s opening n d) where
@@ -142,24 +168,33 @@ module _ (s : Setting) (opening : Opening) (n c link : ℕ) (d : Drill) (within 
   few_calls_kept : length (calls_kept o link d.marks) ≤ credits_max
   few_calls_kept = (let kept = few_kept o link d.marks in let most = few_calls o link d.marks k.few k.lawful.accepts in omega (arith, kept, most))
 
-  numbers : IsOpened next_o
+  numbers : IsOpened next_o × AgreedInRange next_o
   numbers =
       let fits = reopened_fits o link d.marks few_calls_kept in
       let low = k.stags in
-      reopened_links_are_opened o link d.marks k.opened (asked_so_far o link d.marks k.lawful) (omega (arith, fits, low, within))
+      reopened_links_are_opened o link d.marks k.opened k.agreed h.typed.typed (asked_so_far o link d.marks k.lawful) (omega (arith, fits, low, within))
+
+  again : AllByRecursion ResumedTyped next_o.resumed
+  again = subst (AllByRecursion ResumedTyped) (sym (resumed_are o link d.marks)) (kept_typed o link d.marks h.typed.typed k.again)
+
+  empty_is : pipes_of next begun ≡ empty_pipes
+  empty_is =
+      let at : next - 1 ≡ length d.pipes = omega arith in
+      ap (λ (i : ℕ). slice_index_or (d.pipes ++ empty_pipes ∷ []) i empty_pipes) at ∙ at_end d.pipes empty_pipes empty_pipes
+
+  room_is : next - 1 < length begun.pipes
+  room_is = (let more = length-append d.pipes (empty_pipes ∷ []) in omega (arith, more))
 
   new_holds : LinkHolds opening (suc n) (u.opened next) next (after_opening u next begun).marks
   new_holds =
-      let at : next - 1 ≡ length d.pipes = omega arith in
-      let room = length-append d.pipes (empty_pipes ∷ []) in
       let stags = reopened_stags o link next d.marks few_calls_kept in
       let low = k.stags in
-      opens opening u next (suc n) begun apart
-      (ap (λ (i : ℕ). slice_index_or (d.pipes ++ empty_pipes ∷ []) i empty_pipes) at ∙ at_end d.pipes empty_pipes empty_pipes)
-      (omega (arith, at, room))
-      (subst IsOpened (sym new_link) numbers)
+      opens opening u next (suc n) begun apart empty_is room_is
+      (subst IsOpened (sym new_link) numbers.0)
       (subst (λ (x : LinkParameters). length x.resumed ≤ credits_max) (sym new_link) few)
       (subst (HasTerms opening) (sym new_link) (next_terms opening o link d.marks k.terms))
+      (subst AgreedInRange (sym new_link) numbers.1)
+      (subst (λ (x : LinkParameters). AllByRecursion ResumedTyped x.resumed) (sym new_link) again)
       (subst (λ (x : LinkParameters). NextStag x next [] ≤ 1 + suc n * 192) (sym new_link) (omega (arith, stags, low)))
 
   begun_owned : (other l : ℕ) → IsLastOf opening.clients other l begun → IsLink begun l × (client_of u l ≡ other)
@@ -207,9 +242,13 @@ module _ (s : Setting) (opening : Opening) (n c link : ℕ) (d : Drill) (within 
     knows = begun_knows;
   }
 
-  opened_holds : DrillHolds s opening (suc n) (after_opening u next begun)
-  opened_holds = record {
+  begun_typed : IsTypedDrill begun
+  begun_typed = record { typed = h.typed.typed; pipes = both_all PipesOfBytes d.pipes (empty_pipes ∷ []) h.typed.pipes ((no_bytes_lem, no_bytes_lem), tt); creds = h.typed.creds }
+
+  opened_holds : RepliedInBytes (after_opening u next begun).marks → DrillHolds s opening (suc n) (after_opening u next begun)
+  opened_holds replied = record {
     frame = same_frame s opening next begun (after_opening u next begun) x is_link own begun_frame;
+    typed = opening_keeps_steps u next TypedIf (typed_if u next (link_bytes opening (suc n) (u.opened next) next (after_opening u next begun).marks new_holds) new_holds.again) begun (λ old. begun_typed) replied;
     links = same_links s opening (suc n) next begun (after_opening u next begun) x links;
   }
     where
@@ -233,15 +272,35 @@ module _ (s : Setting) (opening : Opening) (n c link : ℕ) (d : Drill) (within 
               link_later opening n (u.opened other) other (after_opening u next begun).marks
               (link_elsewhere opening n (u.opened other) other next begun (after_opening u next begun) ne x (subst (λ (y : LinkParameters). LinkHolds opening n y other d.marks) (sym (old_link other was)) (h.links other was)))
 
-  pub drill_begins : DrillHolds s opening (suc n) (after_leaving s c link d)
-  drill_begins = subst (λ (l : ℕ). DrillHolds s opening (suc n) (after_opening u l begun)) (sym is_last) opened_holds
+  pub begins_so : IsBegun s c link d
+  begins_so = record {
+    is_last = is_last;
+    apart = apart;
+    empty = empty_is;
+    room = room_is;
+    longer = (let more = length-append d.pipes (empty_pipes ∷ []) in omega (arith, more));
+    old_pipes = λ l is. in_front d.pipes (empty_pipes ∷ []) (l - 1) empty_pipes (let some = is.0 in let most = is.1 in let as_many = f.pipes in omega (arith, some, most, as_many));
+    old_link = old_link;
+    new_link = new_link;
+    is_link = is_link;
+    was_link = λ l ne is. (is.0, (let most = is.1 in omega (arith, most, more_links, next_is, ne)));
+    owner = owner;
+  }
+
+  pub drill_begins : RepliedInBytes (after_leaving s c link d).marks → DrillHolds s opening (suc n) (after_leaving s c link d)
+  drill_begins replied =
+      subst (λ (l : ℕ). DrillHolds s opening (suc n) (after_opening u l begun)) (sym is_last) (opened_holds (subst (λ (l : ℕ). RepliedInBytes (after_opening u l begun).marks) is_last replied))
 
 -- ===== what is kept
 
 abbrev pub Holds : Setting → Opening → ℕ → Drill → Type 0
-Holds s opening n d = (length d.last_links ≡ opening.clients) × (n ≤ lines_max → DrillHolds s opening n d)
+Holds s opening n d = (length d.last_links ≡ opening.clients) × (n ≤ lines_max → RepliedInBytes d.marks → DrillHolds s opening n d)
 
-counted_most : (a : Action) (n : ℕ) → n ≤ counted a n
+-- what is replied before it is too
+pub replied_before : (link : ℕ) (old new : Drill) → Extends link old new → RepliedInBytes new.marks → RepliedInBytes old.marks
+replied_before link old new x replied = AtEachMark_first RepliedMark [] old.marks x.marks.added (subst RepliedInBytes x.marks.is replied)
+
+pub counted_most : (a : Action) (n : ℕ) → n ≤ counted a n
 counted_most (SubmitCall call form) n = omega arith
 counted_most (FeedUp most) n = omega arith
 counted_most (FeedDown most) n = omega arith
@@ -252,20 +311,23 @@ counted_most DropLink n = omega arith
 counted_most (PutRaw side bytes) n = omega arith
 counted_most (GrantCredits credits) n = omega arith
 
-pub holds_kept : (s : Setting) (opening : Opening) → IsKept s opening AnyRaw (Holds s opening)
-holds_kept s opening = record {
+pub holds_kept : (s : Setting) (opening : Opening) (Raws : ℕ → Type 0) → IsKept s opening Raws (Holds s opening)
+holds_kept s opening Raws = record {
   count = λ n d p. p.0;
-  later = λ n d p. (p.0, λ le. drill_later s opening n d (p.1 (omega (arith, le))));
-  credential = λ n c cred d can p. (p.0, λ le. drill_credential s opening n c cred d can (p.1 le));
-  time = λ n seconds d p. (p.0, λ le. drill_time s opening n seconds d (p.1 le));
+  later = λ n d p. (p.0, λ le replied. drill_later s opening n d (p.1 (omega (arith, le)) replied));
+  credential = λ n c cred d can typed p. (p.0, λ le replied. drill_credential s opening n c cred d can typed (p.1 le replied));
+  time = λ n seconds d p. (p.0, λ le replied. drill_time s opening n seconds d (p.1 le replied));
   action = λ n c link a d last may p.
       (ap (λ (ls : List ℕ). length ls) (action_keeps (setting_now s d) link a d).last_links ∙ p.0,
-      λ le. drill_acts s opening n c link a d last may (p.1 (let most = counted_most a n in omega (arith, le, most))));
+      λ le replied. (let most = counted_most a n in
+      drill_acts s opening n c link a d last (may_any Raws opening.credits c d a may) replied
+      (p.1 (omega (arith, le, most)) (replied_before link d (after_action (setting_now s d) link a d) (action_extends (setting_now s d) link a d) replied))));
   begins = λ n c link d last numbered gone stays p.
-      (let begun = with_link c (reopened ((setting_now s d).opened link) link d.marks) d in
-      let x = opening_adds (setting_now s begun) (last_link c begun) begun in
+      (let begun = begun_drill s c link d in
+      let own = last_link c begun in
+      let x = opening_adds (setting_now s begun) own begun in
       (ap (λ (ls : List ℕ). length ls) x.last_links ∙ length-set d.last_links (c - 1) (length d.pipes + 1) ∙ p.0,
-      λ le. drill_begins s opening n c link d le last numbered stays (p.1 (omega (arith, le)))));
+      λ le replied. drill_begins s opening n c link d le last numbered stays (p.1 (omega (arith, le)) (replied_before own begun (after_leaving s c link d) x replied)) replied));
 }
 
 -- ===== the links of the first line open
@@ -319,21 +381,26 @@ first_owner opening link = by opening.numbered
     by false = refl
 
 -- the first links are open, of those of a script
-record AreOpen (server : SerialServer) (script : ScriptLines) (done : ℕ) (d : Drill) : Type 0 where
-  creds : AreWritable d.creds
-  opened : d.opened ≡ (start (setting_of server script.opening) script.opening.clients).opened
-  last_links : d.last_links ≡ links_of script.opening.clients
-  room : length d.pipes ≡ script.opening.clients
-  empty : (link : ℕ) → done < link → link ≤ script.opening.clients → pipes_of link d ≡ empty_pipes
-  within : AllByRecursion (λ (mark : Mark). (1 ≤ link_of mark) × (link_of mark ≤ done)) d.marks
-  links : (link : ℕ) → 1 ≤ link → link ≤ done → LinkHolds script.opening 0 (parameters_of script.opening link) link d.marks
-  knows : (c : ℕ) → KnowsCalls (setting_of server script.opening) c c d.marks
+pub record AreOpen (server : SerialServer) (script : ScriptLines) (done : ℕ) (d : Drill) : Type 0 where
+  pub creds : AreWritable d.creds
+  pub opened : d.opened ≡ (start (setting_of server script.opening) script.opening.clients).opened
+  pub last_links : d.last_links ≡ links_of script.opening.clients
+  pub room : length d.pipes ≡ script.opening.clients
+  pub empty : (link : ℕ) → done < link → link ≤ script.opening.clients → pipes_of link d ≡ empty_pipes
+  pub within : AllByRecursion (λ (mark : Mark). (1 ≤ link_of mark) × (link_of mark ≤ done)) d.marks
+  pub links : (link : ℕ) → 1 ≤ link → link ≤ done → LinkHolds script.opening 0 (parameters_of script.opening link) link d.marks
+  pub knows : (c : ℕ) → KnowsCalls (setting_of server script.opening) c c d.marks
+  pub typed : RepliedInBytes d.marks → IsTypedDrill d
+
+pub none_of_next : (server : SerialServer) (script : ScriptLines) (done : ℕ) (d : Drill) → AreOpen server script done d → NoMarkOf (done + 1) d.marks
+none_of_next server script done d h =
+    map_all (λ (mark : Mark). (1 ≤ link_of mark) × (link_of mark ≤ done)) (λ (mark : Mark). link_of mark ≢ done + 1) d.marks (λ mark a. (λ same. (let most = a.1 in omega (arith, most, same)))) h.within
 
 module _ (server : SerialServer) (script : ScriptLines) (is : IsScript script) where
   base : Setting
   base = setting_of server script.opening
 
-  open_one : (done : ℕ) (d : Drill) → done + 1 ≤ script.opening.clients → AreOpen server script done d → AreOpen server script (done + 1) (after_opening base (done + 1) d)
+  pub open_one : (done : ℕ) (d : Drill) → done + 1 ≤ script.opening.clients → AreOpen server script done d → AreOpen server script (done + 1) (after_opening base (done + 1) d)
   open_one done d le h = record {
     creds = subst AreWritable (sym x.creds) h.creds;
     opened = x.opened ∙ h.opened;
@@ -347,6 +414,7 @@ module _ (server : SerialServer) (script : ScriptLines) (is : IsScript script) w
     links = λ link low high. by link low high (eqb (done + 1) link) refl;
     knows = λ c. subst (KnowsCalls base c c) (sym x.marks.is)
         (knows_more base c c (done + 1) d.marks x.marks.added (λ same. sym (first_owner script.opening (done + 1)) ∙ same) x.marks.own (h.knows c));
+    typed = opening_keeps_steps base (done + 1) TypedIf (typed_if base (done + 1) tt tt) d h.typed;
   }
     where
       x : Extends (done + 1) d (after_opening base (done + 1) d)
@@ -356,13 +424,13 @@ module _ (server : SerialServer) (script : ScriptLines) (is : IsScript script) w
       differs e = absurd cc
 
       apart : NoMarkOf (done + 1) d.marks
-      apart = map_all (λ (mark : Mark). (1 ≤ link_of mark) × (link_of mark ≤ done)) (λ (mark : Mark). link_of mark ≢ done + 1) d.marks (λ mark a. (λ same. (let most = a.1 in omega (arith, most, same)))) h.within
+      apart = none_of_next server script done d h
 
       by : (link : ℕ) → 1 ≤ link → link ≤ done + 1 → (b : Bool) → eqb (done + 1) link ≡ b → LinkHolds script.opening 0 (parameters_of script.opening link) link (after_opening base (done + 1) d).marks
       by link low high true same =
           subst (λ (l : ℕ). LinkHolds script.opening 0 (parameters_of script.opening l) l (after_opening base (done + 1) d).marks) (eqb-true (done + 1) link same)
           (opens script.opening base (done + 1) 0 d apart (h.empty (done + 1) (omega arith) le) (let room = h.room in omega (arith, room, le)) (opened_by_script script is (done + 1)) (omega arith)
-          (first_terms script is (done + 1) (omega arith) le) (first_stags script.opening (done + 1)))
+          (first_terms script is (done + 1) (omega arith) le) ((omega arith, omega arith), (omega arith, omega arith)) tt (first_stags script.opening (done + 1)))
       by link low high false apart_from =
           let ne : done + 1 ≢ link = (λ same. differs (sym apart_from ∙ eq-eqb (done + 1) link same)) in
           link_elsewhere script.opening 0 (parameters_of script.opening link) link (done + 1) d (after_opening base (done + 1) d) ne x (h.links link low (omega (arith, high, ne)))
@@ -371,7 +439,7 @@ module _ (server : SerialServer) (script : ScriptLines) (is : IsScript script) w
   open_all done zero d all h = (let same : done ≡ script.opening.clients = omega (arith, all) in subst (λ (m : ℕ). AreOpen server script m d) same h)
   open_all done (suc more) d all h = open_all (done + 1) more (after_opening base (done + 1) d) (omega (arith, all)) (open_one done d (omega (arith, all)) h)
 
-  at_start : AreOpen server script 0 (start base script.opening.clients)
+  pub at_start : AreOpen server script 0 (start base script.opening.clients)
   at_start = record {
     creds = start_creds script.opening.clients;
     opened = refl;
@@ -381,16 +449,20 @@ module _ (server : SerialServer) (script : ScriptLines) (is : IsScript script) w
     within = tt;
     links = λ link low high. absurd (omega (arith, low, high));
     knows = λ c xid found none. none_in {W = HasCall (base.opened c) c [] xid} (submissions.Accepted xid) found;
+    typed = λ replied. start_typed base script.opening.clients;
   }
 
-  open_drill : AreOpen server script script.opening.clients (opened_drill server script.opening)
+  pub open_drill : AreOpen server script script.opening.clients (opened_drill server script.opening)
   unfolding opened_drill
   open_drill = open_all 0 script.opening.clients (start base script.opening.clients) refl at_start
 
-  first_holds : DrillHolds base script.opening 0 (opened_drill server script.opening)
-  first_holds = record {
+  pub first_count : length (opened_drill server script.opening).last_links ≡ script.opening.clients
+  first_count = ap (λ (ls : List ℕ). length ls) open_drill.last_links ∙ range_length 1 script.opening.clients
+
+  pub first_holds : RepliedInBytes (opened_drill server script.opening).marks → DrillHolds base script.opening 0 (opened_drill server script.opening)
+  first_holds replied = record {
     frame = record {
-      count = ap (λ (ls : List ℕ). length ls) a.last_links ∙ range_length 1 clients;
+      count = first_count;
       pipes = a.room ∙ sym many;
       owned = λ c link last. (let own = own_link c link last in (in_links link (own.1, own.2), ap (λ (x : LinkParameters). owner_of x link) (now link (own.1, own.2)) ∙ first_owner script.opening link ∙ own.0));
       within = map_all (λ (mark : Mark). (1 ≤ link_of mark) × (link_of mark ≤ clients)) (λ (mark : Mark). IsLink d (link_of mark)) d.marks (λ mark within. in_links (link_of mark) within) a.within;
@@ -402,6 +474,7 @@ module _ (server : SerialServer) (script : ScriptLines) (is : IsScript script) w
           (map_all (λ (mark : Mark). (1 ≤ link_of mark) × (link_of mark ≤ clients)) (λ (mark : Mark). (setting_now base d).opened (link_of mark) ≡ base.opened (link_of mark)) d.marks (λ mark within. now (link_of mark) within) a.within)
           (now c (last.low, last.high)) (a.knows c)));
     };
+    typed = a.typed replied;
     links = λ link within.
         (let in_first : (1 ≤ link) × (link ≤ clients) = (within.0, (let few = within.1 in omega (arith, few, many))) in
         subst (λ (x : LinkParameters). LinkHolds script.opening 0 x link d.marks) (sym (now link in_first)) (a.links link in_first.0 in_first.1));
@@ -433,8 +506,14 @@ module _ (server : SerialServer) (script : ScriptLines) (is : IsScript script) w
           last.is ∙ ap (λ (ls : List ℕ). slice_index_or ls (c - 1) c) a.last_links ∙ index_range 1 clients (c - 1) c (let low = last.low in omega (arith, low)) in
           (same, (let low = last.low in omega (arith, same, low)), (let high = last.high in omega (arith, same, high)))
 
-  -- after all lines
-  pub lines_hold : (follows_run : List Mark) → (follows : Follows server script follows_run) → DrillHolds base script.opening (length script.lines) follows.last
-  lines_hold run follows =
-      (lines_kept base script.opening AnyRaw (Holds base script.opening) (holds_kept base script.opening) 0 (length script.lines) script.opening.clients script.lines (opened_drill server script.opening) follows.last
-      (lines_of script is) refl follows.makes (first_holds.frame.count, λ le. first_holds)).1 is.few_lines
+  pub opened_count : length (opened_drill server script.opening).opened ≡ script.opening.clients
+  opened_count = ap (λ (os : List LinkParameters). length os) open_drill.opened ∙ map_length base.opened (range_with_len 1 script.opening.clients) ∙ range_length 1 script.opening.clients
+
+  -- what holds of the drill whose links are open, and is kept, holds in the end
+  pub first_then : Holds base script.opening 0 (opened_drill server script.opening)
+  first_then = (first_count, λ le replied. first_holds replied)
+
+  pub lines_hold : (follows_run : List Mark) → RepliedInBytes follows_run → (follows : Follows server script follows_run) → DrillHolds base script.opening (length script.lines) follows.last
+  lines_hold run replied follows =
+      (lines_kept base script.opening AnyRaw (Holds base script.opening) (holds_kept base script.opening AnyRaw) 0 (length script.lines) script.opening.clients script.lines (opened_drill server script.opening) follows.last
+      (lines_of script is) refl follows.makes first_then).1 is.few_lines (subst RepliedInBytes follows.marks_are replied)

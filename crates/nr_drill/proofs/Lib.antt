@@ -40,3 +40,6 @@ pub mod AddedMarks
 pub mod StagBounds
 pub mod Links
 pub mod BegunLinks
+pub mod CarriedLinks
+pub mod NumberedJournals
+pub mod NumberedRuns

@@ -17,7 +17,15 @@ use Rattle.nr_reduce.specs.EndRules.{EndState}
 use Rattle.nr_reduce.specs.ClientState.{ClientState}
 use Rattle.nr_reduce.specs.SubmitAnswer.{calls_to_resend, submit_answer_after}
 use Rattle.nr_reduce.specs.History.{bytes_sent, bytes_received, is_dropped}
-use Rattle.nr_reduce.specs.Opening.{IsOpened}
+use Rattle.nr_reduce.specs.Opening.{IsOpened, IsResumed, lengths_before}
+use Rattle.nr_reduce.specs.declared.mark.ResumedCall.{ResumedCall}
+use Rattle.nr_link.specs.declared.agreement.Agreement.{Agreement}
+use Rattle.nr_laws.specs.Reopened.{AgreedInRange}
+use Rattle.nr_laws.proofs.WaitingCalls.{resumes_planned}
+use Rattle.nr_byte_laws.specs.DueBytes.{AreInBytes}
+use Rattle.nr_script.specs.Script.{IsTypedCred}
+use Rattle.nr_drill.specs.InBytes.{RepliedInBytes}
+use Rattle.nr_drill.proofs.TypedDrills.{IsTypedDrill, TypedIf, ResumedTyped, IsPlanned, typed_if, resumed_bytes, action_keeps_steps, with_cred_at_lem}
 use Rattle.nr_reduce.specs.Run.{client}
 use Rattle.nr_texts.specs.declared.opening.Opening.{Opening}
 use Rattle.nr_drill.specs.Drill.{link_of, Setting, Drill, IsLink, client_of, last_link, setting_now, settled, pipes_of, empty_pipes, with_cred, with_mark, after_submit, after_opening}
@@ -53,6 +61,8 @@ pub record LinkHolds (opening : Opening) (n : ℕ) (o : LinkParameters) (link : 
   pub due : NoneDue o link run
   pub stags : NextStag o link run ≤ 1 + n * 192
   pub terms : HasTerms opening o
+  pub agreed : AgreedInRange o
+  pub again : AllByRecursion ResumedTyped o.resumed
 
 pub link_later : (opening : Opening) (n : ℕ) (o : LinkParameters) (link : ℕ) (run : List Mark) → LinkHolds opening n o link run → LinkHolds opening (suc n) o link run
 link_later opening n o link run h = record {
@@ -65,7 +75,17 @@ link_later opening n o link run h = record {
   due = h.due;
   stags = (let le = h.stags in omega (arith, le));
   terms = h.terms;
+  agreed = h.agreed;
+  again = h.again;
 }
+
+-- what its client sends again are bytes
+pub link_bytes : (opening : Opening) (n : ℕ) (o : LinkParameters) (link : ℕ) (run : List Mark) → LinkHolds opening n o link run → AreInBytes Initiator o
+link_bytes opening n o link run h = resumed_bytes o.resumed (each_planned (lengths_before o.agreed) o.resumed (resumes_planned o h.opened)) h.again
+  where
+    each_planned : (agreed : Agreement) (rs : List ResumedCall) → AllByRecursion (IsResumed agreed) rs → AllByRecursion IsPlanned rs
+    each_planned agreed [] planned = tt
+    each_planned agreed (r ∷ rs) planned = (planned.0.planned, each_planned agreed rs planned.1)
 
 -- marks of another link
 pub link_elsewhere : (opening : Opening) (n : ℕ) (o : LinkParameters) (link acted : ℕ) (old new : Drill) → acted ≢ link → Extends acted old new → LinkHolds opening n o link old.marks → LinkHolds opening n o link new.marks
@@ -81,6 +101,8 @@ link_elsewhere opening n o link acted old new ne x h =
       due = subst (NoneDue o link) (sym x.marks.is) (none_elsewhere o link acted old.marks x.marks.added ne x.marks.own h.due);
       stags = (let is = ap (λ (r : EndState ClientState). r.state.stag) same.same_client in let le = h.stags in omega (arith, is, le));
       terms = h.terms;
+      agreed = h.agreed;
+      again = h.again;
     }
 
 -- ===== an action on the link itself
@@ -104,10 +126,10 @@ action_stags s link (SubmitCall call form) d n le =
     let answer = submit_answer_after o link d.marks call form in
     let mid = with_mark (marks.Submit link call form answer) d in
     let one = submit_stags o link d.marks call form answer in
-    let same = none_added o link mid (settled s link mid) (settled_by (TakesNone o link) s link (none_taken_rules s link) mid) in
+    let same = none_added o link mid (settled s link mid) (settled_by (TakesNone o link) s link (none_taken_rules s link).quiet mid) in
     omega (arith, one, same, le)
-action_stags s link (FeedUp most) d n le = (let same = none_added (s.opened link) link d _ (up_by (TakesNone (s.opened link) link) s link (none_taken_rules s link) most d) in omega (arith, same, le))
-action_stags s link (FeedDown most) d n le = (let same = none_added (s.opened link) link d _ (down_by (TakesNone (s.opened link) link) s link (none_taken_rules s link) most d) in omega (arith, same, le))
+action_stags s link (FeedUp most) d n le = (let same = none_added (s.opened link) link d _ (up_by (TakesNone (s.opened link) link) s link (none_taken_rules s link).quiet most d) in omega (arith, same, le))
+action_stags s link (FeedDown most) d n le = (let same = none_added (s.opened link) link d _ (down_by (TakesNone (s.opened link) link) s link (none_taken_rules s link).quiet most d) in omega (arith, same, le))
 action_stags s link WorkOnce d n le = (let same = none_added (s.opened link) link d _ (work_by (TakesNone (s.opened link) link) s link (none_taken_rules s link) d) in omega (arith, same, le))
 action_stags s link (ForgetCall number) d n le = (let same = none_added (s.opened link) link d _ (forget_by (TakesNone (s.opened link) link) s link (none_taken_rules s link) number d) in omega (arith, same, le))
 action_stags s link (RevokeCall number) d n le = (let same = none_added (s.opened link) link d _ (revoke_by (TakesNone (s.opened link) link) s link (none_taken_rules s link) number d) in omega (arith, same, le))
@@ -128,7 +150,7 @@ module _ (opening : Opening) (s : Setting) (c link n : ℕ) (d : Drill) (h : Lin
   own_keeps : (a : Action) → MayAct AnyRaw opening.credits c d a → LinkKeeps s link (after_action s link a d)
   own_keeps (SubmitCall call form) may =
       let greeted = greeted_by_frames (s.opened link) link d.marks h.heard.client in
-      let can : CanWriteCred call.cred = subst CanWriteCred (sym may) (cred_at d.creds (c - 1) writable) in
+      let can : CanWriteCred call.cred = subst CanWriteCred (sym may.0) (cred_at d.creds (c - 1) writable) in
       (lawful_submit s link call form d h.opened greeted can before, submit_hands s link call form d h.opened greeted can before h.due)
   own_keeps (FeedUp most) may = (lawful_after_up s link most d before, up_hands s link most d h.due)
   own_keeps (FeedDown most) may = (lawful_after_down s link most d h.opened before, down_hands s link most d)
@@ -154,6 +176,8 @@ module _ (opening : Opening) (s : Setting) (c link n : ℕ) (d : Drill) (h : Lin
         due = k.1;
         stags = action_stags s link a d n h.stags;
         terms = h.terms;
+        agreed = h.agreed;
+        again = h.again;
       }
 
 -- ===== a link that opens
@@ -166,8 +190,8 @@ unfolding bytes_sent bytes_received
 none_sent link run apart = (let here = here_all link [] run apart in (here.sent Initiator, here.sent Responder, here.received Initiator, here.received Responder))
 
 pub opens : (opening : Opening) (s : Setting) (link n : ℕ) (d : Drill) → NoMarkOf link d.marks → pipes_of link d ≡ empty_pipes → link - 1 < length d.pipes → IsOpened (s.opened link) → length (s.opened link).resumed ≤ credits_max →
-    HasTerms opening (s.opened link) → NextStag (s.opened link) link [] ≤ 1 + n * 192 → LinkHolds opening n (s.opened link) link (after_opening s link d).marks
-opens opening s link n d apart empty room numbers few terms le =
+    HasTerms opening (s.opened link) → AgreedInRange (s.opened link) → AllByRecursion ResumedTyped (s.opened link).resumed → NextStag (s.opened link) link [] ≤ 1 + n * 192 → LinkHolds opening n (s.opened link) link (after_opening s link d).marks
+opens opening s link n d apart empty room numbers few terms agreed again le =
     let o = s.opened link in
     let fresh = same_all o link [] d.marks apart in
     let here = here_all link [] d.marks apart in
@@ -176,7 +200,7 @@ opens opening s link n d apart empty room numbers few terms le =
     let k = opening_keeps s link d numbers none lawful in
     let b = none_sent link d.marks apart in
     let carries = fresh_carries link d room empty b.0 b.1 b.2 b.3 (here.matched tt) in
-    let same = none_added o link d (after_opening s link d) (opening_by (TakesNone o link) s link (none_taken_rules s link) d) in
+    let same = none_added o link d (after_opening s link d) (opening_by (TakesNone o link) s link (none_taken_rules s link).quiet d) in
     let first = ap (λ (r : EndState ClientState). r.state.stag) fresh.same_client in
     record {
       lawful = k.0;
@@ -188,6 +212,8 @@ opens opening s link n d apart empty room numbers few terms le =
       due = opening_hands s link d;
       stags = omega (arith, same, first, le);
       terms = terms;
+      agreed = agreed;
+      again = again;
     }
 
 -- ===== all links
@@ -203,10 +229,11 @@ pub record IsFrame (s : Setting) (opening : Opening) (d : Drill) : Type 0 where
 
 pub record DrillHolds (s : Setting) (opening : Opening) (n : ℕ) (d : Drill) : Type 0 where
   pub frame : IsFrame s opening d
+  pub typed : IsTypedDrill d
   pub links : (link : ℕ) → IsLink d link → LinkHolds opening n ((setting_now s d).opened link) link d.marks
 
 pub drill_later : (s : Setting) (opening : Opening) (n : ℕ) (d : Drill) → DrillHolds s opening n d → DrillHolds s opening (suc n) d
-drill_later s opening n d h = record { frame = h.frame; links = λ link is. link_later opening n ((setting_now s d).opened link) link d.marks (h.links link is) }
+drill_later s opening n d h = record { frame = h.frame; typed = h.typed; links = λ link is. link_later opening n ((setting_now s d).opened link) link d.marks (h.links link is) }
 
 -- the same links
 pub link_of_same : (old new : Drill) (link : ℕ) → new.opened ≡ old.opened → IsLink new link → IsLink old link
@@ -258,11 +285,12 @@ own_last s opening c link d is owner other last of same =
     let mine : c ≡ other = sym owner ∙ same in
     is.is ∙ ap (λ (x : ℕ). last_link x d) mine ∙ sym of.is
 
-pub drill_acts : (s : Setting) (opening : Opening) (n c link : ℕ) (a : Action) (d : Drill) → IsLastOf opening.clients c link d → MayAct AnyRaw opening.credits c d a → DrillHolds s opening n d →
+pub drill_acts : (s : Setting) (opening : Opening) (n c link : ℕ) (a : Action) (d : Drill) → IsLastOf opening.clients c link d → MayAct AnyRaw opening.credits c d a → RepliedInBytes (after_action (setting_now s d) link a d).marks → DrillHolds s opening n d →
     DrillHolds s opening (counted a n) (after_action (setting_now s d) link a d)
-drill_acts s opening n c link a d last may h =
+drill_acts s opening n c link a d last may replied h =
     record {
       frame = same_frame s opening link d (after_action t link a d) x here.0 (own_last s opening c link d last here.1) h.frame;
+      typed = action_keeps_steps t link c opening.credits AnyRaw TypedIf (typed_if t link (link_bytes opening n (t.opened link) link d.marks own_link) own_link.again) a d h.typed.creds may (λ old. h.typed) replied;
       links = same_links s opening (counted a n) link d (after_action t link a d) x links;
     }
   where
@@ -274,6 +302,9 @@ drill_acts s opening n c link a d last may h =
 
     here : IsLink d link × (client_of t link ≡ c)
     here = h.frame.owned c link last
+
+    own_link : LinkHolds opening n (t.opened link) link d.marks
+    own_link = h.links link here.0
 
     awaited : OpenIsAwaited t link d
     awaited = open_is_awaited t link d (subst (λ (k : ℕ). KnowsCalls t k link d.marks) (sym here.1) (h.frame.knows c link last))
@@ -304,8 +335,8 @@ drill_acts s opening n c link a d last may h =
             (link_elsewhere opening n (t.opened other) other link d (after_action t link a d) (λ same. differs (sym apart ∙ eq-eqb link other same)) x (h.links other is))
 
 -- a credential, and the clock
-pub drill_credential : (s : Setting) (opening : Opening) (n c : ℕ) (cred : Cred) (d : Drill) → CanWriteCred cred → DrillHolds s opening n d → DrillHolds s opening n (with_cred c cred d)
-drill_credential s opening n c cred d can h =
+pub drill_credential : (s : Setting) (opening : Opening) (n c : ℕ) (cred : Cred) (d : Drill) → CanWriteCred cred → IsTypedCred cred → DrillHolds s opening n d → DrillHolds s opening n (with_cred c cred d)
+drill_credential s opening n c cred d can typed h =
     let f = h.frame in
     record {
       frame = record {
@@ -316,6 +347,7 @@ drill_credential s opening n c cred d can h =
         creds = with_cred_at d.creds (c - 1) cred f.creds can;
         knows = λ c l last. f.knows c l (last_of_same opening.clients c l d (with_cred c cred d) refl last);
       };
+      typed = record { typed = h.typed.typed; pipes = h.typed.pipes; creds = with_cred_at_lem d.creds (c - 1) cred h.typed.creds typed };
       links = h.links;
     }
 
@@ -332,5 +364,6 @@ drill_time s opening n seconds d h =
         creds = f.creds;
         knows = λ c l last. f.knows c l (last_of_same opening.clients c l d new refl last);
       };
+      typed = record { typed = h.typed.typed; pipes = h.typed.pipes; creds = h.typed.creds };
       links = h.links;
     }

@@ -284,7 +284,7 @@ waits_next o k None e xid h = by (client_end k e)
 
 waits_all : (o : LinkParameters) (r : EndState ClientState) (es : List RunEvent) (xid : ℕ) → waits r.state.waiting xid ≡ true → (waits (end_state_after (client_rules o) r es).state.waiting xid || list_any (submits_xid xid) es) ≡ true
 waits_all o r [] xid h = or_left_lem (waits r.state.waiting xid) false h
-waits_all o r (e ∷ es) xid h = by (waits next.state.waiting xid) refl (submits_xid xid e) (waits_next o r.state r.ended e xid h)
+waits_all o r (e ∷ es) xid h = by (waits (next_end_state (client_rules o) r e).state.waiting xid) refl (submits_xid xid e) (waits_next o r.state r.ended e xid h) (waits_all o (next_end_state (client_rules o) r e) es xid)
   where
     next : EndState ClientState
     next = next_end_state (client_rules o) r e
@@ -297,10 +297,10 @@ waits_all o r (e ∷ es) xid h = by (waits next.state.waiting xid) refl (submits
     later false true c e = refl
     later false false c e = e
 
-    by : (a : Bool) → waits next.state.waiting xid ≡ a → (b : Bool) → (a || b) ≡ true → (last || (b || list_any (submits_xid xid) es)) ≡ true
-    by true is b e = later last b (list_any (submits_xid xid) es) (waits_all o next es xid is)
-    by false is true e = or_right_lem last (true || list_any (submits_xid xid) es) refl
-    by false is false e = absurd cc
+    by : (a : Bool) → waits next.state.waiting xid ≡ a → (b : Bool) → (a || b) ≡ true → (waits next.state.waiting xid ≡ true → (last || list_any (submits_xid xid) es) ≡ true) → (last || (b || list_any (submits_xid xid) es)) ≡ true
+    by true is b e rest = later last b (list_any (submits_xid xid) es) (rest is)
+    by false is true e rest = or_right_lem last (true || list_any (submits_xid xid) es) refl
+    by false is false e rest = absurd cc
 
 -- what is submitted at a mark was accepted there
 submits_frames : (xid : ℕ) (fs : List Frame) → list_any (submits_xid xid) (map FrameReceived fs) ≡ false
@@ -331,7 +331,7 @@ submitted_accepted link xid run (marks.Submit l call form submissions.Dropped) =
     by true = refl
     by false = refl
 submitted_accepted link xid run (marks.Wrote l side bytes) = submits_if xid _ (QueueWritten (length bytes) ∷ []) refl
-submitted_accepted link xid run (marks.Fed l side bytes) = submits_if xid _ (map FrameReceived (frames_completed Responder (bytes_received link Initiator run) bytes)) (submits_frames xid _)
+submitted_accepted link xid run (marks.Fed l side bytes) = submits_if xid (eqb l link && true) (map FrameReceived (frames_completed Responder (bytes_received link Initiator run) bytes)) (submits_frames xid (frames_completed Responder (bytes_received link Initiator run) bytes))
 submitted_accepted link xid run (marks.Execute l x moment payload place reply) = submits_if xid _ (CallExecuted (record { xid = x; moment = moment; payload = payload; place = place; reply = reply }) ∷ []) refl
 submitted_accepted link xid run (marks.Done l x outcome) = refl
 submitted_accepted link xid run (marks.Lost l x) = refl

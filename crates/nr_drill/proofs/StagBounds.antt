@@ -357,11 +357,13 @@ pub none_taken_rules : (s : Setting) (link : ℕ) → MarkRules (TakesNone (s.op
 none_taken_rules s link =
     let o = s.opened link in
     record {
-      wrote = λ run side bytes. takes_none o link run (marks.Wrote link side bytes) (no_submit_if _ (QueueWritten (length bytes) ∷ []) (tt, tt));
-      fed = λ run side bytes. takes_none o link run (marks.Fed link side bytes)
-          (no_submit_if _ (map FrameReceived (frames_completed Responder (bytes_received link Initiator run) bytes)) (no_submit_frames (frames_completed Responder (bytes_received link Initiator run) bytes)));
-      done = λ run xid outcome. takes_none o link run (marks.Done link xid outcome) tt;
-      resent = λ run w rest is. resent_none o link run w rest is;
+      quiet = record {
+        wrote = λ run side bytes. takes_none o link run (marks.Wrote link side bytes) (no_submit_if _ (QueueWritten (length bytes) ∷ []) (tt, tt));
+        fed = λ run side bytes. takes_none o link run (marks.Fed link side bytes)
+            (no_submit_if _ (map FrameReceived (frames_completed Responder (bytes_received link Initiator run) bytes)) (no_submit_frames (frames_completed Responder (bytes_received link Initiator run) bytes)));
+        done = λ run xid outcome. takes_none o link run (marks.Done link xid outcome) tt;
+        resent = λ run w rest is. resent_none o link run w rest is;
+      };
       executes = λ d call g next is. takes_none o link d.marks (marks.Execute link call.xid g.moment call.payload g.place g.reply)
           (no_submit_if _ (CallExecuted (record { xid = call.xid; moment = g.moment; payload = call.payload; place = g.place; reply = g.reply }) ∷ []) (tt, tt));
       told_old = λ d call top next is. takes_none o link d.marks _ (no_submit_if _ (ServerTold _ ∷ []) (tt, tt));
