@@ -127,12 +127,12 @@ module _ (s : Setting) (opening : Opening) (n c link : ℕ) (d : Drill) (within 
   more_links = length-append d.opened (next_o ∷ [])
 
   old_link : (l : ℕ) → IsLink d l → u.opened l ≡ t.opened l
-  old_link l is = in_front d.opened (next_o ∷ []) (l - 1) (s.opened l) (let some = is.0 in let few = is.1 in omega (arith, some, few))
+  old_link l is = in_front (s.opened 0 ∷ d.opened) (next_o ∷ []) l (s.opened l) (let few = is.1 in omega (arith, few))
 
   new_link : u.opened next ≡ next_o
   new_link =
-      let at : next - 1 ≡ length d.opened = omega (arith, next_is) in
-      ap (λ (i : ℕ). slice_index_or (d.opened ++ next_o ∷ []) i (s.opened next)) at ∙ at_end d.opened next_o (s.opened next)
+      let at : next ≡ suc (length d.opened) = omega (arith, next_is) in
+      ap (λ (i : ℕ). slice_index_or (s.opened 0 ∷ (d.opened ++ next_o ∷ [])) i (s.opened next)) at ∙ at_end d.opened next_o (s.opened next)
 
   still_link : (l : ℕ) → IsLink d l → IsLink begun l
   still_link l is = (is.0, (let few = is.1 in omega (arith, few, more_links)))
@@ -497,8 +497,8 @@ module _ (server : SerialServer) (script : ScriptLines) (is : IsScript script) w
 
       now : (link : ℕ) → (1 ≤ link) × (link ≤ clients) → (setting_now base d).opened link ≡ base.opened link
       now link within =
-          ap (λ (os : List LinkParameters). slice_index_or os (link - 1) (base.opened link)) a.opened
-          ∙ index_map base.opened 1 clients (link - 1) link (let some = within.0 in omega (arith, some))
+          ap (λ (os : List LinkParameters). slice_index_or (base.opened 0 ∷ os) link (base.opened link)) a.opened
+          ∙ index_map base.opened 0 (suc clients) link link (omega arith)
 
       own_link : (c link : ℕ) → IsLastOf clients c link d → (link ≡ c) × (1 ≤ link) × (link ≤ clients)
       own_link c link last =

@@ -420,7 +420,7 @@ pub extending_keeps : (link : ℕ) (old new : Drill) → Extends link old new �
 extending_keeps link old new x = record { opened = x.opened; last_links = x.last_links }
 
 pub same_setting : (s : Setting) (old new : Drill) → KeepsLinks old new → setting_now s new ≡ setting_now s old
-same_setting s old new k = ap (λ (all : List LinkParameters). record s { opened = λ link. slice_index_or all (link - 1) (s.opened link) }) k.opened
+same_setting s old new k = ap (λ (all : List LinkParameters). record s { opened = λ link. slice_index_or (s.opened 0 ∷ all) link (s.opened link) }) k.opened
 
 pub opened_by_script : (script : ScriptLines) → IsScript script → (link : ℕ) → IsOpened (parameters_of script.opening link)
 opened_by_script script is link =

@@ -1,7 +1,9 @@
 -- A client that received a frame and hasn't ended has its server's hello: the first frame is that (RFC 5044 section 7.1).
-use Rattle.std.proofs.Common.{◌≡◌, ◌≢◌, ℕ, ◌+◌, Bool, true, false, cond, eqb, eqb-true, ◌&&◌, List, [], ◌∷◌, ◌++◌, length, map, Option, None, Some, refl, sym, ap, subst, ◌∙◌, append_assoc, append-nil}
+use Rattle.std.proofs.Common.{◌≡◌, ◌≢◌, ℕ, ◌+◌, Bool, true, false, cond, eqb, eqb-true, ◌&&◌, List, [], ◌∷◌, ◌++◌, length, map, Option, None, Some, Result, Ok, Err, refl, sym, ap, subst, ◌∙◌, append_assoc, append-nil}
 use Rattle.nr_wire.specs.declared.hello.Side.TheVariants.{Initiator, Responder}
 use Rattle.nr_link.specs.declared.end.End.{End}
+use Rattle.nr_wire.specs.Segment.{Segment}
+use Rattle.nr_link.specs.ReceiveState.{ReadRequest, message_completed, read_request_of}
 use Rattle.nr_link.specs.Frames.{Frame, frames_from, frames_of, frames_completed, is_hello}
 use Rattle.nr_reduce.specs.declared.mark.Mark.{Mark}
 use Rattle.nr_reduce.specs.declared.mark.Mark.TheVariants as marks
@@ -11,14 +13,23 @@ use Rattle.nr_reduce.specs.Events.{RunEvent, if_own, events_at}
 use Rattle.nr_reduce.specs.Events.RunEvent.{FrameReceived, CallSubmitted, MemoryRevoked, CallExecuted, QueueWritten, ServerTold}
 use Rattle.nr_reduce.specs.EndRules.{EndState, next_end_state, next_end_state_by, next_end_state_in, end_state_after}
 use Rattle.nr_reduce.specs.ClientState.{ClientState}
-use Rattle.nr_reduce.specs.Client.{client_rules, client_segment, client_end, client_state_after, with_hello, with_segment}
+use Rattle.nr_reduce.specs.Client.{client_rules, client_segment, client_end, client_state_after, with_hello, with_message, with_request, with_segment, due_with_response}
 use Rattle.nr_reduce.specs.Run.{client}
 use Rattle.nr_reduce.proofs.Standing.{itself, received_one}
 use Rattle.nr_reduce.proofs.Steps.{client_one, ended_stays}
-use Rattle.nr_laws.proofs.AgreedSizes.{segment_hello}
 use Rattle.nr_drill.proofs.LessFrames.{frames_one}
 
 -- ===== a hello stays
+
+segment_hello : (k : ClientState) (f : Frame) (r : Result Segment ℕ) → (with_segment k f r).has_hello ≡ k.has_hello
+segment_hello k f (Err reason) = refl
+segment_hello k f (Ok s) = by (message_completed k.received s) (read_request_of s)
+  where
+    by : (m : Option (List ℕ)) (q : Option ReadRequest) → (with_request (with_message k f.end m) (due_with_response k f s) q).has_hello ≡ k.has_hello
+    by None None = refl
+    by None (Some q) = refl
+    by (Some m) None = refl
+    by (Some m) (Some q) = refl
 
 abbrev Has : ClientState → Type 0
 Has k = k.has_hello ≡ true

@@ -131,7 +131,7 @@ fewer_wait o link run w rest is =
     ap (λ (x : EndState ClientState). x.state.waiting) (client_one o link run (resend_mark link w))
     ∙ ap (λ (b : Bool). (end_state_after (client_rules o) r (if_own (b && true) (CallSubmitted place a ∷ []))).state.waiting) (itself link)
     ∙ submitted_waits o r.state r.ended place a w first.others can.0 first.there refl in
-    let old : length r.state.waiting ≡ 1 + length first.others = ap (λ (ws : List WaitingCall). length ws) first.there in
+    let old : length r.state.waiting ≡ suc (length first.others) = ap (λ (ws : List WaitingCall). length ws) first.there in
     (let new = ap (λ (ws : List WaitingCall). length ws) next in omega (arith, new, old))
 
 -- with all of them no more wait, and the client's end is as it was

@@ -331,7 +331,7 @@ submitted_accepted link xid run (marks.Submit l call form submissions.Dropped) =
     by true = refl
     by false = refl
 submitted_accepted link xid run (marks.Wrote l side bytes) = submits_if xid _ (QueueWritten (length bytes) ∷ []) refl
-submitted_accepted link xid run (marks.Fed l side bytes) = submits_if xid (eqb l link && true) (map FrameReceived (frames_completed Responder (bytes_received link Initiator run) bytes)) (submits_frames xid (frames_completed Responder (bytes_received link Initiator run) bytes))
+submitted_accepted link xid run (marks.Fed l side bytes) = submits_if xid (eqb l link && same_side side Initiator) (map FrameReceived (frames_completed Responder (bytes_received link Initiator run) bytes)) (submits_frames xid (frames_completed Responder (bytes_received link Initiator run) bytes))
 submitted_accepted link xid run (marks.Execute l x moment payload place reply) = submits_if xid _ (CallExecuted (record { xid = x; moment = moment; payload = payload; place = place; reply = reply }) ∷ []) refl
 submitted_accepted link xid run (marks.Done l x outcome) = refl
 submitted_accepted link xid run (marks.Lost l x) = refl
@@ -375,11 +375,12 @@ stays_from o link before (mark ∷ run) xid h =
 
 resumed_waits : (stag : ℕ) (rs : List ResumedCall) (xid : ℕ) → accepts (map as_accepted rs) xid ≡ true → waits (waiting_from stag rs) xid ≡ true
 resumed_waits stag [] xid h = absurd cc
-resumed_waits stag (r ∷ rs) xid h = by (eqb r.xid xid) h
+resumed_waits stag (r ∷ rs) xid h = by (eqb r.xid xid) h (resumed_waits (stag + regions_needed r.plan) rs xid)
   where
-    by : (b : Bool) → (b || accepts (map as_accepted rs) xid) ≡ true → (b || waits (waiting_from (stag + regions_needed r.plan) rs) xid) ≡ true
-    by true h = refl
-    by false h = resumed_waits (stag + regions_needed r.plan) rs xid h
+    by : (b : Bool) → (b || accepts (map as_accepted rs) xid) ≡ true → (accepts (map as_accepted rs) xid ≡ true → waits (waiting_from (stag + regions_needed r.plan) rs) xid ≡ true) →
+        (b || waits (waiting_from (stag + regions_needed r.plan) rs) xid) ≡ true
+    by true h later = refl
+    by false h later = later h
 
 first_waits : (o : LinkParameters) (link xid : ℕ) → accepts (map as_accepted o.resumed) xid ≡ true → IsWaitingOrAccepted o link [] xid
 unfolding client events accepted_calls
@@ -402,19 +403,19 @@ waits_or_accepted o link run xid h = by (Contains-append_cases (map as_accepted 
 -- a call that waits is none below the one that is sent next
 waits_from : (first next : ℕ) (ws : List WaitingCall) (xid : ℕ) → AreFit first next ws → waits ws xid ≡ true → first_xid_or next ws ≤ xid
 waits_from first next [] xid h e = absurd cc
-waits_from first next (w ∷ ws) xid h e = by (eqb w.xid xid) refl e
+waits_from first next (w ∷ ws) xid h e = by (eqb w.xid xid) refl e (waits_from first next ws xid h.1.1)
   where
-    by : (b : Bool) → eqb w.xid xid ≡ b → (b || waits ws xid) ≡ true → w.xid ≤ xid
-    by true is e = (let same = eqb-true w.xid xid is in omega (arith, same))
-    by false is e = (let rises = h.1.0 in let rest = waits_from first next ws xid h.1.1 e in omega (arith, rises, rest))
+    by : (b : Bool) → eqb w.xid xid ≡ b → (b || waits ws xid) ≡ true → (waits ws xid ≡ true → first_xid_or next ws ≤ xid) → w.xid ≤ xid
+    by true is e later = (let same = eqb-true w.xid xid is in omega (arith, same))
+    by false is e later = (let rises = h.1.0 in let rest = later e in omega (arith, rises, rest))
 
 came_before : (n xid : ℕ) (cs : List CompletedCall) → AreAtMost (λ (c : CompletedCall). c.xid + 1) n cs → list_any (λ (c : CompletedCall). eqb c.xid xid) cs ≡ true → xid < n
 came_before n xid [] h e = absurd cc
-came_before n xid (c ∷ cs) h e = by (eqb c.xid xid) refl e
+came_before n xid (c ∷ cs) h e = by (eqb c.xid xid) refl e (came_before n xid cs h.1)
   where
-    by : (b : Bool) → eqb c.xid xid ≡ b → (b || list_any (λ (x : CompletedCall). eqb x.xid xid) cs) ≡ true → xid < n
-    by true is e = (let same = eqb-true c.xid xid is in let low = h.0 in omega (arith, same, low))
-    by false is e = came_before n xid cs h.1 e
+    by : (b : Bool) → eqb c.xid xid ≡ b → (b || list_any (λ (x : CompletedCall). eqb x.xid xid) cs) ≡ true → (list_any (λ (x : CompletedCall). eqb x.xid xid) cs ≡ true → xid < n) → xid < n
+    by true is e later = (let same = eqb-true c.xid xid is in let low = h.0 in omega (arith, same, low))
+    by false is e later = later e
 
 found : {X : Type 0} (p : X → Bool) (xs : List X) → list_any p xs ≡ true → (x : X) × Contains xs x × (p x ≡ true)
 found p [] e = absurd cc
@@ -426,21 +427,21 @@ found {X = X} p (x ∷ xs) e = by (p x) refl e (found p xs)
 
 kept_in : {X : Type 0} (p : X → Bool) (xs : List X) (x : X) → Contains xs x → p x ≡ true → Contains (filter p xs) x
 kept_in p [] x h is = none_in {W = Contains [] x} x h
-kept_in {X = X} p (y ∷ xs) x h is = by (Contains-append_cases (y ∷ []) xs x h) (p y) refl
+kept_in {X = X} p (y ∷ xs) x h is = by (Contains-append_cases (y ∷ []) xs x h) (p y) refl (λ later. kept_in p xs x later is)
   where
-    by : Contains (y ∷ []) x ⊎ Contains xs x → (b : Bool) → p y ≡ b → Contains (cond b (y ∷ filter p xs) (filter p xs)) x
-    by (inl first) true e = here y (filter p xs) x (one_in y x first)
-    by (inl first) false e = absurd (let wrong : true ≡ false = sym is ∙ ap p (sym (one_in y x first)) ∙ e in cc)
-    by (inr later) true e = there y (filter p xs) x (kept_in p xs x later is)
-    by (inr later) false e = kept_in p xs x later is
+    by : Contains (y ∷ []) x ⊎ Contains xs x → (b : Bool) → p y ≡ b → (Contains xs x → Contains (filter p xs) x) → Contains (cond b (y ∷ filter p xs) (filter p xs)) x
+    by (inl first) true e rest = here y (filter p xs) x (one_in y x first)
+    by (inl first) false e rest = absurd (let wrong : true ≡ false = sym is ∙ ap p (sym (one_in y x first)) ∙ e in cc)
+    by (inr later) true e rest = there y (filter p xs) x (rest later)
+    by (inr later) false e rest = rest later
 
 flat_in : {X A : Type 0} (f : X → List A) (xs : List X) (x : X) (a : A) → Contains xs x → Contains (f x) a → Contains (flat_map f xs) a
 flat_in f [] x a h is = none_in {W = Contains [] a} x h
-flat_in {X = X} {A = A} f (y ∷ xs) x a h is = by (Contains-append_cases (y ∷ []) xs x h)
+flat_in {X = X} {A = A} f (y ∷ xs) x a h is = by (Contains-append_cases (y ∷ []) xs x h) (λ later. flat_in f xs x a later is)
   where
-    by : Contains (y ∷ []) x ⊎ Contains xs x → Contains (f y ++ flat_map f xs) a
-    by (inl first) = Contains-append_left (f y) (flat_map f xs) a (subst (λ (z : X). Contains (f z) a) (sym (one_in y x first)) is)
-    by (inr later) = Contains-append_right (f y) (flat_map f xs) a (flat_in f xs x a later is)
+    by : Contains (y ∷ []) x ⊎ Contains xs x → (Contains xs x → Contains (flat_map f xs) a) → Contains (f y ++ flat_map f xs) a
+    by (inl first) rest = Contains-append_left (f y) (flat_map f xs) a (subst (λ (z : X). Contains (f z) a) (sym (one_in y x first)) is)
+    by (inr later) rest = Contains-append_right (f y) (flat_map f xs) a (rest later)
 
 some_due : (o : LinkParameters) (link : ℕ) (run : List Mark) (xid : ℕ) → accepts (accepted_calls link run) xid ≡ true → list_any (λ (c : CompletedCall). eqb c.xid xid) (client o link run).state.outcomes ≡ true →
     is_completed link xid run ≡ false → is_abandoned link xid run ≡ false → NoneDue o link run → ⊥
@@ -457,6 +458,14 @@ some_due o link run xid accepted came first kept none =
     (kept_in (λ (x : CompletedCall). not (is_abandoned link x.xid run || is_completed link x.xid run)) (flat_map (outcomes_of_call outs) (accepted_calls link run)) c.0 all open_still))
 
 -- ===== a client leaves its link
+
+as_call : (rs : List ResumedCall) (r : ResumedCall) → Contains rs r → Contains (map as_accepted rs) (as_accepted r)
+as_call [] r h = none_in {W = Contains [] (as_accepted r)} r h
+as_call (x ∷ rs) r h = cases (Contains-append_cases (x ∷ []) rs r h) (as_call rs r)
+  where
+    cases : Contains (x ∷ []) r ⊎ Contains rs r → (Contains rs r → Contains (map as_accepted rs) (as_accepted r)) → Contains (as_accepted x ∷ map as_accepted rs) (as_accepted r)
+    cases (inl one) later = here (as_accepted x) (map as_accepted rs) (as_accepted r) (ap as_accepted (one_in x r one))
+    cases (inr more) later = there (as_accepted x) (map as_accepted rs) (as_accepted r) (later more)
 
 -- the next link knows each call that the link knew, of those that are open
 pub kept_call : (o : LinkParameters) (link next : ℕ) (run later : List Mark) (xid : ℕ) → IsOpened o → IsLawful o link run → NoneDue o link run → (client o link run).ended ≡ None →
@@ -478,14 +487,6 @@ kept_call o link next run later xid numbers lawful none stays first kept h = by 
         let high = waits_from o.first_xid k.next_xid k.waiting xid (waiting_fit o link run numbers) e in
         let low = came_before (next_sent_xid k) xid k.outcomes (xids_below o link run lawful.asked).brought came in
         omega (arith, high, low)
-
-    as_call : (rs : List ResumedCall) (r : ResumedCall) → Contains rs r → Contains (map as_accepted rs) (as_accepted r)
-    as_call [] r h = none_in {W = Contains [] (as_accepted r)} r h
-    as_call (x ∷ rs) r h = cases (Contains-append_cases (x ∷ []) rs r h)
-      where
-        cases : Contains (x ∷ []) r ⊎ Contains rs r → Contains (as_accepted x ∷ map as_accepted rs) (as_accepted r)
-        cases (inl one) = here (as_accepted x) (map as_accepted rs) (as_accepted r) (ap as_accepted (one_in x r one))
-        cases (inr more) = there (as_accepted x) (map as_accepted rs) (as_accepted r) (as_call rs r more)
 
     by : (b : Bool) → outcome ≡ b → (b || list_any (λ (r : ResumedCall). eqb r.xid xid) (reopened o link run).resumed) ≡ true → HasCall (reopened o link run) next later xid
     by true came e = absurd (by_known (accepts (accepted_calls link run) xid) refl known came)
