@@ -7,7 +7,8 @@ use Rattle.std.proofs.lemmas.List.{get_or-set_same, get_or-set_other, length-set
 use Rattle.nr_reduce.specs.declared.call.Submission.TheVariants as submissions
 use Rattle.nr_reduce.specs.declared.mark.Mark.{Mark}
 use Rattle.nr_reduce.specs.declared.mark.LinkParameters.{LinkParameters}
-use Rattle.nr_reduce.specs.Limits.{credits_max}
+use Rattle.nr_reduce.specs.Limits.{credits_max, numbers_end}
+use Rattle.nr_reduce.specs.ClientState.{stag_after}
 use Rattle.nr_reduce.specs.Events.{events}
 use Rattle.nr_reduce.specs.Opening.{IsOpened}
 use Rattle.nr_reduce.specs.Reopening.{calls_kept, reopened}
@@ -53,15 +54,15 @@ next_terms : (opening : Opening) (o : LinkParameters) (link : ℕ) (run : List M
 unfolding reopened
 next_terms opening o link run h = record { granted = h.granted; terms = h.terms; numbered = h.numbered }
 
-next_number : (o : LinkParameters) (link : ℕ) (run : List Mark) → (reopened o link run).client.number ≡ o.client.number
+pub next_number : (o : LinkParameters) (link : ℕ) (run : List Mark) → (reopened o link run).client.number ≡ o.client.number
 unfolding reopened
 next_number o link run = refl
 
 -- the client of a link with a number
-abbrev owner_of : LinkParameters → ℕ → ℕ
+abbrev pub owner_of : LinkParameters → ℕ → ℕ
 owner_of o link = if o.client.number == 0 then link else o.client.number
 
-numbered_owner : (o : LinkParameters) (link : ℕ) → o.client.number ≢ 0 → owner_of o link ≡ o.client.number
+pub numbered_owner : (o : LinkParameters) (link : ℕ) → o.client.number ≢ 0 → owner_of o link ≡ o.client.number
 numbered_owner o link some = by (eqb o.client.number 0) refl
   where
     by : (b : Bool) → eqb o.client.number 0 ≡ b → cond b link o.client.number ≡ o.client.number
@@ -93,22 +94,22 @@ pub record IsBegun (s : Setting) (c link : ℕ) (d : Drill) : Type 0 where
 
 module _ (s : Setting) (opening : Opening) (n c link : ℕ) (d : Drill) (within : suc n ≤ lines_max) (last : IsLastOf opening.clients c link d) (numbered : opening.numbered ≡ true)
     (stays : (client ((setting_now s d).opened link) link d.marks).ended ≡ None) (h : DrillHolds s opening n d) where
-  t : Setting
+  abbrev t : Setting
   t = setting_now s d
 
-  o : LinkParameters
+  abbrev o : LinkParameters
   o = t.opened link
 
-  next_o : LinkParameters
+  abbrev next_o : LinkParameters
   next_o = reopened o link d.marks
 
-  begun : Drill
+  abbrev begun : Drill
   begun = with_link c next_o d
 
-  u : Setting
+  abbrev u : Setting
   u = setting_now s begun
 
-  next : ℕ
+  abbrev next : ℕ
   next = length d.pipes + 1
 
   f : IsFrame s opening d
@@ -168,11 +169,14 @@ module _ (s : Setting) (opening : Opening) (n c link : ℕ) (d : Drill) (within 
   few_calls_kept : length (calls_kept o link d.marks) ≤ credits_max
   few_calls_kept = (let kept = few_kept o link d.marks in let most = few_calls o link d.marks k.few k.lawful.accepts in omega (arith, kept, most))
 
-  numbers : IsOpened next_o × AgreedInRange next_o
-  numbers =
+  pub next_stags : stag_after next_o.first_stag next_o.resumed ≤ numbers_end
+  next_stags =
       let fits = reopened_fits o link d.marks few_calls_kept in
       let low = k.stags in
-      reopened_links_are_opened o link d.marks k.opened k.agreed h.typed.typed (asked_so_far o link d.marks k.lawful) (omega (arith, fits, low, within))
+      omega (arith, fits, low, within)
+
+  numbers : IsOpened next_o × AgreedInRange next_o
+  numbers = reopened_links_are_opened o link d.marks k.opened k.agreed h.typed.typed (asked_so_far o link d.marks k.lawful) next_stags
 
   again : AllByRecursion ResumedTyped next_o.resumed
   again = subst (AllByRecursion ResumedTyped) (sym (resumed_are o link d.marks)) (kept_typed o link d.marks h.typed.typed k.again)
@@ -332,12 +336,12 @@ holds_kept s opening Raws = record {
 
 -- ===== the links of the first line open
 
-index_map : {X : Type 0} (g : ℕ → X) (from n i x : ℕ) → x ≡ from + i → slice_index_or (map g (range_with_len from n)) i (g x) ≡ g x
+pub index_map : {X : Type 0} (g : ℕ → X) (from n i x : ℕ) → x ≡ from + i → slice_index_or (map g (range_with_len from n)) i (g x) ≡ g x
 index_map g from zero i x is = refl
 index_map g from (suc n) zero x is = (let same : from ≡ x = omega (arith, is) in ap g same)
 index_map g from (suc n) (suc i) x is = index_map g (from + 1) n i x (omega (arith, is))
 
-index_range : (from n i x : ℕ) → x ≡ from + i → slice_index_or (range_with_len from n) i x ≡ x
+pub index_range : (from n i x : ℕ) → x ≡ from + i → slice_index_or (range_with_len from n) i x ≡ x
 index_range from zero i x is = refl
 index_range from (suc n) zero x is = omega (arith, is)
 index_range from (suc n) (suc i) x is = index_range (from + 1) n i x (omega (arith, is))
@@ -369,7 +373,7 @@ first_stags : (opening : Opening) (link : ℕ) → NextStag (parameters_of openi
 unfolding client events
 first_stags opening link = omega arith
 
-first_owner : (opening : Opening) (link : ℕ) → owner_of (parameters_of opening link) link ≡ link
+pub first_owner : (opening : Opening) (link : ℕ) → owner_of (parameters_of opening link) link ≡ link
 first_owner opening link = by opening.numbered
   where
     inner : (b : Bool) (m : ℕ) → m ≡ link → cond b link m ≡ link
@@ -397,7 +401,7 @@ none_of_next server script done d h =
     map_all (λ (mark : Mark). (1 ≤ link_of mark) × (link_of mark ≤ done)) (λ (mark : Mark). link_of mark ≢ done + 1) d.marks (λ mark a. (λ same. (let most = a.1 in omega (arith, most, same)))) h.within
 
 module _ (server : SerialServer) (script : ScriptLines) (is : IsScript script) where
-  base : Setting
+  abbrev base : Setting
   base = setting_of server script.opening
 
   pub open_one : (done : ℕ) (d : Drill) → done + 1 ≤ script.opening.clients → AreOpen server script done d → AreOpen server script (done + 1) (after_opening base (done + 1) d)

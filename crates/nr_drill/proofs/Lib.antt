@@ -43,3 +43,5 @@ pub mod BegunLinks
 pub mod CarriedLinks
 pub mod NumberedJournals
 pub mod NumberedRuns
+pub mod BegunOrder
+pub mod EarlierOnes

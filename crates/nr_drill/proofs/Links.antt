@@ -185,7 +185,7 @@ module _ (opening : Opening) (s : Setting) (c link n : ℕ) (d : Drill) (h : Lin
 abbrev pub NoMarkOf : ℕ → List Mark → Type 0
 NoMarkOf link run = AllByRecursion (λ (mark : Mark). link_of mark ≢ link) run
 
-none_sent : (link : ℕ) (run : List Mark) → NoMarkOf link run → (bytes_sent link Initiator run ≡ []) × (bytes_sent link Responder run ≡ []) × (bytes_received link Initiator run ≡ []) × (bytes_received link Responder run ≡ [])
+pub none_sent : (link : ℕ) (run : List Mark) → NoMarkOf link run → (bytes_sent link Initiator run ≡ []) × (bytes_sent link Responder run ≡ []) × (bytes_received link Initiator run ≡ []) × (bytes_received link Responder run ≡ [])
 unfolding bytes_sent bytes_received
 none_sent link run apart = (let here = here_all link [] run apart in (here.sent Initiator, here.sent Responder, here.received Initiator, here.received Responder))
 
