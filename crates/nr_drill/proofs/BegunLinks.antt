@@ -29,7 +29,7 @@ use Rattle.nr_drill.proofs.Lawful.{asked_so_far, none_in}
 use Rattle.nr_drill.proofs.Followed.{Extends, opening_adds, opened_by_script, start_creds, AreWritable}
 use Rattle.nr_drill.proofs.OpenCalls.{HasCall, KnowsCalls, SameOn, knows_more, knows_same, knows_next}
 use Rattle.nr_drill.proofs.StagBounds.{NextStag, few_calls, few_kept, reopened_stags, reopened_fits}
-use Rattle.nr_drill.proofs.Actions.{Action, IsLastOf, counted, IsKept, AnyRaw, may_any, action_keeps, lines_kept, lines_of}
+use Rattle.nr_drill.proofs.Actions.{Action, IsLastOf, counted, IsKept, AnyRaw, may_any, action_keeps, lines_kept, lines_of, after_action}
 use Rattle.nr_drill.proofs.Actions.Action.{SubmitCall, FeedUp, FeedDown, WorkOnce, ForgetCall, RevokeCall, DropLink, PutRaw, GrantCredits}
 use Rattle.nr_drill.proofs.Links.{HasTerms, LinkHolds, IsFrame, DrillHolds, NoMarkOf, link_later, link_elsewhere, opens, drill_later, drill_acts, drill_credential, drill_time, same_frame, same_links, map_all, both_all, link_bytes, action_extends}
 
@@ -520,4 +520,4 @@ module _ (server : SerialServer) (script : ScriptLines) (is : IsScript script) w
   pub lines_hold : (follows_run : List Mark) → RepliedInBytes follows_run → (follows : Follows server script follows_run) → DrillHolds base script.opening (length script.lines) follows.last
   lines_hold run replied follows =
       (lines_kept base script.opening AnyRaw (Holds base script.opening) (holds_kept base script.opening AnyRaw) 0 (length script.lines) script.opening.clients script.lines (opened_drill server script.opening) follows.last
-      (lines_of script is) refl follows.makes first_then).1 is.few_lines (subst RepliedInBytes follows.marks_are replied)
+      (lines_of script is) (omega arith) follows.makes first_then).1 is.few_lines (subst RepliedInBytes follows.marks_are replied)

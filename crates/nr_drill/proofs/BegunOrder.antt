@@ -480,4 +480,4 @@ module _ (server : SerialServer) (script : ScriptLines) (is : IsScript script) w
   pub links_in_order : (run : List Mark) → RepliedInBytes run → (follows : Follows server script run) → InOrder (setting_now base follows.last) script.opening.clients follows.last
   links_in_order run replied follows =
       (lines_kept base script.opening AnyRaw (OrderThen base script.opening) (order_kept base script.opening) 0 (length script.lines) script.opening.clients script.lines (opened_drill server script.opening) follows.last
-      (lines_of script is) refl follows.makes (first_then server script is, λ le replied. first_order)).1 is.few_lines (subst RepliedInBytes follows.marks_are replied)
+      (lines_of script is) (omega arith) follows.makes (first_then server script is, λ le replied. first_order)).1 is.few_lines (subst RepliedInBytes follows.marks_are replied)

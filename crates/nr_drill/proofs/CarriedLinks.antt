@@ -18,7 +18,7 @@ use Rattle.nr_laws.proofs.Granted.{submits_within}
 use Rattle.nr_texts.specs.declared.opening.Opening.{Opening}
 use Rattle.nr_script.specs.Limits.{lines_max}
 use Rattle.nr_script.specs.Script.{ScriptLines, IsScript}
-use Rattle.nr_drill.specs.Drill.{SerialServer, Setting, Drill, IsLink, client_of, setting_now, pipes_of, empty_pipes, start, with_cred, after_opening, after_openings, after_leaving}
+use Rattle.nr_drill.specs.Drill.{SerialServer, Setting, Drill, IsLink, client_of, setting_now, pipes_of, empty_pipes, start, with_cred, after_opening, after_openings, after_leaving, last_link}
 use Rattle.nr_drill.specs.Follows.{Follows, setting_of, last_setting, opened_drill}
 use Rattle.nr_drill.specs.Headline.{KeepsLaws}
 use Rattle.nr_drill.specs.InBytes.{RepliedInBytes}
@@ -40,7 +40,7 @@ own_carries s own most c link WorkOnce d mine owner may k h = carries_work s lin
 own_carries s own most c link (ForgetCall number) d mine owner may k h = carries_forget s link number d h
 own_carries s own most c link (RevokeCall number) d mine owner may k h = carries_revoke s link number d k h
 own_carries s own most c link DropLink d mine owner may k h = carries_drop link d h
-own_carries s own most c link (PutRaw side bytes) d mine owner may k h = absurd (may (sym owner ∙ mine))
+own_carries s own most c link (PutRaw side bytes) d mine owner may k h = absurd (may.0 (sym owner ∙ mine))
 own_carries s own most c link (GrantCredits credits) d mine owner may k h = carries_grant link credits d h
 
 -- the links of a client carry what is sent on them
@@ -238,7 +238,7 @@ follows_keeps server script run is replied follows link within =
       handed = subst (λ (r : List Mark). outcomes_due o link r ≡ []) rejoin h.due;
       matched = λ raw.
           (let all = lines_kept s script.opening (NotOf own) (CarriesThen s script.opening own) (carries_kept s script.opening own) 0 (length script.lines) script.opening.clients script.lines (opened_drill server script.opening)
-          follows.last (lines_not_of own script is raw) refl follows.makes
+          follows.last (lines_not_of own script is raw) (omega arith) follows.makes
           (first_then server script is, λ le replied. first_carries server script is own) in
           subst (Matched link) rejoin (all.1 is.few_lines (subst RepliedInBytes follows.marks_are replied) link within refl).matched);
     }

@@ -3,6 +3,7 @@ use Rattle.std.proofs.Common.{◌≡◌, ◌≢◌, ℕ, ◌+◌, Bool, true, fa
 use Rattle.nr_wire.specs.declared.hello.Side.TheVariants.{Initiator, Responder}
 use Rattle.nr_link.specs.declared.end.End.{End}
 use Rattle.nr_wire.specs.Segment.{Segment}
+use Rattle.nr_wire.specs.Stream.{split}
 use Rattle.nr_link.specs.ReceiveState.{ReadRequest, message_completed, read_request_of}
 use Rattle.nr_link.specs.Frames.{Frame, frames_from, frames_of, frames_completed, is_hello}
 use Rattle.nr_reduce.specs.declared.mark.Mark.{Mark}
@@ -90,7 +91,7 @@ first_frame o r f es first stays = by r.ended refl
         has = from r.ended
           where
             from : (ended : Option End) → HasUnlessEnded (next_end_state_in (client_rules o) r.state (FrameReceived f) ended)
-            from None = first_event o r.state f first
+            from None none = first_event o r.state f first none
             from (Some end) none = absurd cc
     by_next (Some end) is = ended_then o next end es is stays
 
@@ -201,7 +202,7 @@ once_from o link before [] h = subst (GreetedOnce o link) (sym (append-nil befor
 once_from o link before (mark ∷ run) h = subst (GreetedOnce o link) (append_assoc before (mark ∷ []) run) (once_from o link (before ++ mark ∷ []) run (once_mark o link before mark h))
 
 none_came : (o : LinkParameters) (link : ℕ) → GreetedOnce o link []
-unfolding bytes_received frames_of
+unfolding bytes_received frames_of split
 none_came o link some = absurd (some refl)
 
 pub greeted_by_frames : (o : LinkParameters) (link : ℕ) (run : List Mark) → frames_of Responder (bytes_received link Initiator run) ≢ [] → (client o link run).ended ≡ None → (client o link run).state.has_hello ≡ true

@@ -342,10 +342,10 @@ drill_credential s opening n c cred d can typed h =
       frame = record {
         count = f.count;
         pipes = f.pipes;
-        owned = λ c l last. f.owned c l (last_of_same opening.clients c l d (with_cred c cred d) refl last);
+        owned = λ o l last. f.owned o l (last_of_same opening.clients o l d (with_cred c cred d) refl last);
         within = f.within;
         creds = with_cred_at d.creds (c - 1) cred f.creds can;
-        knows = λ c l last. f.knows c l (last_of_same opening.clients c l d (with_cred c cred d) refl last);
+        knows = λ o l last. f.knows o l (last_of_same opening.clients o l d (with_cred c cred d) refl last);
       };
       typed = record { typed = h.typed.typed; pipes = h.typed.pipes; creds = with_cred_at_lem d.creds (c - 1) cred h.typed.creds typed };
       links = h.links;

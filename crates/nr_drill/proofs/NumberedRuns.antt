@@ -17,7 +17,7 @@ use Rattle.nr_reduce.proofs.Standing.{received_one}
 use Rattle.nr_texts.specs.declared.opening.Opening.{Opening}
 use Rattle.nr_script.specs.Limits.{lines_max}
 use Rattle.nr_script.specs.Script.{ScriptLines, IsScript}
-use Rattle.nr_drill.specs.Drill.{SerialServer, link_of, Setting, Drill, IsLink, plain_of, journal_of, last_link, setting_now, links_of, start, after_drop, after_grant, after_opening, after_openings}
+use Rattle.nr_drill.specs.Drill.{SerialServer, link_of, Setting, Drill, IsLink, plain_of, journal_of, last_link, setting_now, links_of, start, after_drop, after_grant, after_opening, after_openings, after_leaving}
 use Rattle.nr_drill.specs.Follows.{Follows, setting_of, last_setting, opened_drill}
 use Rattle.nr_drill.specs.InBytes.{RepliedInBytes}
 use Rattle.nr_drill.proofs.LessFrames.{still_heard}
@@ -170,7 +170,7 @@ pub follows_journaled : (server : SerialServer) (script : ScriptLines) (run : Li
 follows_journaled server script run is replied follows =
     let s = setting_of server script.opening in
     let all = lines_kept s script.opening AnyRaw (JournaledThen s script.opening) (journaled_kept s script.opening) 0 (length script.lines) script.opening.clients script.lines (opened_drill server script.opening)
-    follows.last (lines_of script is) refl follows.makes
+    follows.last (lines_of script is) (omega arith) follows.makes
     (first_then server script is, λ le replied. first_journaled server script.opening) in
     let h = all.1 is.few_lines (subst RepliedInBytes follows.marks_are replied) in
     let back = sym follows.marks_are in
