@@ -1,7 +1,6 @@
 -- The links of a client in a drill: each goes on from the one before, on which nothing more happens then.
 use Rattle.std.specs.Prelude.{◌-◌, ◌||◌, ◌&&◌, ◌==◌, slice_index_or, if◌then◌else◌}
-use Rattle.std.specs.List.{AllByRecursion, list_any}
-use Rattle.std.proofs.Common.{◌≡◌, ◌≢◌, ℕ, zero, suc, ◌+◌, ◌≤◌, ◌<◌, arith, cond, eqb, eqb-true, Bool, true, false, List, [], ◌∷◌, ◌++◌, length, None, Some, refl, sym, ap, subst, ◌∙◌, append_assoc, append-nil, length-append, ◌⊎◌, inl, inr}
+use Rattle.std.proofs.Common.{◌≡◌, ◌≢◌, ℕ, zero, suc, ◌+◌, ◌≤◌, ◌<◌, arith, cond, eqb, eqb-true, Bool, true, false, List, [], ◌∷◌, ◌++◌, length, None, refl, sym, ap, subst, ◌∙◌, append_assoc, append-nil, length-append, ◌⊎◌, inl, inr}
 use Rattle.std.proofs.lemmas.Bool.{eq-eqb}
 use Rattle.std.proofs.lemmas.List.{get_or-set_other}
 use Rattle.nr_wire.specs.declared.hello.Side.{Side}
@@ -12,14 +11,14 @@ use Rattle.nr_reduce.specs.declared.mark.Mark.TheVariants as marks
 use Rattle.nr_reduce.specs.declared.mark.LinkParameters.{LinkParameters}
 use Rattle.nr_reduce.specs.Limits.{numbers_end}
 use Rattle.nr_reduce.specs.ClientState.{stag_after}
-use Rattle.nr_reduce.specs.Events.{RunEvent, events, events_at}
-use Rattle.nr_reduce.specs.History.{abandons, is_abandoned, bytes_received, is_dropped}
-use Rattle.nr_reduce.specs.Reopening.{reopened, IsReopened, HasAnswer}
+use Rattle.nr_reduce.specs.Events.{RunEvent, events}
+use Rattle.nr_reduce.specs.History.{abandons, is_abandoned}
+use Rattle.nr_reduce.specs.Reopening.{reopened}
 use Rattle.nr_reduce.specs.Run.{client}
 use Rattle.nr_reduce.proofs.Steps.{events_one}
 use Rattle.nr_laws.proofs.DistinctKeys.{any_append}
 use Rattle.nr_laws.proofs.Brought.{frames_in, events_frames}
-use Rattle.nr_laws.specs.OnceEach.{BegunLink, HasNotBegun, IsNextLink, GoesOn, IsEarlier}
+use Rattle.nr_laws.specs.OnceEach.{HasNotBegun, IsNextLink}
 use Rattle.nr_texts.specs.declared.opening.Opening.{Opening}
 use Rattle.nr_script.specs.Limits.{lines_max}
 use Rattle.nr_script.specs.Script.{ScriptLines, IsScript}
@@ -27,9 +26,9 @@ use Rattle.nr_drill.specs.Drill.{SerialServer, link_of, Setting, Drill, IsLink, 
 use Rattle.nr_drill.specs.Follows.{Follows, setting_of, opened_drill}
 use Rattle.nr_drill.specs.InBytes.{RepliedInBytes}
 use Rattle.nr_drill.specs.Unnumbered.{Heard}
-use Rattle.nr_drill.proofs.Followed.{Extends, KeepsLinks, apart, no_event, same_setting, opening_adds}
-use Rattle.nr_drill.proofs.Actions.{Action, after_action, IsLastOf, MayAct, IsKept, AnyRaw, counted, lines_kept, lines_of}
-use Rattle.nr_drill.proofs.Links.{LinkHolds, DrillHolds, NoMarkOf, both_all, map_all, action_extends, link_of_same}
+use Rattle.nr_drill.proofs.Followed.{Extends, apart, no_event, same_setting, opening_adds}
+use Rattle.nr_drill.proofs.Actions.{after_action, IsLastOf, IsKept, AnyRaw, lines_kept, lines_of}
+use Rattle.nr_drill.proofs.Links.{DrillHolds, NoMarkOf, both_all, map_all, action_extends}
 use Rattle.nr_drill.proofs.BegunLinks.{Holds, IsBegun, begun_drill, next_link, begins_so, next_stags, holds_kept, counted_most, replied_before, index_map, index_range, first_owner, open_drill, opened_count, first_then}
 
 -- ===== marks of other links
@@ -205,7 +204,7 @@ le_or (suc a) (suc b) = up (le_or a b)
     up (inr l) = inr (omega (arith, l))
 
 -- each side heard the other, so the client had an event
-some_event : (o : LinkParameters) (link : ℕ) (run : List Mark) → Heard o link run → events link Initiator run ≢ []
+pub some_event : (o : LinkParameters) (link : ℕ) (run : List Mark) → Heard o link run → events link Initiator run ≢ []
 unfolding frames_of
 some_event o link run h none =
     h.client (sym (events_frames link Initiator run) ∙ ap (λ (es : List RunEvent). frames_in es) none)

@@ -1,22 +1,20 @@
 -- The links of a client in a drill, as the laws of numbered clients say it: of two of them one goes on from the other, each goes on from those alone
 -- that have a smaller number, and two links whose servers heard the same number are of one client.
-use Rattle.std.specs.Prelude.{◌-◌, ◌==◌, slice_index_or, if◌then◌else◌}
 use Rattle.std.specs.List.{AllByRecursion}
-use Rattle.std.proofs.Common.{◌≡◌, ◌≢◌, ℕ, zero, suc, ◌+◌, ◌≤◌, ◌<◌, arith, List, [], ◌∷◌, ◌++◌, length, refl, sym, ap, subst, ◌∙◌, append_assoc, ◌⊎◌, inl, inr}
-use Rattle.nr_wire.specs.declared.hello.Side.TheVariants.{Initiator, Responder}
+use Rattle.std.proofs.Common.{◌≡◌, ◌≢◌, ℕ, zero, suc, ◌+◌, ◌≤◌, ◌<◌, arith, List, [], ◌∷◌, ◌++◌, refl, sym, ap, subst, ◌∙◌, ◌⊎◌, inl, inr}
+use Rattle.nr_wire.specs.declared.hello.Side.TheVariants.{Initiator}
 use Rattle.nr_link.specs.Frames.{frames_of}
 use Rattle.nr_wire.specs.Stream.{split}
 use Rattle.nr_reduce.specs.declared.mark.Mark.{Mark}
 use Rattle.nr_reduce.specs.declared.mark.LinkParameters.{LinkParameters}
-use Rattle.nr_reduce.specs.Events.{RunEvent, events}
-use Rattle.nr_reduce.specs.History.{bytes_received}
+use Rattle.nr_reduce.specs.Events.{events}
 use Rattle.nr_reduce.specs.NumberedJournal.{number_in_frames, number_heard}
 use Rattle.nr_laws.proofs.Following.{events_more}
 use Rattle.nr_laws.specs.OnceEach.{BegunLink, IsNextLink, GoesOn, IsEarlier, OneClientEach}
-use Rattle.nr_drill.specs.Drill.{link_of, Setting, Drill, IsLink, client_of}
+use Rattle.nr_drill.specs.Drill.{link_of, Setting, client_of}
 use Rattle.nr_drill.proofs.Links.{NoMarkOf, map_all, none_sent}
 use Rattle.nr_drill.proofs.BegunLinks.{next_number, numbered_owner}
-use Rattle.nr_drill.proofs.BegunOrder.{LinksInOrder, StepsOn, IsIn, step_is_next, none_begun, le_or}
+use Rattle.nr_drill.proofs.BegunOrder.{LinksInOrder, IsIn, step_is_next, none_begun, le_or}
 
 -- ===== lists
 
@@ -216,7 +214,7 @@ module _ (t : Setting) (clients links : ℕ) (lasts : List ℕ) (run : List Mark
         let apart : NoMarkOf link run = map_all (λ (mark : Mark). IsIn links (link_of mark)) (λ (mark : Mark). link_of mark ≢ link) run (λ mark is same. not (subst (IsIn links) same is)) within in
         ap (λ (xs : List ℕ). number_in_frames (frames_of Initiator xs)) (none_sent link run apart).3 ∙ none_number
 
-    heard_within : (link : ℕ) → number_heard run link ≢ 0 → IsIn links link
+    pub heard_within : (link : ℕ) → number_heard run link ≢ 0 → IsIn links link
     heard_within link some = by (within_or link)
       where
         by : IsIn links link ⊎ (IsIn links link → ⊥) → IsIn links link

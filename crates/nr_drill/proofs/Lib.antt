@@ -45,3 +45,4 @@ pub mod NumberedJournals
 pub mod NumberedRuns
 pub mod BegunOrder
 pub mod EarlierOnes
+pub mod NumberedDrills
