@@ -119,10 +119,10 @@ each_at : {X : Type 0} (P : X → Type 0) (xs : List X) → ((i : ℕ) (other : 
 each_at P [] all = tt
 each_at P (x ∷ xs) all = (all 0 x (omega arith), each_at P xs (λ i other lt. all (suc i) other (omega (arith, lt))))
 
-abbrev IsLastOfSome : ℕ → Drill → ℕ → Type 0
+abbrev pub IsLastOfSome : ℕ → Drill → ℕ → Type 0
 IsLastOfSome clients d link = (c : ℕ) × IsLastOf clients c link d
 
-all_last : (clients : ℕ) (d : Drill) → length d.last_links ≡ clients → AllByRecursion (IsLastOfSome clients d) d.last_links
+pub all_last : (clients : ℕ) (d : Drill) → length d.last_links ≡ clients → AllByRecursion (IsLastOfSome clients d) d.last_links
 all_last clients d count = each_at (IsLastOfSome clients d) d.last_links (λ i other lt. at i other lt)
   where
     inside : (links : List ℕ) (i one other : ℕ) → i < length links → slice_index_or links i one ≡ slice_index_or links i other
@@ -176,11 +176,11 @@ module _ (s : Setting) (opening : Opening) (Raws : ℕ → Type 0) (P : ℕ → 
       subst (λ (t : Setting). P (counted a n) (after_action t link a d)) (same_setting s old d keeps) (k.action n c link a d now may h)
 
   -- the drill after some steps of a drain, which leave the links
-  record Drained (old : Drill) (n : ℕ) (d : Drill) : Type 0 where
-    holds : P n d
-    keeps : KeepsLinks old d
+  pub record Drained (old : Drill) (n : ℕ) (d : Drill) : Type 0 where
+    pub holds : P n d
+    pub keeps : KeepsLinks old d
 
-  fed_up : (old : Drill) (n c link most : ℕ) (d : Drill) → IsLastOf opening.clients c link old → Drained old n d → Drained old n (after_up (setting_now s old) link most d)
+  pub fed_up : (old : Drill) (n c link most : ℕ) (d : Drill) → IsLastOf opening.clients c link old → Drained old n d → Drained old n (after_up (setting_now s old) link most d)
   fed_up old n c link most d last h = record {
     holds = acted n c link (FeedUp most) old d h.keeps last tt h.holds;
     keeps = then_keep old d (after_up (setting_now s old) link most d) h.keeps (action_keeps (setting_now s old) link (FeedUp most) d);
@@ -198,7 +198,7 @@ module _ (s : Setting) (opening : Opening) (Raws : ℕ → Type 0) (P : ℕ → 
     keeps = then_keep old d (after_work (setting_now s old) link d) h.keeps (action_keeps (setting_now s old) link WorkOnce d);
   }
 
-  worked_all : (old : Drill) (n c link calls : ℕ) (d : Drill) → IsLastOf opening.clients c link old → Drained old n d → Drained old n (after_calls (setting_now s old) link calls d)
+  pub worked_all : (old : Drill) (n c link calls : ℕ) (d : Drill) → IsLastOf opening.clients c link old → Drained old n d → Drained old n (after_calls (setting_now s old) link calls d)
   worked_all old n c link zero d last h = h
   worked_all old n c link (suc calls) d last h = worked_all old n c link calls (after_work (setting_now s old) link d) last (worked old n c link d last h)
 
@@ -211,7 +211,7 @@ module _ (s : Setting) (opening : Opening) (Raws : ℕ → Type 0) (P : ℕ → 
       fed_down old n c link (length (pipes_of link two).down) two last
       (worked_all old n c link (length (server (t.opened link) link one.marks).state.ready) one last (fed_up old n c link (length (pipes_of link d).up) d last h))
 
-  round_kept : (old : Drill) (n : ℕ) (links : List ℕ) (d : Drill) → AllByRecursion (IsLastOfSome opening.clients old) links → Drained old n d → Drained old n (after_round (setting_now s old) links d)
+  pub round_kept : (old : Drill) (n : ℕ) (links : List ℕ) (d : Drill) → AllByRecursion (IsLastOfSome opening.clients old) links → Drained old n d → Drained old n (after_round (setting_now s old) links d)
   round_kept old n [] d last h = h
   round_kept old n (link ∷ links) d last h = round_kept old n links (after_moves (setting_now s old) link d) last.1 (moved old n last.0.0 link d last.0.1 h)
 
@@ -377,3 +377,27 @@ none_of_client own (line ∷ all) e = (let h = neither (is_raw_of own line) (lis
 
 pub lines_not_of : (own : ℕ) (script : ScriptLines) → IsScript script → list_any (is_raw_of own) script.lines ≡ false → AllByRecursion (IsLineOf script.opening (NotOf own)) script.lines
 lines_not_of own script is none = lines_from script.opening (NotOf own) [] script.lines is.follow_on is.creds is.typed (none_of_client own script.lines none)
+
+-- so it is of a line, if it puts none there
+line_not_of : (opening : Opening) (own : ℕ) (line : Line) → is_raw_of own line ≡ false → IsLineOf opening AnyRaw line → IsLineOf opening (NotOf own) line
+line_not_of opening own (lines.Cred c cred) none h = h
+line_not_of opening own (lines.Call c form prog vers proc args) none h = h
+line_not_of opening own (lines.Up c most) none h = h
+line_not_of opening own (lines.Down c most) none h = h
+line_not_of opening own (lines.Work c) none h = h
+line_not_of opening own (lines.Tick seconds) none h = h
+line_not_of opening own (lines.Forget c number) none h = h
+line_not_of opening own (lines.Revoke c number) none h = h
+line_not_of opening own (lines.Drop c) none h = h
+line_not_of opening own (lines.Rejoin c) none h = h
+line_not_of opening own (lines.Raw c side bytes) none h = (h.0, (λ same. absurd (let wrong : true ≡ false = sym (eq-eqb c own same) ∙ none in cc)), h.2)
+line_not_of opening own (lines.Grant c credits) none h = h
+line_not_of opening own lines.Drain none h = h
+
+pub part_not_of : (opening : Opening) (own : ℕ) (part : List Line) → list_any (is_raw_of own) part ≡ false → AllByRecursion (IsLineOf opening AnyRaw) part → AllByRecursion (IsLineOf opening (NotOf own)) part
+part_not_of opening own [] none h = tt
+part_not_of opening own (line ∷ part) none h = (let e = neither (is_raw_of own line) (list_any (is_raw_of own) part) none in (line_not_of opening own line e.0 h.0, part_not_of opening own part e.1 h.1))
+  where
+    neither : (a b : Bool) → (a || b) ≡ false → (a ≡ false) × (b ≡ false)
+    neither true b e = absurd cc
+    neither false b e = (refl, e)

@@ -148,7 +148,7 @@ client_begins s opening own n c link d b carries = subst (λ (l : ℕ). ClientCa
 
 -- ===== all lines
 
-abbrev CarriesThen : Setting → Opening → (own n : ℕ) → Drill → Type 0
+abbrev pub CarriesThen : Setting → Opening → (own n : ℕ) → Drill → Type 0
 CarriesThen s opening own n d = Holds s opening n d × (n ≤ lines_max → RepliedInBytes d.marks → ClientCarries s own d)
 
 moved_on : (s : Setting) (own : ℕ) (d new : Drill) → new.marks ≡ d.marks → new.pipes ≡ d.pipes → new.opened ≡ d.opened → new.last_links ≡ d.last_links → ClientCarries s own d → ClientCarries s own new
@@ -156,7 +156,7 @@ moved_on s own d new m p o l carries link is mine =
     let same : setting_now s new ≡ setting_now s d = same_setting s d new (record { opened = o; last_links = l }) in
     same_marks link d new m p (carries link (link_of_same d new link o is) (ap (λ (r : Setting). client_of r link) (sym same) ∙ mine))
 
-carries_kept : (s : Setting) (opening : Opening) (own : ℕ) → IsKept s opening (NotOf own) (CarriesThen s opening own)
+pub carries_kept : (s : Setting) (opening : Opening) (own : ℕ) → IsKept s opening (NotOf own) (CarriesThen s opening own)
 carries_kept s opening own =
     let k = holds_kept s opening (NotOf own) in
     record {
@@ -208,7 +208,7 @@ first_all server script is done (suc more) d all a h =
     first_all server script is (done + 1) more (after_opening s (done + 1) d) (omega (arith, all)) (open_one server script is done d le a)
     (first_one s script.opening.clients done d (none_of_next server script done d a) (a.empty (done + 1) (omega arith) le) (let room = a.room in omega (arith, room, le)) h)
 
-first_carries : (server : SerialServer) (script : ScriptLines) → IsScript script → (own : ℕ) → ClientCarries (setting_of server script.opening) own (opened_drill server script.opening)
+pub first_carries : (server : SerialServer) (script : ScriptLines) → IsScript script → (own : ℕ) → ClientCarries (setting_of server script.opening) own (opened_drill server script.opening)
 unfolding opened_drill
 first_carries server script is own link within mine =
     let all = first_all server script is 0 script.opening.clients (start (setting_of server script.opening) script.opening.clients) refl (at_start server script is) (record { links = λ l low high. absurd (omega (arith, low, high)) }) in

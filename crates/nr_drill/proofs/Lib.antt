@@ -46,3 +46,4 @@ pub mod NumberedRuns
 pub mod BegunOrder
 pub mod EarlierOnes
 pub mod NumberedDrills
+pub mod DrainedSteps
