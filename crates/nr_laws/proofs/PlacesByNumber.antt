@@ -19,7 +19,7 @@ use Rattle.nr_reduce.specs.NumberedJournal.{Standing, standing_for, tagged_journ
 use Rattle.nr_reduce.specs.NumberedJournal.Standing.{Old, Kept, New}
 use Rattle.nr_laws.specs.MarkAt.{MarkAt}
 use Rattle.nr_laws.specs.MatchedSoFar.{MatchedSoFar}
-use Rattle.nr_laws.specs.OnceEach.{BegunLink, GoesOn, IsEarlier, MatchedWithEarlier, OpenedWithEarlier, OneClientEach, OneLinkBefore, AddsOneAtMost, PlacesFollowByNumber}
+use Rattle.nr_laws.specs.OnceEach.{BegunLink, GoesOn, IsEarlier, MatchedWithEarlier, OpenedWithEarlier, OneClientEach, AreInOrder, GoesFurther, AddsOneAtMost, PlacesFollowByNumber}
 use Rattle.nr_laws.specs.PlainLinks.{server_with}
 use Rattle.nr_laws.specs.Typed.{IsTyped}
 use Rattle.nr_laws.proofs.EarlierLinks.{InFirst, AfterFirst, mark_in_first, event_at_mark, submit_event, execute_event, none_is, submitted_in_time, LinkKeeps, xid_below, each_earlier, LeftBy, left_by}
@@ -139,24 +139,6 @@ module _ (opened : ℕ → LinkParameters) (run : List Mark) (typed : IsTyped ru
       by [] same = later_execute link far near e p q now bytes at answer (there ∙ ap (λ (l : ℕ). p ++ marks.Execute l xid now bytes at answer ∷ q) same)
       by (old ∷ links) g = later old links g
 
--- ---- Two links that one link goes on from
-
-record GoesPast (opened : ℕ → LinkParameters) (run : List Mark) (first other : ℕ) : Type 0 where
-  link : BegunLink
-  old : BegunLink
-  links : List BegunLink
-  is : link.link ≡ other
-  goes_on : GoesOn opened run first link (old ∷ links)
-  keeps : AllByRecursion (LinkKeeps opened run) (old ∷ links)
-
-compare : (opened : ℕ → LinkParameters) (run : List Mark) → OneLinkBefore opened run → (first other : ℕ) (link : BegunLink) (links : List BegunLink) → GoesOn opened run first link links → AllByRecursion (LinkKeeps opened run) links
-    → (again : BegunLink) (others : List BegunLink) → GoesOn opened run other again others → link.link ≡ again.link → IsEarlier opened run other first ⊎ GoesPast opened run first other
-compare opened run one first other link [] is keeps again others h same =
-    inl (record { began = again.began; links = others; goes_on = subst (λ (n : ℕ). GoesOn opened run other (record { link = n; began = again.began }) others) (sym same ∙ is) h })
-compare opened run one first other link (old ∷ links) g keeps again [] is same = inr (record { link = link; old = old; links = links; is = same ∙ is; goes_on = g; keeps = keeps })
-compare opened run one first other link (old ∷ links) (n, g) keeps again (older ∷ others) (m, h) same =
-    compare opened run one first other old links g keeps.1 older others h (one old older link again n m same)
-
 -- ---- Places by the lengths of journals
 
 module _ (reply_to : List Entry → Moment → List ℕ → Option (List ℕ)) (adds : Moment → List ℕ → List ℕ → List Entry) (number : ℕ → ℕ) where
@@ -184,7 +166,7 @@ module _ (reply_to : List Entry → Moment → List ℕ → Option (List ℕ)) (
 -- ---- The call that was submitted later
 
 module _ (reply_to : List Entry → Moment → List ℕ → Option (List ℕ)) (adds : Moment → List ℕ → List ℕ → List Entry) (opened : ℕ → LinkParameters) (run : List Mark) (typed : IsTyped run) (each : AtEachMark (NumberedMark (server_with reply_to adds) (number_heard run)) [] run)
-    (few : AddsOneAtMost adds) (clients : OneClientEach opened run) (one : OneLinkBefore opened run) (other executing : ℕ) (e : IsEarlier opened run other executing) (opens : OpenedWithEarlier opened run executing) (matched : MatchedWithEarlier opened run executing)
+    (few : AddsOneAtMost adds) (clients : OneClientEach opened run) (other executing : ℕ) (order : AreInOrder opened run executing) (further : GoesFurther opened run executing) (e : IsEarlier opened run other executing) (opens : OpenedWithEarlier opened run executing) (matched : MatchedWithEarlier opened run executing)
     (front back : List Mark) (call : Call) (form : Form) (xid : ℕ) (first : (opened other).first_xid ≤ xid) (here : run ≡ front ++ marks.Submit other call form (submissions.Accepted xid) ∷ back)
     (then after : List Mark) (moment : Moment) (payload : List ℕ) (place : ℕ) (reply : List ℕ) (is : run ≡ then ++ marks.Execute executing xid moment payload place reply ∷ after) where
   abbrev number : ℕ → ℕ
@@ -207,24 +189,27 @@ module _ (reply_to : List Entry → Moment → List ℕ → Option (List ℕ)) (
 
   -- an earlier link that executed it submitted it after its first Submit, too
   earlier_after : (link : ℕ) → IsEarlier opened run link executing → (p q : List Mark) (now : Moment) (bytes : List ℕ) (at : ℕ) (answer : List ℕ) → run ≡ p ++ marks.Execute link xid now bytes at answer ∷ q → AfterFirst front p
-  earlier_after link y p q now bytes at answer there = by (compare opened run one link other last y.links y.goes_on keeps (record { link = executing; began = e.began }) e.links e.goes_on refl)
+  earlier_after link y p q now bytes at answer there = by (order link other y e)
     where
-      last : BegunLink
-      last = record { link = executing; began = y.began }
+      again : IsEarlier opened run other link → AfterFirst front p
+      again between = later_execute opened run typed other front back call form xid here link far (matched link y) between p q now bytes at answer there
 
-      keeps : AllByRecursion (LinkKeeps opened run) y.links
-      keeps = each_earlier opened run link last y.links (LinkKeeps opened run) y.goes_on
+      -- the call would have had its xid before the link on which it was submitted first
+      past : (began : List Mark) (links : List BegunLink) → GoesOn opened run link (record { link = other; began = began }) links → AfterFirst front p
+      past began [] same = again (record { began = []; links = []; goes_on = sym same })
+      past began (old ∷ links) g =
+          let last : BegunLink = record { link = other; began = began } in
+          let keeps = each_earlier opened run link last (old ∷ links) (LinkKeeps opened run) g
           (λ earlier part h.
-          (let there : IsEarlier opened run earlier.link executing = record { began = y.began; links = part; goes_on = h } in
-          record { opens = opens earlier.link there; asked = (matched earlier.link there).asked }))
-
-      by : IsEarlier opened run other link ⊎ GoesPast opened run link other → AfterFirst front p
-      by (inl between) = later_execute opened run typed other front back call form xid here link far (matched link y) between p q now bytes at answer there
-      by (inr past) =
+          (let there : IsEarlier opened run earlier.link executing = further earlier.link other (record { began = began; links = part; goes_on = h }) e in
+          record { opens = opens earlier.link there; asked = (matched earlier.link there).asked })) in
           let s = submitted_before (opened link) link run p q xid now bytes at answer typed (matched link y) there in
-          let below = xid_below opened run link s.before s.after s.call s.form xid s.is past.link past.old past.links past.keeps past.goes_on in
-          let same = ap (λ (l : ℕ). (opened l).first_xid) past.is in
-          absurd (omega (arith, below, first, same))
+          let below = xid_below opened run link s.before s.after s.call s.form xid s.is last old links keeps g in
+          absurd (omega (arith, below, first))
+
+      by : IsEarlier opened run link other ⊎ IsEarlier opened run other link → AfterFirst front p
+      by (inl older) = past older.began older.links older.goes_on
+      by (inr between) = again between
 
   entry_after : (at : ℕ) → standing_for (tagged_journal (server_with reply_to adds) number then) (number executing) xid ≡ Kept at → length (journal_from reply_to adds number [] front) ≤ at
   unfolding tagged_journal
@@ -257,7 +242,7 @@ module _ (reply_to : List Entry → Moment → List ℕ → Option (List ℕ)) (
       by New own law = (let longer = rises reply_to adds number front then own_after in let same = law.0 in omega (arith, longer, same))
 
 pub places_follow_by_number : PlacesFollowByNumber
-places_follow_by_number reply_to adds opened link other executing T run before between before_first before_second call form xid yid outcome moment now payload bytes place later reply answer typed journaled few clients one far e opens matched first submit h g =
+places_follow_by_number reply_to adds opened link other executing T run before between before_first before_second call form xid yid outcome moment now payload bytes place later reply answer typed journaled few clients order further far e opens matched first submit h g =
     let done : Mark = marks.Done link xid outcome in
     let execute : Mark = marks.Execute link xid moment payload place reply in
     let front : List Mark = before ++ done ∷ between in
@@ -270,5 +255,5 @@ places_follow_by_number reply_to adds opened link other executing T run before b
     } in
     let one_place = place_within reply_to adds (number_heard run) run before_first h.after link xid moment payload place reply journaled.each h.is in
     let longer = rises reply_to adds (number_heard run) before_first front follows in
-    let two_place = place_after reply_to adds opened run typed journaled.each few clients one other executing e opens matched front submit.after call form yid first submit.is before_second g.after now bytes later answer g.is in
+    let two_place = place_after reply_to adds opened run typed journaled.each few clients other executing order further e opens matched front submit.after call form yid first submit.is before_second g.after now bytes later answer g.is in
     omega (arith, one_place, longer, two_place)

@@ -73,9 +73,12 @@ abbrev pub OneClientEach : (ℕ → LinkParameters) → List Mark → Type 0
 OneClientEach opened run = (link other : ℕ) → number_heard run link ≢ 0 → number_heard run link ≡ number_heard run other →
     IsEarlier opened run link other ⊎ IsEarlier opened run other link
 
--- a link goes on from one link only
-abbrev pub OneLinkBefore : (ℕ → LinkParameters) → List Mark → Type 0
-OneLinkBefore opened run = (old other next again : BegunLink) → IsNextLink opened run old next → IsNextLink opened run other again → next.link ≡ again.link → old.link ≡ other.link
+-- Of two links that a link goes on from, one goes on from the other; and what such a link goes on from the link itself goes on from, too.
+abbrev pub AreInOrder : (ℕ → LinkParameters) → List Mark → ℕ → Type 0
+AreInOrder opened run link = (first other : ℕ) → IsEarlier opened run first link → IsEarlier opened run other link → IsEarlier opened run first other ⊎ IsEarlier opened run other first
+
+abbrev pub GoesFurther : (ℕ → LinkParameters) → List Mark → ℕ → Type 0
+GoesFurther opened run link = (first other : ℕ) → IsEarlier opened run first other → IsEarlier opened run other link → IsEarlier opened run first link
 
 -- ---- The entries of a plain server
 
@@ -150,7 +153,7 @@ PlacesFollowByNumber = (reply_to : List Entry → Moment → List ℕ → Option
     (opened : ℕ → LinkParameters) (link other executing : ℕ) (T : List TaggedEntry) (run before between before_first before_second : List Mark)
     (call : Call) (form : Form) (xid other_xid : ℕ) (outcome : Outcome)
     (moment other_moment : Moment) (payload other_payload : List ℕ) (place other_place : ℕ) (reply other_reply : List ℕ) →
-    IsTyped run → JournaledByNumber (server_with reply_to adds) (number_heard run) T run → AddsOneAtMost adds → OneClientEach opened run → OneLinkBefore opened run →
+    IsTyped run → JournaledByNumber (server_with reply_to adds) (number_heard run) T run → AddsOneAtMost adds → OneClientEach opened run → AreInOrder opened run executing → GoesFurther opened run executing →
     MatchedSoFar (opened link) link run → IsEarlier opened run other executing → OpenedWithEarlier opened run executing → MatchedWithEarlier opened run executing →
     (opened other).first_xid ≤ other_xid →
     MarkAt run (before ++ marks.Done link xid outcome ∷ between) (marks.Submit other call form (submissions.Accepted other_xid)) →
