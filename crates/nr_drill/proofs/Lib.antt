@@ -47,3 +47,4 @@ pub mod BegunOrder
 pub mod EarlierOnes
 pub mod NumberedDrills
 pub mod DrainedSteps
+pub mod PlacesByLinks

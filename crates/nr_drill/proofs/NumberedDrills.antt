@@ -81,16 +81,16 @@ module _ (server : SerialServer) (script : ScriptLines) (run : List Mark) (is : 
   abbrev T : List TaggedEntry
   T = journal_of t run
 
-  held : DrillHolds (setting_of server script.opening) script.opening (length script.lines) follows.last
+  pub held : DrillHolds (setting_of server script.opening) script.opening (length script.lines) follows.last
   held = lines_hold server script is run replied follows
 
   pub typed : IsTyped run
   typed = subst IsTyped (sym follows.marks_are) held.typed.typed
 
-  order : LinksInOrder t clients links follows.last.last_links run
+  pub order : LinksInOrder t clients links follows.last.last_links run
   order = subst (λ (r : List Mark). LinksInOrder t clients links follows.last.last_links r) (sym follows.marks_are) (links_in_order server script is run replied follows)
 
-  wrote : (link : ℕ) → IsIn links link → events link Initiator run ≢ []
+  pub wrote : (link : ℕ) → IsIn links link → events link Initiator run ≢ []
   wrote link within = some_event (t.opened link) link run (subst (Heard (t.opened link) link) (sym follows.marks_are) (held.links link within).heard)
 
   first_number : (opening_numbered : Bool) (link : ℕ) → (link ≡ 0) ⊎ (clients < link) → ((if opening_numbered then link else 0) ≡ 0) ⊎ (clients < (if opening_numbered then link else 0))
@@ -98,7 +98,7 @@ module _ (server : SerialServer) (script : ScriptLines) (run : List Mark) (is : 
   first_number true link (inr more) = inr more
   first_number false link place = inl refl
 
-  outside : (link : ℕ) → (IsIn links link → ⊥) → ((t.opened link).client.number ≡ 0) ⊎ (clients < (t.opened link).client.number)
+  pub outside : (link : ℕ) → (IsIn links link → ⊥) → ((t.opened link).client.number ≡ 0) ⊎ (clients < (t.opened link).client.number)
   outside zero not = first_number script.opening.numbered 0 (inl refl)
   outside (suc i) not = by (le_or (suc i) links)
     where
@@ -115,7 +115,7 @@ module _ (server : SerialServer) (script : ScriptLines) (run : List Mark) (is : 
   marks_within : AllByRecursion (λ (mark : Mark). IsIn links (link_of mark)) run
   marks_within = subst (λ (r : List Mark). AllByRecursion (λ (mark : Mark). IsIn links (link_of mark)) r) (sym follows.marks_are) held.frame.within
 
-  far : (link : ℕ) → IsIn links link → Matched link run → MatchedSoFar (t.opened link) link run
+  pub far : (link : ℕ) → IsIn links link → Matched link run → MatchedSoFar (t.opened link) link run
   far link within matched =
       let laws = follows_keeps server script run is replied follows link within in
       let o = t.opened link in
@@ -130,13 +130,13 @@ module _ (server : SerialServer) (script : ScriptLines) (run : List Mark) (is : 
   older : (first link : ℕ) → IsIn links link → IsEarlier t.opened run first link → IsIn links first × (client_of t first ≡ client_of t link) × (first ≤ link)
   older first link within e = (let o = earlier_is t clients links follows.last.last_links run order wrote outside first link within e in (o.is, o.same, o.lower))
 
-  opens_with : (link : ℕ) → IsIn links link → OpenedWithEarlier t.opened run link
+  pub opens_with : (link : ℕ) → IsIn links link → OpenedWithEarlier t.opened run link
   opens_with link within earlier e = (held.links earlier (older earlier link within e).0).opened
 
-  matched_with : (link : ℕ) → IsIn links link → LinksAreMatched t run link → MatchedWithEarlier t.opened run link
+  pub matched_with : (link : ℕ) → IsIn links link → LinksAreMatched t run link → MatchedWithEarlier t.opened run link
   matched_with link within matched earlier e = (let o = older earlier link within e in far earlier o.0 (matched earlier o.0.0 o.1))
 
-  one_each : OneClientEach t.opened run
+  pub one_each : OneClientEach t.opened run
   one_each = one_client_each t clients links follows.last.last_links run order wrote outside numbers marks_within
 
   client_matched : (link : ℕ) → IsIn links link → LinksAreMatched t run link → number_heard run link ≢ 0 → ClientIsMatched t.opened run (number_heard run link)
@@ -148,7 +148,7 @@ module _ (server : SerialServer) (script : ScriptLines) (run : List Mark) (is : 
       ∙ sym (heard_owner t clients links follows.last.last_links run order wrote outside numbers marks_within link within some) in
       (opens_with other other_within, matched_with other other_within (λ one low mine. matched one low (mine ∙ own)))
 
-  journaled : JournaledByNumber (plain_of server) (number_heard run) T run
+  pub journaled : JournaledByNumber (plain_of server) (number_heard run) T run
   journaled = follows_journaled server script run is replied follows
 
   -- ===== what the laws say
