@@ -458,7 +458,7 @@ module _ (server : SerialServer) (script : ScriptLines) (is : IsScript script) w
 
   pub open_drill : AreOpen server script script.opening.clients (opened_drill server script.opening)
   unfolding opened_drill
-  open_drill = open_all 0 script.opening.clients (start base script.opening.clients) refl at_start
+  open_drill = open_all 0 script.opening.clients (start base script.opening.clients) (omega arith) at_start
 
   pub first_count : length (opened_drill server script.opening).last_links ≡ script.opening.clients
   first_count = ap (λ (ls : List ℕ). length ls) open_drill.last_links ∙ range_length 1 script.opening.clients

@@ -211,7 +211,7 @@ first_all server script is done (suc more) d all a h =
 pub first_carries : (server : SerialServer) (script : ScriptLines) → IsScript script → (own : ℕ) → ClientCarries (setting_of server script.opening) own (opened_drill server script.opening)
 unfolding opened_drill
 first_carries server script is own link within mine =
-    let all = first_all server script is 0 script.opening.clients (start (setting_of server script.opening) script.opening.clients) refl (at_start server script is) (record { links = λ l low high. absurd (omega (arith, low, high)) }) in
+    let all = first_all server script is 0 script.opening.clients (start (setting_of server script.opening) script.opening.clients) (omega arith) (at_start server script is) (record { links = λ l low high. absurd (omega (arith, low, high)) }) in
     let many = opened_count server script is in
     all.links link within.0 (let most = within.1 in omega (arith, most, many))
 

@@ -21,7 +21,7 @@ use Rattle.nr_drill.specs.Drill.{SerialServer, link_of, Setting, Drill, IsLink, 
 use Rattle.nr_drill.specs.Follows.{Follows, setting_of, last_setting, opened_drill}
 use Rattle.nr_drill.specs.InBytes.{RepliedInBytes}
 use Rattle.nr_drill.proofs.LessFrames.{still_heard}
-use Rattle.nr_drill.proofs.Followed.{Extends}
+use Rattle.nr_drill.proofs.Followed.{Extends, opening_adds}
 use Rattle.nr_drill.proofs.Actions.{Action, after_action, IsLastOf, IsKept, AnyRaw, lines_kept, lines_of}
 use Rattle.nr_drill.proofs.Actions.Action.{SubmitCall, FeedUp, FeedDown, WorkOnce, ForgetCall, RevokeCall, DropLink, PutRaw, GrantCredits}
 use Rattle.nr_drill.proofs.AddedMarks.{AddsBy, QuietRules, MarkRules, adds_one, submit_by, up_by, down_by, work_by, forget_by, revoke_by, opening_by, raw_by, each_both}
