@@ -134,7 +134,7 @@ pub record LinksInOrder (t : Setting) (clients links : ℕ) (lasts : List ℕ) (
   pub began : ℕ → List Mark
   pub before : ℕ → ℕ
   pub many : clients ≤ links
-  pub firsts : (link : ℕ) → IsIn links link → link ≤ clients → (client_of t link ≡ link) × (began link ≡ [])
+  pub firsts : (link : ℕ) → IsIn links link → link ≤ clients → (client_of t link ≡ link) × (began link ≡ []) × ((t.opened link).agreed ≡ None)
   pub steps : (link : ℕ) → IsIn links link → clients < link → StepsOn t.opened run (before link) link (began link)
   pub older : (link : ℕ) → IsIn links link → clients < link → IsIn links (before link) × (before link < link) × (client_of t (before link) ≡ client_of t link)
   pub follows : (link : ℕ) → IsIn links link → clients < link → (gap : List Mark) × (began link ≡ began (before link) ++ gap)
@@ -328,9 +328,9 @@ module _ (s : Setting) (opening : Opening) (n c link : ℕ) (d : Drill) (last : 
     last = λ l is. last_of l (each l is);
   }
     where
-      firsts_of : (l : ℕ) → IsLink begun l → l ≤ clients → (l ≡ next) ⊎ IsLink d l → (client_of u l ≡ l) × (began l ≡ [])
+      firsts_of : (l : ℕ) → IsLink begun l → l ≤ clients → (l ≡ next) ⊎ IsLink d l → (client_of u l ≡ l) × (began l ≡ []) × ((u.opened l).agreed ≡ None)
       firsts_of l is few (inl same) = absurd (let more = high in omega (arith, few, same, more))
-      firsts_of l is few (inr was) = (same_owner l was ∙ (h.firsts l was few).0, began_old l was ∙ (h.firsts l was few).1)
+      firsts_of l is few (inr was) = (same_owner l was ∙ (h.firsts l was few).0, began_old l was ∙ (h.firsts l was few).1, ap (λ (o : LinkParameters). o.agreed) (b.old_link l was) ∙ (h.firsts l was few).2)
 
       steps_of : (l : ℕ) → clients < l → (l ≡ next) ⊎ IsLink d l → StepsOn u.opened d.marks (before l) l (began l)
       steps_of l more (inl same) = subst (λ (m : ℕ). StepsOn u.opened d.marks (before m) m (began m)) (sym same) new_step
@@ -441,7 +441,7 @@ module _ (server : SerialServer) (script : ScriptLines) (is : IsScript script) w
     began = λ link. [];
     before = λ link. 0;
     many = (let same = all in omega (arith, same));
-    firsts = λ link within few. (owner link within, refl);
+    firsts = λ link within few. (owner link within, refl, ap (λ (o : LinkParameters). o.agreed) (now link within));
     steps = λ link within more. absurd (none link within more);
     older = λ link within more. absurd (none link within more);
     follows = λ link within more. absurd (none link within more);

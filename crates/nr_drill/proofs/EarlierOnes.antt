@@ -52,7 +52,7 @@ module _ (t : Setting) (clients links : ℕ) (lasts : List ℕ) (run : List Mark
   abbrev begun : ℕ → BegunLink
   begun link = record { link = link; began = h.began link }
 
-  next_of : (link : ℕ) → IsIn links link → clients < link → IsNextLink t.opened run (begun (h.before link)) (begun link)
+  pub next_of : (link : ℕ) → IsIn links link → clients < link → IsNextLink t.opened run (begun (h.before link)) (begun link)
   next_of link is more =
       let f = h.follows link is more in
       step_is_next t.opened run (h.before link) link (h.began (h.before link)) (h.began link) f.0 f.1 (h.steps link is more)

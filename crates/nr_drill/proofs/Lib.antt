@@ -48,3 +48,4 @@ pub mod EarlierOnes
 pub mod NumberedDrills
 pub mod DrainedSteps
 pub mod PlacesByLinks
+pub mod StayingLinks

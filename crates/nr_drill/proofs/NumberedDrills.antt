@@ -32,12 +32,13 @@ use Rattle.nr_laws.proofs.Completed.{no_other_version}
 use Rattle.nr_laws.proofs.AutoReplies.{auto_has_replies}
 use Rattle.nr_laws.proofs.WaitingCalls.{resumes_planned}
 use Rattle.nr_laws.proofs.EntriesApart.{no_entry_twice}
+use Rattle.nr_laws.proofs.AnsweredChanges.{changes_are_answered}
 use Rattle.nr_laws.proofs.NumberedPlaces.{numbered_links_are_at_places}
 use Rattle.nr_laws.proofs.CompletedChanges.{completed_changes_have_entries}
 use Rattle.nr_script.specs.Script.{ScriptLines, IsScript}
 use Rattle.nr_drill.specs.Drill.{SerialServer, link_of, Setting, IsLink, client_of, plain_of, journal_of}
 use Rattle.nr_drill.specs.Follows.{Follows, setting_of, last_setting}
-use Rattle.nr_drill.specs.Headline.{Completes, LinksAreMatched, HasNoEntryTwice, ChangesHaveEntries}
+use Rattle.nr_drill.specs.Headline.{Completes, AnswersChanges, LinksAreMatched, HasNoEntryTwice, ChangesHaveEntries}
 use Rattle.nr_drill.specs.InBytes.{RepliedInBytes}
 use Rattle.nr_drill.specs.Memory.{KeepsMemory}
 use Rattle.nr_drill.specs.Unnumbered.{Heard}
@@ -109,7 +110,7 @@ module _ (server : SerialServer) (script : ScriptLines) (run : List Mark) (is : 
           let many = order.many in
           subst (λ (o : LinkParameters). (o.client.number ≡ 0) ⊎ (clients < o.client.number)) (sym far) (first_number script.opening.numbered (suc i) (inr (omega (arith, more, many))))
 
-  numbers : (link : ℕ) → IsIn links link → number_heard run link ≡ (t.opened link).client.number
+  pub numbers : (link : ℕ) → IsIn links link → number_heard run link ≡ (t.opened link).client.number
   numbers link within = follows_numbers server script run is replied follows link within
 
   marks_within : AllByRecursion (λ (mark : Mark). IsIn links (link_of mark)) run
@@ -156,11 +157,22 @@ module _ (server : SerialServer) (script : ScriptLines) (run : List Mark) (is : 
   pub memory : (link : ℕ) → IsLink follows.last link → KeepsMemory (t.opened link) link run
   memory link within = keeps_memory (t.opened link) link run typed (follows_keeps server script run is replied follows link within).asked
 
-  pub at_places : KeepsCalls server.reply_to server.adds → (link : ℕ) → IsLink follows.last link → LinksAreMatched t run link → AtPlacesOn (plain_of server) (entries_alone T) link run
-  at_places keeps link within matched = numbered_links_are_at_places server.reply_to server.adds t.opened link T run typed journaled keeps one_each (client_matched link within matched)
+  -- of a client without a number nothing is asked
+  abbrev IsKnown : ℕ → Type 0
+  IsKnown link = (t.opened link).client.number ≢ 0 → LinksAreMatched t run link
 
-  plainly : KeepsCalls server.reply_to server.adds → (link : ℕ) → IsLink follows.last link → LinksAreMatched t run link → HasPlainReplies (plain_of server) link run
-  plainly keeps link within matched = placed_links_have_plain_replies server.reply_to server.adds (entries_alone T) link run (at_places keeps link within matched)
+  pub at_places : KeepsCalls server.reply_to server.adds → (link : ℕ) → IsLink follows.last link → IsKnown link → AtPlacesOn (plain_of server) (entries_alone T) link run
+  at_places keeps link within known =
+      numbered_links_are_at_places server.reply_to server.adds t.opened link T run typed journaled keeps one_each (λ some. client_matched link within (known (λ none. some (numbers link within ∙ none))) some)
+
+  pub plainly : KeepsCalls server.reply_to server.adds → (link : ℕ) → IsLink follows.last link → IsKnown link → HasPlainReplies (plain_of server) link run
+  plainly keeps link within known = placed_links_have_plain_replies server.reply_to server.adds (entries_alone T) link run (at_places keeps link within known)
+
+  pub changes : KeepsReplyLimits (plain_of server) → KeepsCalls server.reply_to server.adds → (link : ℕ) → IsLink follows.last link → IsKnown link → AnswersChanges server (t.opened link) link run
+  changes plain keeps link within known before xid moment payload place reply at some =
+      let o = t.opened link in
+      changes_are_answered server.reply_to server.adds o link run before xid moment payload place reply plain (plainly keeps link within known) typed
+      (AtEachMark_each (ServedMark IsAll o link) (ServedMark IsPrefixOf o link) [] run (served_mark o link) (follows_keeps server script run is replied follows link within).served.each) at some
 
   pub completes : KeepsReplyLimits (plain_of server) → KeepsCalls server.reply_to server.adds → (link : ℕ) → IsLink follows.last link → LinksAreMatched t run link → Completes (plain_of server) (entries_alone T) (t.opened link) link run
   unfolding in_run
@@ -171,13 +183,13 @@ module _ (server : SerialServer) (script : ScriptLines) (run : List Mark) (is : 
         reply = λ before xid reply at. (let p = replies_have_plans o link run before xid reply typed near at in (
           p.0,
           p.1,
-          replies_are_plain_at_places server.reply_to server.adds (entries_alone T) o link run before xid p.0 reply typed near (at_places keeps link within matched)
+          replies_are_plain_at_places server.reply_to server.adds (entries_alone T) o link run before xid p.0 reply typed near (at_places keeps link within (λ some. matched))
               (in_run o link run before (marks.Done link xid (outcomes.Reply reply)) xid p.0 at p.1) at,
         ));
         chunk = λ before xid outcome at. chunk_has_cause o link run before xid outcome typed near at;
         version = λ before xid low high at. no_other_version o link run before xid low high typed near at;
         auto = λ earlier before call xid outcome submitted at.
-            auto_has_replies server.reply_to server.adds o link run earlier before call xid outcome (resumes_planned o (held.links link within).opened) plain (plainly keeps link within matched) typed near submitted at;
+            auto_has_replies server.reply_to server.adds o link run earlier before call xid outcome (resumes_planned o (held.links link within).opened) plain (plainly keeps link within (λ some. matched)) typed near submitted at;
       }
 
   pub once : AddsOneAtMost server.adds → HasNoEntryTwice T
