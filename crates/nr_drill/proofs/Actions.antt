@@ -2,7 +2,7 @@
 -- these keeps every line keeps.
 use Rattle.std.specs.Prelude.{◌-◌, ◌||◌, slice_index_or}
 use Rattle.std.specs.List.{AllByRecursion, list_any}
-use Rattle.std.proofs.Common.{◌≡◌, ◌≢◌, ℕ, zero, suc, ◌+◌, ◌≤◌, ◌<◌, ◌^◌, arith, Bool, true, false, leb, ◌&&◌, List, [], ◌∷◌, ◌++◌, length, Option, None, Some, refl, sym, ap, subst, ◌∙◌}
+use Rattle.std.proofs.Common.{◌≡◌, ◌≢◌, ℕ, zero, suc, ◌+◌, ◌≤◌, ◌<◌, ◌^◌, arith, eqb, Bool, true, false, leb, ◌&&◌, List, [], ◌∷◌, ◌++◌, length, Option, None, Some, refl, sym, ap, subst, ◌∙◌}
 use Rattle.std.proofs.lemmas.Bool.{leb-true, eq-eqb}
 use Rattle.nr_wire.specs.declared.hello.Side.{Side}
 use Rattle.nr_rpc.specs.declared.cred.Cred.{Cred}
@@ -27,7 +27,7 @@ use Rattle.nr_reduce.specs.Plans.{HasWordPosition}
 use Rattle.nr_script.specs.Script.{ScriptLines, HasWritableCred, IsTypedCred, IsTypedLine, IsScript, FollowOn, is_client, is_call_line, credits_in_range, may_follow}
 use Rattle.nr_drill.specs.Drill.{Setting, Drill, setting_now, last_link, pipes_of, cred_of, with_cred, after_submit, after_up, after_down, after_work, after_calls, after_all_up, after_all_work, after_moves, after_round, after_forget, after_revoke, after_drop, after_raw, after_grant, after_leaving, after_drop_if, after_rejoin_on, after_rejoin}
 use Rattle.nr_drill.specs.Follows.{Drains, Makes, MakeAll}
-use Rattle.nr_drill.specs.Lines.{is_raw_of}
+use Rattle.nr_drill.specs.Lines.{is_raw_of, acts_on}
 use Rattle.nr_drill.proofs.Followed.{KeepsLinks, extending_keeps, same_setting, submit_adds, up_adds, down_adds, work_adds, forget_adds, revoke_adds, drop_adds, raw_adds, grant_adds}
 
 -- ===== what is done on a link
@@ -85,15 +85,15 @@ counted DropLink n = n
 counted (PutRaw side bytes) n = n
 counted (GrantCredits credits) n = n
 
--- What is kept, of a drill after at most so many calls were submitted and links begun: by each action on the last link of a client, by each link that
--- begins once that link is dropped, by credentials and by the clock.
-pub record IsKept (s : Setting) (opening : Opening) (Raws : ℕ → Type 0) (P : ℕ → Drill → Type 0) : Type 0 where
+-- What is kept, of a drill after at most so many calls were submitted and links begun: by each action on the last link of a client that may act, by each
+-- link that such a client begins once that link is dropped, by credentials and by the clock.
+pub record IsKept (s : Setting) (opening : Opening) (Acts Raws : ℕ → Type 0) (P : ℕ → Drill → Type 0) : Type 0 where
   pub count : (n : ℕ) (d : Drill) → P n d → length d.last_links ≡ opening.clients
   pub later : (n : ℕ) (d : Drill) → P n d → P (suc n) d
   pub credential : (n client : ℕ) (cred : Cred) (d : Drill) → CanWriteCred cred → IsTypedCred cred → P n d → P n (with_cred client cred d)
   pub time : (n seconds : ℕ) (d : Drill) → P n d → P n (record d { seconds = d.seconds + seconds })
-  pub action : (n c link : ℕ) (a : Action) (d : Drill) → IsLastOf opening.clients c link d → MayAct Raws opening.credits c d a → P n d → P (counted a n) (after_action (setting_now s d) link a d)
-  pub begins : (n c link : ℕ) (d : Drill) → IsLastOf opening.clients c link d → opening.numbered ≡ true → is_dropped link d.marks ≡ true →
+  pub action : (n c link : ℕ) (a : Action) (d : Drill) → IsLastOf opening.clients c link d → Acts c → MayAct Raws opening.credits c d a → P n d → P (counted a n) (after_action (setting_now s d) link a d)
+  pub begins : (n c link : ℕ) (d : Drill) → IsLastOf opening.clients c link d → Acts c → opening.numbered ≡ true → is_dropped link d.marks ≡ true →
       (client ((setting_now s d).opened link) link d.marks).ended ≡ None → P n d → P (suc n) (after_leaving s c link d)
 
 -- ===== what an action leaves of the links
@@ -160,6 +160,22 @@ IsLineOf opening Raws (lines.Raw c side bytes) = IsIn opening c × Raws c × IsB
 IsLineOf opening Raws (lines.Grant c credits) = IsIn opening c × ((1 ≤ credits) × (credits ≤ opening.credits))
 IsLineOf opening Raws lines.Drain = Unit {0}
 
+-- the clients that act in a line: in a drain all do
+abbrev pub ActsIn : (ℕ → Type 0) → Line → Type 0
+ActsIn Acts (lines.Cred c cred) = Unit {0}
+ActsIn Acts (lines.Call c form prog vers proc args) = Acts c
+ActsIn Acts (lines.Up c most) = Acts c
+ActsIn Acts (lines.Down c most) = Acts c
+ActsIn Acts (lines.Work c) = Acts c
+ActsIn Acts (lines.Tick seconds) = Unit {0}
+ActsIn Acts (lines.Forget c number) = Acts c
+ActsIn Acts (lines.Revoke c number) = Acts c
+ActsIn Acts (lines.Drop c) = Acts c
+ActsIn Acts (lines.Rejoin c) = Acts c
+ActsIn Acts (lines.Raw c side bytes) = Acts c
+ActsIn Acts (lines.Grant c credits) = Acts c
+ActsIn Acts lines.Drain = (c : ℕ) → Acts c
+
 dropped_now : (link : ℕ) (run : List Mark) → is_dropped link (run ++ marks.Drop link ∷ []) ≡ true
 dropped_now link run =
     any_append (is_drop_of link) run (marks.Drop link ∷ []) ∙ ap (λ (b : Bool). is_dropped link run || (b || false)) (itself link) ∙ or_true (is_dropped link run)
@@ -168,65 +184,65 @@ dropped_now link run =
     or_true true = refl
     or_true false = refl
 
-module _ (s : Setting) (opening : Opening) (Raws : ℕ → Type 0) (P : ℕ → Drill → Type 0) (k : IsKept s opening Raws P) where
+module _ (s : Setting) (opening : Opening) (Acts Raws : ℕ → Type 0) (P : ℕ → Drill → Type 0) (k : IsKept s opening Acts Raws P) where
   -- an action, with the setting of an earlier drill that has the same links
-  acted : (n c link : ℕ) (a : Action) (old d : Drill) → KeepsLinks old d → IsLastOf opening.clients c link old → MayAct Raws opening.credits c d a → P n d → P (counted a n) (after_action (setting_now s old) link a d)
-  acted n c link a old d keeps last may h =
+  acted : (n c link : ℕ) (a : Action) (old d : Drill) → KeepsLinks old d → IsLastOf opening.clients c link old → Acts c → MayAct Raws opening.credits c d a → P n d → P (counted a n) (after_action (setting_now s old) link a d)
+  acted n c link a old d keeps last acts may h =
       let now : IsLastOf opening.clients c link d = record { low = last.low; high = last.high; is = last.is ∙ sym (ap (λ (links : List ℕ). slice_index_or links (c - 1) c) keeps.last_links) } in
-      subst (λ (t : Setting). P (counted a n) (after_action t link a d)) (same_setting s old d keeps) (k.action n c link a d now may h)
+      subst (λ (t : Setting). P (counted a n) (after_action t link a d)) (same_setting s old d keeps) (k.action n c link a d now acts may h)
 
   -- the drill after some steps of a drain, which leave the links
   pub record Drained (old : Drill) (n : ℕ) (d : Drill) : Type 0 where
     pub holds : P n d
     pub keeps : KeepsLinks old d
 
-  pub fed_up : (old : Drill) (n c link most : ℕ) (d : Drill) → IsLastOf opening.clients c link old → Drained old n d → Drained old n (after_up (setting_now s old) link most d)
-  fed_up old n c link most d last h = record {
-    holds = acted n c link (FeedUp most) old d h.keeps last tt h.holds;
+  pub fed_up : (old : Drill) (n c link most : ℕ) (d : Drill) → IsLastOf opening.clients c link old → Acts c → Drained old n d → Drained old n (after_up (setting_now s old) link most d)
+  fed_up old n c link most d last acts h = record {
+    holds = acted n c link (FeedUp most) old d h.keeps last acts tt h.holds;
     keeps = then_keep old d (after_up (setting_now s old) link most d) h.keeps (action_keeps (setting_now s old) link (FeedUp most) d);
   }
 
-  fed_down : (old : Drill) (n c link most : ℕ) (d : Drill) → IsLastOf opening.clients c link old → Drained old n d → Drained old n (after_down (setting_now s old) link most d)
-  fed_down old n c link most d last h = record {
-    holds = acted n c link (FeedDown most) old d h.keeps last tt h.holds;
+  fed_down : (old : Drill) (n c link most : ℕ) (d : Drill) → IsLastOf opening.clients c link old → Acts c → Drained old n d → Drained old n (after_down (setting_now s old) link most d)
+  fed_down old n c link most d last acts h = record {
+    holds = acted n c link (FeedDown most) old d h.keeps last acts tt h.holds;
     keeps = then_keep old d (after_down (setting_now s old) link most d) h.keeps (action_keeps (setting_now s old) link (FeedDown most) d);
   }
 
-  worked : (old : Drill) (n c link : ℕ) (d : Drill) → IsLastOf opening.clients c link old → Drained old n d → Drained old n (after_work (setting_now s old) link d)
-  worked old n c link d last h = record {
-    holds = acted n c link WorkOnce old d h.keeps last tt h.holds;
+  worked : (old : Drill) (n c link : ℕ) (d : Drill) → IsLastOf opening.clients c link old → Acts c → Drained old n d → Drained old n (after_work (setting_now s old) link d)
+  worked old n c link d last acts h = record {
+    holds = acted n c link WorkOnce old d h.keeps last acts tt h.holds;
     keeps = then_keep old d (after_work (setting_now s old) link d) h.keeps (action_keeps (setting_now s old) link WorkOnce d);
   }
 
-  pub worked_all : (old : Drill) (n c link calls : ℕ) (d : Drill) → IsLastOf opening.clients c link old → Drained old n d → Drained old n (after_calls (setting_now s old) link calls d)
-  worked_all old n c link zero d last h = h
-  worked_all old n c link (suc calls) d last h = worked_all old n c link calls (after_work (setting_now s old) link d) last (worked old n c link d last h)
+  pub worked_all : (old : Drill) (n c link calls : ℕ) (d : Drill) → IsLastOf opening.clients c link old → Acts c → Drained old n d → Drained old n (after_calls (setting_now s old) link calls d)
+  worked_all old n c link zero d last acts h = h
+  worked_all old n c link (suc calls) d last acts h = worked_all old n c link calls (after_work (setting_now s old) link d) last acts (worked old n c link d last acts h)
 
-  moved : (old : Drill) (n c link : ℕ) (d : Drill) → IsLastOf opening.clients c link old → Drained old n d → Drained old n (after_moves (setting_now s old) link d)
+  moved : (old : Drill) (n c link : ℕ) (d : Drill) → IsLastOf opening.clients c link old → Acts c → Drained old n d → Drained old n (after_moves (setting_now s old) link d)
   unfolding after_moves after_all_work
-  moved old n c link d last h =
+  moved old n c link d last acts h =
       let t = setting_now s old in
       let one = after_all_up t link d in
       let two = after_all_work t link one in
-      fed_down old n c link (length (pipes_of link two).down) two last
-      (worked_all old n c link (length (server (t.opened link) link one.marks).state.ready) one last (fed_up old n c link (length (pipes_of link d).up) d last h))
+      fed_down old n c link (length (pipes_of link two).down) two last acts
+      (worked_all old n c link (length (server (t.opened link) link one.marks).state.ready) one last acts (fed_up old n c link (length (pipes_of link d).up) d last acts h))
 
-  pub round_kept : (old : Drill) (n : ℕ) (links : List ℕ) (d : Drill) → AllByRecursion (IsLastOfSome opening.clients old) links → Drained old n d → Drained old n (after_round (setting_now s old) links d)
-  round_kept old n [] d last h = h
-  round_kept old n (link ∷ links) d last h = round_kept old n links (after_moves (setting_now s old) link d) last.1 (moved old n last.0.0 link d last.0.1 h)
+  pub round_kept : (old : Drill) (n : ℕ) (links : List ℕ) (d : Drill) → ((c : ℕ) → Acts c) → AllByRecursion (IsLastOfSome opening.clients old) links → Drained old n d → Drained old n (after_round (setting_now s old) links d)
+  round_kept old n [] d acts last h = h
+  round_kept old n (link ∷ links) d acts last h = round_kept old n links (after_moves (setting_now s old) link d) acts last.1 (moved old n last.0.0 link d last.0.1 (acts last.0.0) h)
 
-  drained : (old : Drill) (n : ℕ) (links : List ℕ) (rounds : ℕ) (d new : Drill) → AllByRecursion (IsLastOfSome opening.clients old) links → Drains (setting_now s old) links rounds d new → Drained old n d → Drained old n new
-  drained old n links zero d new last e h = subst (Drained old n) (sym e.1) h
-  drained old n links (suc rounds) d new last e h = drained old n links rounds (after_round (setting_now s old) links d) new last e.1 (round_kept old n links d last h)
+  drained : (old : Drill) (n : ℕ) (links : List ℕ) (rounds : ℕ) (d new : Drill) → ((c : ℕ) → Acts c) → AllByRecursion (IsLastOfSome opening.clients old) links → Drains (setting_now s old) links rounds d new → Drained old n d → Drained old n new
+  drained old n links zero d new acts last e h = subst (Drained old n) (sym e.1) h
+  drained old n links (suc rounds) d new acts last e h = drained old n links rounds (after_round (setting_now s old) links d) new acts last e.1 (round_kept old n links d acts last h)
 
-  drain_kept : (n rounds : ℕ) (old new : Drill) → Drains (setting_now s old) old.last_links rounds old new → P n old → P n new
-  drain_kept n rounds old new e h =
-      (drained old n old.last_links rounds old new (all_last opening.clients old (k.count n old h)) e (record { holds = h; keeps = record { opened = refl; last_links = refl } })).holds
+  drain_kept : (n rounds : ℕ) (old new : Drill) → ((c : ℕ) → Acts c) → Drains (setting_now s old) old.last_links rounds old new → P n old → P n new
+  drain_kept n rounds old new acts e h =
+      (drained old n old.last_links rounds old new acts (all_last opening.clients old (k.count n old h)) e (record { holds = h; keeps = record { opened = refl; last_links = refl } })).holds
 
   -- a client leaves its link and begins the next one
-  rejoined : (n c : ℕ) (d : Drill) → IsIn opening c → opening.numbered ≡ true → P n d → P (suc n) (after_rejoin s c d)
+  rejoined : (n c : ℕ) (d : Drill) → IsIn opening c → Acts c → opening.numbered ≡ true → P n d → P (suc n) (after_rejoin s c d)
   unfolding after_rejoin
-  rejoined n c d within numbered h = by (client (t.opened link) link d.marks).ended refl
+  rejoined n c d within acts numbered h = by (client (t.opened link) link d.marks).ended refl
     where
       t : Setting
       t = setting_now s d
@@ -238,39 +254,40 @@ module _ (s : Setting) (opening : Opening) (Raws : ℕ → Type 0) (P : ℕ → 
       last = record { low = within.0; high = within.1; is = refl }
 
       begun : (b : Bool) → is_dropped link d.marks ≡ b → (client (t.opened link) link d.marks).ended ≡ None → P (suc n) (after_leaving s c link (after_drop_if b link d))
-      begun true gone stays = k.begins n c link d last numbered gone stays h
+      begun true gone stays = k.begins n c link d last acts numbered gone stays h
       begun false gone stays =
-          k.begins n c link (after_drop link d) (record { low = within.0; high = within.1; is = refl }) numbered (dropped_now link d.marks)
-          (ap (λ (r : EndState ClientState). r.ended) (client_one (t.opened link) link d.marks (marks.Drop link)) ∙ stays) (k.action n c link DropLink d last tt h)
+          k.begins n c link (after_drop link d) (record { low = within.0; high = within.1; is = refl }) acts numbered (dropped_now link d.marks)
+          (ap (λ (r : EndState ClientState). r.ended) (client_one (t.opened link) link d.marks (marks.Drop link)) ∙ stays) (k.action n c link DropLink d last acts tt h)
 
       by : (ended : Option End) → (client (t.opened link) link d.marks).ended ≡ ended → P (suc n) (after_rejoin_on s c link ended d)
       by (Some end) is = k.later n d h
       by None is = begun (is_dropped link d.marks) refl is
 
-  on_last : (n c : ℕ) (a : Action) (d : Drill) → IsIn opening c → MayAct Raws opening.credits c d a → P n d → P (counted a n) (after_action (setting_now s d) (last_link c d) a d)
-  on_last n c a d within may h = k.action n c (last_link c d) a d (record { low = within.0; high = within.1; is = refl }) may h
+  on_last : (n c : ℕ) (a : Action) (d : Drill) → IsIn opening c → Acts c → MayAct Raws opening.credits c d a → P n d → P (counted a n) (after_action (setting_now s d) (last_link c d) a d)
+  on_last n c a d within acts may h = k.action n c (last_link c d) a d (record { low = within.0; high = within.1; is = refl }) acts may h
 
-  pub line_kept : (n clients : ℕ) (line : Line) (old new : Drill) → IsLineOf opening Raws line → Makes s clients line old new → P n old → P (suc n) new
-  line_kept n clients (lines.Cred c cred) old new w e h = subst (P (suc n)) (sym e) (k.later n (with_cred c cred old) (k.credential n c cred old w.0 w.1 h))
-  line_kept n clients (lines.Call c form prog vers proc args) old new w e h =
+  pub line_kept : (n clients : ℕ) (line : Line) (old new : Drill) → IsLineOf opening Raws line → ActsIn Acts line → Makes s clients line old new → P n old → P (suc n) new
+  line_kept n clients (lines.Cred c cred) old new w acts e h = subst (P (suc n)) (sym e) (k.later n (with_cred c cred old) (k.credential n c cred old w.0 w.1 h))
+  line_kept n clients (lines.Call c form prog vers proc args) old new w acts e h =
       let call : Call = record { prog = prog; vers = vers; proc = proc; cred = cred_of c old; args = args } in
-      subst (P (suc n)) (sym e) (on_last n c (SubmitCall call form) old w.0 (refl, w.1, w.2, w.3, w.4, w.5) h)
-  line_kept n clients (lines.Up c most) old new w e h = subst (P (suc n)) (sym e) (k.later n (after_up (setting_now s old) (last_link c old) most old) (on_last n c (FeedUp most) old w tt h))
-  line_kept n clients (lines.Down c most) old new w e h = subst (P (suc n)) (sym e) (k.later n (after_down (setting_now s old) (last_link c old) most old) (on_last n c (FeedDown most) old w tt h))
-  line_kept n clients (lines.Work c) old new w e h = subst (P (suc n)) (sym e) (k.later n (after_work (setting_now s old) (last_link c old) old) (on_last n c WorkOnce old w tt h))
-  line_kept n clients (lines.Tick seconds) old new w e h = subst (P (suc n)) (sym e) (k.later n (record old { seconds = old.seconds + seconds }) (k.time n seconds old h))
-  line_kept n clients (lines.Forget c number) old new w e h = subst (P (suc n)) (sym e) (k.later n (after_forget (setting_now s old) (last_link c old) number old) (on_last n c (ForgetCall number) old w tt h))
-  line_kept n clients (lines.Revoke c number) old new w e h = subst (P (suc n)) (sym e) (k.later n (after_revoke (setting_now s old) (last_link c old) number old) (on_last n c (RevokeCall number) old w tt h))
-  line_kept n clients (lines.Drop c) old new w e h = subst (P (suc n)) (sym e) (k.later n (after_drop (last_link c old) old) (on_last n c DropLink old w tt h))
-  line_kept n clients (lines.Rejoin c) old new w e h = subst (P (suc n)) (sym e) (rejoined n c old w.0 w.1 h)
-  line_kept n clients (lines.Raw c side bytes) old new w e h =
-      subst (P (suc n)) (sym e) (k.later n (after_raw (last_link c old) side bytes (is_dropped (last_link c old) old.marks) old) (on_last n c (PutRaw side bytes) old w.0 (w.1, w.2) h))
-  line_kept n clients (lines.Grant c credits) old new w e h = subst (P (suc n)) (sym e) (k.later n (after_grant (last_link c old) credits old) (on_last n c (GrantCredits credits) old w.0 w.1 h))
-  line_kept n clients lines.Drain old new w e h = k.later n new (drain_kept n e.0 old new e.1 h)
+      subst (P (suc n)) (sym e) (on_last n c (SubmitCall call form) old w.0 acts (refl, w.1, w.2, w.3, w.4, w.5) h)
+  line_kept n clients (lines.Up c most) old new w acts e h = subst (P (suc n)) (sym e) (k.later n (after_up (setting_now s old) (last_link c old) most old) (on_last n c (FeedUp most) old w acts tt h))
+  line_kept n clients (lines.Down c most) old new w acts e h = subst (P (suc n)) (sym e) (k.later n (after_down (setting_now s old) (last_link c old) most old) (on_last n c (FeedDown most) old w acts tt h))
+  line_kept n clients (lines.Work c) old new w acts e h = subst (P (suc n)) (sym e) (k.later n (after_work (setting_now s old) (last_link c old) old) (on_last n c WorkOnce old w acts tt h))
+  line_kept n clients (lines.Tick seconds) old new w acts e h = subst (P (suc n)) (sym e) (k.later n (record old { seconds = old.seconds + seconds }) (k.time n seconds old h))
+  line_kept n clients (lines.Forget c number) old new w acts e h = subst (P (suc n)) (sym e) (k.later n (after_forget (setting_now s old) (last_link c old) number old) (on_last n c (ForgetCall number) old w acts tt h))
+  line_kept n clients (lines.Revoke c number) old new w acts e h = subst (P (suc n)) (sym e) (k.later n (after_revoke (setting_now s old) (last_link c old) number old) (on_last n c (RevokeCall number) old w acts tt h))
+  line_kept n clients (lines.Drop c) old new w acts e h = subst (P (suc n)) (sym e) (k.later n (after_drop (last_link c old) old) (on_last n c DropLink old w acts tt h))
+  line_kept n clients (lines.Rejoin c) old new w acts e h = subst (P (suc n)) (sym e) (rejoined n c old w.0 acts w.1 h)
+  line_kept n clients (lines.Raw c side bytes) old new w acts e h =
+      subst (P (suc n)) (sym e) (k.later n (after_raw (last_link c old) side bytes (is_dropped (last_link c old) old.marks) old) (on_last n c (PutRaw side bytes) old w.0 acts (w.1, w.2) h))
+  line_kept n clients (lines.Grant c credits) old new w acts e h = subst (P (suc n)) (sym e) (k.later n (after_grant (last_link c old) credits old) (on_last n c (GrantCredits credits) old w.0 acts w.1 h))
+  line_kept n clients lines.Drain old new w acts e h = k.later n new (drain_kept n e.0 old new acts e.1 h)
 
-  pub lines_kept : (n m clients : ℕ) (all : List Line) (old new : Drill) → AllByRecursion (IsLineOf opening Raws) all → n + length all ≡ m → MakeAll s clients all old new → P n old → P m new
-  lines_kept n m clients [] old new w count e h = (let same : n ≡ m = omega (arith, count) in subst (λ (x : ℕ). P x new) same (subst (P n) (sym e) h))
-  lines_kept n m clients (line ∷ others) old new w count e h = lines_kept (suc n) m clients others e.0 new w.1 (omega (arith, count)) e.2 (line_kept n clients line old e.0 w.0 e.1 h)
+  pub lines_kept : (n m clients : ℕ) (all : List Line) (old new : Drill) → AllByRecursion (IsLineOf opening Raws) all → AllByRecursion (ActsIn Acts) all → n + length all ≡ m → MakeAll s clients all old new → P n old → P m new
+  lines_kept n m clients [] old new w acts count e h = (let same : n ≡ m = omega (arith, count) in subst (λ (x : ℕ). P x new) same (subst (P n) (sym e) h))
+  lines_kept n m clients (line ∷ others) old new w acts count e h =
+      lines_kept (suc n) m clients others e.0 new w.1 acts.1 (omega (arith, count)) e.2 (line_kept n clients line old e.0 w.0 acts.0 e.1 h)
 
 -- ===== the lines of a script
 
@@ -342,12 +359,58 @@ any_raw (line ∷ all) = (by line, any_raw all)
     by (lines.Grant c credits) = tt
     by lines.Drain = tt
 
-pub lines_of : (script : ScriptLines) → IsScript script → AllByRecursion (IsLineOf script.opening AnyRaw) script.lines
-lines_of script is = lines_from script.opening AnyRaw [] script.lines is.follow_on is.creds is.typed (any_raw script.lines)
-
--- nothing is put into the pipes of the links of a client
+-- clients but for one
 abbrev pub NotOf : ℕ → ℕ → Type 0
 NotOf own c = c ≢ own
+
+differs_by : (own c : ℕ) → eqb c own ≡ false → c ≢ own
+differs_by own c none same = absurd (let wrong : true ≡ false = sym (eq-eqb c own same) ∙ none in cc)
+
+any_acts : (line : Line) → ActsIn AnyRaw line
+any_acts (lines.Cred c cred) = tt
+any_acts (lines.Call c form prog vers proc args) = tt
+any_acts (lines.Up c most) = tt
+any_acts (lines.Down c most) = tt
+any_acts (lines.Work c) = tt
+any_acts (lines.Tick seconds) = tt
+any_acts (lines.Forget c number) = tt
+any_acts (lines.Revoke c number) = tt
+any_acts (lines.Drop c) = tt
+any_acts (lines.Rejoin c) = tt
+any_acts (lines.Raw c side bytes) = tt
+any_acts (lines.Grant c credits) = tt
+any_acts lines.Drain = λ c. tt
+
+pub all_act : (all : List Line) → AllByRecursion (ActsIn AnyRaw) all
+all_act [] = tt
+all_act (line ∷ all) = (any_acts line, all_act all)
+
+-- lines that don't act on the links of a client
+line_apart : (own : ℕ) (line : Line) → acts_on own line ≡ false → ActsIn (NotOf own) line
+line_apart own (lines.Cred c cred) none = tt
+line_apart own (lines.Call c form prog vers proc args) none = differs_by own c none
+line_apart own (lines.Up c most) none = differs_by own c none
+line_apart own (lines.Down c most) none = differs_by own c none
+line_apart own (lines.Work c) none = differs_by own c none
+line_apart own (lines.Tick seconds) none = tt
+line_apart own (lines.Forget c number) none = differs_by own c none
+line_apart own (lines.Revoke c number) none = differs_by own c none
+line_apart own (lines.Drop c) none = differs_by own c none
+line_apart own (lines.Rejoin c) none = differs_by own c none
+line_apart own (lines.Raw c side bytes) none = differs_by own c none
+line_apart own (lines.Grant c credits) none = differs_by own c none
+line_apart own lines.Drain none = absurd cc
+
+pub lines_apart : (own : ℕ) (all : List Line) → list_any (acts_on own) all ≡ false → AllByRecursion (ActsIn (NotOf own)) all
+lines_apart own [] none = tt
+lines_apart own (line ∷ all) none = (let e = neither (acts_on own line) (list_any (acts_on own) all) none in (line_apart own line e.0, lines_apart own all e.1))
+  where
+    neither : (a b : Bool) → (a || b) ≡ false → (a ≡ false) × (b ≡ false)
+    neither true b e = absurd cc
+    neither false b e = (refl, e)
+
+pub lines_of : (script : ScriptLines) → IsScript script → AllByRecursion (IsLineOf script.opening AnyRaw) script.lines
+lines_of script is = lines_from script.opening AnyRaw [] script.lines is.follow_on is.creds is.typed (any_raw script.lines)
 
 none_of_client : (own : ℕ) (all : List Line) → list_any (is_raw_of own) all ≡ false → AllByRecursion (RawOf (NotOf own)) all
 none_of_client own [] e = tt

@@ -29,7 +29,7 @@ use Rattle.nr_drill.proofs.Lawful.{asked_so_far, none_in}
 use Rattle.nr_drill.proofs.Followed.{Extends, opening_adds, opened_by_script, start_creds, AreWritable}
 use Rattle.nr_drill.proofs.OpenCalls.{HasCall, KnowsCalls, SameOn, knows_more, knows_same, knows_next}
 use Rattle.nr_drill.proofs.StagBounds.{NextStag, few_calls, few_kept, reopened_stags, reopened_fits}
-use Rattle.nr_drill.proofs.Actions.{Action, IsLastOf, counted, IsKept, AnyRaw, may_any, action_keeps, lines_kept, lines_of, after_action}
+use Rattle.nr_drill.proofs.Actions.{Action, IsLastOf, counted, IsKept, AnyRaw, may_any, action_keeps, lines_kept, lines_of, all_act, after_action}
 use Rattle.nr_drill.proofs.Actions.Action.{SubmitCall, FeedUp, FeedDown, WorkOnce, ForgetCall, RevokeCall, DropLink, PutRaw, GrantCredits}
 use Rattle.nr_drill.proofs.Links.{HasTerms, LinkHolds, IsFrame, DrillHolds, NoMarkOf, link_later, link_elsewhere, opens, drill_later, drill_acts, drill_credential, drill_time, same_frame, same_links, map_all, both_all, link_bytes, action_extends}
 
@@ -315,18 +315,18 @@ counted_most DropLink n = omega arith
 counted_most (PutRaw side bytes) n = omega arith
 counted_most (GrantCredits credits) n = omega arith
 
-pub holds_kept : (s : Setting) (opening : Opening) (Raws : ℕ → Type 0) → IsKept s opening Raws (Holds s opening)
-holds_kept s opening Raws = record {
+pub holds_kept : (s : Setting) (opening : Opening) (Acts Raws : ℕ → Type 0) → IsKept s opening Acts Raws (Holds s opening)
+holds_kept s opening Acts Raws = record {
   count = λ n d p. p.0;
   later = λ n d p. (p.0, λ le replied. drill_later s opening n d (p.1 (omega (arith, le)) replied));
   credential = λ n c cred d can typed p. (p.0, λ le replied. drill_credential s opening n c cred d can typed (p.1 le replied));
   time = λ n seconds d p. (p.0, λ le replied. drill_time s opening n seconds d (p.1 le replied));
-  action = λ n c link a d last may p.
+  action = λ n c link a d last acts may p.
       (ap (λ (ls : List ℕ). length ls) (action_keeps (setting_now s d) link a d).last_links ∙ p.0,
       λ le replied. (let most = counted_most a n in
       drill_acts s opening n c link a d last (may_any Raws opening.credits c d a may) replied
       (p.1 (omega (arith, le, most)) (replied_before link d (after_action (setting_now s d) link a d) (action_extends (setting_now s d) link a d) replied))));
-  begins = λ n c link d last numbered gone stays p.
+  begins = λ n c link d last acts numbered gone stays p.
       (let begun = begun_drill s c link d in
       let own = last_link c begun in
       let x = opening_adds (setting_now s begun) own begun in
@@ -519,5 +519,5 @@ module _ (server : SerialServer) (script : ScriptLines) (is : IsScript script) w
 
   pub lines_hold : (follows_run : List Mark) → RepliedInBytes follows_run → (follows : Follows server script follows_run) → DrillHolds base script.opening (length script.lines) follows.last
   lines_hold run replied follows =
-      (lines_kept base script.opening AnyRaw (Holds base script.opening) (holds_kept base script.opening AnyRaw) 0 (length script.lines) script.opening.clients script.lines (opened_drill server script.opening) follows.last
-      (lines_of script is) (omega arith) follows.makes first_then).1 is.few_lines (subst RepliedInBytes follows.marks_are replied)
+      (lines_kept base script.opening AnyRaw AnyRaw (Holds base script.opening) (holds_kept base script.opening AnyRaw AnyRaw) 0 (length script.lines) script.opening.clients script.lines (opened_drill server script.opening) follows.last
+      (lines_of script is) (all_act script.lines) (omega arith) follows.makes first_then).1 is.few_lines (subst RepliedInBytes follows.marks_are replied)

@@ -12,7 +12,7 @@ use Rattle.nr_reduce.specs.declared.mark.LinkParameters.{LinkParameters}
 use Rattle.nr_reduce.specs.Limits.{numbers_end}
 use Rattle.nr_reduce.specs.ClientState.{stag_after}
 use Rattle.nr_reduce.specs.Events.{RunEvent, events}
-use Rattle.nr_reduce.specs.History.{abandons, is_abandoned}
+use Rattle.nr_reduce.specs.History.{abandons, is_abandoned, is_drop_of, is_dropped}
 use Rattle.nr_reduce.specs.Reopening.{reopened}
 use Rattle.nr_reduce.specs.Run.{client}
 use Rattle.nr_reduce.proofs.Steps.{events_one}
@@ -27,7 +27,7 @@ use Rattle.nr_drill.specs.Follows.{Follows, setting_of, opened_drill}
 use Rattle.nr_drill.specs.InBytes.{RepliedInBytes}
 use Rattle.nr_drill.specs.Unnumbered.{Heard}
 use Rattle.nr_drill.proofs.Followed.{Extends, apart, no_event, same_setting, opening_adds}
-use Rattle.nr_drill.proofs.Actions.{after_action, IsLastOf, IsKept, AnyRaw, lines_kept, lines_of}
+use Rattle.nr_drill.proofs.Actions.{after_action, IsLastOf, IsKept, AnyRaw, lines_kept, lines_of, all_act}
 use Rattle.nr_drill.proofs.Links.{DrillHolds, NoMarkOf, both_all, map_all, action_extends}
 use Rattle.nr_drill.proofs.BegunLinks.{Holds, IsBegun, begun_drill, next_link, begins_so, next_stags, holds_kept, counted_most, replied_before, index_map, index_range, first_owner, open_drill, opened_count, first_then}
 
@@ -121,6 +121,9 @@ step_is_next opened run old link old_began began gap later h = record {
   fresh = none_begun link began h.fresh;
 }
 
+still_dropped : (link : ℕ) (run more : List Mark) → is_dropped link run ≡ true → is_dropped link (run ++ more) ≡ true
+still_dropped link run more e = any_append (is_drop_of link) run more ∙ ap (λ (b : Bool). b || is_dropped link more) e
+
 -- ===== the links of a drill
 
 abbrev pub IsIn : (links link : ℕ) → Type 0
@@ -142,6 +145,7 @@ pub record LinksInOrder (t : Setting) (clients links : ℕ) (lasts : List ℕ) (
   pub wrote : (link other : ℕ) → IsIn links link → IsIn links other → clients < other → link < other → events link Initiator (began other) ≢ []
   pub owners : (link : ℕ) → IsIn links link → (1 ≤ client_of t link) × (client_of t link ≤ clients)
   pub last : (link : ℕ) → IsIn links link → link ≤ last_in lasts (client_of t link)
+  pub gone : (link : ℕ) → IsIn links link → link ≢ last_in lasts (client_of t link) → is_dropped link run ≡ true
 
 abbrev pub InOrder : Setting → ℕ → Drill → Type 0
 InOrder t clients d = LinksInOrder t clients (length d.opened) d.last_links d.marks
@@ -178,6 +182,7 @@ order_extends t clients c acted old new x owner last h =
       wrote = h.wrote;
       owners = h.owners;
       last = h.last;
+      gone = λ link is ne. still_dropped link old.marks x.marks.added (h.gone link is ne);
     }
 
 -- ===== a link begins
@@ -212,7 +217,7 @@ some_event o link run h none =
 module _ (s : Setting) (opening : Opening) (n c link : ℕ) (d : Drill) (last : IsLastOf opening.clients c link d) (b : IsBegun s c link d) (held : DrillHolds s opening n d) (numbered : opening.numbered ≡ true)
     (stays : (client ((setting_now s d).opened link) link d.marks).ended ≡ None)
     (stags : stag_after (reopened ((setting_now s d).opened link) link d.marks).first_stag (reopened ((setting_now s d).opened link) link d.marks).resumed ≤ numbers_end)
-    (h : InOrder (setting_now s d) opening.clients d) where
+    (left : is_dropped link d.marks ≡ true) (h : InOrder (setting_now s d) opening.clients d) where
   abbrev t : Setting
   t = setting_now s d
 
@@ -326,6 +331,7 @@ module _ (s : Setting) (opening : Opening) (n c link : ℕ) (d : Drill) (last : 
     wrote = λ l other is other_is more lt. wrote_of l other more lt (each l is) (each other other_is);
     owners = λ l is. owners_of l (each l is);
     last = λ l is. last_of l (each l is);
+    gone = λ l is ne. gone_of l ne (each l is);
   }
     where
       firsts_of : (l : ℕ) → IsLink begun l → l ≤ clients → (l ≡ next) ⊎ IsLink d l → (client_of u l ≡ l) × (began l ≡ []) × ((u.opened l).agreed ≡ None)
@@ -378,6 +384,22 @@ module _ (s : Setting) (opening : Opening) (n c link : ℕ) (d : Drill) (last : 
       owners_of l (inl same) = subst (λ (m : ℕ). (1 ≤ m) × (m ≤ clients)) (sym (ap (client_of u) same ∙ b.owner)) (last.low, last.high)
       owners_of l (inr was) = subst (λ (m : ℕ). (1 ≤ m) × (m ≤ clients)) (sym (same_owner l was)) (h.owners l was)
 
+      gone_of : (l : ℕ) → l ≢ last_in begun.last_links (client_of u l) → (l ≡ next) ⊎ IsLink d l → is_dropped l d.marks ≡ true
+      gone_of l ne (inl same) = absurd (ne (same ∙ sym b.is_last ∙ ap (last_in begun.last_links) (sym (ap (client_of u) same ∙ b.owner))))
+      gone_of l ne (inr was) = by (eqb link l) refl
+        where
+          by : (e : Bool) → eqb link l ≡ e → is_dropped l d.marks ≡ true
+          by true e = subst (λ (m : ℕ). is_dropped m d.marks ≡ true) (eqb-true link l e) left
+          by false e = h.gone l was (λ at. was_last at (eqb (client_of t l) c) refl)
+            where
+              was_last : l ≡ last_in d.last_links (client_of t l) → (f : Bool) → eqb (client_of t l) c ≡ f → ⊥
+              was_last at true own = absurd (let wrong : true ≡ false = sym (eq-eqb link l (last.is ∙ ap (last_in d.last_links) (sym (eqb-true (client_of t l) c own)) ∙ sym at)) ∙ e in cc)
+              was_last at false own =
+                  let other : client_of t l ≢ c = (λ same. absurd (let wrong : true ≡ false = sym (eq-eqb (client_of t l) c same) ∙ own in cc)) in
+                  let low = last.low in
+                  let some = (h.owners l was).0 in
+                  ne (at ∙ sym (get_or-set_other d.last_links (c - 1) (client_of t l - 1) next (client_of t l) (λ same. other (omega (arith, same, low, some)))) ∙ ap (last_in begun.last_links) (sym (same_owner l was)))
+
       last_of : (l : ℕ) → (l ≡ next) ⊎ IsLink d l → l ≤ last_in begun.last_links (client_of u l)
       last_of l (inl same) =
           subst (λ (m : ℕ). m ≤ last_in begun.last_links (client_of u m)) (sym same)
@@ -398,16 +420,16 @@ module _ (s : Setting) (opening : Opening) (n c link : ℕ) (d : Drill) (last : 
 abbrev OrderThen : Setting → Opening → ℕ → Drill → Type 0
 OrderThen s opening n d = Holds s opening n d × (n ≤ lines_max → RepliedInBytes d.marks → InOrder (setting_now s d) opening.clients d)
 
-order_kept : (s : Setting) (opening : Opening) → IsKept s opening AnyRaw (OrderThen s opening)
+order_kept : (s : Setting) (opening : Opening) → IsKept s opening AnyRaw AnyRaw (OrderThen s opening)
 order_kept s opening =
-    let k = holds_kept s opening AnyRaw in
+    let k = holds_kept s opening AnyRaw AnyRaw in
     record {
       count = λ n d p. k.count n d p.0;
       later = λ n d p. (k.later n d p.0, λ le replied. p.1 (omega (arith, le)) replied);
       credential = λ n c cred d can typed p. (k.credential n c cred d can typed p.0, λ le replied. p.1 le replied);
       time = λ n seconds d p. (k.time n seconds d p.0, λ le replied. p.1 le replied);
-      action = λ n c link a d last may p.
-          (k.action n c link a d last may p.0,
+      action = λ n c link a d last acts may p.
+          (k.action n c link a d last acts may p.0,
           λ le replied. (let most = counted_most a n in
           let fits : n ≤ lines_max = omega (arith, le, most) in
           let t = setting_now s d in
@@ -417,14 +439,14 @@ order_kept s opening =
           let here = (p.0.1 fits before).frame.owned c link last in
           subst (λ (v : Setting). InOrder v opening.clients new) (sym (same_setting s d new (record { opened = x.opened; last_links = x.last_links })))
           (order_extends t opening.clients c link d new x here.1 last.is (p.1 fits before))));
-      begins = λ n c link d last numbered gone stays p.
-          (k.begins n c link d last numbered gone stays p.0,
+      begins = λ n c link d last acts numbered gone stays p.
+          (k.begins n c link d last acts numbered gone stays p.0,
           λ le replied. (let fits : n ≤ lines_max = omega (arith, le) in
           let begun = begun_drill s c link d in
           let before = replied_before (last_link c begun) begun (after_leaving s c link d) (opening_adds (setting_now s begun) (last_link c begun) begun) replied in
           let held = p.0.1 fits before in
           order_left s opening n c link d last (begins_so s opening n c link d le last numbered stays held) held numbered stays
-          (next_stags s opening n c link d le last numbered stays held) (p.1 fits before)));
+          (next_stags s opening n c link d le last numbered stays held) gone (p.1 fits before)));
     }
 
 -- ===== the first links
@@ -449,6 +471,7 @@ module _ (server : SerialServer) (script : ScriptLines) (is : IsScript script) w
     wrote = λ link other within other_within more lt. absurd (none other other_within more);
     owners = λ link within. subst (λ (m : ℕ). (1 ≤ m) × (m ≤ clients)) (sym (owner link within)) (within.0, few link within);
     last = λ link within. subst (λ (m : ℕ). link ≤ last_in first.last_links m) (sym (owner link within)) (let at = own_last link within in omega (arith, at));
+    gone = λ link within ne. absurd (ne (sym (ap (last_in first.last_links) (owner link within) ∙ own_last link within)));
   }
     where
       clients : ℕ
@@ -478,5 +501,5 @@ module _ (server : SerialServer) (script : ScriptLines) (is : IsScript script) w
   -- the links of every script are in order
   pub links_in_order : (run : List Mark) → RepliedInBytes run → (follows : Follows server script run) → InOrder (setting_now base follows.last) script.opening.clients follows.last
   links_in_order run replied follows =
-      (lines_kept base script.opening AnyRaw (OrderThen base script.opening) (order_kept base script.opening) 0 (length script.lines) script.opening.clients script.lines (opened_drill server script.opening) follows.last
-      (lines_of script is) (omega arith) follows.makes (first_then server script is, λ le replied. first_order)).1 is.few_lines (subst RepliedInBytes follows.marks_are replied)
+      (lines_kept base script.opening AnyRaw AnyRaw (OrderThen base script.opening) (order_kept base script.opening) 0 (length script.lines) script.opening.clients script.lines (opened_drill server script.opening) follows.last
+      (lines_of script is) (all_act script.lines) (omega arith) follows.makes (first_then server script is, λ le replied. first_order)).1 is.few_lines (subst RepliedInBytes follows.marks_are replied)

@@ -25,7 +25,7 @@ use Rattle.nr_drill.specs.InBytes.{RepliedInBytes}
 use Rattle.nr_drill.proofs.Lawful.{Keeps}
 use Rattle.nr_drill.proofs.Followed.{Extends, KeepsAll, laws_of, same_setting, same_all, opening_adds, start_lawful, start_none}
 use Rattle.nr_drill.proofs.Carried.{Carries, carries_up, carries_down, carries_submit, carries_work, carries_forget, carries_revoke, carries_drop, carries_grant, carries_elsewhere, opening_carries, fresh_carries, here_all, same_marks}
-use Rattle.nr_drill.proofs.Actions.{Action, after_action, IsLastOf, MayAct, IsKept, NotOf, lines_kept, lines_not_of}
+use Rattle.nr_drill.proofs.Actions.{Action, after_action, IsLastOf, MayAct, IsKept, AnyRaw, NotOf, all_act, lines_kept, lines_not_of}
 use Rattle.nr_drill.proofs.Actions.Action.{SubmitCall, FeedUp, FeedDown, WorkOnce, ForgetCall, RevokeCall, DropLink, PutRaw, GrantCredits}
 use Rattle.nr_drill.proofs.Links.{LinkHolds, DrillHolds, NoMarkOf, none_sent, action_extends, link_of_same}
 use Rattle.nr_drill.proofs.BegunLinks.{Holds, IsBegun, begun_drill, next_link, begins_so, holds_kept, counted_most, first_then, replied_before, AreOpen, open_one, at_start, none_of_next, opened_count, lines_hold}
@@ -156,22 +156,22 @@ moved_on s own d new m p o l carries link is mine =
     let same : setting_now s new ≡ setting_now s d = same_setting s d new (record { opened = o; last_links = l }) in
     same_marks link d new m p (carries link (link_of_same d new link o is) (ap (λ (r : Setting). client_of r link) (sym same) ∙ mine))
 
-pub carries_kept : (s : Setting) (opening : Opening) (own : ℕ) → IsKept s opening (NotOf own) (CarriesThen s opening own)
+pub carries_kept : (s : Setting) (opening : Opening) (own : ℕ) → IsKept s opening AnyRaw (NotOf own) (CarriesThen s opening own)
 carries_kept s opening own =
-    let k = holds_kept s opening (NotOf own) in
+    let k = holds_kept s opening AnyRaw (NotOf own) in
     record {
       count = λ n d p. k.count n d p.0;
       later = λ n d p. (k.later n d p.0, λ le replied. p.1 (omega (arith, le)) replied);
       credential = λ n c cred d can typed p. (k.credential n c cred d can typed p.0, λ le replied. moved_on s own d (with_cred c cred d) refl refl refl refl (p.1 le replied));
       time = λ n seconds d p. (k.time n seconds d p.0, λ le replied. moved_on s own d (record d { seconds = d.seconds + seconds }) refl refl refl refl (p.1 le replied));
-      action = λ n c link a d last may p.
-          (k.action n c link a d last may p.0,
+      action = λ n c link a d last acts may p.
+          (k.action n c link a d last acts may p.0,
           λ le replied. (let most = counted_most a n in
           let fits : n ≤ lines_max = omega (arith, le, most) in
           let before = replied_before link d (after_action (setting_now s d) link a d) (action_extends (setting_now s d) link a d) replied in
           client_acts s opening own n c link a d last may (p.0.1 fits before) (p.1 fits before)));
-      begins = λ n c link d last numbered gone stays p.
-          (k.begins n c link d last numbered gone stays p.0,
+      begins = λ n c link d last acts numbered gone stays p.
+          (k.begins n c link d last acts numbered gone stays p.0,
           λ le replied. (let fits : n ≤ lines_max = omega (arith, le) in
           let begun = begun_drill s c link d in
           let before = replied_before (last_link c begun) begun (after_leaving s c link d) (opening_adds (setting_now s begun) (last_link c begun) begun) replied in
@@ -237,8 +237,8 @@ follows_keeps server script run is replied follows link within =
       grant = submits_within o link run (subst (λ (r : List Mark). AcceptsByRule o link r) rejoin laws.accepts);
       handed = subst (λ (r : List Mark). outcomes_due o link r ≡ []) rejoin h.due;
       matched = λ raw.
-          (let all = lines_kept s script.opening (NotOf own) (CarriesThen s script.opening own) (carries_kept s script.opening own) 0 (length script.lines) script.opening.clients script.lines (opened_drill server script.opening)
-          follows.last (lines_not_of own script is raw) (omega arith) follows.makes
+          (let all = lines_kept s script.opening AnyRaw (NotOf own) (CarriesThen s script.opening own) (carries_kept s script.opening own) 0 (length script.lines) script.opening.clients script.lines (opened_drill server script.opening)
+          follows.last (lines_not_of own script is raw) (all_act script.lines) (omega arith) follows.makes
           (first_then server script is, λ le replied. first_carries server script is own) in
           subst (Matched link) rejoin (all.1 is.few_lines (subst RepliedInBytes follows.marks_are replied) link within refl).matched);
     }

@@ -25,7 +25,7 @@ use Rattle.nr_drill.proofs.Lawful.{Keeps}
 use Rattle.nr_drill.proofs.Followed.{Extends, same_setting, laws_of, up_adds, work_adds, calls_adds, down_adds, moves_adds, opening_adds}
 use Rattle.nr_drill.proofs.Carried.{Carries}
 use Rattle.nr_drill.proofs.LessSteps.{steps_leave_less}
-use Rattle.nr_drill.proofs.Actions.{IsLastOfSome, IsKept, AnyRaw, NotOf, IsLineOf, Drained, all_last, fed_up, worked_all, round_kept, lines_of, part_not_of, line_kept, lines_kept}
+use Rattle.nr_drill.proofs.Actions.{IsLastOfSome, IsKept, AnyRaw, NotOf, IsLineOf, Drained, all_last, fed_up, worked_all, round_kept, lines_of, all_act, part_not_of, line_kept, lines_kept}
 use Rattle.nr_drill.proofs.Links.{LinkHolds, DrillHolds, action_extends}
 use Rattle.nr_drill.proofs.BegunLinks.{begun_drill, first_count, first_then}
 use Rattle.nr_drill.proofs.CarriedLinks.{CarriesThen, carries_kept, first_carries}
@@ -104,25 +104,25 @@ rounds_left s links (suc n) (suc all) old round new made moves drains = rounds_l
 
 -- ===== the drain within its script
 
-record IsCut (s : Setting) (clients : ℕ) (before after : List Line) (old new : Drill) : Type 0 where
-  first : Drill
-  drained : Drill
-  rounds : ℕ
-  made : MakeAll s clients before old first
-  drains : Drains (setting_now s first) first.last_links rounds first drained
-  later : MakeAll s clients after drained new
+pub record IsCut (s : Setting) (clients : ℕ) (before after : List Line) (old new : Drill) : Type 0 where
+  pub first : Drill
+  pub drained : Drill
+  pub rounds : ℕ
+  pub made : MakeAll s clients before old first
+  pub drains : Drains (setting_now s first) first.last_links rounds first drained
+  pub later : MakeAll s clients after drained new
 
-cut_at : (s : Setting) (clients : ℕ) (before after : List Line) (old new : Drill) → MakeAll s clients (before ++ lines.Drain ∷ after) old new → IsCut s clients before after old new
+pub cut_at : (s : Setting) (clients : ℕ) (before after : List Line) (old new : Drill) → MakeAll s clients (before ++ lines.Drain ∷ after) old new → IsCut s clients before after old new
 cut_at s clients [] after old new e = record { first = old; drained = e.0; rounds = e.1.0; made = refl; drains = e.1.1; later = e.2 }
 cut_at s clients (line ∷ before) after old new e =
     let r = cut_at s clients before after e.0 new e.2 in
     record { first = r.first; drained = r.drained; rounds = r.rounds; made = (e.0, e.1, r.made); drains = r.drains; later = r.later }
 
-front_of : {X : Type 0} (P : X → Type 0) (xs ys : List X) → AllByRecursion P (xs ++ ys) → AllByRecursion P xs
+pub front_of : {X : Type 0} (P : X → Type 0) (xs ys : List X) → AllByRecursion P (xs ++ ys) → AllByRecursion P xs
 front_of P [] ys h = tt
 front_of P (x ∷ xs) ys h = (h.0, front_of P xs ys h.1)
 
-back_of : {X : Type 0} (P : X → Type 0) (xs ys : List X) → AllByRecursion P (xs ++ ys) → AllByRecursion P ys
+pub back_of : {X : Type 0} (P : X → Type 0) (xs ys : List X) → AllByRecursion P (xs ++ ys) → AllByRecursion P ys
 back_of P [] ys h = h
 back_of P (x ∷ xs) ys h = back_of P xs ys h.1
 
@@ -130,16 +130,16 @@ back_of P (x ∷ xs) ys h = back_of P xs ys h.1
 abbrev AddsOn : ℕ → List Mark → ℕ → Drill → Type 0
 AddsOn clients first n d = (length d.last_links ≡ clients) × Begins first d.marks
 
-adds_kept : (s : Setting) (opening : Opening) (first : List Mark) → IsKept s opening AnyRaw (AddsOn opening.clients first)
+adds_kept : (s : Setting) (opening : Opening) (first : List Mark) → IsKept s opening AnyRaw AnyRaw (AddsOn opening.clients first)
 adds_kept s opening first = record {
   count = λ n d p. p.0;
   later = λ n d p. p;
   credential = λ n c cred d can typed p. p;
   time = λ n seconds d p. p;
-  action = λ n c link a d last may p.
+  action = λ n c link a d last acts may p.
       (let x = action_extends (setting_now s d) link a d in
       (ap (λ (ls : List ℕ). length ls) x.last_links ∙ p.0, (p.1.0 ++ x.marks.added, x.marks.is ∙ ap (λ (r : List Mark). r ++ x.marks.added) p.1.1 ∙ append_assoc first p.1.0 x.marks.added)));
-  begins = λ n c link d last numbered gone stays p.
+  begins = λ n c link d last acts numbered gone stays p.
       (let begun = begun_drill s c link d in
       let x = opening_adds (setting_now s begun) (last_link c begun) begun in
       (ap (λ (ls : List ℕ). length ls) x.last_links ∙ length-set d.last_links (c - 1) (length d.pipes + 1) ∙ p.0,
@@ -213,9 +213,9 @@ module _ (server : SerialServer) (script : ScriptLines) (run : List Mark) (is : 
       let drained = drains_begin t links left.0 (after_round t links x.round) cut.drained left.1 in
       let whole = begins_through (after_step t link step d).marks (after_round t links x.round).marks cut.drained.marks round drained in
       let k = adds_kept s script.opening [] in
-      let old_count = (lines_kept s script.opening AnyRaw (AddsOn clients []) k 0 (length x.before) clients x.before opened cut.first before_lines (omega arith) cut.made (first_count server script is, (opened.marks, refl))).0 in
-      let count = (line_kept s script.opening AnyRaw (AddsOn clients []) k 0 clients lines.Drain cut.first cut.drained tt (cut.rounds, cut.drains) (old_count, (cut.first.marks, refl))).0 in
-      let rest = (lines_kept s script.opening AnyRaw (AddsOn clients cut.drained.marks) (adds_kept s script.opening cut.drained.marks) 0 (length x.after) clients x.after cut.drained follows.last after_lines (omega arith) cut.later
+      let old_count = (lines_kept s script.opening AnyRaw AnyRaw (AddsOn clients []) k 0 (length x.before) clients x.before opened cut.first before_lines (all_act x.before) (omega arith) cut.made (first_count server script is, (opened.marks, refl))).0 in
+      let count = (line_kept s script.opening AnyRaw AnyRaw (AddsOn clients []) k 0 clients lines.Drain cut.first cut.drained tt (λ c. tt) (cut.rounds, cut.drains) (old_count, (cut.first.marks, refl))).0 in
+      let rest = (lines_kept s script.opening AnyRaw AnyRaw (AddsOn clients cut.drained.marks) (adds_kept s script.opening cut.drained.marks) 0 (length x.after) clients x.after cut.drained follows.last after_lines (all_act x.after) (omega arith) cut.later
       (count, begins_itself cut.drained.marks)).1 in
       subst (Begins (after_step t link step d).marks) (sym follows.marks_are) (begins_through (after_step t link step d).marks cut.drained.marks follows.last.marks whole rest)
 
@@ -223,12 +223,12 @@ module _ (server : SerialServer) (script : ScriptLines) (run : List Mark) (is : 
   abbrev P : ℕ → Drill → Type 0
   P = CarriesThen s script.opening own
 
-  k : IsKept s script.opening (NotOf own) P
+  k : IsKept s script.opening AnyRaw (NotOf own) P
   k = carries_kept s script.opening own
 
   at_old : P (length x.before) x.old
   at_old =
-      lines_kept s script.opening (NotOf own) P k 0 (length x.before) clients x.before opened x.old (part_not_of script.opening own x.before raw before_lines) (omega arith) x.made
+      lines_kept s script.opening AnyRaw (NotOf own) P k 0 (length x.before) clients x.before opened x.old (part_not_of script.opening own x.before raw before_lines) (all_act x.before) (omega arith) x.made
       (first_then server script is, λ le all. first_carries server script is own)
 
   links_last : AllByRecursion (IsLastOfSome clients x.old) x.old.last_links
@@ -241,22 +241,22 @@ module _ (server : SerialServer) (script : ScriptLines) (run : List Mark) (is : 
   own_last = (back_of (IsLastOfSome clients x.old) x.earlier (link ∷ x.later) turn_last).0
 
   abbrev DrainedTo : Drill → Type 0
-  DrainedTo new = Drained s script.opening (NotOf own) P k x.old (length x.before) new
+  DrainedTo new = Drained s script.opening AnyRaw (NotOf own) P k x.old (length x.before) new
 
   rounds_kept : (n : ℕ) (old new : Drill) → MakesRounds t x.old.last_links n old new → DrainedTo old → DrainedTo new
   rounds_kept zero old new e h = subst DrainedTo (sym e) h
-  rounds_kept (suc n) old new e h = rounds_kept n (after_round t x.old.last_links old) new e.1 (round_kept s script.opening (NotOf own) P k x.old (length x.before) x.old.last_links old links_last h)
+  rounds_kept (suc n) old new e h = rounds_kept n (after_round t x.old.last_links old) new e.1 (round_kept s script.opening AnyRaw (NotOf own) P k x.old (length x.before) x.old.last_links old (λ c. tt) links_last h)
 
   at_turn : DrainedTo (after_round t x.earlier x.round)
   at_turn =
-      round_kept s script.opening (NotOf own) P k x.old (length x.before) x.earlier x.round (front_of (IsLastOfSome clients x.old) x.earlier (link ∷ x.later) turn_last)
+      round_kept s script.opening AnyRaw (NotOf own) P k x.old (length x.before) x.earlier x.round (λ c. tt) (front_of (IsLastOfSome clients x.old) x.earlier (link ∷ x.later) turn_last)
       (rounds_kept x.rounds x.old x.round x.makes_rounds (record { holds = at_old; keeps = record { opened = refl; last_links = refl } }))
 
   up_kept : (start : Drill) → DrainedTo start → DrainedTo (after_all_up t link start)
-  up_kept start h = fed_up s script.opening (NotOf own) P k x.old (length x.before) own_last.0 link (length (pipes_of link start).up) start own_last.1 h
+  up_kept start h = fed_up s script.opening AnyRaw (NotOf own) P k x.old (length x.before) own_last.0 link (length (pipes_of link start).up) start own_last.1 tt h
 
   calls_kept : (n : ℕ) (start : Drill) → DrainedTo start → DrainedTo (after_calls t link n start)
-  calls_kept n start h = worked_all s script.opening (NotOf own) P k x.old (length x.before) own_last.0 link n start own_last.1 h
+  calls_kept n start h = worked_all s script.opening AnyRaw (NotOf own) P k x.old (length x.before) own_last.0 link n start own_last.1 tt h
 
   before_kept : (which : DrainStep) (start : Drill) → IsBeforeStep t link start which d → DrainedTo start → DrainedTo d
   unfolding after_all_work

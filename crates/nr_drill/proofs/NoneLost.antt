@@ -25,7 +25,7 @@ use Rattle.nr_drill.specs.Follows.{Follows, setting_of, opened_drill}
 use Rattle.nr_drill.proofs.Lawful.{own_written, up_written, down_written}
 use Rattle.nr_drill.proofs.Followed.{Extends, opening_adds}
 use Rattle.nr_drill.proofs.Carried.{same_dropped, same_sent, same_received, own_pipes, still_room, own_fed, up_fed, down_fed, dropped_at_last, IsSameHere, same_here, other_than}
-use Rattle.nr_drill.proofs.Actions.{Action, after_action, IsKept, AnyRaw, lines_of, lines_kept}
+use Rattle.nr_drill.proofs.Actions.{Action, after_action, IsKept, AnyRaw, lines_of, all_act, lines_kept}
 use Rattle.nr_drill.proofs.Actions.Action.{SubmitCall, FeedUp, FeedDown, WorkOnce, ForgetCall, RevokeCall, DropLink, PutRaw, GrantCredits}
 use Rattle.nr_drill.proofs.Links.{none_sent, action_extends, link_of_same}
 use Rattle.nr_drill.proofs.BegunLinks.{Holds, IsBegun, begun_drill, next_link, begins_so, holds_kept, counted_most, replied_before, opened_count, first_then}
@@ -405,17 +405,17 @@ begun_loses s c link d b h = subst (λ (l : ℕ). LosesNothing (after_opening u 
 abbrev LosesThen : Setting → Opening → ℕ → Drill → Type 0
 LosesThen s opening n d = Holds s opening n d × (n ≤ lines_max → RepliedInBytes d.marks → LosesNothing d)
 
-loses_kept : (s : Setting) (opening : Opening) → IsKept s opening AnyRaw (LosesThen s opening)
+loses_kept : (s : Setting) (opening : Opening) → IsKept s opening AnyRaw AnyRaw (LosesThen s opening)
 loses_kept s opening =
-    let k = holds_kept s opening AnyRaw in
+    let k = holds_kept s opening AnyRaw AnyRaw in
     record {
       count = λ n d p. k.count n d p.0;
       later = λ n d p. (k.later n d p.0, λ le replied. p.1 (omega (arith, le)) replied);
       credential = λ n c cred d can typed p.
           (k.credential n c cred d can typed p.0, λ le replied link is. (let h = p.1 le replied link is in record { room = h.room; up = h.up; down = h.down }));
       time = λ n seconds d p. (k.time n seconds d p.0, λ le replied link is. (let h = p.1 le replied link is in record { room = h.room; up = h.up; down = h.down }));
-      action = λ n c link a d last may p.
-          (k.action n c link a d last may p.0,
+      action = λ n c link a d last acts may p.
+          (k.action n c link a d last acts may p.0,
           λ le replied other is. (let most = counted_most a n in
           let fits : n ≤ lines_max = omega (arith, le, most) in
           let t = setting_now s d in
@@ -425,8 +425,8 @@ loses_kept s opening =
           let here = (p.0.1 fits before).frame.owned c link last in
           let was = link_of_same d new other x.opened is in
           none_by link other d new here.0.0 is.0 x (none_acts t link a d) (p.1 fits before other was)));
-      begins = λ n c link d last numbered gone stays p.
-          (k.begins n c link d last numbered gone stays p.0,
+      begins = λ n c link d last acts numbered gone stays p.
+          (k.begins n c link d last acts numbered gone stays p.0,
           λ le replied. (let fits : n ≤ lines_max = omega (arith, le) in
           let begun = begun_drill s c link d in
           let before = replied_before (last_link c begun) begun (after_leaving s c link d) (opening_adds (setting_now s begun) (last_link c begun) begun) replied in
@@ -462,5 +462,5 @@ first_loses server script is link within =
 pub follows_lose_nothing : (server : SerialServer) (script : ScriptLines) (run : List Mark) → IsScript script → RepliedInBytes run → (follows : Follows server script run) → LosesNothing follows.last
 follows_lose_nothing server script run is replied follows =
     let s = setting_of server script.opening in
-    (lines_kept s script.opening AnyRaw (LosesThen s script.opening) (loses_kept s script.opening) 0 (length script.lines) script.opening.clients script.lines (opened_drill server script.opening) follows.last
-    (lines_of script is) (omega arith) follows.makes (first_then server script is, λ le replied. first_loses server script is)).1 is.few_lines (subst RepliedInBytes follows.marks_are replied)
+    (lines_kept s script.opening AnyRaw AnyRaw (LosesThen s script.opening) (loses_kept s script.opening) 0 (length script.lines) script.opening.clients script.lines (opened_drill server script.opening) follows.last
+    (lines_of script is) (all_act script.lines) (omega arith) follows.makes (first_then server script is, λ le replied. first_loses server script is)).1 is.few_lines (subst RepliedInBytes follows.marks_are replied)

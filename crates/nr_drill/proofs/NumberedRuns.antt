@@ -22,7 +22,7 @@ use Rattle.nr_drill.specs.Follows.{Follows, setting_of, last_setting, opened_dri
 use Rattle.nr_drill.specs.InBytes.{RepliedInBytes}
 use Rattle.nr_drill.proofs.LessFrames.{still_heard}
 use Rattle.nr_drill.proofs.Followed.{Extends, opening_adds}
-use Rattle.nr_drill.proofs.Actions.{Action, after_action, IsLastOf, IsKept, AnyRaw, lines_kept, lines_of}
+use Rattle.nr_drill.proofs.Actions.{Action, after_action, IsLastOf, IsKept, AnyRaw, lines_kept, lines_of, all_act}
 use Rattle.nr_drill.proofs.Actions.Action.{SubmitCall, FeedUp, FeedDown, WorkOnce, ForgetCall, RevokeCall, DropLink, PutRaw, GrantCredits}
 use Rattle.nr_drill.proofs.AddedMarks.{AddsBy, QuietRules, MarkRules, adds_one, submit_by, up_by, down_by, work_by, forget_by, revoke_by, opening_by, raw_by, each_both}
 use Rattle.nr_drill.proofs.NumberedJournals.{StandingMark, HeardMark, standing_quiet, standing_rules, journaled_by_number}
@@ -138,22 +138,22 @@ action_journaled s opening n c link a d last holds h =
 abbrev JournaledThen : Setting → Opening → ℕ → Drill → Type 0
 JournaledThen s opening n d = Holds s opening n d × (n ≤ lines_max → RepliedInBytes d.marks → IsJournaled s.server d)
 
-journaled_kept : (s : Setting) (opening : Opening) → IsKept s opening AnyRaw (JournaledThen s opening)
+journaled_kept : (s : Setting) (opening : Opening) → IsKept s opening AnyRaw AnyRaw (JournaledThen s opening)
 journaled_kept s opening =
-    let k = holds_kept s opening AnyRaw in
+    let k = holds_kept s opening AnyRaw AnyRaw in
     record {
       count = λ n d p. k.count n d p.0;
       later = λ n d p. (k.later n d p.0, λ le replied. p.1 (omega (arith, le)) replied);
       credential = λ n c cred d can typed p. (k.credential n c cred d can typed p.0, λ le replied. (let h = p.1 le replied in record { stands = h.stands; heard = h.heard }));
       time = λ n seconds d p. (k.time n seconds d p.0, λ le replied. (let h = p.1 le replied in record { stands = h.stands; heard = h.heard }));
-      action = λ n c link a d last may p.
-          (k.action n c link a d last may p.0,
+      action = λ n c link a d last acts may p.
+          (k.action n c link a d last acts may p.0,
           λ le replied. (let most = counted_most a n in
           let fits : n ≤ lines_max = omega (arith, le, most) in
           let before = replied_before link d (after_action (setting_now s d) link a d) (action_extends (setting_now s d) link a d) replied in
           action_journaled s opening n c link a d last (p.0.1 fits before) (p.1 fits before)));
-      begins = λ n c link d last numbered gone stays p.
-          (k.begins n c link d last numbered gone stays p.0,
+      begins = λ n c link d last acts numbered gone stays p.
+          (k.begins n c link d last acts numbered gone stays p.0,
           λ le replied. (let fits : n ≤ lines_max = omega (arith, le) in
           let begun = begun_drill s c link d in
           let own = last_link c begun in
@@ -169,8 +169,8 @@ first_journaled server opening = openings_journaled (setting_of server opening) 
 pub follows_journaled : (server : SerialServer) (script : ScriptLines) (run : List Mark) → IsScript script → RepliedInBytes run → (follows : Follows server script run) → JournaledByNumber (plain_of server) (number_heard run) (journal_of (last_setting follows) run) run
 follows_journaled server script run is replied follows =
     let s = setting_of server script.opening in
-    let all = lines_kept s script.opening AnyRaw (JournaledThen s script.opening) (journaled_kept s script.opening) 0 (length script.lines) script.opening.clients script.lines (opened_drill server script.opening)
-    follows.last (lines_of script is) (omega arith) follows.makes
+    let all = lines_kept s script.opening AnyRaw AnyRaw (JournaledThen s script.opening) (journaled_kept s script.opening) 0 (length script.lines) script.opening.clients script.lines (opened_drill server script.opening)
+    follows.last (lines_of script is) (all_act script.lines) (omega arith) follows.makes
     (first_then server script is, λ le replied. first_journaled server script.opening) in
     let h = all.1 is.few_lines (subst RepliedInBytes follows.marks_are replied) in
     let back = sym follows.marks_are in
