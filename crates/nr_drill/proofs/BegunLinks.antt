@@ -189,7 +189,7 @@ module _ (s : Setting) (opening : Opening) (n c link : ℕ) (d : Drill) (within 
   room_is : next - 1 < length begun.pipes
   room_is = (let more = length-append d.pipes (empty_pipes ∷ []) in omega (arith, more))
 
-  new_holds : LinkHolds opening (suc n) (u.opened next) next (after_opening u next begun).marks
+  pub new_holds : LinkHolds opening (suc n) (u.opened next) next (after_opening u next begun).marks
   new_holds =
       let stags = reopened_stags o link next d.marks few_calls_kept in
       let low = k.stags in
@@ -246,7 +246,7 @@ module _ (s : Setting) (opening : Opening) (n c link : ℕ) (d : Drill) (within 
     knows = begun_knows;
   }
 
-  begun_typed : IsTypedDrill begun
+  pub begun_typed : IsTypedDrill begun
   begun_typed = record { typed = h.typed.typed; pipes = both_all PipesOfBytes d.pipes (empty_pipes ∷ []) h.typed.pipes ((no_bytes_lem, no_bytes_lem), tt); creds = h.typed.creds }
 
   opened_holds : RepliedInBytes (after_opening u next begun).marks → DrillHolds s opening (suc n) (after_opening u next begun)

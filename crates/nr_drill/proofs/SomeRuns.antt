@@ -9,7 +9,7 @@ use Rattle.nr_drill.specs.Drill.{SerialServer, Setting, Drill, setting_now}
 use Rattle.nr_drill.specs.Follows.{after_line, Drains, Makes, MakeAll, Follows, setting_of, opened_drill}
 use Rattle.nr_drill.specs.Lines.{is_raw_of, HasNoRaw, IsClient, IsUnnumbered}
 use Rattle.nr_drill.specs.DrillSetup.{drill_setup, server_of}
-use Rattle.nr_drill.specs.Laws.{ScriptsHaveRuns, DrillsHaveRuns}
+use Rattle.nr_drill.specs.Laws.{PlainDrainsEnd, ScriptsHaveRuns, DrillsHaveRuns}
 use Rattle.nr_drill.specs.Drains.{AnswersInBytes, AnswersCalls}
 use Rattle.nr_drill.proofs.LessScripts.{any_front}
 use Rattle.nr_drill.proofs.LessRounds.{drains_end}
@@ -52,6 +52,10 @@ some_run server script is none raw replies answers =
     let all = rest_made server script is none raw replies answers script.lines [] refl (opened_drill server script.opening) refl in
     (all.0.marks, record { last = all.0; makes = all.1; marks_are = refl })
 
+pub plain_drains_end : PlainDrainsEnd
+plain_drains_end tree script in_bytes is none before after cut raw mid made =
+    drains_end (server_of (drill_setup tree script.opening)) script is none (plain_answers_in_bytes tree script.opening in_bytes) (plain_answers tree script.opening) before after cut raw mid made
+
 -- so it has with the plain server of a drill over a tree in bytes
 pub scripts_have_runs : ScriptsHaveRuns
 scripts_have_runs tree script in_bytes is none raw = some_run (server_of (drill_setup tree script.opening)) script is none raw (plain_answers_in_bytes tree script.opening in_bytes) (plain_answers tree script.opening)
@@ -60,4 +64,4 @@ pub drills_have_runs : DrillsHaveRuns
 drills_have_runs tree script first is none raw =
     let in_bytes = drill_in_bytes tree first in
     let run = scripts_have_runs tree script in_bytes is none raw in
-    (run.0, drill_is_run tree script run.0 (drill_sane tree first) is none (plain_runs_reply_in_bytes tree script run.0 in_bytes is none run.1) run.1)
+    (run.0, drill_is_run tree script run.0 (drill_sane tree first) is (plain_runs_reply_in_bytes tree script run.0 in_bytes is run.1) run.1)
