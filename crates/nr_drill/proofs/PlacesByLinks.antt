@@ -22,11 +22,11 @@ use Rattle.nr_drill.proofs.EarlierOnes.{earlier_one, earlier_order, earlier_furt
 use Rattle.nr_drill.proofs.NumberedDrills.{order, wrote, outside, typed, far, opens_with, matched_with, one_each, journaled}
 
 not_below : (a b : ℕ) → nat_lt a b ≡ false → b ≤ a
-not_below a b no = by (le_or b a)
+not_below a b e = by (le_or b a)
   where
     by : (b ≤ a) ⊎ (a < b) → b ≤ a
     by (inl le) = le
-    by (inr lt) = absurd (let yes = sym (lt-ltb a b lt) ∙ no in cc)
+    by (inr lt) = absurd (let yes = sym (lt-ltb a b lt) ∙ e in cc)
 
 module _ (server : SerialServer) (script : ScriptLines) (run : List Mark) (is : IsScript script) (replied : RepliedInBytes run) (follows : Follows server script run) where
   abbrev t : Setting

@@ -72,19 +72,19 @@ module _ (server : SerialServer) (script : ScriptLines) (run : List Mark) (is : 
   none_old link within known = by (le_or (t.opened link).client.number 0)
     where
       mark_not : (t.opened link).client.number ≡ 0 → (before : List Mark) (mark : Mark) → NumberedMark (plain_of server) (number_heard run) before mark → NotOldMark link before mark
-      mark_not zero before (marks.Told l (told.Old xid at)) h = λ same.
-          (let none : number_heard run l ≡ 0 = ap (λ (k : ℕ). number_heard run k) same ∙ numbers server script run is replied follows link within ∙ zero in
+      mark_not unnumbered before (marks.Told l (told.Old xid at)) h = λ same.
+          (let none : number_heard run l ≡ 0 = ap (λ (k : ℕ). number_heard run k) same ∙ numbers server script run is replied follows link within ∙ unnumbered in
           subst (λ (c : ℕ). IsOld (standing_for (tagged_journal (plain_of server) (number_heard run) before) c xid)) none h)
-      mark_not zero before (marks.Told l (told.Granted credits)) h = tt
-      mark_not zero before (marks.Submit l call form answer) h = tt
-      mark_not zero before (marks.Wrote l side bytes) h = tt
-      mark_not zero before (marks.Fed l side bytes) h = tt
-      mark_not zero before (marks.Execute l xid moment payload place reply) h = tt
-      mark_not zero before (marks.Done l xid outcome) h = tt
-      mark_not zero before (marks.Lost l xid) h = tt
-      mark_not zero before (marks.Forget l xid) h = tt
-      mark_not zero before (marks.Revoke l xid bytes) h = tt
-      mark_not zero before (marks.Drop l) h = tt
+      mark_not unnumbered before (marks.Told l (told.Granted credits)) h = tt
+      mark_not unnumbered before (marks.Submit l call form answer) h = tt
+      mark_not unnumbered before (marks.Wrote l side bytes) h = tt
+      mark_not unnumbered before (marks.Fed l side bytes) h = tt
+      mark_not unnumbered before (marks.Execute l xid moment payload place reply) h = tt
+      mark_not unnumbered before (marks.Done l xid outcome) h = tt
+      mark_not unnumbered before (marks.Lost l xid) h = tt
+      mark_not unnumbered before (marks.Forget l xid) h = tt
+      mark_not unnumbered before (marks.Revoke l xid bytes) h = tt
+      mark_not unnumbered before (marks.Drop l) h = tt
 
       by : ((t.opened link).client.number ≤ 0) ⊎ (0 < (t.opened link).client.number) → HasNoOldCall link run
       by (inl le) =
