@@ -52,7 +52,7 @@ resumed_are o link run = refl
 
 next_terms : (opening : Opening) (o : LinkParameters) (link : ℕ) (run : List Mark) → HasTerms opening o → HasTerms opening (reopened o link run)
 unfolding reopened
-next_terms opening o link run h = record { granted = h.granted; terms = h.terms; numbered = h.numbered }
+next_terms opening o link run h = record { granted = h.granted; terms = h.terms; numbered = h.numbered; unnumbered = h.unnumbered }
 
 pub next_number : (o : LinkParameters) (link : ℕ) (run : List Mark) → (reopened o link run).client.number ≡ o.client.number
 unfolding reopened
@@ -360,6 +360,7 @@ first_terms script is link low high = record {
   granted = refl;
   terms = (is.some_client_units, is.few_client_units, by script.opening.numbered);
   numbered = λ numbered zero. (let own : link ≡ 0 = sym (ap (λ (b : Bool). if b then link else 0) numbered) ∙ zero in omega (arith, own, low));
+  unnumbered = λ off. ap (λ (b : Bool). if b then link else 0) off;
 }
   where
     few : script.opening.clients ≤ clients_max

@@ -70,7 +70,7 @@ step_begins s link Work start d (n, few, is) =
     (begins_by link two (after_all_down s link two) (down_adds s link (length (pipes_of link two).down) two)))
 step_begins s link AllDown start d is = subst (λ (x : Drill). Begins (after_all_down s link x).marks (after_moves s link start).marks) (sym is) (begins_itself (after_moves s link start).marks)
 
-step_adds : (s : Setting) (link : ℕ) (step : DrainStep) (d : Drill) → Extends link d (after_step s link step d)
+pub step_adds : (s : Setting) (link : ℕ) (step : DrainStep) (d : Drill) → Extends link d (after_step s link step d)
 step_adds s link AllUp d = up_adds s link (length (pipes_of link d).up) d
 step_adds s link Work d = work_adds s link d
 step_adds s link AllDown d = down_adds s link (length (pipes_of link d).down) d

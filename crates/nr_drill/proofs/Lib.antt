@@ -49,3 +49,4 @@ pub mod NumberedDrills
 pub mod DrainedSteps
 pub mod PlacesByLinks
 pub mod StayingLinks
+pub mod EndingDrains

@@ -49,6 +49,7 @@ pub record HasTerms (opening : Opening) (o : LinkParameters) : Type 0 where
   pub granted : o.granted ≡ opening.credits
   pub terms : AreTerms o.client
   pub numbered : opening.numbered ≡ true → o.client.number ≢ 0
+  pub unnumbered : opening.numbered ≡ false → o.client.number ≡ 0
 
 -- a link, after so many calls were submitted and links begun
 pub record LinkHolds (opening : Opening) (n : ℕ) (o : LinkParameters) (link : ℕ) (run : List Mark) : Type 0 where
