@@ -3,7 +3,6 @@ pub mod Lawful
 pub mod Followed
 pub mod FirstLines
 pub mod Carried
-pub mod Promised
 pub mod NoneLost
 pub mod Drained
 pub mod Handed
@@ -24,7 +23,6 @@ pub mod LessRounds
 pub mod LessPlain
 pub mod SomeRuns
 pub mod OneRun
-pub mod LessDrains
 pub mod Told
 pub mod Lookups
 pub mod Executions
