@@ -38,6 +38,7 @@ pub mod OutcomesDue
 pub mod Reopening
 pub mod Resending
 pub mod NumberedJournal
+pub mod KeepsCalls
 pub mod Served
 pub mod Opening
 pub mod Journal
