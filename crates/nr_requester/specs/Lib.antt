@@ -18,3 +18,4 @@ pub mod KeptLists
 pub mod Takes
 pub mod Judged
 pub mod Fed
+pub mod Reopening

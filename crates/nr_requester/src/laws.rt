@@ -1,5 +1,6 @@
 //! Laws of a requester.
 
+ghost use Rattle.nr_requester.specs.Reopening.{CallsGoOn};
 ghost use Rattle.nr_requester.specs.Laws.{Begins, AnswersAsClient, AgreesAsClient, AgreesOut, CountsAsClient, CountsMarks, SubmitIsAMark, PieceIsAMark, PieceRunsOut, DrainIsAMark, RevokeIsAMark, RevokeStaysOut, ForgetIsAMark, DoneIsAMark, AnswersAreDue, AnswersOut, EndAsClient, FirstIsDueFirst, FirstOut, OthersLeaveIt, MemoryAsClient, MemoryOut, CountsOut, CountsMarksOut, RefusesOut, PieceStaysOut, OthersStayOut, LawBegins, OthersKeepLaw, RevokeKeepsLaw, BuffersArePlaced, RevokedOut, SubmitKeepsLaw, DrainKeepsLaw, DrainOutKeepsLaw, QueueIsAllDue, RefusedKeepsLaw, PieceKeepsLaw, DrainKeepsGrant, OpenIsAwaited, OpenOut, AwaitedIsOpen, AwaitedOut, ForgetKeepsLaw, ForgetOutKeepsLaw, DoneKeepsLaw, DoneOutKeepsLaw, LostKeepsLaw, NamedRegionIsNotCounted};
 
 /// A requester stands for the marks of its link, from its opening on: what it keeps is what the client of the run asks for, and what it
@@ -67,4 +68,11 @@ pub fn requesters_keep_their_law()
 /// one: so many are counted when they are released (RFC 5040 section 4.7).
 pub fn releases_are_counted()
     ensures { NamedRegionIsNotCounted }
+{}
+
+/// A requester that stands for the marks of its link, has kept the client's law and hasn't ended, keeps what its next link is opened with: each
+/// call whose answer is awaited, under its xid, by the plan by which it was sent, with its regions under STags that are new; and the messages of
+/// their Sends.
+pub fn calls_go_on()
+    ensures { CallsGoOn }
 {}
