@@ -256,7 +256,7 @@ not_own own outcomes next [] h = tt
 not_own own outcomes next (c ∷ cs) h = (none_belongs (own c.xid) (has_outcome outcomes c.xid) (ltb c.xid next) h.0, not_own own outcomes next cs h.1)
 
 pub answers_stay : AnswersStay
-unfolding calls_again
+unfolding calls_again client
 answers_stay opened link h run opens asked stands live =
     let k : ClientState = (client opened link run).state in
     let keeps = stands.keeps.kept.keeps in
