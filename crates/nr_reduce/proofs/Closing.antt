@@ -252,6 +252,7 @@ kept_alike k k2 (c ∷ cs) (o ∷ os) same is = (
     call = is.0.call;
     write = is.0.write;
     reply = is.0.reply;
+    planned = is.0.planned;
     given = is.0.given;
     stags = is.0.stags;
   },

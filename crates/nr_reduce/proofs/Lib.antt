@@ -68,3 +68,7 @@ pub mod Calls
 pub mod OfferedMemory
 pub mod MemorySteps
 pub mod PrivateData
+pub mod PlansByLists
+pub mod AnsweredXids
+pub mod OutcomesApart
+pub mod KeptReopening

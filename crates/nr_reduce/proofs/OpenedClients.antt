@@ -12,12 +12,13 @@ use Rattle.nr_reduce.specs.Plans.{Buffer, buffers, regions_needed}
 use Rattle.nr_reduce.specs.OfferedRegions.{Region}
 use Rattle.nr_reduce.specs.Written.{ends_written}
 use Rattle.nr_reduce.specs.OfferedMemory.{region_at, HoldsRegions}
-use Rattle.nr_reduce.specs.ClientState.{ClientState, region_of, waiting_from, waiting_regions, stag_after}
+use Rattle.nr_reduce.specs.ClientState.{ClientState, call_payload, region_of, waiting_from, waiting_regions, stag_after}
 use Rattle.nr_reduce.specs.Client.{initial_client}
 use Rattle.nr_reduce.specs.KeptCalls.{KeptCall, AreKept, numbered_from}
-use Rattle.nr_reduce.specs.KeptClient.{ClientKeeps, IsOwned, IsRegionOpen, AreRising, OpensFor, kept_of, registered_all, resumed_kept, resumed_memory, opened_client, RiseBelow}
+use Rattle.nr_reduce.specs.KeptClient.{ClientKeeps, IsOwned, IsRegionOpen, AreRising, OpensFor, kept_of, registered_all, resumed_kept, resumed_memory, opened_client, CanResume}
 use Rattle.nr_reduce.proofs.Registering.{Registers, register_all, buffers_numbered, buffers_count, opens_new, opens_old, own_region, at_both, or_region}
 use Rattle.nr_reduce.proofs.Releasing.{keeps_live}
+use Rattle.nr_reduce.proofs.PlansByLists.{planned_by_lists}
 
 -- ---- Its memory
 
@@ -58,9 +59,9 @@ all_registered regions m stag (r ∷ rs) h =
 
 -- ---- Its calls
 
-all_kept : (k : ClientState) (send stag : ℕ) (rs : List ResumedCall) → k.written ≡ 0 → k.send_ends ≡ [] → AreKept k (resumed_kept send stag rs) (numbered_from send (waiting_from stag rs))
-all_kept k send stag [] written ends = tt
-all_kept k send stag (r ∷ rs) written ends = (
+all_kept : (k : ClientState) (next send stag : ℕ) (rs : List ResumedCall) → CanResume rs next → k.written ≡ 0 → k.send_ends ≡ [] → AreKept k (resumed_kept send stag rs) (numbered_from send (waiting_from stag rs))
+all_kept k next send stag [] can written ends = tt
+all_kept k next send stag (r ∷ rs) can written ends = (
   record {
     xid = refl;
     send = refl;
@@ -69,19 +70,20 @@ all_kept k send stag (r ∷ rs) written ends = (
     call = refl;
     write = refl;
     reply = refl;
+    planned = planned_by_lists (call_payload r.xid r.call) r.form can.0.up can.0.down stag r.plan can.0.planned;
     given = refl;
     stags = refl;
   },
-  all_kept k (send + 1) (stag + regions_needed r.plan) rs written ends,
+  all_kept k next (send + 1) (stag + regions_needed r.plan) rs can.1.1.1 written ends,
 )
 
 above_kept : (n send stag : ℕ) (rs : List ResumedCall) → AllByRecursion (λ (r : ResumedCall). n < r.xid) rs → AllByRecursion (λ (c : KeptCall). n < c.xid) (resumed_kept send stag rs)
 above_kept n send stag [] h = tt
 above_kept n send stag (r ∷ rs) h = (h.0, above_kept n (send + 1) (stag + regions_needed r.plan) rs h.1)
 
-rising_kept : (next send stag : ℕ) (rs : List ResumedCall) → RiseBelow rs next → AreRising (resumed_kept send stag rs) next
+rising_kept : (next send stag : ℕ) (rs : List ResumedCall) → CanResume rs next → AreRising (resumed_kept send stag rs) next
 rising_kept next send stag [] h = tt
-rising_kept next send stag (r ∷ rs) h = (h.0, (above_kept r.xid (send + 1) (stag + regions_needed r.plan) rs h.1.0, rising_kept next (send + 1) (stag + regions_needed r.plan) rs h.1.1))
+rising_kept next send stag (r ∷ rs) h = (h.1.0, (above_kept r.xid (send + 1) (stag + regions_needed r.plan) rs h.1.1.0, rising_kept next (send + 1) (stag + regions_needed r.plan) rs h.1.1.1))
 
 -- each region is that of a kept call
 all_owned : (send stag : ℕ) (rs : List ResumedCall) (s : ℕ) (g : Region) → region_at (regions_from stag rs) s ≡ Some g → IsOwned (resumed_kept send stag rs) g.call s
@@ -134,7 +136,7 @@ count_waiting send stag (r ∷ rs) = ap suc (count_waiting (send + 1) (stag + re
 
 -- ---- The client
 
-pub keeps_begins : (opened : LinkParameters) → RiseBelow opened.resumed opened.first_xid → ClientKeeps opened (opened_client opened) (initial_client opened) 0
+pub keeps_begins : (opened : LinkParameters) → CanResume opened.resumed opened.first_xid → ClientKeeps opened (opened_client opened) (initial_client opened) 0
 keeps_begins opened rise =
     let rs : List ResumedCall = opened.resumed in
     let stag : ℕ = opened.first_stag in
@@ -144,7 +146,7 @@ keeps_begins opened rise =
     keeps_live opened (opened_client opened) k 0 refl refl refl refl refl refl refl (refl, refl) (count_waiting 0 stag rs) tt
     (record { next = all.next_is; offered = all.offered; holds = all.holds; none_dead = all.none_dead; below = all.below })
     (record {
-      kept = all_kept k 0 stag rs refl refl;
+      kept = all_kept k opened.first_xid 0 stag rs rise refl refl;
       rising = rising_kept opened.first_xid 0 stag rs rise;
       owned = λ s g is is_open. all_owned 0 stag rs s g is;
       opens = all_open [] (initial_memory stag) 0 stag rs none;

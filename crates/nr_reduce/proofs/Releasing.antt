@@ -90,7 +90,7 @@ one_revoked : (k : ClientState) (xid : ℕ) (c : KeptCall) (o : OutstandingCall)
 one_revoked k xid c o is = subst (λ (n : ℕ). IsKeptCall k (revoked_if (eqb c.xid xid) c) (cond (eqb n xid) (record o { is_revoked = true }) o)) is.xid (by (eqb c.xid xid))
   where
     by : (b : Bool) → IsKeptCall k (revoked_if b c) (cond b (record o { is_revoked = true }) o)
-    by true = record { xid = is.xid; send = is.send; sent = is.sent; revoked = refl; call = tt; write = is.write; reply = is.reply; given = is.given; stags = refl }
+    by true = record { xid = is.xid; send = is.send; sent = is.sent; revoked = refl; call = tt; write = is.write; reply = is.reply; planned = tt; given = is.given; stags = refl }
     by false = is
 
 kept_revoked_lem : (k : ClientState) (xid : ℕ) (cs : List KeptCall) (os : List OutstandingCall) → AreKept k cs os → AreKept k (map (revoked_kept xid) cs) (map (revoked_call xid) os)

@@ -23,7 +23,7 @@ use Rattle.nr_reduce.specs.Run.{client, server, output_due}
 use Rattle.nr_reduce.specs.AtEachMark.{AtEachMark}
 use Rattle.nr_reduce.specs.Matched.{IsPrefixOf}
 use Rattle.nr_reduce.specs.Asked.{IsAll}
-use Rattle.nr_reduce.specs.KeptClient.{KeptClient, ClientKeeps, opened_client, RiseBelow}
+use Rattle.nr_reduce.specs.KeptClient.{KeptClient, ClientKeeps, opened_client, CanResume}
 use Rattle.nr_reduce.specs.Standing.{input_events, RepresentsMarks, IsState, ClientRepresents, ServerRepresents}
 use Rattle.nr_reduce.specs.StandingLaws.{GoesOn, GoesByInput, ClientGoesByInput, ServerGoesByInput, ClientStandsOn, ServerStandsOn, ClientRunsOutAt, ServerRunsOutAt, ClientStaysOut, ServerStaysOut, ClientQueueIsDue, ServerQueueIsDue}
 use Rattle.nr_reduce.proofs.Steps.{client_one, output_due_up_one, server_one, output_due_down_one, ended_stays}
@@ -265,7 +265,7 @@ pub server_stays_out_lem : ServerStaysOut
 server_stays_out_lem opened link ended queue left run mark out queued =
     (out.0, stays_out IsState (server_rules opened) link Responder (server opened link) (output_due opened link Responder) run mark queue left (output_due_down_one opened link run mark) out.1 queued)
 
-pub client_begins_lem : (opened : LinkParameters) (link : ℕ) → RiseBelow opened.resumed opened.first_xid → ClientRepresents opened link (opened_client opened) (initial_input Responder) (client_hello opened) []
+pub client_begins_lem : (opened : LinkParameters) (link : ℕ) → CanResume opened.resumed opened.first_xid → ClientRepresents opened link (opened_client opened) (initial_input Responder) (client_hello opened) []
 unfolding client events bytes_received bytes_sent output_due
 client_begins_lem opened link rise = record {
   keeps = keeps_begins opened rise;

@@ -26,6 +26,7 @@ use Rattle.nr_reduce.specs.StandingLaws.{KeptPlaces, KeptWrites, KeptGreets, Kep
 use Rattle.nr_reduce.proofs.MemorySteps.{holds_access, received_one, offered_later}
 use Rattle.nr_reduce.proofs.Releasing.{keeps_live}
 use Rattle.nr_reduce.proofs.Numbered.{numbered_sent}
+use Rattle.nr_reduce.proofs.PlansByLists.{planned_by_lists}
 use Rattle.nr_reduce.proofs.LaterSends.{calls_later, submit_later}
 use Rattle.nr_reduce.proofs.Registering.{Registers, register_all, buffers_numbered, buffers_count, opens_new, opens_old, own_region, at_both, or_region}
 
@@ -48,6 +49,7 @@ kept_stay k k2 (c ∷ cs) (o ∷ os) same is = (
     call = is.0.call;
     write = is.0.write;
     reply = is.0.reply;
+    planned = is.0.planned;
     given = is.0.given;
     stags = is.0.stags;
   },
@@ -115,6 +117,7 @@ sent_all k k2 sent (c ∷ cs) (o ∷ os) e is = (
     call = is.0.call;
     write = is.0.write;
     reply = is.0.reply;
+    planned = is.0.planned;
     given = is.0.given;
     stags = is.0.stags;
   },
@@ -350,6 +353,10 @@ calls_submitted opened calls next_xid any count a c keeps below stay next is = r
 planned : (k : ClientState) (a : AcceptedCall) (plan : Plan) → plan_for k a.xid a.call a.form ≡ Ok plan → (outstanding_of k a).plan ≡ plan
 planned k a plan is = ap (λ (r : Result Plan TooLarge). plan_or (call_payload a.xid a.call) r) is
 
+plan_anew : (any : ClientState) (a : AcceptedCall) (plan : Plan) → plan_for (unwaiting any) a.xid a.call a.form ≡ Ok plan → plan_of (call_payload a.xid a.call) a.form any.up_max any.down_max ≡ Ok plan
+unfolding plan_for
+plan_anew any a plan is = is
+
 submits_unwaiting : (opened : LinkParameters) (kept : KeptClient) (any : ClientState) (count : ℕ) (a : AcceptedCall) (plan : Plan) → ClientKeeps opened kept (live (unwaiting any)) count → a.xid ≡ kept.next_xid →
     plan_for (unwaiting any) a.xid a.call a.form ≡ Ok plan → any.written ≤ any.due → ends_written any.written any.send_ends ≤ any.sends →
     ClientKeeps opened (kept_submitted kept a.call plan) (next_end_state (client_rules opened) (live (unwaiting any)) (CallSubmitted count a)) count
@@ -378,6 +385,7 @@ submits_unwaiting opened kept any count a plan keeps next is within few =
       call = refl;
       write = λ i. (lists_of (memory.next i) (sym plan_is i)).write;
       reply = λ i. (lists_of (memory.next i) (sym plan_is i)).reply;
+      planned = plan_is ∙ planned_by_lists (call_payload a.xid a.call) a.form k.up_max k.down_max kept.memory.next plan (plan_anew any a plan is);
       given = λ i. map (λ (b : Buffer). b.stag) (buffers (memory.next i) (sym plan_is i));
       stags = λ i. map (λ (b : Buffer). b.stag) (buffers (memory.next i) (sym plan_is i));
     } in

@@ -24,6 +24,7 @@ use Rattle.nr_reduce.specs.EndRules.{EndState}
 use Rattle.nr_reduce.specs.ClientState.{OutstandingCall, ClientState, client_memory_at}
 use Rattle.nr_reduce.specs.Client.{credits_of_word}
 use Rattle.nr_xdr.specs.Fields.{word_at}
+use Rattle.nr_reduce.specs.Asked.{IsPlannedAs}
 use Rattle.nr_reduce.specs.KeptCalls.{KeptCall, AreKept, numbered_calls, stags_unless}
 
 -- Why the client ended, once it has; the xid that it gives next; how many Sends have a number; the credits that are granted; how many calls are
@@ -155,7 +156,7 @@ without xid calls = filter (λ c. not (c.xid == xid)) calls
 
 -- the memory of a call is revoked: its regions are released, and the call is handed back
 abbrev pub revoked_if : Bool → KeptCall → KeptCall
-revoked_if true c = record { xid = c.xid; send = c.send; is_sent = c.is_sent; call = None; offered = c.offered; given = c.given; stags = [] }
+revoked_if true c = record { xid = c.xid; send = c.send; is_sent = c.is_sent; call = None; read_at = c.read_at; offered = c.offered; given = c.given; stags = [] }
 revoked_if false c = c
 
 abbrev pub revoked_kept : ℕ → KeptCall → KeptCall
@@ -220,6 +221,7 @@ kept_of xid send call plan stag = record {
   send = send;
   is_sent = false;
   call = Some call;
+  read_at = plan.read_at;
   offered = lists_of stag plan;
   given = map (λ b. b.stag) (buffers stag plan);
   stags = map (λ b. b.stag) (buffers stag plan);
@@ -276,7 +278,7 @@ opened_client opened = record {
   agreed = opened.agreed;
 }
 
--- the xids of these calls rise, and are below this
-abbrev pub RiseBelow : List ResumedCall → ℕ → Type 0
-RiseBelow [] next = Unit {0}
-RiseBelow (r ∷ calls) next = (r.xid < next) × (AllByRecursion (λ c. r.xid < c.xid) calls × RiseBelow calls next)
+-- A client can be opened with these calls to send again: each has a plan of its form, and their xids rise, and are below this.
+abbrev pub CanResume : List ResumedCall → ℕ → Type 0
+CanResume [] next = Unit {0}
+CanResume (r ∷ calls) next = IsPlannedAs r.xid r.call r.form r.plan × ((r.xid < next) × (AllByRecursion (λ c. r.xid < c.xid) calls × CanResume calls next))

@@ -46,12 +46,12 @@ use Rattle.nr_reduce.specs.Matched.{IsPrefixOf}
 use Rattle.nr_reduce.specs.Asked.{IsAll, AskedSoFar}
 use Rattle.nr_reduce.specs.Served.{ServedSoFar}
 use Rattle.nr_reduce.specs.KeptCalls.{KeptCall, kept_message_verdict}
-use Rattle.nr_reduce.specs.KeptClient.{KeptClient, ClientKeeps, bytes_under, opened_client, RiseBelow, kept_revoked, kept_handed_back, kept_completed, kept_placed, kept_received, kept_sent, kept_submitted, kept_resent, kept_greeted, NoneWaitsOf, NoneWaitsFor}
+use Rattle.nr_reduce.specs.KeptClient.{KeptClient, ClientKeeps, bytes_under, opened_client, CanResume, kept_revoked, kept_handed_back, kept_completed, kept_placed, kept_received, kept_sent, kept_submitted, kept_resent, kept_greeted, NoneWaitsOf, NoneWaitsFor}
 use Rattle.nr_reduce.specs.Standing.{input_events, ClientRepresents, ClientRunsOut, ServerRepresents, ServerRunsOut}
 
 -- An end stands for no marks as it is opened: a client's queue has its hello.
 abbrev pub ClientBegins : Type 0
-ClientBegins = (opened : LinkParameters) (link : ℕ) → RiseBelow opened.resumed opened.first_xid → ClientRepresents opened link (opened_client opened) (initial_input Responder) (client_hello opened) []
+ClientBegins = (opened : LinkParameters) (link : ℕ) → CanResume opened.resumed opened.first_xid → ClientRepresents opened link (opened_client opened) (initial_input Responder) (client_hello opened) []
 
 abbrev pub ServerBegins : Type 0
 ServerBegins = (opened : LinkParameters) (link : ℕ) → ServerRepresents opened link (initial_server opened) (initial_input Initiator) [] []

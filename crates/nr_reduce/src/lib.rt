@@ -66,6 +66,6 @@ pub use run_laws::{
 };
 pub use sequence::Sequence;
 pub use standing_laws::{
-    clients_keep_enough, ends_stand_for_marks, kept_clients_stand_on, no_call_before_hello,
-    pieces_in_parts, stags_go_in_order,
+    clients_keep_enough, ends_stand_for_marks, kept_calls_go_on, kept_clients_stand_on,
+    no_call_before_hello, pieces_in_parts, stags_go_in_order,
 };

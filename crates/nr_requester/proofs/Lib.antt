@@ -66,3 +66,5 @@ pub mod KeptLists
 pub mod NamedRegions
 pub mod DeadRegions
 pub mod CountedReleases
+pub mod Reopening
+pub mod ReopenedLinks

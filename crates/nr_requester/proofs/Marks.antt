@@ -25,7 +25,7 @@ use Rattle.nr_reduce.specs.ClientState.{ClientState}
 use Rattle.nr_reduce.specs.Client.{client_rules, client_end, client_state_after}
 use Rattle.nr_reduce.specs.Run.{client, output_due}
 use Rattle.nr_regions.specs.RegisteredMemory.{initial_memory}
-use Rattle.nr_reduce.specs.KeptClient.{KeptClient, kept_sent, kept_revoked, released_all, resumed_kept, resumed_memory, opened_client, RiseBelow}
+use Rattle.nr_reduce.specs.KeptClient.{KeptClient, kept_sent, kept_revoked, released_all, resumed_kept, resumed_memory, opened_client, CanResume}
 use Rattle.nr_reduce.specs.Standing.{ClientRepresents, ClientRunsOut}
 use Rattle.nr_reduce.proofs.Steps.{client_one}
 use Rattle.nr_reduce.proofs.Standing.{itself, client_stays_out_lem, client_begins_lem}
@@ -248,8 +248,8 @@ others_leave_client opened link h run mark s no_events no_write no_feed =
 
 -- ---- As it is opened
 
-none_rise : (rs : List ResumedCall) (next : ℕ) → rs ≡ [] → RiseBelow rs next
-none_rise rs next none = subst (λ (xs : List ResumedCall). RiseBelow xs next) (sym none) tt
+none_rise : (rs : List ResumedCall) (next : ℕ) → rs ≡ [] → CanResume rs next
+none_rise rs next none = subst (λ (xs : List ResumedCall). CanResume xs next) (sym none) tt
 
 kept_opened : (opened : LinkParameters) (staging : List ℕ) → IsFirstLink opened → opened_client opened ≡ kept_client (opened_as opened.first_xid opened.first_stag opened.wished opened.client staging).state
 unfolding opened_as

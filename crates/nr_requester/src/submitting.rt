@@ -20,7 +20,9 @@ ghost use Rattle.nr_requester.specs.Fed.{fed_bytes};
 ghost use Rattle.nr_requester.specs.OpenCalls.{OpensTicket};
 
 use crate::answer::AnsweredCall;
-use crate::messages::{PlannedCall, lists_of, message_of, offered_of, regions_needed, reply_room};
+use crate::messages::{
+    PlannedCall, lists_of, message_of, offered_of, read_position, regions_needed, reply_room,
+};
 use crate::offered::OfferedLists;
 use crate::outstanding::{OutstandingCall, given_by};
 use crate::requester::{Requester, marks_if};
@@ -260,6 +262,7 @@ impl Requester {
             Ok(sent) => sent,
             Err(_) => return Err(call),
         };
+        let read_at = read_position(outline);
         let given = given_by(&claims);
         let send = self.sends;
         self.sends += 1;
@@ -270,6 +273,7 @@ impl Requester {
             send,
             call: Some(call),
             is_forgotten: false,
+            read_at,
             offered: lists,
             given,
             claims,
