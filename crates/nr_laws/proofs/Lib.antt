@@ -14,11 +14,11 @@ pub mod ReceivedMessages
 pub mod Outputs
 pub mod TaggedSegments
 pub mod OnceByXid
-mod OutstandingSubmits
-mod ResumedCalls
-mod EarlierLinks
+pub mod OutstandingSubmits
+pub mod ResumedCalls
+pub mod EarlierLinks
 mod JournalPlaces
-mod CompletedChanges
+pub mod CompletedChanges
 pub mod EntriesApart
 pub mod WaitingCalls
 pub mod ServerOutputs
