@@ -137,6 +137,12 @@ module _ (server : SerialServer) (script : ScriptLines) (run : List Mark) (is : 
   pub matched_with : (link : ℕ) → IsIn links link → LinksAreMatched t run link → MatchedWithEarlier t.opened run link
   matched_with link within matched earlier e = (let o = older earlier link within e in far earlier o.0 (matched earlier o.0.0 o.1))
 
+  pub heard_link : (link : ℕ) → number_heard run link ≢ 0 → IsLink follows.last link
+  heard_link link some = heard_within t clients links follows.last.last_links run order wrote outside numbers marks_within link some
+
+  pub heard_client : (link : ℕ) → IsLink follows.last link → number_heard run link ≢ 0 → client_of t link ≡ number_heard run link
+  heard_client link within some = heard_owner t clients links follows.last.last_links run order wrote outside numbers marks_within link within some
+
   pub one_each : OneClientEach t.opened run
   one_each = one_client_each t clients links follows.last.last_links run order wrote outside numbers marks_within
 

@@ -470,7 +470,8 @@ as_call (x ∷ rs) r h = cases (Contains-append_cases (x ∷ []) rs r h) (as_cal
 -- the next link knows each call that the link knew, of those that are open
 pub kept_call : (o : LinkParameters) (link next : ℕ) (run later : List Mark) (xid : ℕ) → IsOpened o → IsLawful o link run → NoneDue o link run → (client o link run).ended ≡ None →
     is_completed link xid run ≡ false → is_abandoned link xid run ≡ false → HasCall o link run xid → HasCall (reopened o link run) next later xid
-kept_call o link next run later xid numbers lawful none stays first kept h = by outcome refl (no_call_is_left_over o link run xid stays kept known)
+kept_call o link next run later xid numbers lawful none stays first kept h =
+    by outcome refl (no_call_is_left_over o link run xid stays kept (passes_any (λ (a : AcceptedCall). eqb a.xid xid) (map as_accepted o.resumed ++ accepted_calls link run) h.0 h.1 (eq-eqb h.0.xid xid h.2)))
   where
     k : ClientState
     k = (client o link run).state

@@ -1,14 +1,15 @@
 -- Places follow what callers see, on whichever of its client's links a call is executed.
 use Rattle.std.specs.Prelude.{nat_lt}
-use Rattle.std.proofs.Common.{◌≡◌, ℕ, ◌≤◌, ◌<◌, arith, false, List, [], ◌∷◌, ◌++◌, length, refl, sym, ap, ◌∙◌, append_assoc, ◌⊎◌, inl, inr}
+use Rattle.std.proofs.Common.{◌≡◌, ◌≢◌, ℕ, ◌≤◌, ◌<◌, arith, false, List, [], ◌∷◌, ◌++◌, length, refl, sym, ap, ◌∙◌, append_assoc, ◌⊎◌, inl, inr}
 use Rattle.std.proofs.lemmas.Bool.{lt-ltb}
 use Rattle.nr_outside.specs.declared.moment.Moment.{Moment}
 use Rattle.nr_reduce.specs.declared.call.Submission.TheVariants as submissions
 use Rattle.nr_reduce.specs.declared.mark.Mark.{Mark}
 use Rattle.nr_reduce.specs.declared.mark.Mark.TheVariants as marks
 use Rattle.nr_reduce.specs.KeepsCalls.{AddsOneAtMost}
+use Rattle.nr_reduce.specs.NumberedJournal.{number_heard}
 use Rattle.nr_laws.specs.MarkAt.{MarkAt}
-use Rattle.nr_laws.specs.OnceEach.{BegunLink, GoesOn, IsEarlier, AreInOrder, GoesFurther}
+use Rattle.nr_laws.specs.OnceEach.{BegunLink, GoesOn, IsEarlier, IsLinkOf}
 use Rattle.nr_laws.proofs.EarlierLinks.{LinkKeeps, each_earlier, xid_below}
 use Rattle.nr_laws.proofs.ExecutedPayloads.{executes_have_plans}
 use Rattle.nr_laws.proofs.PlacesByNumber.{places_follow_by_number}
@@ -18,8 +19,8 @@ use Rattle.nr_drill.specs.Follows.{Follows, last_setting}
 use Rattle.nr_drill.specs.Headline.{LinksAreMatched, PlacesRise}
 use Rattle.nr_drill.specs.InBytes.{RepliedInBytes}
 use Rattle.nr_drill.proofs.BegunOrder.{le_or}
-use Rattle.nr_drill.proofs.EarlierOnes.{earlier_one, earlier_order, earlier_further}
-use Rattle.nr_drill.proofs.NumberedDrills.{order, wrote, outside, typed, far, opens_with, matched_with, one_each, journaled}
+use Rattle.nr_drill.proofs.EarlierOnes.{earlier_one}
+use Rattle.nr_drill.proofs.NumberedDrills.{order, wrote, outside, typed, far, opens_with, matched_with, one_each, journaled, heard_link, heard_client}
 
 not_below : (a b : ℕ) → nat_lt a b ≡ false → b ≤ a
 not_below a b e = by (le_or b a)
@@ -38,15 +39,22 @@ module _ (server : SerialServer) (script : ScriptLines) (run : List Mark) (is : 
       earlier_one t script.opening.clients (length follows.last.opened) follows.last.last_links run (order server script run is replied follows) (wrote server script run is replied follows) (outside server script run is replied follows)
       link other within other_within same le
 
-  in_order : (link : ℕ) → IsLink follows.last link → AreInOrder t.opened run link
-  in_order link within first other a b =
-      earlier_order t script.opening.clients (length follows.last.opened) follows.last.last_links run (order server script run is replied follows) (wrote server script run is replied follows) (outside server script run is replied follows)
-      first other link within a b
+  -- of a link of the client with a number, and each link whose server heard it
+  is_link_of : (other executing : ℕ) → IsLink follows.last other → IsLink follows.last executing → client_of t other ≡ client_of t executing → IsLinkOf t.opened run (number_heard run executing) other
+  is_link_of other executing within executing_within same link some heard = by (le_or other link)
+    where
+      own : number_heard run link ≢ 0
+      own none = some (sym heard ∙ none)
 
-  further : (link : ℕ) → IsLink follows.last link → GoesFurther t.opened run link
-  further link within first other a b =
-      earlier_further t script.opening.clients (length follows.last.opened) follows.last.last_links run (order server script run is replied follows) (wrote server script run is replied follows) (outside server script run is replied follows)
-      first other link within a b
+      link_within : IsLink follows.last link
+      link_within = heard_link server script run is replied follows link own
+
+      one : client_of t other ≡ client_of t link
+      one = same ∙ heard_client server script run is replied follows executing executing_within some ∙ sym heard ∙ sym (heard_client server script run is replied follows link link_within own)
+
+      by : (other ≤ link) ⊎ (link < other) → IsEarlier t.opened run other link ⊎ IsEarlier t.opened run link other
+      by (inl le) = inl (one_of other link within link_within one le)
+      by (inr lt) = inr (one_of link other link_within within (sym one) (omega (arith, lt)))
 
   -- a call that is submitted for the first time on a link isn't executed on a link before it
   not_before : (other executing : ℕ) → IsLink follows.last other → IsLink follows.last executing → client_of t other ≡ client_of t executing → LinksAreMatched t run other → LinksAreMatched t run executing →
@@ -91,6 +99,6 @@ module _ (server : SerialServer) (script : ScriptLines) (run : List Mark) (is : 
       by (inr lt) = absurd (not_before other executing other_within executing_within same other_matched executing_matched before_second other_xid other_moment other_payload other_place other_reply second start lt)
       by (inl le) =
           places_follow_by_number server.reply_to server.adds t.opened link other executing (journal_of t run) run before between before_first before_second call form xid other_xid outcome moment other_moment payload other_payload place other_place
-          reply other_reply (typed server script run is replied follows) (journaled server script run is replied follows) few (one_each server script run is replied follows) (in_order executing executing_within) (further executing executing_within)
+          reply other_reply (typed server script run is replied follows) (journaled server script run is replied follows) few (one_each server script run is replied follows) (is_link_of other executing other_within executing_within same)
           (far server script run is replied follows link within (matched link within.0 refl)) (one_of other executing other_within executing_within same le) (opens_with server script run is replied follows executing executing_within)
           (matched_with server script run is replied follows executing executing_within executing_matched) start done_then first second
