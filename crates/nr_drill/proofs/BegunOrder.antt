@@ -10,6 +10,7 @@ use Rattle.nr_reduce.specs.declared.mark.Mark.{Mark}
 use Rattle.nr_reduce.specs.declared.mark.Mark.TheVariants as marks
 use Rattle.nr_reduce.specs.declared.mark.LinkParameters.{LinkParameters}
 use Rattle.nr_reduce.specs.Limits.{numbers_end}
+use Rattle.nr_reduce.specs.Opening.{IsFirstLink}
 use Rattle.nr_reduce.specs.ClientState.{stag_after}
 use Rattle.nr_reduce.specs.Events.{RunEvent, events}
 use Rattle.nr_reduce.specs.History.{abandons, is_abandoned, is_drop_of, is_dropped}
@@ -137,7 +138,7 @@ pub record LinksInOrder (t : Setting) (clients links : ℕ) (lasts : List ℕ) (
   pub began : ℕ → List Mark
   pub before : ℕ → ℕ
   pub many : clients ≤ links
-  pub firsts : (link : ℕ) → IsIn links link → link ≤ clients → (client_of t link ≡ link) × (began link ≡ []) × ((t.opened link).agreed ≡ None)
+  pub firsts : (link : ℕ) → IsIn links link → link ≤ clients → (client_of t link ≡ link) × (began link ≡ []) × IsFirstLink (t.opened link)
   pub steps : (link : ℕ) → IsIn links link → clients < link → StepsOn t.opened run (before link) link (began link)
   pub older : (link : ℕ) → IsIn links link → clients < link → IsIn links (before link) × (before link < link) × (client_of t (before link) ≡ client_of t link)
   pub follows : (link : ℕ) → IsIn links link → clients < link → (gap : List Mark) × (began link ≡ began (before link) ++ gap)
@@ -334,9 +335,9 @@ module _ (s : Setting) (opening : Opening) (n c link : ℕ) (d : Drill) (last : 
     gone = λ l is ne. gone_of l ne (each l is);
   }
     where
-      firsts_of : (l : ℕ) → IsLink begun l → l ≤ clients → (l ≡ next) ⊎ IsLink d l → (client_of u l ≡ l) × (began l ≡ []) × ((u.opened l).agreed ≡ None)
+      firsts_of : (l : ℕ) → IsLink begun l → l ≤ clients → (l ≡ next) ⊎ IsLink d l → (client_of u l ≡ l) × (began l ≡ []) × IsFirstLink (u.opened l)
       firsts_of l is few (inl same) = absurd (let more = high in omega (arith, few, same, more))
-      firsts_of l is few (inr was) = (same_owner l was ∙ (h.firsts l was few).0, began_old l was ∙ (h.firsts l was few).1, ap (λ (o : LinkParameters). o.agreed) (b.old_link l was) ∙ (h.firsts l was few).2)
+      firsts_of l is few (inr was) = (same_owner l was ∙ (h.firsts l was few).0, began_old l was ∙ (h.firsts l was few).1, subst IsFirstLink (sym (b.old_link l was)) (h.firsts l was few).2)
 
       steps_of : (l : ℕ) → clients < l → (l ≡ next) ⊎ IsLink d l → StepsOn u.opened d.marks (before l) l (began l)
       steps_of l more (inl same) = subst (λ (m : ℕ). StepsOn u.opened d.marks (before m) m (began m)) (sym same) new_step
@@ -463,7 +464,7 @@ module _ (server : SerialServer) (script : ScriptLines) (is : IsScript script) w
     began = λ link. [];
     before = λ link. 0;
     many = (let same = all in omega (arith, same));
-    firsts = λ link within few. (owner link within, refl, ap (λ (o : LinkParameters). o.agreed) (now link within));
+    firsts = λ link within few. (owner link within, refl, subst IsFirstLink (sym (now link within)) (record { resumed = refl; agreed = refl }));
     steps = λ link within more. absurd (none link within more);
     older = λ link within more. absurd (none link within more);
     follows = λ link within more. absurd (none link within more);

@@ -48,3 +48,4 @@ pub mod DrainedSteps
 pub mod PlacesByLinks
 pub mod StayingLinks
 pub mod EndingDrains
+pub mod NoOldCalls

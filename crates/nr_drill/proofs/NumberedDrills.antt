@@ -113,7 +113,7 @@ module _ (server : SerialServer) (script : ScriptLines) (run : List Mark) (is : 
   pub numbers : (link : ℕ) → IsIn links link → number_heard run link ≡ (t.opened link).client.number
   numbers link within = follows_numbers server script run is replied follows link within
 
-  marks_within : AllByRecursion (λ (mark : Mark). IsIn links (link_of mark)) run
+  pub marks_within : AllByRecursion (λ (mark : Mark). IsIn links (link_of mark)) run
   marks_within = subst (λ (r : List Mark). AllByRecursion (λ (mark : Mark). IsIn links (link_of mark)) r) (sym follows.marks_are) held.frame.within
 
   pub far : (link : ℕ) → IsIn links link → Matched link run → MatchedSoFar (t.opened link) link run
@@ -128,7 +128,7 @@ module _ (server : SerialServer) (script : ScriptLines) (run : List Mark) (is : 
 
   -- ===== the links before one
 
-  older : (first link : ℕ) → IsIn links link → IsEarlier t.opened run first link → IsIn links first × (client_of t first ≡ client_of t link) × (first ≤ link)
+  pub older : (first link : ℕ) → IsIn links link → IsEarlier t.opened run first link → IsIn links first × (client_of t first ≡ client_of t link) × (first ≤ link)
   older first link within e = (let o = earlier_is t clients links follows.last.last_links run order wrote outside first link within e in (o.is, o.same, o.lower))
 
   pub opens_with : (link : ℕ) → IsIn links link → OpenedWithEarlier t.opened run link

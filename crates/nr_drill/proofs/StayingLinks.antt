@@ -61,7 +61,7 @@ module _ (server : SerialServer) (script : ScriptLines) (run : List Mark) (is : 
           (far server script run is replied follows (o.before link) old.0 (matched (o.before link) old.0.0 old.2))
 
       by : (link ≤ clients) ⊎ (clients < link) → (clients < link → AgreesAgain (t.opened (o.before link))) → AgreesAgain (t.opened link)
-      by (inl first) rest = agrees_first (t.opened link) (o.firsts link within first).2
+      by (inl first) rest = agrees_first (t.opened link) (o.firsts link within first).2.agreed
       by (inr more) rest = next more (rest more)
 
   agrees : (link : ℕ) → IsLink follows.last link → LinksAreMatched t run link → AgreesAgain (t.opened link)
