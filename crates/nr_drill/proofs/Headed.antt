@@ -17,6 +17,7 @@ use Rattle.nr_drill.proofs.CarriedLinks.{follows_keeps}
 use Rattle.nr_drill.proofs.NumberedRuns.{follows_journaled, follows_numbers}
 use Rattle.nr_drill.proofs.NumberedDrills.{typed, memory, completes, changes, once, entries}
 use Rattle.nr_drill.proofs.PlacesByLinks.{places_rise}
+use Rattle.nr_drill.proofs.NoOldCalls.{standing_has_no_old}
 use Rattle.nr_drill.proofs.StayingLinks.{both_stay, have_completed}
 use Rattle.nr_drill.proofs.Drained.{follows_waits}
 use Rattle.nr_drill.proofs.DrainedSteps.{follows_leaves_less}
@@ -36,8 +37,9 @@ follows_is_drill server script run is plain keeps replied follows = record {
       places_rise server script run is replied follows keeps.one link other executing within other_within executing_within same matched other_matched executing_matched;
   once = once server script run is replied follows keeps.one;
   entries = λ link within numbered matched. entries server script run is replied follows keeps link within numbered matched;
-  staying = λ link within matched standing old kept_memory conveyed.
-      (let both = both_stay server script run is replied follows plain keeps link within matched old kept_memory conveyed in record {
+  staying = λ link within matched standing kept_memory conveyed.
+      (let old = (λ numbered. standing_has_no_old server script run is replied follows keeps.one link within matched standing numbered) in
+      let both = both_stay server script run is replied follows plain keeps link within matched old kept_memory conveyed in record {
         client_stays = both.0;
         server_stays = both.1;
         complete = λ ends. (let waits = follows_waits server script run is replied follows link within (matched link within.0 refl) standing ends in

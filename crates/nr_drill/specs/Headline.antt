@@ -32,7 +32,6 @@ use Rattle.nr_laws.specs.OnceEach.{IsAskedFor, HasEntry}
 use Rattle.nr_laws.specs.PlainReplies.{HasPlainReply}
 use Rattle.nr_laws.specs.ChunkOutcomes.{HasChunkCause, IsAnswered}
 use Rattle.nr_laws.specs.Completion.{HaveCompleted, HasOutcome, IsAwaitedStill, NothingInTransit}
-use Rattle.nr_laws.specs.EndCauses.{HasNoOldCall}
 use Rattle.nr_laws.specs.Stays.{HasNoRevoke, AreConveyedOrRefused}
 use Rattle.nr_drill.specs.declared.report.Report.{Report}
 use Rattle.nr_drill.specs.declared.report.LinkLog.{LinkLog}
@@ -129,8 +128,7 @@ pub record IsDrillRun (server : SerialServer) (script : ScriptLines) (run : List
   pub once : HasNoEntryTwice (journal_of (last_setting follows) run)
   pub entries : (link : ℕ) → IsLink follows.last link → ((last_setting follows).opened link).client.number ≢ 0 → LinksAreMatched (last_setting follows) run link →
       ChangesHaveEntries server (journal_of (last_setting follows) run) (last_setting follows).opened link run
-  pub staying : (link : ℕ) → IsLink follows.last link → LinksAreMatched (last_setting follows) run link → is_dropped link run ≡ false →
-      (((last_setting follows).opened link).client.number ≢ 0 → HasNoOldCall link run) → HasNoRevoke link run →
+  pub staying : (link : ℕ) → IsLink follows.last link → LinksAreMatched (last_setting follows) run link → is_dropped link run ≡ false → HasNoRevoke link run →
       AreConveyedOrRefused ((last_setting follows).opened link) link run → Stays script ((last_setting follows).opened link) (client_of (last_setting follows) link) link run
   pub drains : (link : ℕ) → IsLink follows.last link → DrainStepsLeaveLess server script link
 
