@@ -1,8 +1,9 @@
 -- A run that follows a script is the run of a drill: the headline.
-use Rattle.std.proofs.Common.{List, refl}
+use Rattle.std.proofs.Common.{◌≢◌, List, refl}
 use Rattle.nr_reduce.specs.declared.mark.Mark.{Mark}
 use Rattle.nr_reduce.specs.KeepsCalls.{KeepsCalls}
 use Rattle.nr_reduce.specs.KeepsReplyLimits.{KeepsReplyLimits}
+use Rattle.nr_laws.specs.EndCauses.{HasNoOldCall}
 use Rattle.nr_tree.specs.Tree.{Tree}
 use Rattle.nr_tree.specs.Sane.{IsSane}
 use Rattle.nr_plain.proofs.PlainServers.{server_is_plain}
@@ -10,7 +11,7 @@ use Rattle.nr_plain.proofs.KeptCalls.{server_keeps_calls}
 use Rattle.nr_script.specs.Script.{ScriptLines, IsScript}
 use Rattle.nr_drill.specs.Drill.{SerialServer, plain_of}
 use Rattle.nr_drill.specs.DrillSetup.{drill_setup, server_of}
-use Rattle.nr_drill.specs.Follows.{Follows}
+use Rattle.nr_drill.specs.Follows.{Follows, last_setting}
 use Rattle.nr_drill.specs.Headline.{IsDrillRun}
 use Rattle.nr_drill.specs.InBytes.{RepliedInBytes}
 use Rattle.nr_drill.proofs.CarriedLinks.{follows_keeps}
@@ -38,7 +39,7 @@ follows_is_drill server script run is plain keeps replied follows = record {
   once = once server script run is replied follows keeps.one;
   entries = λ link within numbered matched. entries server script run is replied follows keeps link within numbered matched;
   staying = λ link within matched standing kept_memory conveyed.
-      (let old = (λ numbered. standing_has_no_old server script run is replied follows keeps.one link within matched standing numbered) in
+      (let old : ((last_setting follows).opened link).client.number ≢ 0 → HasNoOldCall link run = (λ numbered. standing_has_no_old server script run is replied follows keeps.one link within matched standing numbered) in
       let both = both_stay server script run is replied follows plain keeps link within matched old kept_memory conveyed in record {
         client_stays = both.0;
         server_stays = both.1;
