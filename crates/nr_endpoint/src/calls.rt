@@ -178,6 +178,39 @@ impl Endpoint {
         self.link.send_parts(None, front, stream)
     }
 
+    /// Holds a Send back: [`Endpoint::send_held`] queues it later, and then takes no memory. If the side has ended, it holds nothing. An `Err`
+    /// changes nothing.
+    pub fn hold(&mut self, message: Octets) -> Result<(), Memory>
+        requires { length message < 2 ^ 32 }
+        ensures state { OnOk result (self.new.link ≡ after_call self.old.link (Hold message)) }
+        ensures stands { OnOk result (StandsOn self.old.link (Hold message) self.new.link) }
+        ensures room { self.new.room ≡ self.old.room }
+        ensures outside { self.new.outside ≡ self.old.outside }
+        ensures err { OnErr result (self.new.link ≡ self.old.link) }
+        ensures staging { self.new.staging ≡ self.old.staging }
+    {
+        self.link.hold(message)
+    }
+
+    /// Queues the first Send that is held back, if one is, with the next message number. If the side has ended, it queues nothing. Takes no memory.
+    pub fn send_held(&mut self)
+        ensures state { (message : List ℕ) (others : List (List ℕ)) → self.old.link.state.send_queue.held ≡ message ∷ others → self.new.link ≡ after_call self.old.link (SendHeld message) }
+        ensures stands { (message : List ℕ) (others : List (List ℕ)) → self.old.link.state.send_queue.held ≡ message ∷ others → StandsOn self.old.link (SendHeld message) self.new.link }
+        ensures none { self.old.link.state.send_queue.held ≡ [] → self.new.link ≡ self.old.link }
+        ensures room { self.new.room ≡ self.old.room }
+        ensures outside { self.new.outside ≡ self.old.outside }
+        ensures staging { self.new.staging ≡ self.old.staging }
+    {
+        self.link.send_held();
+    }
+
+    /// How many Sends are held back. Takes no memory.
+    pub fn sends_held(&self) -> usize
+        ensures { result ≡ length self.now.link.state.send_queue.held }
+    {
+        self.link.send_queue.sends_held()
+    }
+
     /// Queues an RDMA Write of some bytes into the peer's region, from byte `to` on. If the side has ended, it queues nothing. An `Err` changes
     /// nothing.
     pub fn write_remote(&mut self, stag: u32, to: u64, bytes: &[u8]) -> Result<(), Memory>
