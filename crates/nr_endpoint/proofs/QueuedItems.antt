@@ -24,7 +24,7 @@ use Rattle.nr_link.specs.ReceiveState.{ReadRequest, read_request_of}
 use Rattle.nr_link.specs.Ending.{rejection}
 use Rattle.nr_link.specs.OutputItem.{OutputItem}
 use Rattle.nr_link.specs.OutputItem.OutputItem.{SendItem, SendInvalidateItem, WriteItem, ReadRequestItem, ReadResponseItem, LastItem}
-use Rattle.nr_endpoint.specs.SendQueue.{SendQueue, with_end, with_response, with_send, with_send_by, with_write, with_request, next_number, writable}
+use Rattle.nr_endpoint.specs.SendQueue.{SendQueue, with_end, with_response, with_send, with_send_by, with_held, with_held_sent, with_write, with_request, next_number, writable}
 use Rattle.nr_endpoint.specs.Hellos.{own_private, first_private}
 use Rattle.nr_endpoint.specs.LinkState.{LinkState, LinkSide, has_ended, initial_link}
 use Rattle.nr_endpoint.specs.Judging.{segment_end, next_frame, with_frame, with_segment_by, with_fpdu, with_peer_hello, with_effect, with_read_request, with_read_response, reply_hello, fetch_access, next_segment}

@@ -1,7 +1,7 @@
 //! The calls of an endpoint's owner.
 
 ghost use Rattle.nr_endpoint.specs.LinkState.{has_ended};
-ghost use Rattle.std.specs.Prelude.{false, ◌≡◌, ◌≢◌, ℕ, ◌+◌, ◌-◌, ◌*◌, ◌^◌, ◌<◌, ◌≤◌, ◌↔◌, ◌++◌, length, take, None, Some, is_some, Ok, IfOk, OnOk, IfErr, OnErr, IsOk, IsErrAnd, IfSome, MatchResult, option_to_list, option_map, if◌then◌else◌, true, nat_lt};
+ghost use Rattle.std.specs.Prelude.{false, ◌≡◌, ◌≢◌, ℕ, List, ◌+◌, ◌-◌, ◌*◌, ◌^◌, ◌<◌, ◌≤◌, ◌↔◌, [], ◌∷◌, ◌++◌, length, take, None, Some, is_some, Ok, IfOk, OnOk, IfErr, OnErr, IsOk, IsErrAnd, IfSome, MatchResult, option_to_list, option_map, if◌then◌else◌, true, nat_lt};
 ghost use Rattle.std.specs.Io.KnownBytes.{Appends};
 ghost use Rattle.nr_outside.specs.Faults.{Rises};
 ghost use Rattle.std.specs.FinMap.{get, insert, remove};
@@ -16,7 +16,7 @@ ghost use Rattle.nr_endpoint.specs.declared.fault.ReadRefused.TheVariants as ref
 ghost use Rattle.nr_endpoint.specs.declared.fault.DrainFault.TheVariants as drains;
 ghost use Rattle.nr_endpoint.specs.SendQueue.{writable, output_len};
 ghost use Rattle.nr_endpoint.specs.Calls.{after_call, IsStopReason, StandsOn};
-ghost use Rattle.nr_endpoint.specs.Calls.Call.{NextEvent, Post, Stop, OutOfMemory, Send, SendInvalidate, WriteRemote, ReadRemote, Drain, Register, Release, Invalidate};
+ghost use Rattle.nr_endpoint.specs.Calls.Call.{NextEvent, Post, Stop, OutOfMemory, Send, SendInvalidate, Hold, SendHeld, WriteRemote, ReadRemote, Drain, Register, Release, Invalidate};
 ghost use Rattle.nr_endpoint.specs.EndpointState.{bytes_kept};
 ghost use Rattle.nr_wire.specs.Constants.{FPDU_MAX};
 ghost use Rattle.nr_endpoint.specs.Receives.{HasBuffer};
