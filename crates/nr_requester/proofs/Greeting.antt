@@ -91,6 +91,7 @@ link_greeted opened s k f private agreed most number is le keeps some none =
       responses = subst (λ (h : List ℕ). HasEnds k.written (length h) k.response_ends s.send_queue.response_ends) hello keeps.responses;
       left = keeps.left;
       numbered = ap (λ (xs : List ℕ). length xs) (sym same) ∙ keeps.numbered;
+      held = keeps.held;
       greeted = sym (ap not (ne_eqb f.end 0 (λ e. (let h = e in omega (arith, h, some)))));
     }
 

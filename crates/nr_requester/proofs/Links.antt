@@ -1,5 +1,5 @@
 -- The side of the link, as a sink takes bytes, as a call is accepted, and as the memory of a call is revoked.
-use Rattle.std.proofs.Common.{◌≡◌, ℕ, ◌+◌, ◌-◌, ◌^◌, ◌<◌, ◌≤◌, Bool, true, false, cond, List, [], ◌∷◌, ◌++◌, length, drop, None, Result, Ok, refl, sym, ap, subst, ◌∙◌, arith, append_assoc, length-append}
+use Rattle.std.proofs.Common.{◌≡◌, ℕ, ◌+◌, ◌-◌, ◌^◌, ◌<◌, ◌≤◌, Bool, true, false, cond, eqb, List, [], ◌∷◌, ◌++◌, length, map, drop, None, Result, Ok, refl, sym, ap, subst, ◌∙◌, arith, append_assoc, length-append}
 use Rattle.std.proofs.lemmas.List.{append-nil, length-drop}
 use Rattle.nr_regions.specs.RegisteredMemory.{RegisteredMemory}
 use Rattle.nr_link.specs.Output.{msn_word, send}
@@ -11,10 +11,10 @@ use Rattle.nr_reduce.specs.History.{AcceptedCall}
 use Rattle.nr_reduce.specs.Plans.{TooLarge, buffers, call_message}
 use Rattle.nr_reduce.specs.Events.RunEvent.{CallSubmitted, MemoryRevoked}
 use Rattle.nr_reduce.specs.Written as reduce
-use Rattle.nr_reduce.specs.ClientState.{OutstandingCall, WaitingCall, ClientState, first_of, stag_unless, plan_for, call_payload}
-use Rattle.nr_reduce.specs.Client.{client_state_after, client_output, call_output, calls_output, call_ends, outstanding_of, plan_or}
+use Rattle.nr_reduce.specs.ClientState.{OutstandingCall, WaitingCall, ClientState, first_of, others_than, stag_unless, plan_for, call_payload}
+use Rattle.nr_reduce.specs.Client.{client_state_after, client_output, call_output, calls_output, call_ends, outstanding_of, plan_or, revoked_waiting}
 use Rattle.nr_reduce.proofs.LaterSends.{calls_later}
-use Rattle.nr_requester.specs.Standing.{HasEnds, sends_ends, LinkKeeps}
+use Rattle.nr_requester.specs.Standing.{HasEnds, sends_ends, LinkKeeps, waiting_message}
 use Rattle.nr_requester.specs.AfterCalls.{submitted, drained}
 use Rattle.nr_requester.proofs.Ends.{ends_drained, ends_added, left_or_waiting, all_wait}
 use Rattle.nr_requester.proofs.Queues.{next_word, word_word, send_word, output_append, output_revoked, ends_append, ends_many, ends_revoked}
@@ -85,6 +85,7 @@ link_drained opened s k n le few keeps =
           (ends_drained n k.written (length hello) k.response_ends s.send_queue.response_ends keeps.responses);
       left = left_same (n - length hello) s.send_queue.sends_left s.send_queue.send_ends (let l = keeps.left in omega (arith, l, few)) ∙ keeps.left;
       numbered = ap (λ (xs : List ℕ). length xs) (sends_same opened k n k.has_hello) ∙ keeps.numbered;
+      held = keeps.held;
       greeted = keeps.greeted;
     }
 
@@ -191,6 +192,7 @@ module _ (opened : LinkParameters) (s : LinkState) (k : ClientState) (count : �
         responses = keeps.responses;
         left = (let l = keeps.left in omega (arith, l, length-append s.send_queue.send_ends (length (s.send_queue.fpdus ++ send_output s.send_queue None message) ∷ [])));
         numbered = ap (λ (xs : List ℕ). length xs) ends_are ∙ (let n = keeps.numbered in omega (arith, n, length-append (all_ends k.has_hello) ((k.written + length s.send_queue.hello + length s.send_queue.fpdus + length out) ∷ [])));
+        held = keeps.held ∙ ap (λ (ws : List WaitingCall). map (waiting_message opened) ws) unwaited ∙ sym (ap (λ (ws : List WaitingCall). map (waiting_message opened) (others_than ws a.xid)) unwaited);
         greeted = keeps.greeted;
       }
     where
@@ -211,6 +213,15 @@ module _ (opened : LinkParameters) (s : LinkState) (k : ClientState) (count : �
       by false = sym (append-nil (s.send_queue.hello ++ []))
 
 -- ---- The memory of a call is revoked
+
+-- the message of a call stays if its memory is revoked
+messages_stay : (opened : LinkParameters) (xid : ℕ) (ws : List WaitingCall) → map (waiting_message opened) ws ≡ map (waiting_message opened) (map (revoked_waiting xid) ws)
+messages_stay opened xid [] = refl
+messages_stay opened xid (w ∷ ws) = λ i. by (eqb w.xid xid) i ∷ messages_stay opened xid ws i
+  where
+    by : (b : Bool) → waiting_message opened w ≡ waiting_message opened (cond b (record w { is_revoked = true }) w)
+    by true = refl
+    by false = refl
 
 pub link_revoked : (opened : LinkParameters) (s : LinkState) (k : ClientState) (count xid : ℕ) (m : RegisteredMemory) → LinkKeeps opened s k → LinkKeeps opened (record s { memory = m }) (client_state_after opened k (MemoryRevoked count xid))
 unfolding client_state_after
@@ -233,6 +244,7 @@ link_revoked opened s k count xid m keeps = record {
   responses = keeps.responses;
   left = keeps.left;
   numbered = ap (λ (xs : List ℕ). length xs) (same k.has_hello) ∙ keeps.numbered;
+  held = keeps.held ∙ messages_stay opened xid k.waiting;
   greeted = keeps.greeted;
 }
   where
