@@ -260,7 +260,7 @@ kept_opened opened staging first = λ i. record (opened_client opened) {
   agreed = first.agreed i;
 }
 
-some_units : (terms : SideTerms) → send_unit ≤ receive_length_for terms
+pub some_units : (terms : SideTerms) → send_unit ≤ receive_length_for terms
 some_units terms = omega arith
 
 link_opened : (opened : LinkParameters) (link : ℕ) (staging : List ℕ) → IsFirstLink opened → LinkKeeps opened (opened_as opened.first_xid opened.first_stag opened.wished opened.client staging).state.side (state_of opened link [])

@@ -6,7 +6,6 @@ use Rattle.std.proofs.lemmas.Bool.{le-ltb}
 use Rattle.std.proofs.lemmas.List.{map-append, length-map}
 use Rattle.nr_wire.specs.declared.hello.Side.TheVariants.{Initiator}
 use Rattle.nr_regions.specs.RegisteredMemory.{RegisteredMemory, initial_memory}
-use Rattle.nr_link.specs.declared.agreement.SideTerms.{SideTerms}
 use Rattle.nr_reduce.specs.declared.call.Call.{Call}
 use Rattle.nr_reduce.specs.declared.mark.Mark.{Mark}
 use Rattle.nr_reduce.specs.declared.mark.LinkParameters.{LinkParameters}
@@ -23,7 +22,6 @@ use Rattle.nr_reduce.specs.KeptReopening.{IsSentAgain, AreSentAgain, KeepsUnless
 use Rattle.nr_reduce.specs.Reopening.{reopened, calls_kept}
 use Rattle.nr_reduce.specs.Run.{client}
 use Rattle.nr_reduce.proofs.Registering.{buffers_count}
-use Rattle.nr_reduce.proofs.Unresumed.{has_opening}
 use Rattle.nr_reduce.proofs.KeptReopening.{kept_reopens}
 use Rattle.nr_reduce.proofs.OutcomesApart.{calls_uncompleted}
 use Rattle.nr_requester.specs.RequesterState.{StoredCall, RequesterState, RequesterSide, awaited_call, kept_call, kept_calls, kept_client}
@@ -168,5 +166,6 @@ calls_go_on opened link h run opens asked stands live =
       messages = on.messages ∙ (λ i. map (λ (w : WaitingCall). call_message w.xid (stands.keeps.wished i) w.stag w.plan) (waiting_from (next i) (calls_kept opened link run)));
       count = on.count;
       xid = keeps.xid;
-      terms = keeps.opening.0 ∙ ap (λ (t : SideTerms). t.number) (has_opening opened link run).0;
+      wished = stands.keeps.wished;
+      terms = (stands.keeps.side live).terms;
     }

@@ -2,6 +2,11 @@
 use Rattle.std.specs.Prelude.{◌≡◌, ℕ, ◌+◌, ◌-◌, nat_lt, Bool, if◌then◌else◌, List, [], ◌∷◌, ◌++◌, length, map, Option, None, Some, is_some}
 use Rattle.nr_regions.specs.RegisteredMemory.{RegisteredMemory, initial_memory}
 use Rattle.nr_link.specs.declared.end.End.{End}
+use Rattle.nr_wire.specs.declared.hello.Side.TheVariants.{Initiator, Responder}
+use Rattle.nr_wire.specs.declared.stream.Awaited.TheVariants.{Hello as HelloFrom}
+use Rattle.nr_endpoint.specs.Hellos.{first_private}
+use Rattle.nr_endpoint.specs.LinkState.{LinkState, initial_state}
+use Rattle.nr_endpoint.specs.SendQueue.{initial_queue}
 use Rattle.nr_reduce.specs.declared.call.Call.{Call}
 use Rattle.nr_reduce.specs.declared.call.Refused.{Refused}
 use Rattle.nr_reduce.specs.declared.call.Refused.TheVariants as refusals
@@ -12,7 +17,7 @@ use Rattle.nr_reduce.specs.Limits.{numbers_end}
 use Rattle.nr_reduce.specs.Plans.{buffers, call_message, regions_needed}
 use Rattle.nr_reduce.specs.PlansByLists.{plan_by_lists}
 use Rattle.nr_reduce.specs.ClientState.{WaitingCall, call_payload, waiting_from}
-use Rattle.nr_reduce.specs.KeptClient.{registered_all, resumed_kept, resumed_memory}
+use Rattle.nr_reduce.specs.KeptClient.{CanResume, registered_all, resumed_kept, resumed_memory}
 use Rattle.nr_reduce.specs.Reopening.{reopened}
 use Rattle.nr_reduce.specs.Asked.{AskedSoFar}
 use Rattle.nr_reduce.specs.Opening.{IsOpened}
@@ -82,9 +87,33 @@ pub record OpensNext (next : LinkParameters) (r : RequesterState) (a : CallsAgai
   pub messages : a.messages ≡ map (λ w. call_message w.xid next.wished w.stag w.plan) (waiting_from next.first_stag next.resumed)
   pub count : length a.calls ≡ length next.resumed
   pub xid : r.next_xid ≡ next.first_xid
-  pub terms : r.side.terms.number ≡ next.client.number
+  pub wished : r.wished ≡ next.wished
+  pub terms : r.side.terms ≡ next.client
 
 -- A requester that stands for the marks of its link, which has kept the client's law and hasn't ended, keeps what its next link is opened with.
 abbrev pub CallsGoOn : Type 0
 CallsGoOn = (opened : LinkParameters) (link : ℕ) (h : RequesterSide) (run : List Mark) → IsOpened opened → AskedSoFar opened link run → RequesterRepresents opened link h run → h.state.side.ended ≡ None →
     OpensNext (reopened opened link run) h.state (calls_again h.state)
+
+-- ---- The next link
+
+-- Its side: a hello waits, and the Sends of its calls are held back.
+abbrev pub next_side : RequesterState → LinkState
+next_side r = record (initial_state Initiator 1 r.side.memory.next r.side.terms) {
+  memory = (calls_again r).memory;
+  send_queue = record (initial_queue Initiator (first_private r.side.terms Initiator)) { held = (calls_again r).messages };
+}
+
+-- The requester goes on with its xids, its answers and its count of marks.
+unfoldable pub after_reopen : RequesterSide → (staging : List ℕ) → RequesterSide
+after_reopen h staging = record {
+  awaited = HelloFrom Responder;
+  rest = [];
+  state = record h.state { side = next_side h.state; sent = 0; sends = 0; grant = 1; outstanding = (calls_again h.state).calls };
+  staging = staging;
+  marks = h.marks;
+}
+
+-- It keeps the client of its next link, as that is opened.
+abbrev pub NextLinkBegins : Type 0
+NextLinkBegins = (next : LinkParameters) (link : ℕ) (h : RequesterSide) (staging : List ℕ) → CanResume next.resumed next.first_xid → OpensNext next h.state (calls_again h.state) → KeepsLink next link (after_reopen h staging) []
