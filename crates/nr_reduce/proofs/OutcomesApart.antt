@@ -1,8 +1,8 @@
 -- A call that is outstanding, or waits to be sent again, has no outcome: so it wasn't completed.
-use Rattle.std.proofs.Common.{◌≡◌, ◌≢◌, ℕ, zero, suc, ◌+◌, ◌<◌, Bool, true, false, cond, ◌&&◌, ◌||◌, not, eqb, List, [], ◌∷◌, ◌++◌, length, map, Option, None, Some, Result, Ok, Err, refl, sym, ap, subst, ◌∙◌, arith, append_assoc, append-nil, eqb-true}
+use Rattle.std.proofs.Common.{◌≡◌, ◌≢◌, ℕ, zero, suc, ◌+◌, ◌<◌, Bool, true, false, cond, ◌&&◌, ◌||◌, not, eqb, List, [], ◌∷◌, ◌++◌, length, map, Option, None, Some, Result, Ok, Err, inl, inr, refl, sym, ap, subst, ◌∙◌, arith, append_assoc, append-nil, eqb-true}
 use Rattle.std.specs.List.{AllByRecursion, Contains, filter, flat_map, list_any}
 use Rattle.std.proofs.lemmas.Bool.{eq-eqb}
-use Rattle.std.proofs.lemmas.List.Elements.{Contains-append_cases}
+use Rattle.std.proofs.lemmas.List.Elements.{Contains-append_cases, Contains-append_left, Contains-append_right}
 use Rattle.nr_wire.specs.declared.hello.Side.TheVariants.{Initiator, Responder}
 use Rattle.nr_wire.specs.Segment.{Segment}
 use Rattle.nr_xdr.specs.Fields.{word_at}
@@ -325,17 +325,34 @@ none_completed xid (c ∷ cs) h = by (eqb c.xid xid) refl (none_completed xid cs
     by true e rest = absurd (h.0 (sym (eqb-true c.xid xid e)))
     by false e rest = rest
 
-pub calls_uncompleted : (opened : LinkParameters) (link : ℕ) (run : List Mark) → IsOpened opened → AskedSoFar opened link run →
-    AllByRecursion (λ (o : OutstandingCall). is_completed link o.xid run ≡ false) (numbered_calls (client opened link run).state)
-calls_uncompleted opened link run opens asked = by (numbered_calls (client opened link run).state) (λ c there. outcomes_apart opened link run c opens asked there)
+-- of outcomes of the client, none is of such a call
+unanswered_by : (opened : LinkParameters) (link : ℕ) (run : List Mark) (cs : List CompletedCall) → IsOpened opened → AskedSoFar opened link run → HasOutcomes opened link run cs →
+    AllByRecursion (λ (o : OutstandingCall). list_any (λ (c : CompletedCall). eqb c.xid o.xid) cs ≡ false) (numbered_calls (client opened link run).state)
+unanswered_by opened link run cs opens asked done = by (numbered_calls (client opened link run).state) (λ c there. outcomes_apart opened link run c opens asked there)
   where
-    done : HasOutcomes opened link run (completed_calls link run)
-    done = completed_from opened link [] run (completed_begin opened link) asked
-
     apart_all : (o : OutstandingCall) (cs : List CompletedCall) → ((c : CompletedCall) → Contains (client opened link run).state.outcomes c → o.xid ≢ c.xid) → HasOutcomes opened link run cs → AllByRecursion (λ (c : CompletedCall). o.xid ≢ c.xid) cs
     apart_all o [] apart h = tt
     apart_all o (c ∷ cs) apart h = (apart c h.0, apart_all o cs apart h.1)
 
-    by : (os : List OutstandingCall) → ((c : CompletedCall) → Contains (client opened link run).state.outcomes c → AllByRecursion (λ (o : OutstandingCall). o.xid ≢ c.xid) os) → AllByRecursion (λ (o : OutstandingCall). is_completed link o.xid run ≡ false) os
+    by : (os : List OutstandingCall) → ((c : CompletedCall) → Contains (client opened link run).state.outcomes c → AllByRecursion (λ (o : OutstandingCall). o.xid ≢ c.xid) os) →
+        AllByRecursion (λ (o : OutstandingCall). list_any (λ (c : CompletedCall). eqb c.xid o.xid) cs ≡ false) os
     by [] apart = tt
-    by (o ∷ os) apart = (none_completed o.xid (completed_calls link run) (apart_all o (completed_calls link run) (λ c there. (apart c there).0) done), by os (λ c there. (apart c there).1))
+    by (o ∷ os) apart = (none_completed o.xid cs (apart_all o cs (λ c there. (apart c there).0) done), by os (λ c there. (apart c there).1))
+
+pub calls_uncompleted : (opened : LinkParameters) (link : ℕ) (run : List Mark) → IsOpened opened → AskedSoFar opened link run →
+    AllByRecursion (λ (o : OutstandingCall). is_completed link o.xid run ≡ false) (numbered_calls (client opened link run).state)
+calls_uncompleted opened link run opens asked =
+    unanswered_by opened link run (completed_calls link run) opens asked (completed_from opened link [] run (completed_begin opened link) asked)
+
+-- no such call has an outcome
+later_elements : {X : Type 0} (all xs : List X) (y : X) → AllByRecursion (λ (x : X). Contains all x) xs → AllByRecursion (λ (x : X). Contains (y ∷ all) x) xs
+later_elements all [] y h = tt
+later_elements all (x ∷ xs) y h = (Contains-append_right (y ∷ []) all x h.0, later_elements all xs y h.1)
+
+all_elements : {X : Type 0} (xs : List X) → AllByRecursion (λ (x : X). Contains xs x) xs
+all_elements [] = tt
+all_elements (x ∷ xs) = (Contains-append_left (x ∷ []) xs x (0, omega arith, refl), later_elements xs xs x (all_elements xs))
+
+pub calls_unanswered : (opened : LinkParameters) (link : ℕ) (run : List Mark) → IsOpened opened → AskedSoFar opened link run →
+    AllByRecursion (λ (o : OutstandingCall). list_any (λ (c : CompletedCall). eqb c.xid o.xid) (client opened link run).state.outcomes ≡ false) (numbered_calls (client opened link run).state)
+calls_unanswered opened link run opens asked = unanswered_by opened link run (client opened link run).state.outcomes opens asked (all_elements (client opened link run).state.outcomes)

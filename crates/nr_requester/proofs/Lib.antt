@@ -67,3 +67,4 @@ pub mod NamedRegions
 pub mod DeadRegions
 pub mod CountedReleases
 pub mod Reopening
+pub mod ReopenedLinks

@@ -1,8 +1,8 @@
 -- The calls of a requester that leaves its link are those with which its next link is opened.
-use Rattle.std.proofs.Common.{◌≡◌, ℕ, ◌+◌, Bool, true, false, cond, ◌||◌, not, ltb, List, [], ◌∷◌, ◌++◌, length, map, Option, None, Some, is_none, refl, sym, ap, subst, ◌∙◌, arith, append-nil, append_assoc, length-append}
+use Rattle.std.proofs.Common.{◌≡◌, ℕ, ◌+◌, Bool, true, false, cond, ◌&&◌, ◌||◌, not, eqb, ltb, List, [], ◌∷◌, ◌++◌, length, map, Option, None, Some, is_none, refl, sym, ap, subst, ◌∙◌, arith, append-nil, append_assoc, length-append}
 use Rattle.std.specs.Prelude.{is_some}
-use Rattle.std.specs.List.{AllByRecursion, filter}
-use Rattle.std.proofs.lemmas.Bool.{le-ltb}
+use Rattle.std.specs.List.{AllByRecursion, filter, list_any}
+use Rattle.std.proofs.lemmas.Bool.{eq-eqb, le-ltb, lt-ltb}
 use Rattle.std.proofs.lemmas.List.{map-append, length-map}
 use Rattle.nr_wire.specs.declared.hello.Side.TheVariants.{Initiator}
 use Rattle.nr_regions.specs.RegisteredMemory.{RegisteredMemory, initial_memory}
@@ -11,7 +11,7 @@ use Rattle.nr_reduce.specs.declared.mark.Mark.{Mark}
 use Rattle.nr_reduce.specs.declared.mark.LinkParameters.{LinkParameters}
 use Rattle.nr_reduce.specs.declared.mark.ResumedCall.{ResumedCall}
 use Rattle.nr_reduce.specs.declared.outline.Plan.{Plan}
-use Rattle.nr_reduce.specs.History.{is_abandoned, bytes_received}
+use Rattle.nr_reduce.specs.History.{CompletedCall, is_abandoned, bytes_received}
 use Rattle.nr_reduce.specs.OutcomesDue.{is_completed}
 use Rattle.nr_reduce.specs.Plans.{Buffer, buffers, call_message, regions_needed}
 use Rattle.nr_reduce.specs.PlansByLists.{plan_by_lists}
@@ -21,14 +21,18 @@ use Rattle.nr_reduce.specs.KeptClient.{KeptClient, kept_of, registered_all, resu
 use Rattle.nr_reduce.specs.KeptReopening.{IsSentAgain, AreSentAgain, KeepsUnlessGivenUp}
 use Rattle.nr_reduce.specs.Reopening.{reopened, calls_kept}
 use Rattle.nr_reduce.specs.Run.{client}
+use Rattle.nr_reduce.specs.Events.{events}
+use Rattle.nr_reduce.specs.Asked.{AskedSoFar, client_calls}
+use Rattle.nr_reduce.specs.Opening.{IsOpened}
 use Rattle.nr_reduce.proofs.Registering.{buffers_count}
 use Rattle.nr_reduce.proofs.KeptReopening.{kept_reopens}
-use Rattle.nr_reduce.proofs.OutcomesApart.{calls_uncompleted}
+use Rattle.nr_reduce.proofs.OutcomesApart.{calls_uncompleted, calls_unanswered}
 use Rattle.nr_requester.specs.RequesterState.{StoredCall, RequesterState, RequesterSide, awaited_call, kept_call, kept_calls, kept_client}
 use Rattle.nr_requester.specs.AfterCalls.{stored_call}
-use Rattle.nr_requester.specs.KeptAnswers.{is_due}
-use Rattle.nr_requester.specs.Standing.{RequesterRepresents}
-use Rattle.nr_requester.specs.Reopening.{CallsAgain, CallsGoOn, OpensNext, call_again, calls_again, calls_again_from, plan_again, with_call_again}
+use Rattle.nr_requester.specs.KeptAnswers.{HandsBack, IsAsked, StillHolds, completed_of, is_due}
+use Rattle.nr_requester.specs.declared.answer.AnsweredCall.{AnsweredCall}
+use Rattle.nr_requester.specs.ReopenedLinks.{RequesterKeeps, own_answers}
+use Rattle.nr_requester.specs.Reopening.{AnswersStay, CallsAgain, CallsGoOn, OpensNext, call_again, calls_again, calls_again_from, plan_again, with_call_again}
 use Rattle.nr_requester.proofs.Sent.{stags_are_lem, registered_next}
 
 -- ---- One call
@@ -116,7 +120,7 @@ all_go_on link run sent credit (c ∷ cs) rs a awaited again = by (awaited_call 
 -- ---- What holds of the calls of a requester
 
 -- a property of the xid of each outstanding call is one of each call that is kept
-kept_xids : (P : ℕ → Type 0) (k : ClientState) (sent : ℕ) (cs : List StoredCall) (os : List OutstandingCall) → AreKept k (map (kept_call sent) cs) os → AllByRecursion (λ (o : OutstandingCall). P o.xid) os → AllByRecursion (λ (c : StoredCall). P c.xid) cs
+pub kept_xids : (P : ℕ → Type 0) (k : ClientState) (sent : ℕ) (cs : List StoredCall) (os : List OutstandingCall) → AreKept k (map (kept_call sent) cs) os → AllByRecursion (λ (o : OutstandingCall). P o.xid) os → AllByRecursion (λ (c : StoredCall). P c.xid) cs
 kept_xids P k sent [] [] is all = tt
 kept_xids P k sent [] (o ∷ os) is all = absurd is
 kept_xids P k sent (c ∷ cs) [] is all = absurd is
@@ -156,7 +160,7 @@ calls_go_on opened link h run opens asked stands live =
     let none : AllByRecursion (λ (c : StoredCall). is_completed link c.xid run ≡ false) h.state.outstanding =
     kept_xids (λ (xid : ℕ). is_completed link xid run ≡ false) k h.state.sent h.state.outstanding (numbered_calls k) calls.kept (calls_uncompleted opened link run opens asked) in
     let awaited = awaited_if link run h.state.outstanding stands.answers.awaited none in
-    let again = kept_reopens opened link run (kept_client h.state) (length (bytes_received link Initiator run)) opens asked keeps stays (unless_given_up link run h.state.sent h.state.outstanding awaited) in
+    let again = kept_reopens opened link run (record (kept_client h.state) { agreed = opened.agreed }) (length (bytes_received link Initiator run)) opens asked keeps stays (unless_given_up link run h.state.sent h.state.outstanding awaited) in
     let begins : CallsAgain = record { calls = []; memory = initial_memory h.state.side.memory.next; messages = [] } in
     let on = all_go_on link run h.state.sent h.state.wished h.state.outstanding (calls_kept opened link run) begins awaited again in
     let next : h.state.side.memory.next ≡ k.stag = (keeps.memory stays).next in
@@ -168,4 +172,123 @@ calls_go_on opened link h run opens asked stands live =
       xid = keeps.xid;
       wished = stands.keeps.wished;
       terms = (stands.keeps.side live).terms;
+    }
+
+-- ---- The answers of the link that it leaves
+
+pub all_with_last : (P : StoredCall → Type 0) (cs : List StoredCall) (last : StoredCall) → AllByRecursion P cs → P last → AllByRecursion P (cs ++ last ∷ [])
+all_with_last P [] last h is = (is, tt)
+all_with_last P (c ∷ cs) last h is = (h.0, all_with_last P cs last h.1 is)
+
+pub again_xids : (P : ℕ → Type 0) (credit : ℕ) (cs : List StoredCall) (a : CallsAgain) → AllByRecursion (λ (c : StoredCall). P c.xid) cs → AllByRecursion (λ (c : StoredCall). P c.xid) a.calls →
+    AllByRecursion (λ (c : StoredCall). P c.xid) (calls_again_from credit cs a).calls
+again_xids P credit [] a h begun = begun
+again_xids P credit (c ∷ cs) a h begun = by (awaited_call c)
+  where
+    by : (o : Option Call) → AllByRecursion (λ (c : StoredCall). P c.xid) (calls_again_from credit cs (call_again credit c o a)).calls
+    by None = again_xids P credit cs a h.1 begun
+    by (Some call) = again_xids P credit cs (with_call_again (length a.calls) credit c call a) h.1
+        (all_with_last (λ (x : StoredCall). P x.xid) a.calls (stored_call c.xid (length a.calls) call (plan_again c call) a.memory) begun h.0)
+
+-- an answer has an outcome, and came before the next xid
+abbrev pub has_outcome : List CompletedCall → ℕ → Bool
+has_outcome outcomes xid = list_any (λ (c : CompletedCall). eqb c.xid xid) outcomes
+
+abbrev pub Belongs : List CompletedCall → (next : ℕ) → ℕ → Bool
+Belongs outcomes next xid = has_outcome outcomes xid && ltb xid next
+
+later_outcomes : (all cs : List CompletedCall) (d : CompletedCall) → AllByRecursion (λ (c : CompletedCall). has_outcome all c.xid ≡ true) cs → AllByRecursion (λ (c : CompletedCall). has_outcome (d ∷ all) c.xid ≡ true) cs
+later_outcomes all [] d h = tt
+later_outcomes all (c ∷ cs) d h = (by (eqb d.xid c.xid) h.0, later_outcomes all cs d h.1)
+  where
+    by : (b : Bool) → has_outcome all c.xid ≡ true → (b || has_outcome all c.xid) ≡ true
+    by true is = refl
+    by false is = is
+
+all_outcomes : (cs : List CompletedCall) → AllByRecursion (λ (c : CompletedCall). has_outcome cs c.xid ≡ true) cs
+all_outcomes [] = tt
+all_outcomes (c ∷ cs) = (ap (λ (b : Bool). b || has_outcome cs c.xid) (eq-eqb c.xid c.xid refl), later_outcomes cs cs c (all_outcomes cs))
+
+fewer_outcomes : (P : CompletedCall → Type 0) (p : CompletedCall → Bool) (cs : List CompletedCall) → AllByRecursion P cs → AllByRecursion P (filter p cs)
+fewer_outcomes P p [] h = tt
+fewer_outcomes P p (c ∷ cs) h = by (p c) (fewer_outcomes P p cs h.1)
+  where
+    by : (b : Bool) → AllByRecursion P (filter p cs) → AllByRecursion P (cond b (c ∷ filter p cs) (filter p cs))
+    by true rest = (h.0, rest)
+    by false rest = rest
+
+of_answers : (P : ℕ → Type 0) (as : List AnsweredCall) → AllByRecursion (λ (c : CompletedCall). P c.xid) (map completed_of as) → AllByRecursion (λ (a : AnsweredCall). P a.xid) as
+of_answers P [] h = tt
+of_answers P (a ∷ as) h = (h.0, of_answers P as h.1)
+
+belong : (opened : LinkParameters) (outcomes : List CompletedCall) (next : ℕ) (k : ClientState) (as : List AnsweredCall) → AllByRecursion (λ (a : AnsweredCall). has_outcome outcomes a.xid ≡ true) as → AllByRecursion (StillHolds next k) as →
+    AllByRecursion (λ (a : AnsweredCall). Belongs outcomes next a.xid ≡ true) as
+belong opened outcomes next k [] h holds = tt
+belong opened outcomes next k (a ∷ as) h holds = ((λ i. h.0 i && lt-ltb a.xid next holds.0.before i), belong opened outcomes next k as h.1 holds.1)
+
+-- of the answers that are its own, all belong to it
+same_answers : (own also : ℕ → Bool) (as : List AnsweredCall) → AllByRecursion (λ (a : AnsweredCall). also a.xid ≡ true) (filter (λ (a : AnsweredCall). own a.xid) as) →
+    filter (λ (a : AnsweredCall). own a.xid) as ≡ filter (λ (a : AnsweredCall). own a.xid && also a.xid) as
+same_answers own also [] h = refl
+same_answers own also (a ∷ as) h = by (own a.xid) h
+  where
+    left : List AnsweredCall
+    left = filter (λ (x : AnsweredCall). own x.xid) as
+
+    right : List AnsweredCall
+    right = filter (λ (x : AnsweredCall). own x.xid && also x.xid) as
+
+    by : (b : Bool) → AllByRecursion (λ (x : AnsweredCall). also x.xid ≡ true) (cond b (a ∷ left) left) → cond b (a ∷ left) left ≡ cond (b && also a.xid) (a ∷ right) right
+    by true h = ap (λ (xs : List AnsweredCall). a ∷ xs) (same_answers own also as h.1) ∙ sym (ap (λ (b : Bool). cond b (a ∷ right) right) h.0)
+    by false h = same_answers own also as h
+
+none_belongs : (own : Bool) (has below : Bool) → has ≡ false → (own && (has && below)) ≡ false
+none_belongs true has below none = ap (λ (b : Bool). b && below) none
+none_belongs false has below none = refl
+
+none_above : (own : Bool) (has below : Bool) → below ≡ false → (own && (has && below)) ≡ false
+none_above true true below none = none
+none_above true false below none = refl
+none_above false has below none = refl
+
+not_own : (own : ℕ → Bool) (outcomes : List CompletedCall) (next : ℕ) (cs : List StoredCall) → AllByRecursion (λ (c : StoredCall). has_outcome outcomes c.xid ≡ false) cs → AllByRecursion (λ (c : StoredCall). (own c.xid && Belongs outcomes next c.xid) ≡ false) cs
+not_own own outcomes next [] h = tt
+not_own own outcomes next (c ∷ cs) h = (none_belongs (own c.xid) (has_outcome outcomes c.xid) (ltb c.xid next) h.0, not_own own outcomes next cs h.1)
+
+-- all its own answers belong to the link, and no call that is outstanding does
+pub all_belong : (opened : LinkParameters) (link : ℕ) (h : RequesterSide) (run : List Mark) (stands : RequesterKeeps opened link h run) →
+    AllByRecursion (λ (a : AnsweredCall). Belongs (client opened link run).state.outcomes (client opened link run).state.next_xid a.xid ≡ true) (own_answers stands.is_own h.state)
+all_belong opened link h run stands =
+    let k : ClientState = (client opened link run).state in
+    let answers : List AnsweredCall = own_answers stands.is_own h.state in
+    belong opened k.outcomes k.next_xid k answers
+    (of_answers (λ (xid : ℕ). has_outcome k.outcomes xid ≡ true) answers
+    (subst (λ (cs : List CompletedCall). AllByRecursion (λ (c : CompletedCall). has_outcome k.outcomes c.xid ≡ true) cs) (sym stands.answers.outcomes)
+    (fewer_outcomes (λ (c : CompletedCall). has_outcome k.outcomes c.xid ≡ true) (λ (c : CompletedCall). is_due link run c.xid) k.outcomes (all_outcomes k.outcomes))))
+    stands.answers.holds
+
+pub none_have : (opened : LinkParameters) (link : ℕ) (h : RequesterSide) (run : List Mark) → IsOpened opened → AskedSoFar opened link run → RequesterKeeps opened link h run → h.state.side.ended ≡ None →
+    AllByRecursion (λ (c : StoredCall). has_outcome (client opened link run).state.outcomes c.xid ≡ false) h.state.outstanding
+none_have opened link h run opens asked stands live =
+    let k : ClientState = (client opened link run).state in
+    let keeps = stands.keeps.kept.keeps in
+    kept_xids (λ (xid : ℕ). has_outcome k.outcomes xid ≡ false) k h.state.sent h.state.outstanding (numbered_calls k) (keeps.calls (sym keeps.ended ∙ live)).kept (calls_unanswered opened link run opens asked)
+
+pub answers_stay : AnswersStay
+unfolding calls_again
+answers_stay opened link h run opens asked stands live =
+    let k : ClientState = (client opened link run).state in
+    let keeps = stands.keeps.kept.keeps in
+    let own : ℕ → Bool = stands.is_own in
+    let same : own_answers own h.state ≡ filter (λ (a : AnsweredCall). own a.xid && Belongs k.outcomes k.next_xid a.xid) h.state.answered =
+    same_answers own (Belongs k.outcomes k.next_xid) h.state.answered (all_belong opened link h run stands) in
+    record {
+      is_own = λ (xid : ℕ). own xid && Belongs k.outcomes k.next_xid xid;
+      outstanding = not_own own k.outcomes k.next_xid (calls_again h.state).calls
+          (again_xids (λ (xid : ℕ). has_outcome k.outcomes xid ≡ false) h.state.wished h.state.outstanding (record { calls = []; memory = initial_memory h.state.side.memory.next; messages = [] })
+          (none_have opened link h run opens asked stands live) tt);
+      to_come = λ xid above. none_above (own xid) (has_outcome k.outcomes xid) (ltb xid k.next_xid) (le-ltb xid k.next_xid (let x = keeps.xid in omega (arith, above, x)));
+      outcomes = ap (λ (as : List AnsweredCall). map completed_of as) (sym same) ∙ stands.answers.outcomes;
+      hands_back = subst (λ (as : List AnsweredCall). AllByRecursion (HandsBack opened (events link Initiator run)) as) same stands.answers.hands_back;
+      calls = subst (λ (as : List AnsweredCall). AllByRecursion (λ (a : AnsweredCall). IsAsked (client_calls opened link run) a.xid a.call) as) same stands.answers.calls;
     }

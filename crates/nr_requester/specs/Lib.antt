@@ -19,3 +19,4 @@ pub mod Takes
 pub mod Judged
 pub mod Fed
 pub mod Reopening
+pub mod ReopenedLinks

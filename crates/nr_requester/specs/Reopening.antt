@@ -23,7 +23,7 @@ use Rattle.nr_reduce.specs.Asked.{AskedSoFar}
 use Rattle.nr_reduce.specs.Opening.{IsOpened}
 use Rattle.nr_requester.specs.RequesterState.{StoredCall, RequesterState, RequesterSide, awaited_call, kept_call}
 use Rattle.nr_requester.specs.AfterCalls.{stored_call}
-use Rattle.nr_requester.specs.Standing.{RequesterRepresents}
+use Rattle.nr_requester.specs.ReopenedLinks.{RequesterKeeps, KeepsEarlier}
 
 -- the plan of a call, made again of what is kept of it
 abbrev pub plan_again : StoredCall → Call → Plan
@@ -92,8 +92,17 @@ pub record OpensNext (next : LinkParameters) (r : RequesterState) (a : CallsAgai
 
 -- A requester that stands for the marks of its link, which has kept the client's law and hasn't ended, keeps what its next link is opened with.
 abbrev pub CallsGoOn : Type 0
-CallsGoOn = (opened : LinkParameters) (link : ℕ) (h : RequesterSide) (run : List Mark) → IsOpened opened → AskedSoFar opened link run → RequesterRepresents opened link h run → h.state.side.ended ≡ None →
+CallsGoOn = (opened : LinkParameters) (link : ℕ) (h : RequesterSide) (run : List Mark) → IsOpened opened → AskedSoFar opened link run → RequesterKeeps opened link h run → h.state.side.ended ≡ None →
     OpensNext (reopened opened link run) h.state (calls_again h.state)
+
+-- with the calls that go on
+abbrev pub with_calls_again : RequesterSide → RequesterSide
+with_calls_again h = record h { state = record h.state { outstanding = (calls_again h.state).calls } }
+
+-- Once its calls have gone on to the next link, it keeps the answers of the one that it left.
+abbrev pub AnswersStay : Type 0
+AnswersStay = (opened : LinkParameters) (link : ℕ) (h : RequesterSide) (run : List Mark) → IsOpened opened → AskedSoFar opened link run → RequesterKeeps opened link h run → h.state.side.ended ≡ None →
+    KeepsEarlier opened link (with_calls_again h) run
 
 -- ---- The next link
 
@@ -117,3 +126,8 @@ after_reopen h staging = record {
 -- It keeps the client of its next link, as that is opened.
 abbrev pub NextLinkBegins : Type 0
 NextLinkBegins = (next : LinkParameters) (link : ℕ) (h : RequesterSide) (staging : List ℕ) → CanResume next.resumed next.first_xid → OpensNext next h.state (calls_again h.state) → KeepsLink next link (after_reopen h staging) []
+
+-- So a requester that leaves its link, if the next one can be opened, stands for no marks of that, and keeps the answers of the one that it left.
+abbrev pub NextBegins : Type 0
+NextBegins = (opened : LinkParameters) (link next : ℕ) (h : RequesterSide) (run : List Mark) (staging : List ℕ) → IsOpened opened → AskedSoFar opened link run → RequesterKeeps opened link h run → h.state.side.ended ≡ None →
+    IsOpened (reopened opened link run) → RequesterKeeps (reopened opened link run) next (after_reopen h staging) [] × KeepsEarlier opened link (after_reopen h staging) run

@@ -1,5 +1,12 @@
-use Rattle.nr_requester.proofs.Reopening.{calls_go_on}
+use Rattle.nr_requester.proofs.Reopening.{answers_stay, calls_go_on}
+use Rattle.nr_requester.proofs.NextBegins.{next_begins}
 use Rattle.nr_requester.proofs.laws.calls_go_on.Goals as goal
 
-pub returns : goal.returns
-returns c = calls_go_on
+pub returns-clause-next : goal.returns-clause-next
+returns-clause-next c = calls_go_on
+
+pub returns-clause-answers : goal.returns-clause-answers
+returns-clause-answers c = answers_stay
+
+pub returns-clause-begins : goal.returns-clause-begins
+returns-clause-begins c = next_begins
