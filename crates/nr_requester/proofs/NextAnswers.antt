@@ -112,17 +112,17 @@ again_all P credit (c ∷ cs) a each begun = by (awaited_call c)
         (all_with_last P a.calls (stored_call c.xid (length a.calls) call (plan_again c call) a.memory) begun (each c.xid (length a.calls) call (plan_again c call) a.memory))
 
 -- they are the calls with which the link is opened
-Matches : List StoredCall → List ResumedCall → Type 0
+abbrev Matches : List StoredCall → List ResumedCall → Type 0
 Matches [] [] = Unit {0}
 Matches [] (r ∷ rs) = ⊥
 Matches (c ∷ cs) [] = ⊥
 Matches (c ∷ cs) (r ∷ rs) = (c.xid ≡ r.xid) × ((c.call ≡ Some r.call) × Matches cs rs)
 
-first_xid : List KeptCall → ℕ
+abbrev first_xid : List KeptCall → ℕ
 first_xid [] = 0
 first_xid (c ∷ cs) = c.xid
 
-first_call : List KeptCall → Option Call
+abbrev first_call : List KeptCall → Option Call
 first_call [] = None
 first_call (c ∷ cs) = c.call
 

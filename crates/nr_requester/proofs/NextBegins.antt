@@ -84,6 +84,7 @@ next_begins opened link next h run staging opens asked stands live opens_next =
     let own_next : ℕ → Bool = (λ (xid : ℕ). own xid && not (Belongs k.outcomes k.next_xid xid)) in
     let can : CanResume (reopened opened link run).resumed (reopened opened link run).first_xid = can_resume (lengths_before (reopened opened link run).agreed) 1 (reopened opened link run).resumed (reopened opened link run).first_xid opens_next.resumed in
     let on = calls_go_on opened link h run opens asked stands live in
+    let stay = answers_stay opened link h run opens asked stands live in
     let none : filter (λ (a : AnsweredCall). own_next a.xid) h.state.answered ≡ [] = none_left own (Belongs k.outcomes k.next_xid) h.state.answered (all_belong opened link h run stands) in
     (
       record {
@@ -97,7 +98,7 @@ next_begins opened link next h run staging opens asked stands live opens_next =
         };
         answers = subst (λ (as : List AnsweredCall). KeepsAnswers (reopened opened link run) (events next Initiator []) (is_due next []) (client_calls (reopened opened link run) next []) (record (after_reopen h staging).state { answered = as })) (sym none)
             (next_answers (reopened opened link run) next h staging can on);
-        counted = stands.counted ∙ ap (λ (n : ℕ). min n marks_max) (omega arith);
+        counted = stands.counted ∙ (let more : stands.earlier_marks + marks_of link run ≡ stands.earlier_marks + marks_of link run + marks_of next [] = omega arith in ap (λ (n : ℕ). min n marks_max) more);
       },
-      answers_stay opened link h run opens asked stands live,
+      record { is_own = stay.is_own; outstanding = stay.outstanding; to_come = stay.to_come; outcomes = stay.outcomes; hands_back = stay.hands_back; calls = stay.calls },
     )

@@ -1,5 +1,5 @@
 -- What a requester keeps of its first link it keeps of a link that may be one of several.
-use Rattle.std.proofs.Common.{◌≡◌, ℕ, Bool, true, false, List, [], ◌∷◌, ◌++◌, map, Option, refl, sym, ap, subst}
+use Rattle.std.proofs.Common.{◌≡◌, ℕ, ◌+◌, min, Bool, true, false, List, [], ◌∷◌, ◌++◌, map, Option, refl, sym, ap, subst, ◌∙◌, arith}
 use Rattle.std.specs.List.{AllByRecursion, filter}
 use Rattle.nr_wire.specs.declared.hello.Side.TheVariants.{Initiator}
 use Rattle.nr_link.specs.declared.agreement.Agreement.{Agreement}
@@ -12,6 +12,7 @@ use Rattle.nr_reduce.specs.History.{AcceptedCall, accepted_calls}
 use Rattle.nr_reduce.specs.Standing.{ClientRepresents}
 use Rattle.nr_requester.specs.declared.answer.AnsweredCall.{AnsweredCall}
 use Rattle.nr_requester.specs.RequesterState.{StoredCall, RequesterSide, queue_of, kept_client, input_kept}
+use Rattle.nr_requester.specs.CountedMarks.{marks_max, marks_of}
 use Rattle.nr_requester.specs.KeptAnswers.{KeepsAnswers, is_due}
 use Rattle.nr_requester.specs.Standing.{RequesterRepresents}
 use Rattle.nr_requester.specs.ReopenedLinks.{FirstLinksAreKept, own_answers}
@@ -21,7 +22,7 @@ all_own [] = refl
 all_own (a ∷ answers) = ap (λ (as : List AnsweredCall). a ∷ as) (all_own answers)
 
 all_true : (calls : List StoredCall) → AllByRecursion (λ (c : StoredCall). true ≡ true) calls
-all_true [] = ()
+all_true [] = tt
 all_true (c ∷ calls) = (refl, all_true calls)
 
 pub first_links_are_kept : FirstLinksAreKept
@@ -40,5 +41,5 @@ first_links_are_kept opened link h run s =
       calls = record { outstanding = all_true h.state.outstanding; to_come = λ xid above. refl };
       answers = subst (λ (asked : List AcceptedCall). KeepsAnswers opened (events link Initiator run) (is_due link run) asked (record h.state { answered = own_answers (λ (xid : ℕ). true) h.state })) calls
           (subst (λ (answers : List AnsweredCall). KeepsAnswers opened (events link Initiator run) (is_due link run) (accepted_calls link run) (record h.state { answered = answers })) (sym (all_own h.state.answered)) s.answers);
-      counted = s.counted;
+      counted = s.counted ∙ (let more : marks_of link run ≡ 0 + marks_of link run = omega arith in ap (λ (n : ℕ). min n marks_max) more);
     }

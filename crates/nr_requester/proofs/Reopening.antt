@@ -258,6 +258,7 @@ not_own own outcomes next (c ∷ cs) h = (none_belongs (own c.xid) (has_outcome 
 -- all its own answers belong to the link, and no call that is outstanding does
 pub all_belong : (opened : LinkParameters) (link : ℕ) (h : RequesterSide) (run : List Mark) (stands : RequesterKeeps opened link h run) →
     AllByRecursion (λ (a : AnsweredCall). Belongs (client opened link run).state.outcomes (client opened link run).state.next_xid a.xid ≡ true) (own_answers stands.is_own h.state)
+unfolding client
 all_belong opened link h run stands =
     let k : ClientState = (client opened link run).state in
     let answers : List AnsweredCall = own_answers stands.is_own h.state in
@@ -275,7 +276,7 @@ none_have opened link h run opens asked stands live =
     kept_xids (λ (xid : ℕ). has_outcome k.outcomes xid ≡ false) k h.state.sent h.state.outstanding (numbered_calls k) (keeps.calls (sym keeps.ended ∙ live)).kept (calls_unanswered opened link run opens asked)
 
 pub answers_stay : AnswersStay
-unfolding calls_again
+unfolding calls_again client
 answers_stay opened link h run opens asked stands live =
     let k : ClientState = (client opened link run).state in
     let keeps = stands.keeps.kept.keeps in
