@@ -68,3 +68,7 @@ pub mod DeadRegions
 pub mod CountedReleases
 pub mod Reopening
 pub mod ReopenedLinks
+pub mod NextLinks
+pub mod NextAnswers
+pub mod NextBegins
+pub mod Resent

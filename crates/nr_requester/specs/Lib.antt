@@ -20,3 +20,4 @@ pub mod Judged
 pub mod Fed
 pub mod Reopening
 pub mod ReopenedLinks
+pub mod Resends
