@@ -92,7 +92,7 @@ offers_all next send stag before (r ∷ rs) can apart =
     ∙ append-nil (filter (λ (g : Region). eqb g.call r.xid) own) in (
       (can.1.0, ap (λ (gs : List Region). map (λ (g : Region). g.stag) gs) own_alone ∙ own_stags r.xid (buffers stag r.plan)),
       subst (λ (gs : List Region). AllByRecursion (OffersPlan next gs) (numbered_from (send + 1) (waiting_from (stag + regions_needed r.plan) rs))) (append_assoc before own rest)
-      (offers_all next (send + 1) (stag + regions_needed r.plan) (before ++ own) rs can.1.1.1 (later_apart r.xid (buffers stag r.plan) before rs apart.1 can.1.1.0)),
+          (offers_all next (send + 1) (stag + regions_needed r.plan) (before ++ own) rs can.1.1.1 (later_apart r.xid (buffers stag r.plan) before rs apart.1 can.1.1.0)),
     )
 
 none_before_all : (rs : List ResumedCall) → AllByRecursion (λ (r : ResumedCall). AllByRecursion (λ (g : Region). g.call ≢ r.xid) []) rs

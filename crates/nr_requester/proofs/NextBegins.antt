@@ -49,19 +49,19 @@ can_resume agreed from (r ∷ rs) next h = (
 
 -- ---- The answers that it has belong to links before it, and its calls don't
 
-none_left : (own also : ℕ → Bool) (as : List AnsweredCall) → AllByRecursion (λ (a : AnsweredCall). also a.xid ≡ true) (filter (λ (a : AnsweredCall). own a.xid) as) → filter (λ (a : AnsweredCall). own a.xid && not (also a.xid)) as ≡ []
+none_left : (own also : ℕ → Bool) (list : List AnsweredCall) → AllByRecursion (λ (a : AnsweredCall). also a.xid ≡ true) (filter (λ (a : AnsweredCall). own a.xid) list) → filter (λ (a : AnsweredCall). own a.xid && not (also a.xid)) list ≡ []
 none_left own also [] h = refl
-none_left own also (a ∷ as) h = by (own a.xid) h
+none_left own also (a ∷ list) h = by (own a.xid) h
   where
     left : List AnsweredCall
-    left = filter (λ (x : AnsweredCall). own x.xid) as
+    left = filter (λ (x : AnsweredCall). own x.xid) list
 
     right : List AnsweredCall
-    right = filter (λ (x : AnsweredCall). own x.xid && not (also x.xid)) as
+    right = filter (λ (x : AnsweredCall). own x.xid && not (also x.xid)) list
 
     by : (b : Bool) → AllByRecursion (λ (x : AnsweredCall). also x.xid ≡ true) (cond b (a ∷ left) left) → cond (b && not (also a.xid)) (a ∷ right) right ≡ []
-    by true h = ap (λ (b : Bool). cond (not b) (a ∷ right) right) h.0 ∙ none_left own also as h.1
-    by false h = none_left own also as h
+    by true h = ap (λ (b : Bool). cond (not b) (a ∷ right) right) h.0 ∙ none_left own also list h.1
+    by false h = none_left own also list h
 
 stays_own : (own has below : Bool) → own ≡ true → has ≡ false → (own && not (has && below)) ≡ true
 stays_own own has below is none = (λ i. is i && not (none i && below))
@@ -85,8 +85,7 @@ next_begins opened link next h run staging opens asked stands live opens_next =
     let can : CanResume (reopened opened link run).resumed (reopened opened link run).first_xid = can_resume (lengths_before (reopened opened link run).agreed) 1 (reopened opened link run).resumed (reopened opened link run).first_xid opens_next.resumed in
     let on = calls_go_on opened link h run opens asked stands live in
     let stay = answers_stay opened link h run opens asked stands live in
-    let none : filter (λ (a : AnsweredCall). own_next a.xid) h.state.answered ≡ [] = none_left own (Belongs k.outcomes k.next_xid) h.state.answered (all_belong opened link h run stands) in
-    (
+    let none : filter (λ (a : AnsweredCall). own_next a.xid) h.state.answered ≡ [] = none_left own (Belongs k.outcomes k.next_xid) h.state.answered (all_belong opened link h run stands) in (
       record {
         is_own = own_next;
         earlier_marks = stands.earlier_marks + marks_of link run;
@@ -96,7 +95,7 @@ next_begins opened link next h run staging opens asked stands live opens_next =
               (both_own own (has_outcome k.outcomes) k.next_xid h.state.outstanding stands.calls.outstanding (none_have opened link h run opens asked stands live)) tt;
           to_come = λ xid above. comes_own (own xid) (has_outcome k.outcomes xid) (ltb xid k.next_xid) (stands.calls.to_come xid above) (le-ltb xid k.next_xid (let x = keeps.xid in omega (arith, above, x)));
         };
-        answers = subst (λ (as : List AnsweredCall). KeepsAnswers (reopened opened link run) (events next Initiator []) (is_due next []) (client_calls (reopened opened link run) next []) (record (after_reopen h staging).state { answered = as })) (sym none)
+        answers = subst (λ (list : List AnsweredCall). KeepsAnswers (reopened opened link run) (events next Initiator []) (is_due next []) (client_calls (reopened opened link run) next []) (record (after_reopen h staging).state { answered = list })) (sym none)
             (next_answers (reopened opened link run) next h staging can on);
         counted = stands.counted ∙ (let more : stands.earlier_marks + marks_of link run ≡ stands.earlier_marks + marks_of link run + marks_of next [] = omega arith in ap (λ (n : ℕ). min n marks_max) more);
       },

@@ -19,7 +19,7 @@ use Rattle.nr_requester.specs.ReopenedLinks.{FirstLinksAreKept, own_answers}
 
 all_own : (answers : List AnsweredCall) → filter (λ (a : AnsweredCall). true) answers ≡ answers
 all_own [] = refl
-all_own (a ∷ answers) = ap (λ (as : List AnsweredCall). a ∷ as) (all_own answers)
+all_own (a ∷ answers) = ap (λ (list : List AnsweredCall). a ∷ list) (all_own answers)
 
 all_true : (calls : List StoredCall) → AllByRecursion (λ (c : StoredCall). true ≡ true) calls
 all_true [] = tt

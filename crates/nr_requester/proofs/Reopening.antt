@@ -217,30 +217,30 @@ fewer_outcomes P p (c ∷ cs) h = by (p c) (fewer_outcomes P p cs h.1)
     by true rest = (h.0, rest)
     by false rest = rest
 
-of_answers : (P : ℕ → Type 0) (as : List AnsweredCall) → AllByRecursion (λ (c : CompletedCall). P c.xid) (map completed_of as) → AllByRecursion (λ (a : AnsweredCall). P a.xid) as
+of_answers : (P : ℕ → Type 0) (list : List AnsweredCall) → AllByRecursion (λ (c : CompletedCall). P c.xid) (map completed_of list) → AllByRecursion (λ (a : AnsweredCall). P a.xid) list
 of_answers P [] h = tt
-of_answers P (a ∷ as) h = (h.0, of_answers P as h.1)
+of_answers P (a ∷ list) h = (h.0, of_answers P list h.1)
 
-belong : (opened : LinkParameters) (outcomes : List CompletedCall) (next : ℕ) (k : ClientState) (as : List AnsweredCall) → AllByRecursion (λ (a : AnsweredCall). has_outcome outcomes a.xid ≡ true) as → AllByRecursion (StillHolds next k) as →
-    AllByRecursion (λ (a : AnsweredCall). Belongs outcomes next a.xid ≡ true) as
+belong : (opened : LinkParameters) (outcomes : List CompletedCall) (next : ℕ) (k : ClientState) (list : List AnsweredCall) → AllByRecursion (λ (a : AnsweredCall). has_outcome outcomes a.xid ≡ true) list → AllByRecursion (StillHolds next k) list →
+    AllByRecursion (λ (a : AnsweredCall). Belongs outcomes next a.xid ≡ true) list
 belong opened outcomes next k [] h holds = tt
-belong opened outcomes next k (a ∷ as) h holds = ((λ i. h.0 i && lt-ltb a.xid next holds.0.before i), belong opened outcomes next k as h.1 holds.1)
+belong opened outcomes next k (a ∷ list) h holds = ((λ i. h.0 i && lt-ltb a.xid next holds.0.before i), belong opened outcomes next k list h.1 holds.1)
 
 -- of the answers that are its own, all belong to it
-same_answers : (own also : ℕ → Bool) (as : List AnsweredCall) → AllByRecursion (λ (a : AnsweredCall). also a.xid ≡ true) (filter (λ (a : AnsweredCall). own a.xid) as) →
-    filter (λ (a : AnsweredCall). own a.xid) as ≡ filter (λ (a : AnsweredCall). own a.xid && also a.xid) as
+same_answers : (own also : ℕ → Bool) (list : List AnsweredCall) → AllByRecursion (λ (a : AnsweredCall). also a.xid ≡ true) (filter (λ (a : AnsweredCall). own a.xid) list) →
+    filter (λ (a : AnsweredCall). own a.xid) list ≡ filter (λ (a : AnsweredCall). own a.xid && also a.xid) list
 same_answers own also [] h = refl
-same_answers own also (a ∷ as) h = by (own a.xid) h
+same_answers own also (a ∷ list) h = by (own a.xid) h
   where
     left : List AnsweredCall
-    left = filter (λ (x : AnsweredCall). own x.xid) as
+    left = filter (λ (x : AnsweredCall). own x.xid) list
 
     right : List AnsweredCall
-    right = filter (λ (x : AnsweredCall). own x.xid && also x.xid) as
+    right = filter (λ (x : AnsweredCall). own x.xid && also x.xid) list
 
     by : (b : Bool) → AllByRecursion (λ (x : AnsweredCall). also x.xid ≡ true) (cond b (a ∷ left) left) → cond b (a ∷ left) left ≡ cond (b && also a.xid) (a ∷ right) right
-    by true h = ap (λ (xs : List AnsweredCall). a ∷ xs) (same_answers own also as h.1) ∙ sym (ap (λ (b : Bool). cond b (a ∷ right) right) h.0)
-    by false h = same_answers own also as h
+    by true h = ap (λ (xs : List AnsweredCall). a ∷ xs) (same_answers own also list h.1) ∙ sym (ap (λ (b : Bool). cond b (a ∷ right) right) h.0)
+    by false h = same_answers own also list h
 
 none_belongs : (own : Bool) (has below : Bool) → has ≡ false → (own && (has && below)) ≡ false
 none_belongs true has below none = ap (λ (b : Bool). b && below) none
@@ -289,7 +289,7 @@ answers_stay opened link h run opens asked stands live =
           (again_xids (λ (xid : ℕ). has_outcome k.outcomes xid ≡ false) h.state.wished h.state.outstanding (record { calls = []; memory = initial_memory h.state.side.memory.next; messages = [] })
           (none_have opened link h run opens asked stands live) tt);
       to_come = λ xid above. none_above (own xid) (has_outcome k.outcomes xid) (ltb xid k.next_xid) (le-ltb xid k.next_xid (let x = keeps.xid in omega (arith, above, x)));
-      outcomes = ap (λ (as : List AnsweredCall). map completed_of as) (sym same) ∙ stands.answers.outcomes;
-      hands_back = subst (λ (as : List AnsweredCall). AllByRecursion (HandsBack opened (events link Initiator run)) as) same stands.answers.hands_back;
-      calls = subst (λ (as : List AnsweredCall). AllByRecursion (λ (a : AnsweredCall). IsAsked (client_calls opened link run) a.xid a.call) as) same stands.answers.calls;
+      outcomes = ap (λ (list : List AnsweredCall). map completed_of list) (sym same) ∙ stands.answers.outcomes;
+      hands_back = subst (λ (list : List AnsweredCall). AllByRecursion (HandsBack opened (events link Initiator run)) list) same stands.answers.hands_back;
+      calls = subst (λ (list : List AnsweredCall). AllByRecursion (λ (a : AnsweredCall). IsAsked (client_calls opened link run) a.xid a.call) list) same stands.answers.calls;
     }

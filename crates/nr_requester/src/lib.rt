@@ -38,7 +38,8 @@ mod ticket;
 pub use answer::{AnsweredCall, Buffers};
 pub use dismantling::Remains;
 pub use laws::{
-    calls_go_on, first_links_are_kept, releases_are_counted, requesters_keep_their_law, requesters_stand_for_marks,
+    calls_go_on, first_links_are_kept, releases_are_counted, requesters_keep_their_law,
+    requesters_stand_for_marks,
 };
 pub use requester::Requester;
 pub use taking::{Done, Take};
