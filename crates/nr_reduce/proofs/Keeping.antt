@@ -128,7 +128,7 @@ answer_live opened kept k count call form keeps =
     let below : first_of k.waiting k.next_xid ≡ None = waits_below k k.sends k.next_xid kept.calls k.outstanding k.waiting (subst (λ (n : ℕ). AreRising kept.calls n) keeps.xid calls.rising) calls.kept in
     own_parts kept (plan_of (call_payload kept.next_xid call) form kept.up_max kept.down_max)
     ∙ (λ i. answer_parts (plan_of (call_payload (keeps.xid i) call) form (keeps.up i) (keeps.down i)) (keeps.grant i) (counted i) (keeps.opening.0 i)
-        (least_same k k.sends kept.calls k.outstanding k.waiting calls.kept i) (keeps.xid i) (memory.next i))
+    (least_same k k.sends kept.calls k.outstanding k.waiting calls.kept i) (keeps.xid i) (memory.next i))
     ∙ sym (client_parts k (plan_of (call_payload k.next_xid call) form k.up_max k.down_max))
     ∙ ap (by_plan k) (plan_same k k.next_xid call form below)
 

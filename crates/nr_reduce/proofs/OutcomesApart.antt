@@ -147,10 +147,13 @@ past_submitted opened sends os last (c ∷ cs) opens own h = (
     send = h.0.send;
     xid = h.0.xid;
     past = (let lt = h.0.past in omega (arith, lt));
-    gone = all_more (λ (o : OutstandingCall). o.xid ≢ c.xid) os (last ∷ []) h.0.gone ((λ same. (
-        let earlier = h.0.xid in
-        let lt = xids_rise opened h.0.send sends opens h.0.past in
-        absurd (omega (arith, same, own, earlier, lt)))), tt);
+    gone = all_more (λ (o : OutstandingCall). o.xid ≢ c.xid) os (last ∷ []) h.0.gone (
+      (λ same. (
+          let earlier = h.0.xid in
+          let lt = xids_rise opened h.0.send sends opens h.0.past in
+          absurd (omega (arith, same, own, earlier, lt)))),
+      tt,
+    );
   },
   past_submitted opened sends os last cs opens own h.1,
 )
@@ -243,11 +246,11 @@ waiting_above : (opened : LinkParameters) (next sends n at : ℕ) (ws : List Wai
 waiting_above opened next sends n at [] opens h lt = tt
 waiting_above opened next sends n at (w ∷ ws) opens h lt = (
   (λ same. (
-    let own = h zero in
-    let rise = xids_rise opened n (sends + 0) opens (omega (arith, lt)) in
-    absurd (omega (arith, same, own, rise)))),
+      let own = h zero in
+      let rise = xids_rise opened n (sends + 0) opens (omega (arith, lt)) in
+      absurd (omega (arith, same, own, rise)))),
   waiting_above opened next (sends + 1) n (at + 1) ws opens
-  (λ m. h (suc m) ∙ (let more : sends + suc m ≡ sends + 1 + m = omega arith in ap (λ (k : ℕ). xid_of_send opened k) more)) (omega (arith, lt)),
+      (λ m. h (suc m) ∙ (let more : sends + suc m ≡ sends + 1 + m = omega arith in ap (λ (k : ℕ). xid_of_send opened k) more)) (omega (arith, lt)),
 )
 
 outcome_apart : (opened : LinkParameters) (k : ClientState) (c : CompletedCall) → IsOpened opened → ComesNext opened k.next_xid k.sends k.waiting → IsPast opened k.sends k.outstanding c → HasNone c.xid (numbered_calls k)
