@@ -23,7 +23,7 @@ use Rattle.nr_reduce.specs.Asked.{AskedSoFar}
 use Rattle.nr_reduce.specs.Opening.{IsOpened}
 use Rattle.nr_requester.specs.RequesterState.{StoredCall, RequesterState, RequesterSide, awaited_call, kept_call}
 use Rattle.nr_requester.specs.AfterCalls.{stored_call}
-use Rattle.nr_requester.specs.ReopenedLinks.{RequesterKeeps, KeepsEarlier}
+use Rattle.nr_requester.specs.ReopenedLinks.{KeepsLink, RequesterKeeps, KeepsEarlier}
 
 -- the plan of a call, made again of what is kept of it
 abbrev pub plan_again : StoredCall → Call → Plan
