@@ -182,11 +182,11 @@ kept_greets opened kept k f count keeps within =
 
 -- ---- A call that is sent again
 
-abbrev resent_call : WaitingCall → AcceptedCall
+abbrev pub resent_call : WaitingCall → AcceptedCall
 resent_call w = record { xid = w.xid; call = w.call; form = w.form }
 
 -- a client after it sent the first call that waits: no number, STag or region is new
-abbrev after_resent : LinkParameters → ClientState → WaitingCall → List WaitingCall → ClientState
+abbrev pub after_resent : LinkParameters → ClientState → WaitingCall → List WaitingCall → ClientState
 after_resent opened k w others = record k {
   sends = k.sends + 1;
   outstanding = k.outstanding ++ outstanding_of k (resent_call w) ∷ [];
@@ -201,7 +201,7 @@ first_is k w others there = ap (λ (ws : List WaitingCall). first_of ws w.xid) t
 others_are : (k : ClientState) (w : WaitingCall) (others : List WaitingCall) → k.waiting ≡ w ∷ others → others_than k.waiting w.xid ≡ others
 others_are k w others there = ap (λ (ws : List WaitingCall). others_than ws w.xid) there ∙ ap (λ (b : Bool). cond b others (w ∷ others)) (eq-eqb w.xid w.xid refl)
 
-resent_is : (opened : LinkParameters) (k : ClientState) (count : ℕ) (w : WaitingCall) (others : List WaitingCall) → k.waiting ≡ w ∷ others → client_state_after opened k (CallSubmitted count (resent_call w)) ≡ after_resent opened k w others
+pub resent_is : (opened : LinkParameters) (k : ClientState) (count : ℕ) (w : WaitingCall) (others : List WaitingCall) → k.waiting ≡ w ∷ others → client_state_after opened k (CallSubmitted count (resent_call w)) ≡ after_resent opened k w others
 unfolding client_state_after
 resent_is opened k count w others there =
     let is : waiting_call k w.xid ≡ Some w = first_is k w others there in
@@ -230,7 +230,7 @@ resent_is opened k count w others there =
     })
 
 -- its calls are the same, with the same numbers
-resent_calls : (opened : LinkParameters) (k : ClientState) (w : WaitingCall) (others : List WaitingCall) → k.waiting ≡ w ∷ others → numbered_calls (after_resent opened k w others) ≡ numbered_calls k
+pub resent_calls : (opened : LinkParameters) (k : ClientState) (w : WaitingCall) (others : List WaitingCall) → k.waiting ≡ w ∷ others → numbered_calls (after_resent opened k w others) ≡ numbered_calls k
 unfolding plan_for
 resent_calls opened k w others there =
     let is : waiting_call k w.xid ≡ Some w = first_is k w others there in

@@ -72,3 +72,4 @@ pub mod NextLinks
 pub mod NextAnswers
 pub mod NextBegins
 pub mod Resent
+pub mod ResentAnswers
