@@ -73,3 +73,4 @@ pub mod NextAnswers
 pub mod NextBegins
 pub mod Resent
 pub mod ResentAnswers
+pub mod ResendStands

@@ -1,7 +1,14 @@
 -- A requester of a link that was reopened sends its calls again, in their order, as its grant allows.
-use Rattle.std.specs.Prelude.{ℕ, ◌+◌, ◌-◌, nat_lt, Bool, ◌&&◌, if◌then◌else◌, List, [], ◌∷◌, length}
+use Rattle.std.specs.Prelude.{◌≡◌, ℕ, ◌+◌, ◌-◌, nat_lt, Bool, ◌&&◌, if◌then◌else◌, List, [], ◌∷◌, ◌++◌, length, None}
 use Rattle.nr_endpoint.specs.SendQueue.{with_held_sent}
+use Rattle.nr_reduce.specs.declared.mark.Mark.{Mark}
+use Rattle.nr_reduce.specs.declared.mark.LinkParameters.{LinkParameters}
+use Rattle.nr_reduce.specs.ClientState.{WaitingCall}
+use Rattle.nr_reduce.specs.Resending.{resend_mark}
+use Rattle.nr_reduce.specs.Run.{client}
 use Rattle.nr_requester.specs.RequesterState.{RequesterState, RequesterSide}
+use Rattle.nr_requester.specs.Standing.{waiting_message}
+use Rattle.nr_requester.specs.ReopenedLinks.{RequesterKeeps}
 use Rattle.nr_requester.specs.CountedMarks.{one_mark_more}
 
 -- the first Send that is held back is queued
@@ -25,3 +32,8 @@ resent_from (message ∷ messages) h = if may_resend h.state then resent_from me
 
 unfoldable pub with_resends : RequesterSide → RequesterSide
 with_resends h = resent_from h.state.side.send_queue.held h
+
+-- So it stands for the Submit of the first call that waits.
+abbrev pub ResendIsAMark : Type 0
+ResendIsAMark = (opened : LinkParameters) (link : ℕ) (h : RequesterSide) (run : List Mark) (w : WaitingCall) (others : List WaitingCall) → RequesterKeeps opened link h run → h.state.side.ended ≡ None →
+    (client opened link run).state.waiting ≡ w ∷ others → RequesterKeeps opened link (after_resend h (waiting_message opened w)) (run ++ resend_mark link w ∷ [])
