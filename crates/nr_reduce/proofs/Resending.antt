@@ -47,7 +47,7 @@ first_of_taken true (suc n) (v ∷ ws) w rest is =
     let left : take n ws ≡ rest = cc in
     record { allowed = refl; fewer = n; count = refl; others = ws; there = ap (λ (x : WaitingCall). x ∷ ws) own; rest_is = left }
 
-both : (ended : Option Stop) (has_hello : Bool) → (is_none ended && has_hello) ≡ true → (ended ≡ None) × (has_hello ≡ true)
+pub both : (ended : Option Stop) (has_hello : Bool) → (is_none ended && has_hello) ≡ true → (ended ≡ None) × (has_hello ≡ true)
 both None true is = (refl, refl)
 both None false is = absurd cc
 both (Some end) has_hello is = absurd cc

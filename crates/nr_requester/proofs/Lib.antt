@@ -74,3 +74,4 @@ pub mod NextBegins
 pub mod Resent
 pub mod ResentAnswers
 pub mod ResendStands
+pub mod AllResent

@@ -4,7 +4,7 @@ use Rattle.nr_endpoint.specs.SendQueue.{with_held_sent}
 use Rattle.nr_reduce.specs.declared.mark.Mark.{Mark}
 use Rattle.nr_reduce.specs.declared.mark.LinkParameters.{LinkParameters}
 use Rattle.nr_reduce.specs.ClientState.{WaitingCall}
-use Rattle.nr_reduce.specs.Resending.{resend_mark}
+use Rattle.nr_reduce.specs.Resending.{resend_mark, resends_after}
 use Rattle.nr_reduce.specs.Run.{client}
 use Rattle.nr_requester.specs.RequesterState.{RequesterState, RequesterSide}
 use Rattle.nr_requester.specs.Standing.{waiting_message}
@@ -37,3 +37,8 @@ with_resends h = resent_from h.state.side.send_queue.held h
 abbrev pub ResendIsAMark : Type 0
 ResendIsAMark = (opened : LinkParameters) (link : ℕ) (h : RequesterSide) (run : List Mark) (w : WaitingCall) (others : List WaitingCall) → RequesterKeeps opened link h run → h.state.side.ended ≡ None →
     (client opened link run).state.waiting ≡ w ∷ others → RequesterKeeps opened link (after_resend h (waiting_message opened w)) (run ++ resend_mark link w ∷ [])
+
+-- And it stands for those of all calls that can be sent again then.
+abbrev pub ResendsAreMarks : Type 0
+ResendsAreMarks = (opened : LinkParameters) (link : ℕ) (h : RequesterSide) (run : List Mark) → RequesterKeeps opened link h run → h.state.side.ended ≡ None →
+    RequesterKeeps opened link (with_resends h) (run ++ resends_after opened link run)
