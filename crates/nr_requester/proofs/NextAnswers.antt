@@ -57,11 +57,14 @@ above_regions xid stag (r ∷ rs) h =
 
 none_of : (xid : ℕ) (gs : List Region) → AllByRecursion (λ (g : Region). g.call ≢ xid) gs → filter (λ (g : Region). eqb g.call xid) gs ≡ []
 none_of xid [] h = refl
-none_of xid (g ∷ gs) h = by (eqb g.call xid) refl
+none_of xid (g ∷ gs) h = by (eqb g.call xid) refl (none_of xid gs h.1)
   where
-    by : (b : Bool) → eqb g.call xid ≡ b → cond b (g ∷ filter (λ (x : Region). eqb x.call xid) gs) (filter (λ (x : Region). eqb x.call xid) gs) ≡ []
-    by true e = absurd (h.0 (eqb-true g.call xid e))
-    by false e = none_of xid gs h.1
+    rest : List Region
+    rest = filter (λ (x : Region). eqb x.call xid) gs
+
+    by : (b : Bool) → eqb g.call xid ≡ b → rest ≡ [] → cond b (g ∷ rest) rest ≡ []
+    by true e none = absurd (h.0 (eqb-true g.call xid e))
+    by false e none = none
 
 own_stags : (xid : ℕ) (bs : List Buffer) → map (λ (g : Region). g.stag) (filter (λ (g : Region). eqb g.call xid) (map (region_of xid 0) bs)) ≡ map (λ (b : Buffer). b.stag) bs
 own_stags xid [] = refl
@@ -104,11 +107,11 @@ none_before_all (r ∷ rs) = (tt, none_before_all rs)
 again_all : (P : StoredCall → Type 0) (credit : ℕ) (cs : List StoredCall) (a : CallsAgain) → ((xid send : ℕ) (call : Call) (plan : Plan) (m : RegisteredMemory) → P (stored_call xid send call plan m)) → AllByRecursion P a.calls →
     AllByRecursion P (calls_again_from credit cs a).calls
 again_all P credit [] a each begun = begun
-again_all P credit (c ∷ cs) a each begun = by (awaited_call c)
+again_all P credit (c ∷ cs) a each begun = by (λ b all. again_all P credit cs b each all) (awaited_call c)
   where
-    by : (o : Option Call) → AllByRecursion P (calls_again_from credit cs (call_again credit c o a)).calls
-    by None = again_all P credit cs a each begun
-    by (Some call) = again_all P credit cs (with_call_again (length a.calls) credit c call a) each
+    by : ((b : CallsAgain) → AllByRecursion P b.calls → AllByRecursion P (calls_again_from credit cs b).calls) → (o : Option Call) → AllByRecursion P (calls_again_from credit cs (call_again credit c o a)).calls
+    by go None = go a begun
+    by go (Some call) = go (with_call_again (length a.calls) credit c call a)
         (all_with_last P a.calls (stored_call c.xid (length a.calls) call (plan_again c call) a.memory) begun (each c.xid (length a.calls) call (plan_again c call) a.memory))
 
 -- they are the calls with which the link is opened
@@ -171,11 +174,12 @@ found_all (c ∷ cs) (r ∷ rs) m = (
 open_ticket : (xid : ℕ) (cs : List StoredCall) (answer : Option AnsweredCall) → AllByRecursion (λ (c : StoredCall). is_some (awaited_call c) ≡ true) cs → list_any (λ (c : StoredCall). eqb c.xid xid) cs ≡ true →
     is_some (call_with (find (λ (c : StoredCall). eqb c.xid xid) cs) answer) ≡ true
 open_ticket xid [] answer h found = absurd cc
-open_ticket xid (c ∷ cs) answer h found = by (eqb c.xid xid) found
+open_ticket xid (c ∷ cs) answer h found = by (eqb c.xid xid) (λ more. open_ticket xid cs answer h.1 more) found
   where
-    by : (b : Bool) → (b || list_any (λ (x : StoredCall). eqb x.xid xid) cs) ≡ true → is_some (call_with (cond b (Some c) (find (λ (x : StoredCall). eqb x.xid xid) cs)) answer) ≡ true
-    by true is = h.0
-    by false is = open_ticket xid cs answer h.1 is
+    by : (b : Bool) → (list_any (λ (x : StoredCall). eqb x.xid xid) cs ≡ true → is_some (call_with (find (λ (x : StoredCall). eqb x.xid xid) cs) answer) ≡ true) → (b || list_any (λ (x : StoredCall). eqb x.xid xid) cs) ≡ true →
+        is_some (call_with (cond b (Some c) (find (λ (x : StoredCall). eqb x.xid xid) cs)) answer) ≡ true
+    by true go is = h.0
+    by false go is = go is
 
 tickets_all : (due : ℕ → Bool) (cs : List StoredCall) (rs : List ResumedCall) → AllByRecursion (λ (c : StoredCall). is_some (awaited_call c) ≡ true) cs → AllByRecursion (λ (r : ResumedCall). list_any (λ (x : StoredCall). eqb x.xid r.xid) cs ≡ true) rs →
     AllByRecursion (λ (a : AcceptedCall). due a.xid ≡ true → is_some (call_with (find (λ (c : StoredCall). eqb c.xid a.xid) cs) None) ≡ true) (map as_accepted rs ++ [])

@@ -51,7 +51,7 @@ can_resume agreed from (r ∷ rs) next h = (
 
 none_left : (own also : ℕ → Bool) (list : List AnsweredCall) → AllByRecursion (λ (a : AnsweredCall). also a.xid ≡ true) (filter (λ (a : AnsweredCall). own a.xid) list) → filter (λ (a : AnsweredCall). own a.xid && not (also a.xid)) list ≡ []
 none_left own also [] h = refl
-none_left own also (a ∷ list) h = by (own a.xid) h
+none_left own also (a ∷ list) h = by (own a.xid) (λ all. none_left own also list all) h
   where
     left : List AnsweredCall
     left = filter (λ (x : AnsweredCall). own x.xid) list
@@ -59,9 +59,9 @@ none_left own also (a ∷ list) h = by (own a.xid) h
     right : List AnsweredCall
     right = filter (λ (x : AnsweredCall). own x.xid && not (also x.xid)) list
 
-    by : (b : Bool) → AllByRecursion (λ (x : AnsweredCall). also x.xid ≡ true) (cond b (a ∷ left) left) → cond (b && not (also a.xid)) (a ∷ right) right ≡ []
-    by true h = ap (λ (b : Bool). cond (not b) (a ∷ right) right) h.0 ∙ none_left own also list h.1
-    by false h = none_left own also list h
+    by : (b : Bool) → (AllByRecursion (λ (x : AnsweredCall). also x.xid ≡ true) left → right ≡ []) → AllByRecursion (λ (x : AnsweredCall). also x.xid ≡ true) (cond b (a ∷ left) left) → cond (b && not (also a.xid)) (a ∷ right) right ≡ []
+    by true go h = ap (λ (b : Bool). cond (not b) (a ∷ right) right) h.0 ∙ go h.1
+    by false go h = go h
 
 stays_own : (own has below : Bool) → own ≡ true → has ≡ false → (own && not (has && below)) ≡ true
 stays_own own has below is none = (λ i. is i && not (none i && below))

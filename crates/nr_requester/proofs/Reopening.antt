@@ -94,7 +94,7 @@ all_go_on : (link : ℕ) (run : List Mark) (sent credit : ℕ) (cs : List Stored
     AreSentAgain (filter (λ (c : KeptCall). not (is_abandoned link c.xid run)) (map (kept_call sent) cs)) rs → GoOn credit a (calls_again_from credit cs a) rs
 all_go_on link run sent credit [] [] a awaited again = none_go_on credit a
 all_go_on link run sent credit [] (r ∷ rs) a awaited again = absurd again
-all_go_on link run sent credit (c ∷ cs) rs a awaited again = by (awaited_call c) refl (is_abandoned link c.xid run) refl rs again
+all_go_on link run sent credit (c ∷ cs) rs a awaited again = by (λ b xs more. all_go_on link run sent credit cs xs b awaited.1 more) (awaited_call c) refl (is_abandoned link c.xid run) refl rs again
   where
     rest : List KeptCall
     rest = filter (λ (x : KeptCall). not (is_abandoned link x.xid run)) (map (kept_call sent) cs)
@@ -106,16 +106,16 @@ all_go_on link run sent credit (c ∷ cs) rs a awaited again = by (awaited_call 
     same_some : (x y : Call) → Some x ≡ Some y → x ≡ y
     same_some x y e = cc
 
-    by : (o : Option Call) → awaited_call c ≡ o → (b : Bool) → is_abandoned link c.xid run ≡ b → (rs : List ResumedCall) → AreSentAgain (cond (not b) (kept_call sent c ∷ rest) rest) rs → GoOn credit a (calls_again_from credit cs (call_again credit c o a)) rs
-    by None e true gone rs again = all_go_on link run sent credit cs rs a awaited.1 again
-    by None e false gone rs again = absurd (let wrong : false ≡ true = sym (ap (λ (o : Option Call). is_some o) e) ∙ (awaited.0 ∙ ap not gone) in cc)
-    by (Some call) e true gone rs again = absurd (let wrong : true ≡ false = sym (ap (λ (o : Option Call). is_some o) e) ∙ (awaited.0 ∙ ap not gone) in cc)
-    by (Some call) e false gone [] again = absurd again
-    by (Some call) e false gone (r ∷ rs) again =
+    by : ((b : CallsAgain) (xs : List ResumedCall) → AreSentAgain rest xs → GoOn credit b (calls_again_from credit cs b) xs) → (o : Option Call) → awaited_call c ≡ o → (b : Bool) → is_abandoned link c.xid run ≡ b → (rs : List ResumedCall) → AreSentAgain (cond (not b) (kept_call sent c ∷ rest) rest) rs → GoOn credit a (calls_again_from credit cs (call_again credit c o a)) rs
+    by go None e true gone rs again = go a rs again
+    by go None e false gone rs again = absurd (let wrong : false ≡ true = sym (ap (λ (o : Option Call). is_some o) e) ∙ (awaited.0 ∙ ap not gone) in cc)
+    by go (Some call) e true gone rs again = absurd (let wrong : true ≡ false = sym (ap (λ (o : Option Call). is_some o) e) ∙ (awaited.0 ∙ ap not gone) in cc)
+    by go (Some call) e false gone [] again = absurd again
+    by go (Some call) e false gone (r ∷ rs) again =
         let call_is : call ≡ r.call = same_some call r.call (sym (of_call c.is_forgotten c.call call e) ∙ again.0.call) in
         let plan : plan_again c call ≡ r.plan = (λ i. plan_by_lists (call_payload (again.0.xid i) (call_is i)) c.read_at c.offered) ∙ sym again.0.planned in
         one_goes_on credit c call r a (calls_again_from credit cs (with_call_again (length a.calls) credit c call a)) rs again.0.xid call_is plan
-        (all_go_on link run sent credit cs rs (with_call_again (length a.calls) credit c call a) awaited.1 again.1)
+        (go (with_call_again (length a.calls) credit c call a) rs again.1)
 
 -- ---- What holds of the calls of a requester
 
@@ -145,10 +145,14 @@ unless_given_up link run sent (c ∷ cs) awaited = (by c.is_forgotten c.call awa
     by : (f : Bool) (o : Option Call) → is_some (cond f None o) ≡ not (is_abandoned link c.xid run) → is_abandoned link c.xid run ≡ false → is_none o ≡ false
     by f None is kept = absurd (let wrong : false ≡ true = never f ∙ is ∙ ap not kept in cc)
       where
-        never : (f : Bool) → false ≡ is_some (cond f None None)
+        never : (f : Bool) → false ≡ is_some {T = Call} (cond f None None)
         never true = refl
         never false = refl
     by f (Some call) is kept = refl
+
+first_next : (n : ℕ) → (initial_memory n).next ≡ n
+unfolding initial_memory
+first_next n = refl
 
 pub calls_go_on : CallsGoOn
 unfolding calls_again reopened
@@ -164,11 +168,12 @@ calls_go_on opened link h run opens asked stands live =
     let begins : CallsAgain = record { calls = []; memory = initial_memory h.state.side.memory.next; messages = [] } in
     let on = all_go_on link run h.state.sent h.state.wished h.state.outstanding (calls_kept opened link run) begins awaited again in
     let next : h.state.side.memory.next ≡ k.stag = (keeps.memory stays).next in
+    let begun : (initial_memory h.state.side.memory.next).next ≡ k.stag = first_next h.state.side.memory.next ∙ next in
     record {
-      calls = on.calls ∙ (λ i. resumed_kept 0 (next i) (calls_kept opened link run));
+      calls = on.calls ∙ (λ i. resumed_kept 0 (begun i) (calls_kept opened link run));
       memory = on.memory ∙ (λ i. resumed_memory (initial_memory (next i)) (calls_kept opened link run));
-      messages = on.messages ∙ (λ i. map (λ (w : WaitingCall). call_message w.xid (stands.keeps.wished i) w.stag w.plan) (waiting_from (next i) (calls_kept opened link run)));
-      count = on.count;
+      messages = on.messages ∙ (λ i. map (λ (w : WaitingCall). call_message w.xid (stands.keeps.wished i) w.stag w.plan) (waiting_from (begun i) (calls_kept opened link run)));
+      count = on.count ∙ (let none : 0 + length (calls_kept opened link run) ≡ length (calls_kept opened link run) = omega arith in none);
       xid = keeps.xid;
       wished = stands.keeps.wished;
       terms = (stands.keeps.side live).terms;
@@ -183,11 +188,12 @@ all_with_last P (c ∷ cs) last h is = (h.0, all_with_last P cs last h.1 is)
 pub again_xids : (P : ℕ → Type 0) (credit : ℕ) (cs : List StoredCall) (a : CallsAgain) → AllByRecursion (λ (c : StoredCall). P c.xid) cs → AllByRecursion (λ (c : StoredCall). P c.xid) a.calls →
     AllByRecursion (λ (c : StoredCall). P c.xid) (calls_again_from credit cs a).calls
 again_xids P credit [] a h begun = begun
-again_xids P credit (c ∷ cs) a h begun = by (awaited_call c)
+again_xids P credit (c ∷ cs) a h begun = by (λ b all. again_xids P credit cs b h.1 all) (awaited_call c)
   where
-    by : (o : Option Call) → AllByRecursion (λ (c : StoredCall). P c.xid) (calls_again_from credit cs (call_again credit c o a)).calls
-    by None = again_xids P credit cs a h.1 begun
-    by (Some call) = again_xids P credit cs (with_call_again (length a.calls) credit c call a) h.1
+    by : ((b : CallsAgain) → AllByRecursion (λ (x : StoredCall). P x.xid) b.calls → AllByRecursion (λ (x : StoredCall). P x.xid) (calls_again_from credit cs b).calls) →
+        (o : Option Call) → AllByRecursion (λ (x : StoredCall). P x.xid) (calls_again_from credit cs (call_again credit c o a)).calls
+    by go None = go a begun
+    by go (Some call) = go (with_call_again (length a.calls) credit c call a)
         (all_with_last (λ (x : StoredCall). P x.xid) a.calls (stored_call c.xid (length a.calls) call (plan_again c call) a.memory) begun h.0)
 
 -- an answer has an outcome, and came before the next xid
@@ -230,7 +236,7 @@ belong opened outcomes next k (a ∷ list) h holds = ((λ i. h.0 i && lt-ltb a.x
 same_answers : (own also : ℕ → Bool) (list : List AnsweredCall) → AllByRecursion (λ (a : AnsweredCall). also a.xid ≡ true) (filter (λ (a : AnsweredCall). own a.xid) list) →
     filter (λ (a : AnsweredCall). own a.xid) list ≡ filter (λ (a : AnsweredCall). own a.xid && also a.xid) list
 same_answers own also [] h = refl
-same_answers own also (a ∷ list) h = by (own a.xid) h
+same_answers own also (a ∷ list) h = by (own a.xid) (λ all. same_answers own also list all) h
   where
     left : List AnsweredCall
     left = filter (λ (x : AnsweredCall). own x.xid) list
@@ -238,9 +244,10 @@ same_answers own also (a ∷ list) h = by (own a.xid) h
     right : List AnsweredCall
     right = filter (λ (x : AnsweredCall). own x.xid && also x.xid) list
 
-    by : (b : Bool) → AllByRecursion (λ (x : AnsweredCall). also x.xid ≡ true) (cond b (a ∷ left) left) → cond b (a ∷ left) left ≡ cond (b && also a.xid) (a ∷ right) right
-    by true h = ap (λ (xs : List AnsweredCall). a ∷ xs) (same_answers own also list h.1) ∙ sym (ap (λ (b : Bool). cond b (a ∷ right) right) h.0)
-    by false h = same_answers own also list h
+    by : (b : Bool) → (AllByRecursion (λ (x : AnsweredCall). also x.xid ≡ true) left → left ≡ right) → AllByRecursion (λ (x : AnsweredCall). also x.xid ≡ true) (cond b (a ∷ left) left) →
+        cond b (a ∷ left) left ≡ cond (b && also a.xid) (a ∷ right) right
+    by true go h = ap (λ (xs : List AnsweredCall). a ∷ xs) (go h.1) ∙ sym (ap (λ (b : Bool). cond b (a ∷ right) right) h.0)
+    by false go h = go h
 
 none_belongs : (own : Bool) (has below : Bool) → has ≡ false → (own && (has && below)) ≡ false
 none_belongs true has below none = ap (λ (b : Bool). b && below) none
