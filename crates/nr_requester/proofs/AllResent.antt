@@ -28,8 +28,8 @@ module _ (opened : LinkParameters) (link : ℕ) (h : RequesterSide) (run : List 
 
   beside : length h.state.outstanding - length h.state.side.send_queue.held ≡ length k.outstanding
   beside =
-      (let all = s.keeps.kept.keeps.outstanding in
-      let counted = numbered_length k in
+      (let all : length h.state.outstanding ≡ length (numbered_calls k) = s.keeps.kept.keeps.outstanding in
+      let counted : length (numbered_calls k) ≡ length k.outstanding + length k.waiting = numbered_length k in
       let held : length h.state.side.send_queue.held ≡ length k.waiting = ap (λ (ms : List (List ℕ)). length ms) keeps.held ∙ length-map k.waiting (waiting_message opened) in
       omega (arith, all, counted, held))
 
