@@ -40,6 +40,7 @@ pub mod Reopening
 pub mod Resending
 pub mod KeptReopening
 pub mod NumberedJournal
+pub mod KeepsCalls
 pub mod Served
 pub mod Opening
 pub mod Journal
