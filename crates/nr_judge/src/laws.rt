@@ -1,0 +1,16 @@
+//! Laws of what a judge tests.
+
+ghost use Rattle.nr_judge.specs.Tests.{AskedEndIsTested, AskedInFullIsTested, AskedIsTested, GrantIsTested, ServedEndIsTested, ServedInFullIsTested, ServedIsTested};
+
+/// By what a judge keeps of the two ends of a link each line of a capture is tested exactly: the test is met if and only if
+/// the mark of the line keeps the law of the client, the law of the server, or the grant. That holds of the laws so far and in
+/// full, and of what is left to be written in the end.
+pub fn lines_are_tested()
+    ensures asked { AskedIsTested }
+    ensures served { ServedIsTested }
+    ensures grant { GrantIsTested }
+    ensures asked_in_full { AskedInFullIsTested }
+    ensures served_in_full { ServedInFullIsTested }
+    ensures asked_end { AskedEndIsTested }
+    ensures served_end { ServedEndIsTested }
+{}
