@@ -124,6 +124,9 @@ forget_is_tested opened link j run xid h = (
   λ a. (h.awaited xid).1 (awaited_is_own opened link run xid h.first a),
 )
 
+revoked_of : (s : Setting) (l link : ℕ) (run : List Mark) (xid : ℕ) → l ≡ link → revoked_bytes (s.opened l) l run xid ≡ revoked_bytes (s.opened link) link run xid
+revoked_of s l link run xid own = ap (λ (n : ℕ). revoked_bytes (s.opened n) n run xid) own
+
 -- ---- The client's lines
 
 asked_by : (Relates : List ℕ → List ℕ → Type 0) → Cancels Relates → (s : Setting) (link : ℕ) (j : JudgedClient) (run : List Mark) (mark : CapturedMark) → ClientIsJudged (s.opened link) link j run →
@@ -153,9 +156,6 @@ asked_by Relates cancels s link j run (marks.Revoke l xid) h = (
   },
   λ a own. (forget_is_tested (s.opened link) link j run xid h).1 (a own).awaited,
 )
-  where
-    revoked_of : (s : Setting) (l link : ℕ) (run : List Mark) (xid : ℕ) → l ≡ link → revoked_bytes (s.opened l) l run xid ≡ revoked_bytes (s.opened link) link run xid
-    revoked_of s l link run xid own = ap (λ (n : ℕ). revoked_bytes (s.opened n) n run xid) own
 asked_by Relates cancels s link j run (marks.Drop l) h = both
 asked_by Relates cancels s link j run (marks.Grant l credits) h = both
 

@@ -1,5 +1,6 @@
 //! Laws of what a judge tests.
 
+ghost use Rattle.nr_judge.specs.Awaiting.{AwaitedGoOn};
 ghost use Rattle.nr_judge.specs.Tests.{AskedEndIsTested, AskedInFullIsTested, AskedIsTested, GrantIsTested, ServedEndIsTested, ServedInFullIsTested, ServedIsTested};
 
 /// By what a judge keeps of the two ends of a link each line of a capture is tested exactly: the test is met if and only if
@@ -13,4 +14,10 @@ pub fn lines_are_tested()
     ensures served_in_full { ServedInFullIsTested }
     ensures asked_end { AskedEndIsTested }
     ensures served_end { ServedEndIsTested }
+{}
+
+/// On a first link, of a client that kept its law so far, a list of exactly the calls that are awaited goes along with a line that
+/// keeps the law: a call that is accepted joins it, and one whose outcome is handed over, or that is given up, leaves it.
+pub fn awaited_calls_go_on()
+    ensures { AwaitedGoOn }
 {}
