@@ -7,6 +7,7 @@ use Rattle.std.proofs.lemmas.List.Elements.{Contains-append_left, Contains-appen
 use Rattle.nr_wire.specs.declared.hello.Side.TheVariants.{Initiator, Responder}
 use Rattle.nr_reduce.specs.declared.call.Call.{Call}
 use Rattle.nr_reduce.specs.declared.call.Form.{Form}
+use Rattle.nr_reduce.specs.declared.call.Outcome.{Outcome}
 use Rattle.nr_reduce.specs.declared.call.Submission.TheVariants as submissions
 use Rattle.nr_reduce.specs.declared.mark.Mark.{Mark}
 use Rattle.nr_reduce.specs.declared.mark.Mark.TheVariants as runs
@@ -84,6 +85,12 @@ of_other x xid far = by (eqb x xid) refl
     by false is = refl
 
 -- ---- One mark more
+
+abbrev call_of : ℕ → Call → Form → AcceptedCall
+call_of xid call form = record { xid = xid; call = call; form = form }
+
+abbrev outcome_of : ℕ → Outcome → CompletedCall
+outcome_of xid outcome = record { xid = xid; outcome = outcome }
 
 completed_one : (link : ℕ) (run : List Mark) (mark : Mark) → completed_calls link (run ++ mark ∷ []) ≡ completed_calls link run ++ completed_at link mark
 unfolding completed_calls
@@ -217,13 +224,13 @@ nothing_either false = refl
 adds_below : (opened : LinkParameters) (link : ℕ) (run : List Mark) (mark : Mark) → opened.resumed ≡ [] → AskedMark IsPrefixOf opened link run mark → AreBelow opened link run → AddsBelow opened link run mark
 adds_below opened link run (runs.Submit l call form (submissions.Accepted xid)) none asked below = record {
   accepted = λ a there. (
-      let own : (eqb l link ≡ true) × ((record { xid = xid; call = call; form = form }) ≡ a) = none_if (eqb l link) a (record { xid = xid; call = call; form = form }) there in
+      let own : (eqb l link ≡ true) × (call_of xid call form ≡ a) = none_if (eqb l link) a (call_of xid call form) there in
       submitted a (eqb-true l link own.0) own.1);
   completed = λ c there. absurd (none_in c there);
   abandoned = λ x is. absurd (true≢false (sym is));
 }
   where
-    submitted : (a : AcceptedCall) → l ≡ link → (record { xid = xid; call = call; form = form }) ≡ a → a.xid < next_at opened link (run ++ runs.Submit l call form (submissions.Accepted xid) ∷ [])
+    submitted : (a : AcceptedCall) → l ≡ link → (call_of xid call form) ≡ a → a.xid < next_at opened link (run ++ runs.Submit l call form (submissions.Accepted xid) ∷ [])
     submitted a own is =
         subst (λ (n : ℕ). a.xid < next_at opened link (run ++ runs.Submit n call form (submissions.Accepted xid) ∷ [])) (sym own)
         (subst (λ (b : AcceptedCall). b.xid < next_at opened link (run ++ runs.Submit link call form (submissions.Accepted xid) ∷ [])) is (sent_after_submit opened link run call form xid (asked own)))
@@ -235,7 +242,7 @@ adds_below opened link run (runs.Execute l xid moment payload place reply) none 
 adds_below opened link run (runs.Done l xid outcome) none asked below = record {
   accepted = λ a there. absurd (none_in a there);
   completed = λ c there. (
-      let own : (eqb l link ≡ true) × ((record { xid = xid; outcome = outcome }) ≡ c) = none_if (eqb l link) c (record { xid = xid; outcome = outcome }) there in
+      let own : (eqb l link ≡ true) × (outcome_of xid outcome ≡ c) = none_if (eqb l link) c (outcome_of xid outcome) there in
       subst (λ (d : CompletedCall). d.xid < next_at opened link run) own.1 (awaited_below opened link run xid below (asked (eqb-true l link own.0)).awaited));
   abandoned = λ x is. absurd (true≢false (sym is));
 }
@@ -299,8 +306,8 @@ less_list link run mark xid awaited accepted others own h x = (
 )
 
 -- by one that accepts a call
-added : (link xid : ℕ) (call : Call) (form : Form) → accepted_at link (runs.Submit link call form (submissions.Accepted xid)) ≡ (record { xid = xid; call = call; form = form }) ∷ []
-added link xid call form = ap (λ (b : Bool). cond b ((record { xid = xid; call = call; form = form }) ∷ []) []) (eq-eqb link link refl)
+added : (link xid : ℕ) (call : Call) (form : Form) → accepted_at link (runs.Submit link call form (submissions.Accepted xid)) ≡ (call_of xid call form) ∷ []
+added link xid call form = ap (λ (b : Bool). cond b (call_of xid call form ∷ []) []) (eq-eqb link link refl)
 
 not_given_up : (opened : LinkParameters) (link : ℕ) (run : List Mark) (xid : ℕ) → AreBelow opened link run → xid ≡ next_at opened link run → (b : Bool) → is_abandoned link xid run ≡ b → (is_abandoned link xid run || false) ≡ false
 not_given_up opened link run xid below next true is = absurd (let lt = below.abandoned xid is in omega (arith, lt, next))
@@ -309,10 +316,10 @@ not_given_up opened link run xid below next false is = ap (λ (b : Bool). b || f
 fresh : (opened : LinkParameters) (link : ℕ) (run : List Mark) (call : Call) (form : Form) (xid : ℕ) → AreBelow opened link run → xid ≡ next_at opened link run →
     IsAwaited link (run ++ runs.Submit link call form (submissions.Accepted xid) ∷ []) xid
 fresh opened link run call form xid below next = record {
-  asked = record { xid = xid; call = call; form = form };
-  is_asked = subst (λ (calls : List AcceptedCall). Contains calls (record { xid = xid; call = call; form = form })) (sym (accepted_one link run (runs.Submit link call form (submissions.Accepted xid))))
-      (Contains-append_right (accepted_calls link run) (accepted_at link (runs.Submit link call form (submissions.Accepted xid))) (record { xid = xid; call = call; form = form })
-          (subst (λ (calls : List AcceptedCall). Contains calls (record { xid = xid; call = call; form = form })) (sym (added link xid call form)) (Contains-push [] (record { xid = xid; call = call; form = form }))));
+  asked = (call_of xid call form);
+  is_asked = subst (λ (calls : List AcceptedCall). Contains calls (call_of xid call form)) (sym (accepted_one link run (runs.Submit link call form (submissions.Accepted xid))))
+      (Contains-append_right (accepted_calls link run) (accepted_at link (runs.Submit link call form (submissions.Accepted xid))) (call_of xid call form)
+          (subst (λ (calls : List AcceptedCall). Contains calls (call_of xid call form)) (sym (added link xid call form)) (Contains-push [] (call_of xid call form))));
   own = refl;
   first = λ c there same. (
       let old : Contains (completed_calls link run) c =
@@ -335,7 +342,7 @@ more_list opened link run call form xid awaited below next h x = (
 
     other : (x ≡ xid → ⊥) → (a : AcceptedCall) → Contains (accepted_at link (runs.Submit link call form (submissions.Accepted xid))) a → a.xid ≢ x
     other far a there same =
-        let own : (record { xid = xid; call = call; form = form }) ≡ a = one_in (record { xid = xid; call = call; form = form }) a (subst (λ (calls : List AcceptedCall). Contains calls a) (added link xid call form) there) in
+        let own : (call_of xid call form) ≡ a = one_in (call_of xid call form) a (subst (λ (calls : List AcceptedCall). Contains calls a) (added link xid call form) there) in
         far (sym same ∙ sym (ap (λ (b : AcceptedCall). b.xid) own))
 
     back : (x ≡ xid) ⊎ (x ≡ xid → ⊥) → IsAwaited link (run ++ runs.Submit link call form (submissions.Accepted xid) ∷ []) x → Contains (awaited ++ xid ∷ []) x
@@ -346,7 +353,7 @@ more_list opened link run call form xid awaited below next h x = (
 
 -- a mark of another link changes nothing
 far_submit : (link l xid : ℕ) (call : Call) (form : Form) → eqb l link ≡ false → accepted_at link (runs.Submit l call form (submissions.Accepted xid)) ≡ []
-far_submit link l xid call form far = ap (λ (b : Bool). cond b ((record { xid = xid; call = call; form = form }) ∷ []) []) far
+far_submit link l xid call form far = ap (λ (b : Bool). cond b (call_of xid call form ∷ []) []) far
 
 done_goes_on : (s : Setting) (link l xid : ℕ) (run : List Mark) (mark : Mark) (awaited : List ℕ) → accepted_at link mark ≡ [] → (eqb l link ≡ false → completed_at link mark ≡ []) → (eqb l link ≡ false → (x : ℕ) → abandons link x mark ≡ false) →
     ((x : ℕ) → x ≢ xid → ((c : CompletedCall) → Contains (completed_at link mark) c → c.xid ≢ x) × (abandons link x mark ≡ false)) → (eqb l link ≡ true → IsAwaited link (run ++ mark ∷ []) xid → ⊥) →
@@ -386,11 +393,11 @@ awaited_go_on s link run (marks.In l side bytes) awaited none so_far asked h = s
 awaited_go_on s link run (marks.Exec l xid seconds) awaited none so_far asked h = same_list link run (mark_after s run (marks.Exec l xid seconds)) awaited refl refl (λ x. refl) h
 awaited_go_on s link run (marks.Done l xid outcome) awaited none so_far asked h =
     done_goes_on s link l xid run (runs.Done l xid outcome) awaited refl
-        (λ far. ap (λ (b : Bool). cond b ((record { xid = xid; outcome = outcome }) ∷ []) []) far)
+        (λ far. ap (λ (b : Bool). cond b (outcome_of xid outcome ∷ []) []) far)
         (λ far x. refl)
-        (λ x far. (λ c there same. far (sym same ∙ sym (ap (λ (d : CompletedCall). d.xid) (none_if (eqb l link) c (record { xid = xid; outcome = outcome }) there).1)), refl))
-        (λ own is. not_completed link run (runs.Done l xid outcome) xid (record { xid = xid; outcome = outcome })
-            (subst (λ (b : Bool). Contains (cond b ((record { xid = xid; outcome = outcome }) ∷ []) []) (record { xid = xid; outcome = outcome })) (sym own) (Contains-push [] (record { xid = xid; outcome = outcome }))) is refl)
+        (λ x far. (λ c there same. far (sym same ∙ sym (ap (λ (d : CompletedCall). d.xid) (none_if (eqb l link) c (outcome_of xid outcome) there).1)), refl))
+        (λ own is. not_completed link run (runs.Done l xid outcome) xid (outcome_of xid outcome)
+            (subst (λ (b : Bool). Contains (cond b (outcome_of xid outcome ∷ []) []) (outcome_of xid outcome)) (sym own) (Contains-push [] (outcome_of xid outcome))) is refl)
         h
 awaited_go_on s link run (marks.Forget l xid) awaited none so_far asked h =
     done_goes_on s link l xid run (runs.Forget l xid) awaited refl (λ far. refl) (λ far x. far_given_up link l xid x far)

@@ -98,22 +98,22 @@ breaks_law link l Responder piece old new run is fed h keeps = fed_breaks link R
 
 -- those beside the one at an index go along as they are
 abbrev Others : ℕ → List LinkBytes → List Mark → Mark → Type 0
-Others at old run mark = (i : ℕ) → i < length old → i ≢ at → StandsFor (i + 1) (link_at old i) (run ++ mark ∷ [])
+Others place old run mark = (i : ℕ) → i < length old → i ≢ place → StandsFor (i + 1) (link_at old i) (run ++ mark ∷ [])
 
 -- the link at this index goes along, and the others do
-with_link : (old new : List LinkBytes) (at : ℕ) (b : LinkBytes) (run : List Mark) (mark : Mark) → at < length old → new ≡ slice_set old at b → StandsFor (at + 1) b (run ++ mark ∷ []) → Others at old run mark →
+with_link : (old new : List LinkBytes) (place : ℕ) (b : LinkBytes) (run : List Mark) (mark : Mark) → place < length old → new ≡ slice_set old place b → StandsFor (place + 1) b (run ++ mark ∷ []) → Others place old run mark →
     StandForAll new (run ++ mark ∷ [])
-with_link old new at b run mark lt is own others =
-    subst (λ (links : List LinkBytes). StandForAll links (run ++ mark ∷ [])) (sym is) (λ i within. by i (rw length-set at within) (eqb i at) refl)
+with_link old new place b run mark lt is own others =
+    subst (λ (links : List LinkBytes). StandForAll links (run ++ mark ∷ [])) (sym is) (λ i within. by i (subst (λ (n : ℕ). i < n) (length-set old place b) within) (eqb i place) refl)
   where
-    by : (i : ℕ) → i < length old → (same : Bool) → eqb i at ≡ same → StandsFor (i + 1) (link_at (slice_set old at b) i) (run ++ mark ∷ [])
+    by : (i : ℕ) → i < length old → (same : Bool) → eqb i place ≡ same → StandsFor (i + 1) (link_at (slice_set old place b) i) (run ++ mark ∷ [])
     by i within true e =
-        let here : i ≡ at = eqb-true i at e in
-        subst (λ (n : ℕ). StandsFor (n + 1) (link_at (slice_set old at b) n) (run ++ mark ∷ [])) (sym here)
-        (subst (λ (x : LinkBytes). StandsFor (at + 1) x (run ++ mark ∷ [])) (sym (get_or-set_same old at b nothing_in_transit lt)) own)
+        let here : i ≡ place = eqb-true i place e in
+        subst (λ (n : ℕ). StandsFor (n + 1) (link_at (slice_set old place b) n) (run ++ mark ∷ [])) (sym here)
+        (subst (λ (x : LinkBytes). StandsFor (place + 1) x (run ++ mark ∷ [])) (sym (get_or-set_same old place b nothing_in_transit lt)) own)
     by i within false e =
-        let far : i ≢ at = λ same. true≢false (sym (eq-eqb i at same) ∙ e) in
-        subst (λ (x : LinkBytes). StandsFor (i + 1) x (run ++ mark ∷ [])) (sym (get_or-set_other old at i b nothing_in_transit far)) (others i within far)
+        let far : i ≢ place = λ same. true≢false (sym (eq-eqb i place same) ∙ e) in
+        subst (λ (x : LinkBytes). StandsFor (i + 1) x (run ++ mark ∷ [])) (sym (get_or-set_other old place i b nothing_in_transit far)) (others i within far)
 
 -- the number of a link that isn't at this index is another
 far_link : (l i : ℕ) → 1 ≤ l → i ≢ l - 1 → eqb l (i + 1) ≡ false
@@ -283,14 +283,14 @@ nothing_yet s links count is = record {
 
 -- ---- The link of a mark is one of the first line's
 
-there : (opening : Opening) (marks : List CapturedMark) (i : ℕ) (mark : CapturedMark) → AllByRecursion (λ m. is_link opening (link_of m) ≡ true) marks → i < length marks → mark ≡ get_or marks i mark →
+there : (opening : Opening) (lines : List CapturedMark) (i : ℕ) (mark : CapturedMark) → AllByRecursion (λ m. is_link opening (link_of m) ≡ true) lines → i < length lines → mark ≡ get_or lines i mark →
     is_link opening (link_of mark) ≡ true
 there opening [] i mark all lt is = absurd (omega (arith, lt))
-there opening (m ∷ marks) zero mark all lt is = ap (λ (x : CapturedMark). is_link opening (link_of x)) is ∙ all.0
-there opening (m ∷ marks) (suc i) mark all lt is = there opening marks i mark all.1 (omega (arith, lt)) is
+there opening (m ∷ lines) zero mark all lt is = ap (λ (x : CapturedMark). is_link opening (link_of x)) is ∙ all.0
+there opening (m ∷ lines) (suc i) mark all lt is = there opening lines i mark all.1 (omega (arith, lt)) is
 
-pub is_link_there : (opening : Opening) (marks : List CapturedMark) (i : ℕ) (mark : CapturedMark) → AllByRecursion (λ m. is_link opening (link_of m) ≡ true) marks → i < length marks → mark ≡ get_or marks i mark →
+pub is_link_there : (opening : Opening) (lines : List CapturedMark) (i : ℕ) (mark : CapturedMark) → AllByRecursion (λ m. is_link opening (link_of m) ≡ true) lines → i < length lines → mark ≡ get_or lines i mark →
     (1 ≤ link_of mark) × (link_of mark ≤ opening.clients)
-is_link_there opening marks i mark all lt is =
-    let both = and_parts (leb 1 (link_of mark)) (leb (link_of mark) opening.clients) (there opening marks i mark all lt is) in
+is_link_there opening lines i mark all lt is =
+    let both = and_parts (leb 1 (link_of mark)) (leb (link_of mark) opening.clients) (there opening lines i mark all lt is) in
     (leb-true 1 (link_of mark) both.0, leb-true (link_of mark) opening.clients both.1)
