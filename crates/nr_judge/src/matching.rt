@@ -9,20 +9,21 @@ use nr_capture::Capture;
 use nr_xdr::Memory;
 use std::alloc::Global;
 
-/// The number of the first line of a capture with which what a side of a link received is no prefix of what the other side
-/// sent, if there is one. The first line of a capture, which is that of the script, has number 1. It fails if memory runs out.
+/// The index of the first mark of a capture with which what a side of a link received is no prefix of what the other side sent,
+/// if there is one. The mark with index 0 is on line 2. It fails if memory runs out.
 #[tactic(auto, unfolding(crate::specs::CapturedRun::run_of, crate::specs::CapturedRun::first_marks))]
-pub fn first_unmatched(alloc: Global, capture: &Capture) -> Result<Option<u64>, Memory>
-    ensures { IfOk result (λ line. (s : Setting) → FirstUnmatched s capture.now line) }
+pub fn first_unmatched(alloc: Global, capture: &Capture) -> Result<Option<usize>, Memory>
+    ensures { IfOk result (λ at. (s : Setting) → FirstUnmatched s capture.now at) }
 {
     let opening = capture.opening();
     let mut links = links_of(alloc, opening.clients)?;
-    let mut line: u64 = 2;
-    for mark in capture.marks() {
+    let mut at: usize = 0;
+    let marks = capture.marks();
+    for mark in marks {
         if !follow(&mut links, mark)? {
-            return Ok(Some(line));
+            return Ok(Some(at));
         }
-        line += 1;
+        at += 1;
     }
     Ok(None)
 }
