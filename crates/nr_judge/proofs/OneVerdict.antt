@@ -61,22 +61,22 @@ law_in_full GrantLaw opened link run h = h.grant
 -- ---- One verdict
 
 pub yes_is_not_no : YesIsNotNo
-yes_is_not_no s capture J line law yes (inl no) =
-    no.fails (law_so_far law (s.opened no.link) no.link (first_marks s capture line)
-        (full_soon (s.opened no.link) no.link (first_marks s capture line) (run_of s capture) (begins_run s capture line) (yes.laws no.link no.is_link)))
-yes_is_not_no s capture J line law yes (inr no) = no.fails (law_in_full law (s.opened no.link) no.link (run_of s capture) (yes.laws no.link no.is_link))
+yes_is_not_no s capture J line law holds (inl fails) =
+    fails.fails (law_so_far law (s.opened fails.link) fails.link (first_marks s capture line)
+        (full_soon (s.opened fails.link) fails.link (first_marks s capture line) (run_of s capture) (begins_run s capture line) (holds.laws fails.link fails.is_link)))
+yes_is_not_no s capture J line law holds (inr fails) = fails.fails (law_in_full law (s.opened fails.link) fails.link (run_of s capture) (holds.laws fails.link fails.is_link))
 
--- of two lines the earlier one is no No
+-- of two lines the earlier one is fails No
 not_earlier : (s : Setting) (capture : CaptureLines) (line other : ℕ) (law another : Law) → FailsAt s capture line law → FailsAt s capture other another → line < other → ⊥
-not_earlier s capture line other law another no later lt =
+not_earlier s capture line other law another fails later lt =
     let le : line ≤ other - 1 = omega (arith, lt) in
-    no.fails (law_so_far law (s.opened no.link) no.link (first_marks s capture line)
-        (soon (s.opened no.link) no.link (first_marks s capture line) (first_marks s capture (other - 1)) (begins_later s capture line (other - 1) le) (later.before no.link no.is_link)))
+    fails.fails (law_so_far law (s.opened fails.link) fails.link (first_marks s capture line)
+        (soon (s.opened fails.link) fails.link (first_marks s capture line) (first_marks s capture (other - 1)) (begins_later s capture line (other - 1) le) (later.before fails.link fails.is_link)))
 
 not_after_all : (s : Setting) (capture : CaptureLines) (line other : ℕ) (law another : Law) → FailsAt s capture line law → FailsAfterAll s capture other another → ⊥
-not_after_all s capture line other law another no all =
-    no.fails (law_so_far law (s.opened no.link) no.link (first_marks s capture line)
-        (soon (s.opened no.link) no.link (first_marks s capture line) (run_of s capture) (begins_run s capture line) (all.so_far no.link no.is_link)))
+not_after_all s capture line other law another fails all =
+    fails.fails (law_so_far law (s.opened fails.link) fails.link (first_marks s capture line)
+        (soon (s.opened fails.link) fails.link (first_marks s capture line) (run_of s capture) (begins_run s capture line) (all.so_far fails.link fails.is_link)))
 
 same_line : (line other : ℕ) → (line < other → ⊥) → (other < line → ⊥) → line ≡ other
 same_line line other a b = by (cases_order line other)
@@ -87,23 +87,23 @@ same_line line other a b = by (cases_order line other)
     by (inr (inr lt)) = absurd (b lt)
 
 pub no_has_one_line : NoHasOneLine
-no_has_one_line s capture line other law another (inl no) (inl no2) =
-    same_line line other (not_earlier s capture line other law another no no2) (not_earlier s capture other line another law no2 no)
-no_has_one_line s capture line other law another (inl no) (inr all) = absurd (not_after_all s capture line other law another no all)
-no_has_one_line s capture line other law another (inr all) (inl no) = absurd (not_after_all s capture other line another law no all)
+no_has_one_line s capture line other law another (inl fails) (inl second) =
+    same_line line other (not_earlier s capture line other law another fails second) (not_earlier s capture other line another law second fails)
+no_has_one_line s capture line other law another (inl fails) (inr all) = absurd (not_after_all s capture line other law another fails all)
+no_has_one_line s capture line other law another (inr all) (inl fails) = absurd (not_after_all s capture other line another law fails all)
 no_has_one_line s capture line other law another (inr all) (inr all2) = all.is_next ∙ sym all2.is_next
 
 pub unmatched_is_not_yes : UnmatchedIsNotYes
-unmatched_is_not_yes s capture J line first yes =
-    first.fails (full_soon (s.opened first.link) first.link (first_marks s capture line) (run_of s capture) (begins_run s capture line) (yes.laws first.link first.is_link)).matched
+unmatched_is_not_yes s capture J line first holds =
+    first.fails (full_soon (s.opened first.link) first.link (first_marks s capture line) (run_of s capture) (begins_run s capture line) (holds.laws first.link first.is_link)).matched
 
 pub no_is_before_unmatched : NoIsBeforeUnmatched
-no_is_before_unmatched s capture line other law first (inl no) = by (cases_lt line other)
+no_is_before_unmatched s capture line other law first (inl fails) = by (cases_lt line other)
   where
     by : (line < other) ⊎ (other ≤ line) → other ≤ line
     by (inr le) = le
     by (inl lt) =
         let le : line ≤ other - 1 = omega (arith, lt) in
-        absurd (first.fails (soon (s.opened first.link) first.link (first_marks s capture line) (first_marks s capture (other - 1)) (begins_later s capture line (other - 1) le) (no.before first.link first.is_link)).matched)
+        absurd (first.fails (soon (s.opened first.link) first.link (first_marks s capture line) (first_marks s capture (other - 1)) (begins_later s capture line (other - 1) le) (fails.before first.link first.is_link)).matched)
 no_is_before_unmatched s capture line other law first (inr all) =
     absurd (first.fails (soon (s.opened first.link) first.link (first_marks s capture line) (run_of s capture) (begins_run s capture line) (all.so_far first.link first.is_link)).matched)

@@ -1,5 +1,5 @@
 -- Which calls of a client are awaited, and which outcomes of these came, line by line.
-use Rattle.std.specs.Prelude.{ℕ, Bool, not, ◌==◌, ◌↔◌, if◌then◌else◌, List, [], ◌∷◌, ◌++◌, Contains}
+use Rattle.std.specs.Prelude.{◌≡◌, ℕ, Bool, not, ◌==◌, ◌↔◌, if◌then◌else◌, List, [], ◌∷◌, ◌++◌, Contains}
 use Rattle.std.specs.List.{filter}
 use Rattle.nr_reduce.specs.declared.mark.Mark.{Mark}
 use Rattle.nr_reduce.specs.declared.mark.LinkParameters.{LinkParameters}

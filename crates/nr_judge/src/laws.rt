@@ -1,6 +1,7 @@
-//! Laws of what a judge tests.
+//! Laws of what a judge tests, and of the run that a capture tells.
 
 ghost use Rattle.nr_judge.specs.Awaiting.{AwaitedGoOn};
+ghost use Rattle.nr_judge.specs.PlainRuns.{ServedRunIsPlain};
 ghost use Rattle.nr_judge.specs.Tests.{AskedEndIsTested, AskedInFullIsTested, AskedIsTested, GrantIsTested, ServedEndIsTested, ServedInFullIsTested, ServedIsTested};
 
 /// By what a judge keeps of the two ends of a link each line of a capture is tested exactly: the test is met if and only if
@@ -20,4 +21,10 @@ pub fn lines_are_tested()
 /// keeps the law: a call that is accepted joins it, and one whose outcome is handed over, or that is given up, leaves it.
 pub fn awaited_calls_go_on()
     ensures { AwaitedGoOn }
+{}
+
+/// If the servers of a capture that can be written keep their law so far on each link, each execution of the run that it tells
+/// has the reply of the plain server over the journal of its moment, and its place in the one journal.
+pub fn served_runs_are_plain()
+    ensures { ServedRunIsPlain }
 {}
