@@ -13,6 +13,7 @@ pub mod SessionState
 pub mod Shared
 pub mod Steps
 pub mod Transfers
+pub mod Views
 pub mod Walking
 pub mod Writing
 pub mod private

@@ -6,33 +6,29 @@ ghost use Rattle.nr_client.specs.Requests.{Asks, SinkFaults, SourceFaults, mnt_c
 ghost use Rattle.nr_link.specs.declared.end.End.TheVariants as ends;
 ghost use Rattle.nr_reduce.specs.declared.call.Call.{Call};
 ghost use Rattle.nr_rpc.specs.Credential.{CanWriteCred};
-ghost use Rattle.nr_client.specs.Transfers.{link_bytes};
 
 use crate::answer::outcome_of;
 use crate::client_end::ClientEnd;
-use crate::link::Link;
+use crate::link_calls::Calls;
 use crate::requests::mnt_call;
 use crate::results::{handle_in, nfs_results};
 use nr_nfs_base::{Handle, MountPath, Xdr};
-use nr_outside::{Sink, Source};
 use nr_reduce::Call;
 use nr_xdr::Memory;
 use std::alloc::Global;
 
 /// MNT of an export.
-pub(crate) fn mount_over<I: Source, O: Sink>(
+pub(crate) fn mount_over<L: Calls>(
     alloc: Global,
-    link: &mut Link<I, O>,
+    link: &mut L,
     uid: u32,
     gid: u32,
     export: &MountPath,
 ) -> Result<Handle, ClientEnd>
     ensures asks { Asks mnt_result (mnt_call uid gid export.now)
-        (link_bytes (I.left link.old.source) (I.given link.old.source) (O.taken link.old.sink) link.old.read)
-        (link_bytes (I.left link.new.source) (I.given link.new.source) (O.taken link.new.sink) link.new.read)
-        link.old.requester link.new.requester result }
-    ensures source_faults { SourceFaults result (I.faults link.old.source) (I.faults link.new.source) }
-    ensures sink_faults { SinkFaults result (O.faults link.old.sink) (O.faults link.new.sink) }
+        (L.at link.old).bytes (L.at link.new).bytes (L.at link.old).requester (L.at link.new).requester result }
+    ensures source_faults { SourceFaults result (L.at link.old).source_faults (L.at link.new).source_faults }
+    ensures sink_faults { SinkFaults result (L.at link.old).sink_faults (L.at link.new).sink_faults }
 {
     let outcome = match outcome_of(link, mnt_call(alloc, uid, gid, export)) {
         Ok(outcome) => outcome,
@@ -42,20 +38,18 @@ pub(crate) fn mount_over<I: Source, O: Sink>(
 }
 
 /// A call of a procedure of NFS with these results, if there was memory for it.
-pub(crate) fn ask_nfs<I: Source, O: Sink, D: Xdr, F: Xdr>(
+pub(crate) fn ask_nfs<L: Calls, D: Xdr, F: Xdr>(
     alloc: Global,
-    link: &mut Link<I, O>,
+    link: &mut L,
     call: Result<Call, Memory>,
 ) -> Result<D, ClientEnd>
     requires { IfOk call (λ c. CanWriteCred c.cred) }
     ensures asks { (asked : Call) → IfOk call (λ c. c ≡ asked) → Asks (nfs_reads D.codec F.codec) asked
-        (link_bytes (I.left link.old.source) (I.given link.old.source) (O.taken link.old.sink) link.old.read)
-        (link_bytes (I.left link.new.source) (I.given link.new.source) (O.taken link.new.sink) link.new.read)
-        link.old.requester link.new.requester result }
-    ensures memory { OnOk result (link.new.requester.state.side.ended ≢ Some ends.Memory) }
+        (L.at link.old).bytes (L.at link.new).bytes (L.at link.old).requester (L.at link.new).requester result }
+    ensures memory { OnOk result ((L.at link.new).requester.state.side.ended ≢ Some ends.Memory) }
     ensures of_call { IfErr result IsOfCall }
-    ensures source_faults { SourceFaults result (I.faults link.old.source) (I.faults link.new.source) }
-    ensures sink_faults { SinkFaults result (O.faults link.old.sink) (O.faults link.new.sink) }
+    ensures source_faults { SourceFaults result (L.at link.old).source_faults (L.at link.new).source_faults }
+    ensures sink_faults { SinkFaults result (L.at link.old).sink_faults (L.at link.new).sink_faults }
 {
     let outcome = match outcome_of(link, call) {
         Ok(outcome) => outcome,

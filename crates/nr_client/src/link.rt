@@ -1,20 +1,15 @@
 //! A link over which calls are made.
 
-ghost use Rattle.std.specs.Prelude.{◌≡◌, ◌≢◌, ◌≤◌, true, is_some, nat_lt, length, Some, IfOk, IfErr, OnOk, OnErr};
-ghost use Rattle.nr_rpc.specs.Credential.{CanWriteCred};
-ghost use Rattle.nr_link.specs.declared.end.End.TheVariants as ends;
+ghost use Rattle.std.specs.Prelude.{◌≡◌, ◌≤◌, IfOk, IfErr};
 ghost use Rattle.nr_link.specs.Agreement.{terms_with};
+ghost use Rattle.nr_links.specs.Limits.{read_max};
 ghost use Rattle.nr_requester.specs.AfterCalls.{opened_as};
 ghost use Rattle.nr_requester.specs.Fed.{fed_bytes};
-ghost use Rattle.nr_requester.specs.OpenCalls.{ClosesTicket, KeepsTickets, OpensTicket, open_call};
-ghost use Rattle.nr_client.specs.Calls.{Answers, Completes, Forgets, ForgetsCall, GivesUp, RefusesToSubmit, Submits};
-ghost use Rattle.nr_client.specs.Ending.{IsCause, LinkCause, SinkCount, SourceCount};
 ghost use Rattle.nr_client.specs.LinkParts.{RepresentsNewLink};
-ghost use Rattle.nr_client.specs.Transfers.{link_bytes};
-ghost use Rattle.nr_links.specs.Limits.{read_max};
 
 use crate::call_end::CallEnd;
 use crate::calling::{call_over, complete, submit_over};
+use crate::link_calls::Calls;
 use nr_links::PIECE_MAX;
 use nr_outside::{Sink, Source};
 use nr_reduce::{Call, Outcome};
@@ -88,93 +83,6 @@ impl<I: Source, O: Sink> Link<I, O> {
         })
     }
 
-    /// Makes a call in the form that fits it best, and waits for its outcome. It is submitted once a credit is left. All that is due is written
-    /// before each read.
-    pub fn call(&mut self, call: Call) -> Result<Outcome, CallEnd>
-        requires { CanWriteCred call.cred }
-        ensures ok { IfOk result (λ outcome. Answers (link_bytes (I.left self.old.source) (I.given self.old.source) (O.taken self.old.sink) self.old.read)
-            (link_bytes (I.left self.new.source) (I.given self.new.source) (O.taken self.new.sink) self.new.read) self.old.requester self.new.requester call outcome) }
-        ensures err { IfErr result (λ end. GivesUp (link_bytes (I.left self.old.source) (I.given self.old.source) (O.taken self.old.sink) self.old.read)
-            (link_bytes (I.left self.new.source) (I.given self.new.source) (O.taken self.new.sink) self.new.read) self.old.requester self.new.requester call end) }
-        ensures memory { OnOk result (self.new.requester.state.side.ended ≢ Some ends.Memory) }
-        ensures cause { IfErr result (λ end. IsCause end (I.left self.new.source) self.new.read self.new.requester call) }
-        ensures tickets { KeepsTickets self.old.requester.state self.new.requester.state }
-        ensures source_count { SourceCount result (I.faults self.old.source) (I.faults self.new.source) }
-        ensures sink_count { SinkCount result (O.faults self.old.sink) (O.faults self.new.sink) }
-        ensures within { self.new.read ≤ read_max }
-    {
-        call_over(
-            &mut self.requester,
-            &mut self.source,
-            &mut self.sink,
-            &mut self.read,
-            self.buf.as_mut_slice(),
-            call,
-        )
-    }
-
-    /// Submits a call once a credit is left, as `call` does. Its outcome is waited for, or it is forgotten, by its ticket.
-    pub(crate) fn submit(&mut self, call: Call) -> Result<Ticket, CallEnd>
-        requires { CanWriteCred call.cred }
-        ensures ok { IfOk result (λ xid. Submits (link_bytes (I.left self.old.source) (I.given self.old.source) (O.taken self.old.sink) self.old.read)
-            (link_bytes (I.left self.new.source) (I.given self.new.source) (O.taken self.new.sink) self.new.read) self.old.requester self.new.requester call xid) }
-        ensures err { IfErr result (λ end. RefusesToSubmit (link_bytes (I.left self.old.source) (I.given self.old.source) (O.taken self.old.sink) self.old.read)
-            (link_bytes (I.left self.new.source) (I.given self.new.source) (O.taken self.new.sink) self.new.read) self.old.requester self.new.requester call end) }
-        ensures cause { IfErr result (λ end. IsCause end (I.left self.new.source) self.new.read self.new.requester call) }
-        ensures opens { IfOk result (λ xid. OpensTicket xid call self.old.requester.state self.new.requester.state) }
-        ensures keeps { OnErr result (KeepsTickets self.old.requester.state self.new.requester.state) }
-        ensures source_count { SourceCount result (I.faults self.old.source) (I.faults self.new.source) }
-        ensures sink_count { SinkCount result (O.faults self.old.sink) (O.faults self.new.sink) }
-    {
-        submit_over(
-            &mut self.requester,
-            &mut self.source,
-            &mut self.sink,
-            &mut self.read,
-            self.buf.as_mut_slice(),
-            call,
-        )
-    }
-
-    /// Waits for the outcome of a call that was submitted. If there is none, the call is forgotten.
-    pub(crate) fn wait(&mut self, ticket: Ticket) -> Result<Outcome, CallEnd>
-        requires { is_some (open_call ticket self.old.requester.state) ≡ true }
-        ensures ok { IfOk result (λ outcome. Completes ticket outcome (link_bytes (I.left self.old.source) (I.given self.old.source) (O.taken self.old.sink) self.old.read)
-            (link_bytes (I.left self.new.source) (I.given self.new.source) (O.taken self.new.sink) self.new.read) self.old.requester self.new.requester) }
-        ensures err { IfErr result (λ end. Forgets ticket end (link_bytes (I.left self.old.source) (I.given self.old.source) (O.taken self.old.sink) self.old.read)
-            (link_bytes (I.left self.new.source) (I.given self.new.source) (O.taken self.new.sink) self.new.read) self.old.requester self.new.requester) }
-        ensures cause { IfErr result (λ end. LinkCause end (I.left self.new.source) self.new.read self.new.requester) }
-        ensures tickets { ClosesTicket ticket self.old.requester.state self.new.requester.state }
-        ensures source_count { SourceCount result (I.faults self.old.source) (I.faults self.new.source) }
-        ensures sink_count { SinkCount result (O.faults self.old.sink) (O.faults self.new.sink) }
-    {
-        complete(
-            &mut self.requester,
-            &mut self.source,
-            &mut self.sink,
-            &mut self.read,
-            self.buf.as_mut_slice(),
-            ticket,
-        )
-    }
-
-    /// Forgets a call that was submitted, whether or not its answer has come.
-    pub(crate) fn forget(&mut self, ticket: Ticket)
-        requires { is_some (open_call ticket self.old.requester.state) ≡ true }
-        ensures forgets { ForgetsCall ticket self.old.requester self.new.requester }
-        ensures tickets { ClosesTicket ticket self.old.requester.state self.new.requester.state }
-        ensures rest { (self.new.source ≡ self.old.source) × ((self.new.sink ≡ self.old.sink) × (self.new.read ≡ self.old.read)) }
-    {
-        self.requester.forget(ticket);
-    }
-
-    /// Whether a call can be submitted at once, if its link has not ended.
-    pub(crate) fn has_credit(&self) -> bool
-        ensures { result ≡ nat_lt (length self.now.requester.state.outstanding) self.now.requester.state.grant }
-    {
-        self.requester.outstanding() < self.requester.grant() as usize
-    }
-
     /// What it leaves.
     pub(crate) fn into_ends(self) -> LinkEnds<I, O>
         ensures requester { result.requester ≡ self.requester }
@@ -212,5 +120,52 @@ impl<I: Source, O: Sink> Link<I, O> {
         drop(requester);
         drop(buf);
         (source, sink)
+    }
+}
+
+impl<I: Source, O: Sink> Calls for Link<I, O> {
+    ghost use Rattle.nr_client.specs.Views.{link_view};
+
+    ghost at = { λ c. link_view (I.left c.source) (I.given c.source) (O.taken c.sink) c.read c.requester (I.faults c.source) (O.faults c.sink) };
+
+    fn call(&mut self, call: Call) -> Result<Outcome, CallEnd> {
+        call_over(
+            &mut self.requester,
+            &mut self.source,
+            &mut self.sink,
+            &mut self.read,
+            self.buf.as_mut_slice(),
+            call,
+        )
+    }
+
+    fn submit(&mut self, call: Call) -> Result<Ticket, CallEnd> {
+        submit_over(
+            &mut self.requester,
+            &mut self.source,
+            &mut self.sink,
+            &mut self.read,
+            self.buf.as_mut_slice(),
+            call,
+        )
+    }
+
+    fn wait(&mut self, ticket: Ticket) -> Result<Outcome, CallEnd> {
+        complete(
+            &mut self.requester,
+            &mut self.source,
+            &mut self.sink,
+            &mut self.read,
+            self.buf.as_mut_slice(),
+            ticket,
+        )
+    }
+
+    fn forget(&mut self, ticket: Ticket) {
+        self.requester.forget(ticket);
+    }
+
+    fn has_credit(&self) -> bool {
+        self.requester.outstanding() < self.requester.grant() as usize
     }
 }

@@ -6,20 +6,18 @@ ghost use Rattle.nr_client.specs.Following.{Follows};
 ghost use Rattle.nr_client.specs.Listing.{entries_max, eof_offset, last_cookie, list_next, listed_after, listed_with, readdir_call};
 ghost use Rattle.nr_client.specs.Requests.{Asks, SinkFaults, SourceFaults};
 ghost use Rattle.nr_client.specs.Results.{Gives, KeepsCounts};
-ghost use Rattle.nr_client.specs.Transfers.{link_bytes};
 ghost use Rattle.nr_client.specs.private.Becomes.{becomes};
 
 use crate::answer::outcome_of;
 use crate::client_end::ClientEnd;
 use crate::limits::ENTRIES_MAX;
-use crate::link::Link;
+use crate::link_calls::Calls;
 use crate::names::Names;
 use crate::reasons::NO_PROGRESS;
 use crate::requests::readdir_call;
 use crate::results::nfs_results;
 use nr_nfs_base::{Attributes, Handle, Name, Verifier};
 use nr_nfs_res::{Entry, ReaddirOk};
-use nr_outside::{Sink, Source};
 use nr_reduce::Outcome;
 use nr_xdr::Memory;
 use std::alloc::Global;
@@ -105,9 +103,9 @@ fn add_outcome(alloc: Global, listed: &mut Listed, outcome: &Outcome) -> Result<
 }
 
 /// Makes one more call of a listing.
-fn list_more<I: Source, O: Sink>(
+fn list_more<L: Calls>(
     alloc: Global,
-    link: &mut Link<I, O>,
+    link: &mut L,
     uid: u32,
     gid: u32,
     dir: &Handle,
@@ -115,11 +113,9 @@ fn list_more<I: Source, O: Sink>(
 ) -> Result<(), ClientEnd>
     requires { length listed.old.names ≤ entries_max }
     ensures asks { Asks (listed_after listed.old) (readdir_call uid gid dir.now listed.old.cookie listed.old.verifier)
-        (link_bytes (I.left link.old.source) (I.given link.old.source) (O.taken link.old.sink) link.old.read)
-        (link_bytes (I.left link.new.source) (I.given link.new.source) (O.taken link.new.sink) link.new.read)
-        link.old.requester link.new.requester (becomes listed.new result) }
-    ensures source_faults { SourceFaults result (I.faults link.old.source) (I.faults link.new.source) }
-    ensures sink_faults { SinkFaults result (O.faults link.old.sink) (O.faults link.new.sink) }
+        (L.at link.old).bytes (L.at link.new).bytes (L.at link.old).requester (L.at link.new).requester (becomes listed.new result) }
+    ensures source_faults { SourceFaults result (L.at link.old).source_faults (L.at link.new).source_faults }
+    ensures sink_faults { SinkFaults result (L.at link.old).sink_faults (L.at link.new).sink_faults }
 {
     let call = readdir_call(alloc, uid, gid, dir, listed.cookie, listed.verifier);
     match outcome_of(link, call) {
@@ -129,19 +125,17 @@ fn list_more<I: Source, O: Sink>(
 }
 
 /// The names of a directory.
-pub(crate) fn list_over<I: Source, O: Sink>(
+pub(crate) fn list_over<L: Calls>(
     alloc: Global,
-    link: &mut Link<I, O>,
+    link: &mut L,
     uid: u32,
     gid: u32,
     dir: &Handle,
 ) -> Result<Names, ClientEnd>
     ensures follows { Follows (list_next uid gid dir.now)
-        (link_bytes (I.left link.old.source) (I.given link.old.source) (O.taken link.old.sink) link.old.read)
-        (link_bytes (I.left link.new.source) (I.given link.new.source) (O.taken link.new.sink) link.new.read)
-        link.old.requester link.new.requester result }
-    ensures source_faults { SourceFaults result (I.faults link.old.source) (I.faults link.new.source) }
-    ensures sink_faults { SinkFaults result (O.faults link.old.sink) (O.faults link.new.sink) }
+        (L.at link.old).bytes (L.at link.new).bytes (L.at link.old).requester (L.at link.new).requester result }
+    ensures source_faults { SourceFaults result (L.at link.old).source_faults (L.at link.new).source_faults }
+    ensures sink_faults { SinkFaults result (L.at link.old).sink_faults (L.at link.new).sink_faults }
 {
     let mut listed = Listed {
         names: Names::new(alloc),

@@ -4,7 +4,6 @@ ghost use Rattle.std.specs.Prelude.{◌≡◌, ◌<◌, ◌≤◌, ◌+◌, ℕ,
 ghost use Rattle.nr_requester.specs.OpenCalls.{KeepsTickets};
 ghost use Rattle.nr_client.specs.Reading.{OutputFaults, ReadsFile, piece_left};
 ghost use Rattle.nr_client.specs.Requests.{SinkFaults, SourceFaults};
-ghost use Rattle.nr_client.specs.Transfers.{link_bytes};
 ghost use Rattle.nr_client.specs.private.OpenReads.{AreOpen, EndsSo, IsInPiece, ReadsAhead, ReadsOn};
 
 use crate::answer::outcome_of;
@@ -12,18 +11,18 @@ use crate::asking::ask_nfs;
 use crate::client_end::ClientEnd;
 use crate::file_calls::read_call;
 use crate::file_to_read::FileToRead;
-use crate::link::Link;
+use crate::link_calls::Calls;
 use crate::read_data::{piece_left, write_data};
 use crate::reading_ahead::{fill, forget_all, take_oldest};
 use crate::requests::getattr_call;
 use nr_nfs_base::{Attributes, Handle};
-use nr_outside::{Sink, Source};
+use nr_outside::Sink;
 use nr_requester::Ticket;
 use std::alloc::Global;
 
 /// One READ, of what is left of its piece. Its data are written to the output.
-fn read_on<I: Source, O: Sink, K: Sink>(
-    link: &mut Link<I, O>,
+fn read_on<L: Calls, K: Sink>(
+    link: &mut L,
     file: &FileToRead<'_>,
     end: u64,
     at: &mut u64,
@@ -35,17 +34,13 @@ fn read_on<I: Source, O: Sink, K: Sink>(
     ensures piece { OnOk result (IsInPiece file.now.size at.new end) }
     ensures more { OnOk result (at.old < at.new) }
     ensures ok { OnOk result ((from : ℕ) (xids : List ℕ) → ReadsOn file.now.uid file.now.gid file.now.handle.now file.now.size at.old from xids at.new from xids
-        (link_bytes (I.left link.old.source) (I.given link.old.source) (O.taken link.old.sink) link.old.read)
-        (link_bytes (I.left link.new.source) (I.given link.new.source) (O.taken link.new.sink) link.new.read)
-        link.old.requester link.new.requester (K.taken out.old) (K.taken out.new)) }
+        (L.at link.old).bytes (L.at link.new).bytes (L.at link.old).requester (L.at link.new).requester (K.taken out.old) (K.taken out.new)) }
     ensures err { IfErr result (λ why. (from : ℕ) (xids : List ℕ) → EndsSo file.now.uid file.now.gid file.now.handle.now file.now.size at.old from xids xids
-        (link_bytes (I.left link.old.source) (I.given link.old.source) (O.taken link.old.sink) link.old.read)
-        (link_bytes (I.left link.new.source) (I.given link.new.source) (O.taken link.new.sink) link.new.read)
-        link.old.requester link.new.requester (K.taken out.old) (K.taken out.new) (Err why)) }
-    ensures tickets { KeepsTickets link.old.requester.state link.new.requester.state }
+        (L.at link.old).bytes (L.at link.new).bytes (L.at link.old).requester (L.at link.new).requester (K.taken out.old) (K.taken out.new) (Err why)) }
+    ensures tickets { KeepsTickets (L.at link.old).requester.state (L.at link.new).requester.state }
     ensures out_faults { OutputFaults result (K.faults out.old) (K.faults out.new) }
-    ensures source_faults { SourceFaults result (I.faults link.old.source) (I.faults link.new.source) }
-    ensures sink_faults { SinkFaults result (O.faults link.old.sink) (O.faults link.new.sink) }
+    ensures source_faults { SourceFaults result (L.at link.old).source_faults (L.at link.new).source_faults }
+    ensures sink_faults { SinkFaults result (L.at link.old).sink_faults (L.at link.new).sink_faults }
 {
     let count = piece_left(file.size, *at);
     let outcome = match outcome_of(
@@ -64,8 +59,8 @@ fn read_on<I: Source, O: Sink, K: Sink>(
 }
 
 /// READs of the rest of a piece, one after another.
-fn read_rest<I: Source, O: Sink, K: Sink>(
-    link: &mut Link<I, O>,
+fn read_rest<L: Calls, K: Sink>(
+    link: &mut L,
     file: &FileToRead<'_>,
     end: u64,
     at: &mut u64,
@@ -75,17 +70,13 @@ fn read_rest<I: Source, O: Sink, K: Sink>(
     requires piece { IsInPiece file.now.size at.old end }
     ensures end { OnOk result (at.new ≡ end) }
     ensures ok { OnOk result ((from : ℕ) (xids : List ℕ) → ReadsOn file.now.uid file.now.gid file.now.handle.now file.now.size at.old from xids at.new from xids
-        (link_bytes (I.left link.old.source) (I.given link.old.source) (O.taken link.old.sink) link.old.read)
-        (link_bytes (I.left link.new.source) (I.given link.new.source) (O.taken link.new.sink) link.new.read)
-        link.old.requester link.new.requester (K.taken out.old) (K.taken out.new)) }
+        (L.at link.old).bytes (L.at link.new).bytes (L.at link.old).requester (L.at link.new).requester (K.taken out.old) (K.taken out.new)) }
     ensures err { IfErr result (λ why. (from : ℕ) (xids : List ℕ) → EndsSo file.now.uid file.now.gid file.now.handle.now file.now.size at.old from xids xids
-        (link_bytes (I.left link.old.source) (I.given link.old.source) (O.taken link.old.sink) link.old.read)
-        (link_bytes (I.left link.new.source) (I.given link.new.source) (O.taken link.new.sink) link.new.read)
-        link.old.requester link.new.requester (K.taken out.old) (K.taken out.new) (Err why)) }
-    ensures tickets { KeepsTickets link.old.requester.state link.new.requester.state }
+        (L.at link.old).bytes (L.at link.new).bytes (L.at link.old).requester (L.at link.new).requester (K.taken out.old) (K.taken out.new) (Err why)) }
+    ensures tickets { KeepsTickets (L.at link.old).requester.state (L.at link.new).requester.state }
     ensures out_faults { OutputFaults result (K.faults out.old) (K.faults out.new) }
-    ensures source_faults { SourceFaults result (I.faults link.old.source) (I.faults link.new.source) }
-    ensures sink_faults { SinkFaults result (O.faults link.old.sink) (O.faults link.new.sink) }
+    ensures source_faults { SourceFaults result (L.at link.old).source_faults (L.at link.new).source_faults }
+    ensures sink_faults { SinkFaults result (L.at link.old).sink_faults (L.at link.new).sink_faults }
 {
     'rest: while *at < end {
         match read_on(link, file, end, at, out) {
@@ -97,8 +88,8 @@ fn read_rest<I: Source, O: Sink, K: Sink>(
 }
 
 /// The oldest READ is answered, and the rest of its piece is read, while READs of later pieces are outstanding.
-fn read_piece<I: Source, O: Sink, K: Sink>(
-    link: &mut Link<I, O>,
+fn read_piece<L: Calls, K: Sink>(
+    link: &mut L,
     file: &FileToRead<'_>,
     at: &mut u64,
     next: &mut u64,
@@ -106,21 +97,17 @@ fn read_piece<I: Source, O: Sink, K: Sink>(
     out: &mut K,
 ) -> Result<(), ClientEnd>
     requires below { at.old < file.now.size }
-    requires ahead { ReadsAhead link.old.requester file.now.size at.old next.old tickets.old.items }
-    ensures open { AreOpen link.new.requester.state tickets.new.items }
+    requires ahead { ReadsAhead (L.at link.old).requester file.now.size at.old next.old tickets.old.items }
+    ensures open { AreOpen (L.at link.new).requester.state tickets.new.items }
     ensures more { OnOk result (at.old < at.new) }
-    ensures ahead { OnOk result (ReadsAhead link.new.requester file.now.size at.new next.new tickets.new.items) }
+    ensures ahead { OnOk result (ReadsAhead (L.at link.new).requester file.now.size at.new next.new tickets.new.items) }
     ensures ok { OnOk result (ReadsOn file.now.uid file.now.gid file.now.handle.now file.now.size at.old at.old tickets.old.items at.new at.new tickets.new.items
-        (link_bytes (I.left link.old.source) (I.given link.old.source) (O.taken link.old.sink) link.old.read)
-        (link_bytes (I.left link.new.source) (I.given link.new.source) (O.taken link.new.sink) link.new.read)
-        link.old.requester link.new.requester (K.taken out.old) (K.taken out.new)) }
+        (L.at link.old).bytes (L.at link.new).bytes (L.at link.old).requester (L.at link.new).requester (K.taken out.old) (K.taken out.new)) }
     ensures err { IfErr result (λ why. EndsSo file.now.uid file.now.gid file.now.handle.now file.now.size at.old at.old tickets.old.items tickets.new.items
-        (link_bytes (I.left link.old.source) (I.given link.old.source) (O.taken link.old.sink) link.old.read)
-        (link_bytes (I.left link.new.source) (I.given link.new.source) (O.taken link.new.sink) link.new.read)
-        link.old.requester link.new.requester (K.taken out.old) (K.taken out.new) (Err why)) }
+        (L.at link.old).bytes (L.at link.new).bytes (L.at link.old).requester (L.at link.new).requester (K.taken out.old) (K.taken out.new) (Err why)) }
     ensures out_faults { OutputFaults result (K.faults out.old) (K.faults out.new) }
-    ensures source_faults { SourceFaults result (I.faults link.old.source) (I.faults link.new.source) }
-    ensures sink_faults { SinkFaults result (O.faults link.old.sink) (O.faults link.new.sink) }
+    ensures source_faults { SourceFaults result (L.at link.old).source_faults (L.at link.new).source_faults }
+    ensures sink_faults { SinkFaults result (L.at link.old).sink_faults (L.at link.new).sink_faults }
 {
     let end = *at + piece_left(file.size, *at) as u64;
     match fill(link, file, *at, next, tickets) {
@@ -138,21 +125,19 @@ fn read_piece<I: Source, O: Sink, K: Sink>(
 }
 
 /// Reads all pieces of a file of this size.
-fn read_pieces<I: Source, O: Sink, K: Sink>(
-    link: &mut Link<I, O>,
+fn read_pieces<L: Calls, K: Sink>(
+    link: &mut L,
     file: &FileToRead<'_>,
     tickets: &mut Vec<Ticket>,
     out: &mut K,
 ) -> Result<(), ClientEnd>
     requires { tickets.old.items ≡ [] }
-    ensures open { AreOpen link.new.requester.state tickets.new.items }
+    ensures open { AreOpen (L.at link.new).requester.state tickets.new.items }
     ensures ends { EndsSo file.now.uid file.now.gid file.now.handle.now file.now.size 0 0 [] tickets.new.items
-        (link_bytes (I.left link.old.source) (I.given link.old.source) (O.taken link.old.sink) link.old.read)
-        (link_bytes (I.left link.new.source) (I.given link.new.source) (O.taken link.new.sink) link.new.read)
-        link.old.requester link.new.requester (K.taken out.old) (K.taken out.new) result }
+        (L.at link.old).bytes (L.at link.new).bytes (L.at link.old).requester (L.at link.new).requester (K.taken out.old) (K.taken out.new) result }
     ensures out_faults { OutputFaults result (K.faults out.old) (K.faults out.new) }
-    ensures source_faults { SourceFaults result (I.faults link.old.source) (I.faults link.new.source) }
-    ensures sink_faults { SinkFaults result (O.faults link.old.sink) (O.faults link.new.sink) }
+    ensures source_faults { SourceFaults result (L.at link.old).source_faults (L.at link.new).source_faults }
+    ensures sink_faults { SinkFaults result (L.at link.old).sink_faults (L.at link.new).sink_faults }
 {
     let mut at = 0;
     let mut next = 0;
@@ -166,24 +151,22 @@ fn read_pieces<I: Source, O: Sink, K: Sink>(
 }
 
 /// Reads a file into an output.
-pub(crate) fn read_file_over<I: Source, O: Sink, K: Sink>(
+pub(crate) fn read_file_over<L: Calls, K: Sink>(
     alloc: Global,
-    link: &mut Link<I, O>,
+    link: &mut L,
     uid: u32,
     gid: u32,
     file: &Handle,
     out: &mut K,
 ) -> Result<(), ClientEnd>
     ensures reads { ReadsFile uid gid file.now
-        (link_bytes (I.left link.old.source) (I.given link.old.source) (O.taken link.old.sink) link.old.read)
-        (link_bytes (I.left link.new.source) (I.given link.new.source) (O.taken link.new.sink) link.new.read)
-        link.old.requester link.new.requester (K.taken out.old) (K.taken out.new) result }
+        (L.at link.old).bytes (L.at link.new).bytes (L.at link.old).requester (L.at link.new).requester (K.taken out.old) (K.taken out.new) result }
     ensures out_faults { OutputFaults result (K.faults out.old) (K.faults out.new) }
-    ensures source_faults { SourceFaults result (I.faults link.old.source) (I.faults link.new.source) }
-    ensures sink_faults { SinkFaults result (O.faults link.old.sink) (O.faults link.new.sink) }
+    ensures source_faults { SourceFaults result (L.at link.old).source_faults (L.at link.new).source_faults }
+    ensures sink_faults { SinkFaults result (L.at link.old).sink_faults (L.at link.new).sink_faults }
 {
     let call = getattr_call(alloc, uid, gid, file);
-    let attributes = match ask_nfs::<I, O, Attributes, ()>(alloc, link, call) {
+    let attributes = match ask_nfs::<L, Attributes, ()>(alloc, link, call) {
         Ok(attributes) => attributes,
         Err(end) => return Err(end),
     };

@@ -5,23 +5,22 @@ ghost use Rattle.nr_client.specs.Calls.{ForgetsCalls};
 ghost use Rattle.nr_client.specs.Reading.{OutputFaults, piece_left};
 ghost use Rattle.nr_client.specs.Requests.{SinkFaults, SourceFaults};
 ghost use Rattle.nr_client.specs.Results.{IsOfCall};
-ghost use Rattle.nr_client.specs.Transfers.{link_bytes};
 ghost use Rattle.nr_client.specs.private.OpenReads.{AreOpen, EndsSo, IsFull, IsInPiece, MayAsk, ReadsAhead, ReadsOn, next_offset};
 
 use crate::client_end::ClientEnd;
 use crate::file_calls::read_call;
 use crate::file_to_read::FileToRead;
 use crate::limits::READS_MAX;
-use crate::link::Link;
+use crate::link_calls::Calls;
 use crate::read_data::{piece_left, write_data};
-use nr_outside::{Sink, Source};
+use nr_outside::Sink;
 use nr_requester::Ticket;
 use std::alloc::Global;
 
 /// Whether the next piece is asked for: none is outstanding, or fewer than the maximum are and a credit is left.
-fn may_ask<I: Source, O: Sink>(link: &Link<I, O>, size: u64, next: u64, tickets: &[Ticket]) -> bool
-    ensures yes { result ≡ true → MayAsk size next tickets.now link.now.requester }
-    ensures no { result ≡ false → IsFull size next tickets.now link.now.requester }
+fn may_ask<L: Calls>(link: &L, size: u64, next: u64, tickets: &[Ticket]) -> bool
+    ensures yes { result ≡ true → MayAsk size next tickets.now (L.at link.now).requester }
+    ensures no { result ≡ false → IsFull size next tickets.now (L.at link.now).requester }
 {
     if next >= size {
         return false;
@@ -30,31 +29,27 @@ fn may_ask<I: Source, O: Sink>(link: &Link<I, O>, size: u64, next: u64, tickets:
 }
 
 /// Submits a READ of the next piece.
-fn ask<I: Source, O: Sink>(
-    link: &mut Link<I, O>,
+fn ask<L: Calls>(
+    link: &mut L,
     file: &FileToRead<'_>,
     next: &mut u64,
     tickets: &mut Vec<Ticket>,
 ) -> Result<(), ClientEnd>
-    requires may { MayAsk file.now.size next.old tickets.old.items link.old.requester }
-    requires open { AreOpen link.old.requester.state tickets.old.items }
-    ensures open { AreOpen link.new.requester.state tickets.new.items }
-    ensures ahead { OnOk result ((at : ℕ) → ReadsAhead link.old.requester file.now.size at next.old tickets.old.items → ReadsAhead link.new.requester file.now.size at next.new tickets.new.items) }
+    requires may { MayAsk file.now.size next.old tickets.old.items (L.at link.old).requester }
+    requires open { AreOpen (L.at link.old).requester.state tickets.old.items }
+    ensures open { AreOpen (L.at link.new).requester.state tickets.new.items }
+    ensures ahead { OnOk result ((at : ℕ) → ReadsAhead (L.at link.old).requester file.now.size at next.old tickets.old.items → ReadsAhead (L.at link.new).requester file.now.size at next.new tickets.new.items) }
     ensures more { OnOk result (next.old < next.new) }
     ensures within { OnOk result (next.new ≤ file.now.size) }
-    ensures ok { OnOk result ((at : ℕ) (t : Option (List ℕ)) → at < file.now.size → ReadsAhead link.old.requester file.now.size at next.old tickets.old.items →
+    ensures ok { OnOk result ((at : ℕ) (t : Option (List ℕ)) → at < file.now.size → ReadsAhead (L.at link.old).requester file.now.size at next.old tickets.old.items →
         ReadsOn file.now.uid file.now.gid file.now.handle.now file.now.size at at tickets.old.items at at tickets.new.items
-        (link_bytes (I.left link.old.source) (I.given link.old.source) (O.taken link.old.sink) link.old.read)
-        (link_bytes (I.left link.new.source) (I.given link.new.source) (O.taken link.new.sink) link.new.read)
-        link.old.requester link.new.requester t t) }
-    ensures err { IfErr result (λ end. (at : ℕ) (t : Option (List ℕ)) → at < file.now.size → ReadsAhead link.old.requester file.now.size at next.old tickets.old.items →
+        (L.at link.old).bytes (L.at link.new).bytes (L.at link.old).requester (L.at link.new).requester t t) }
+    ensures err { IfErr result (λ end. (at : ℕ) (t : Option (List ℕ)) → at < file.now.size → ReadsAhead (L.at link.old).requester file.now.size at next.old tickets.old.items →
         EndsSo file.now.uid file.now.gid file.now.handle.now file.now.size at at tickets.old.items tickets.new.items
-        (link_bytes (I.left link.old.source) (I.given link.old.source) (O.taken link.old.sink) link.old.read)
-        (link_bytes (I.left link.new.source) (I.given link.new.source) (O.taken link.new.sink) link.new.read)
-        link.old.requester link.new.requester t t (Err end)) }
+        (L.at link.old).bytes (L.at link.new).bytes (L.at link.old).requester (L.at link.new).requester t t (Err end)) }
     ensures of_call { IfErr result IsOfCall }
-    ensures source_faults { SourceFaults result (I.faults link.old.source) (I.faults link.new.source) }
-    ensures sink_faults { SinkFaults result (O.faults link.old.sink) (O.faults link.new.sink) }
+    ensures source_faults { SourceFaults result (L.at link.old).source_faults (L.at link.new).source_faults }
+    ensures sink_faults { SinkFaults result (L.at link.old).sink_faults (L.at link.new).sink_faults }
 {
     let count = piece_left(file.size, *next);
     if let Err(_) = tickets.reserve(1) {
@@ -74,29 +69,25 @@ fn ask<I: Source, O: Sink>(
 }
 
 /// Submits READs of the next pieces while a credit is left and fewer than the maximum are outstanding, and at least one if none is.
-pub(crate) fn fill<I: Source, O: Sink>(
-    link: &mut Link<I, O>,
+pub(crate) fn fill<L: Calls>(
+    link: &mut L,
     file: &FileToRead<'_>,
     at: u64,
     next: &mut u64,
     tickets: &mut Vec<Ticket>,
 ) -> Result<(), ClientEnd>
     requires below { at < file.now.size }
-    requires ahead { ReadsAhead link.old.requester file.now.size at next.old tickets.old.items }
-    ensures open { AreOpen link.new.requester.state tickets.new.items }
-    ensures ahead { OnOk result (ReadsAhead link.new.requester file.now.size at next.new tickets.new.items) }
-    ensures full { OnOk result (IsFull file.now.size next.new tickets.new.items link.new.requester) }
+    requires ahead { ReadsAhead (L.at link.old).requester file.now.size at next.old tickets.old.items }
+    ensures open { AreOpen (L.at link.new).requester.state tickets.new.items }
+    ensures ahead { OnOk result (ReadsAhead (L.at link.new).requester file.now.size at next.new tickets.new.items) }
+    ensures full { OnOk result (IsFull file.now.size next.new tickets.new.items (L.at link.new).requester) }
     ensures ok { OnOk result ((t : Option (List ℕ)) → ReadsOn file.now.uid file.now.gid file.now.handle.now file.now.size at at tickets.old.items at at tickets.new.items
-        (link_bytes (I.left link.old.source) (I.given link.old.source) (O.taken link.old.sink) link.old.read)
-        (link_bytes (I.left link.new.source) (I.given link.new.source) (O.taken link.new.sink) link.new.read)
-        link.old.requester link.new.requester t t) }
+        (L.at link.old).bytes (L.at link.new).bytes (L.at link.old).requester (L.at link.new).requester t t) }
     ensures err { IfErr result (λ end. (t : Option (List ℕ)) → EndsSo file.now.uid file.now.gid file.now.handle.now file.now.size at at tickets.old.items tickets.new.items
-        (link_bytes (I.left link.old.source) (I.given link.old.source) (O.taken link.old.sink) link.old.read)
-        (link_bytes (I.left link.new.source) (I.given link.new.source) (O.taken link.new.sink) link.new.read)
-        link.old.requester link.new.requester t t (Err end)) }
+        (L.at link.old).bytes (L.at link.new).bytes (L.at link.old).requester (L.at link.new).requester t t (Err end)) }
     ensures of_call { IfErr result IsOfCall }
-    ensures source_faults { SourceFaults result (I.faults link.old.source) (I.faults link.new.source) }
-    ensures sink_faults { SinkFaults result (O.faults link.old.sink) (O.faults link.new.sink) }
+    ensures source_faults { SourceFaults result (L.at link.old).source_faults (L.at link.new).source_faults }
+    ensures sink_faults { SinkFaults result (L.at link.old).sink_faults (L.at link.new).sink_faults }
 {
     'asked: while may_ask(link, file.size, *next, tickets.as_slice()) {
         match ask(link, file, next, tickets) {
@@ -108,9 +99,9 @@ pub(crate) fn fill<I: Source, O: Sink>(
 }
 
 /// Takes the outcome of the oldest READ, once it has come, and writes its data to the output.
-pub(crate) fn take_oldest<I: Source, O: Sink, K: Sink>(
+pub(crate) fn take_oldest<L: Calls, K: Sink>(
     alloc: Global,
-    link: &mut Link<I, O>,
+    link: &mut L,
     size: u64,
     at: &mut u64,
     tickets: &mut Vec<Ticket>,
@@ -118,24 +109,20 @@ pub(crate) fn take_oldest<I: Source, O: Sink, K: Sink>(
 ) -> Result<(), ClientEnd>
     requires below { at.old < size }
     requires some { 0 < length tickets.old.items }
-    requires open { AreOpen link.old.requester.state tickets.old.items }
-    ensures open { AreOpen link.new.requester.state tickets.new.items }
+    requires open { AreOpen (L.at link.old).requester.state tickets.old.items }
+    ensures open { AreOpen (L.at link.new).requester.state tickets.new.items }
     ensures next { next_offset size (at.old + piece_left size at.old) tickets.new.items ≡ next_offset size at.old tickets.old.items }
     ensures piece { OnOk result (IsInPiece size at.new (at.old + piece_left size at.old)) }
     ensures more { OnOk result (at.old < at.new) }
-    ensures ok { OnOk result ((uid gid next : ℕ) (file : List ℕ) → ReadsAhead link.old.requester size at.old next tickets.old.items → IsFull size next tickets.old.items link.old.requester →
+    ensures ok { OnOk result ((uid gid next : ℕ) (file : List ℕ) → ReadsAhead (L.at link.old).requester size at.old next tickets.old.items → IsFull size next tickets.old.items (L.at link.old).requester →
         ReadsOn uid gid file size at.old at.old tickets.old.items at.new (at.old + piece_left size at.old) tickets.new.items
-        (link_bytes (I.left link.old.source) (I.given link.old.source) (O.taken link.old.sink) link.old.read)
-        (link_bytes (I.left link.new.source) (I.given link.new.source) (O.taken link.new.sink) link.new.read)
-        link.old.requester link.new.requester (K.taken out.old) (K.taken out.new)) }
-    ensures err { IfErr result (λ why. (uid gid next : ℕ) (file : List ℕ) → ReadsAhead link.old.requester size at.old next tickets.old.items → IsFull size next tickets.old.items link.old.requester →
+        (L.at link.old).bytes (L.at link.new).bytes (L.at link.old).requester (L.at link.new).requester (K.taken out.old) (K.taken out.new)) }
+    ensures err { IfErr result (λ why. (uid gid next : ℕ) (file : List ℕ) → ReadsAhead (L.at link.old).requester size at.old next tickets.old.items → IsFull size next tickets.old.items (L.at link.old).requester →
         EndsSo uid gid file size at.old at.old tickets.old.items tickets.new.items
-        (link_bytes (I.left link.old.source) (I.given link.old.source) (O.taken link.old.sink) link.old.read)
-        (link_bytes (I.left link.new.source) (I.given link.new.source) (O.taken link.new.sink) link.new.read)
-        link.old.requester link.new.requester (K.taken out.old) (K.taken out.new) (Err why)) }
+        (L.at link.old).bytes (L.at link.new).bytes (L.at link.old).requester (L.at link.new).requester (K.taken out.old) (K.taken out.new) (Err why)) }
     ensures out_faults { OutputFaults result (K.faults out.old) (K.faults out.new) }
-    ensures source_faults { SourceFaults result (I.faults link.old.source) (I.faults link.new.source) }
-    ensures sink_faults { SinkFaults result (O.faults link.old.sink) (O.faults link.new.sink) }
+    ensures source_faults { SourceFaults result (L.at link.old).source_faults (L.at link.new).source_faults }
+    ensures sink_faults { SinkFaults result (L.at link.old).sink_faults (L.at link.new).sink_faults }
 {
     let count = piece_left(size, *at);
     let outcome = match link.wait(tickets.remove(0)) {
@@ -151,10 +138,12 @@ pub(crate) fn take_oldest<I: Source, O: Sink, K: Sink>(
 }
 
 /// Forgets all READs that are outstanding.
-pub(crate) fn forget_all<I: Source, O: Sink>(link: &mut Link<I, O>, tickets: &mut Vec<Ticket>)
-    requires { AreOpen link.old.requester.state tickets.old.items }
-    ensures forgets { ForgetsCalls tickets.old.items link.old.requester link.new.requester }
-    ensures rest { (link.new.source ≡ link.old.source) × ((link.new.sink ≡ link.old.sink) × (link.new.read ≡ link.old.read)) }
+pub(crate) fn forget_all<L: Calls>(link: &mut L, tickets: &mut Vec<Ticket>)
+    requires { AreOpen (L.at link.old).requester.state tickets.old.items }
+    ensures forgets { ForgetsCalls tickets.old.items (L.at link.old).requester (L.at link.new).requester }
+    ensures bytes { (L.at link.new).bytes ≡ (L.at link.old).bytes }
+    ensures source_count { (L.at link.new).source_faults ≡ (L.at link.old).source_faults }
+    ensures sink_count { (L.at link.new).sink_faults ≡ (L.at link.old).sink_faults }
 {
     'tickets: while tickets.len() > 0 {
         link.forget(tickets.remove(0));

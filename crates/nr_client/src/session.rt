@@ -14,7 +14,6 @@ ghost use Rattle.nr_client.specs.Dialing.{OpenFails, dialer_at, session_credits}
 ghost use Rattle.nr_client.specs.Requests.{Asks, SinkFaults, SourceFaults, create_result, getattr_call, getattr_result, lookup_call, lookup_result, mkdir_call, mnt_call, mnt_result, readlink_call, readlink_result, remove_call, remove_result, symlink_call};
 ghost use Rattle.nr_client.specs.Reading.{InputFaults, OutputFaults, ReadsFile};
 ghost use Rattle.nr_client.specs.LinkParts.{RepresentsNewLink};
-ghost use Rattle.nr_client.specs.Transfers.{link_bytes};
 ghost use Rattle.nr_client.specs.Writing.{StopsAtFault, WritesFile};
 ghost use Rattle.nr_client.specs.Walking.{parent_next, walk_next};
 
@@ -24,6 +23,7 @@ use crate::file_to_read::FileToRead;
 use crate::jobs::read_shared;
 use crate::limits::CREDITS;
 use crate::link::Link;
+use crate::link_calls::Calls;
 use crate::listing::list_over;
 use crate::names::Names;
 use crate::read_file::read_file_over;
@@ -43,26 +43,28 @@ use std::thread::Threads;
 
 /// Requests of a user over one link. Each call has an AUTH_SYS credential with the user and the group, the machine `nfsrdma` and no
 /// further groups.
-pub struct Session<I, O> {
+pub struct Session<L> {
     alloc: Global,
-    link: Link<I, O>,
+    link: L,
     uid: u32,
     gid: u32,
 }
 
-impl<I, O> Model for Session<I, O> {
+impl<L> Model for Session<L> {
     ghost use Rattle.nr_client.specs.SessionState.{SessionState};
     ghost use Rattle.std.specs.Coded.{codes};
     ghost use Rattle.nr_endpoint.specs.Codes.{state_code};
 
-    ghost Value = { SessionState I O };
+    ghost Value = { SessionState L };
 
     ghost coded = { Prim.hlevel (codes, state_code) };
 
     ghost view = { λ s. record { link = s.link; uid = s.uid; gid = s.gid } };
 }
 
-impl<P: LinkSource, Q: LinkSink, N: LinkNumber> Session<NumberedSource<P, N>, NumberedSink<Q, N>> {
+impl<P: LinkSource, Q: LinkSink, N: LinkNumber> Session<
+    Link<NumberedSource<P, N>, NumberedSink<Q, N>>,
+> {
     /// A session of a user over a link to this address, with this many units for the client's Sends in each direction, of 1,024 bytes each, 1 to
     /// 16 (0 counts as 1, and more than 16 as 16), and with Sends with Invalidate, if it takes them and the server makes them. `DialFault` if the
     /// dialer failed. If memory runs out, the link is hung up as it was made.
@@ -74,7 +76,7 @@ impl<P: LinkSource, Q: LinkSink, N: LinkNumber> Session<NumberedSource<P, N>, Nu
         gid: u32,
         units: u8,
         invalidates: bool,
-    ) -> Result<Session<NumberedSource<P, N>, NumberedSink<Q, N>>, ClientEnd>
+    ) -> Result<Session<Link<NumberedSource<P, N>, NumberedSink<Q, N>>>, ClientEnd>
         requires { D.next dialer.old ≡ N.number }
         ensures asked { OnOk result (AsksFor (D.asked dialer.old) (D.asked dialer.new) addr.now) }
         ensures made { OnOk result (MakesLink (D.ended dialer.old) (D.ended dialer.new)) }
@@ -128,16 +130,14 @@ impl<P: LinkSource, Q: LinkSink, N: LinkNumber> Session<NumberedSource<P, N>, Nu
     }
 }
 
-impl<I: Source, O: Sink> Session<I, O> {
+impl<L: Calls> Session<L> {
     /// The file handle of the root of an export (MNT, RFC 1813 section 5.2.1).
     pub fn mount(&mut self, export: &MountPath) -> Result<Handle, ClientEnd>
         ensures asks { Asks mnt_result (mnt_call self.old.uid self.old.gid export.now)
-            (link_bytes (I.left self.old.link.source) (I.given self.old.link.source) (O.taken self.old.link.sink) self.old.link.read)
-            (link_bytes (I.left self.new.link.source) (I.given self.new.link.source) (O.taken self.new.link.sink) self.new.link.read)
-            self.old.link.requester self.new.link.requester result }
+            (L.at self.old.link).bytes (L.at self.new.link).bytes (L.at self.old.link).requester (L.at self.new.link).requester result }
         ensures user { (self.new.uid ≡ self.old.uid) × (self.new.gid ≡ self.old.gid) }
-        ensures source_faults { SourceFaults result (I.faults self.old.link.source) (I.faults self.new.link.source) }
-        ensures sink_faults { SinkFaults result (O.faults self.old.link.sink) (O.faults self.new.link.sink) }
+        ensures source_faults { SourceFaults result (L.at self.old.link).source_faults (L.at self.new.link).source_faults }
+        ensures sink_faults { SinkFaults result (L.at self.old.link).sink_faults (L.at self.new.link).sink_faults }
     {
         mount_over(self.alloc, &mut self.link, self.uid, self.gid, export)
     }
@@ -145,14 +145,12 @@ impl<I: Source, O: Sink> Session<I, O> {
     /// The attributes of a file (GETATTR, RFC 1813 section 3.3.1).
     pub fn stat(&mut self, file: &Handle) -> Result<Attributes, ClientEnd>
         ensures asks { Asks getattr_result (getattr_call self.old.uid self.old.gid file.now)
-            (link_bytes (I.left self.old.link.source) (I.given self.old.link.source) (O.taken self.old.link.sink) self.old.link.read)
-            (link_bytes (I.left self.new.link.source) (I.given self.new.link.source) (O.taken self.new.link.sink) self.new.link.read)
-            self.old.link.requester self.new.link.requester result }
+            (L.at self.old.link).bytes (L.at self.new.link).bytes (L.at self.old.link).requester (L.at self.new.link).requester result }
         ensures user { (self.new.uid ≡ self.old.uid) × (self.new.gid ≡ self.old.gid) }
-        ensures source_faults { SourceFaults result (I.faults self.old.link.source) (I.faults self.new.link.source) }
-        ensures sink_faults { SinkFaults result (O.faults self.old.link.sink) (O.faults self.new.link.sink) }
+        ensures source_faults { SourceFaults result (L.at self.old.link).source_faults (L.at self.new.link).source_faults }
+        ensures sink_faults { SinkFaults result (L.at self.old.link).sink_faults (L.at self.new.link).sink_faults }
     {
-        ask_nfs::<I, O, Attributes, ()>(
+        ask_nfs::<L, Attributes, ()>(
             self.alloc,
             &mut self.link,
             getattr_call(self.alloc, self.uid, self.gid, file),
@@ -162,14 +160,12 @@ impl<I: Source, O: Sink> Session<I, O> {
     /// The object of a name in a directory (LOOKUP, RFC 1813 section 3.3.3).
     pub fn look_up(&mut self, dir: &Handle, name: &Name) -> Result<LookupOk, ClientEnd>
         ensures asks { Asks lookup_result (lookup_call self.old.uid self.old.gid dir.now name.now)
-            (link_bytes (I.left self.old.link.source) (I.given self.old.link.source) (O.taken self.old.link.sink) self.old.link.read)
-            (link_bytes (I.left self.new.link.source) (I.given self.new.link.source) (O.taken self.new.link.sink) self.new.link.read)
-            self.old.link.requester self.new.link.requester result }
+            (L.at self.old.link).bytes (L.at self.new.link).bytes (L.at self.old.link).requester (L.at self.new.link).requester result }
         ensures user { (self.new.uid ≡ self.old.uid) × (self.new.gid ≡ self.old.gid) }
-        ensures source_faults { SourceFaults result (I.faults self.old.link.source) (I.faults self.new.link.source) }
-        ensures sink_faults { SinkFaults result (O.faults self.old.link.sink) (O.faults self.new.link.sink) }
+        ensures source_faults { SourceFaults result (L.at self.old.link).source_faults (L.at self.new.link).source_faults }
+        ensures sink_faults { SinkFaults result (L.at self.old.link).sink_faults (L.at self.new.link).sink_faults }
     {
-        ask_nfs::<I, O, LookupOk, Option<Attributes>>(
+        ask_nfs::<L, LookupOk, Option<Attributes>>(
             self.alloc,
             &mut self.link,
             lookup_call(self.alloc, self.uid, self.gid, dir, name),
@@ -179,14 +175,12 @@ impl<I: Source, O: Sink> Session<I, O> {
     /// The path in a symbolic link (READLINK, RFC 1813 section 3.3.5).
     pub fn read_link(&mut self, file: &Handle) -> Result<ReadlinkOk, ClientEnd>
         ensures asks { Asks readlink_result (readlink_call self.old.uid self.old.gid file.now)
-            (link_bytes (I.left self.old.link.source) (I.given self.old.link.source) (O.taken self.old.link.sink) self.old.link.read)
-            (link_bytes (I.left self.new.link.source) (I.given self.new.link.source) (O.taken self.new.link.sink) self.new.link.read)
-            self.old.link.requester self.new.link.requester result }
+            (L.at self.old.link).bytes (L.at self.new.link).bytes (L.at self.old.link).requester (L.at self.new.link).requester result }
         ensures user { (self.new.uid ≡ self.old.uid) × (self.new.gid ≡ self.old.gid) }
-        ensures source_faults { SourceFaults result (I.faults self.old.link.source) (I.faults self.new.link.source) }
-        ensures sink_faults { SinkFaults result (O.faults self.old.link.sink) (O.faults self.new.link.sink) }
+        ensures source_faults { SourceFaults result (L.at self.old.link).source_faults (L.at self.new.link).source_faults }
+        ensures sink_faults { SinkFaults result (L.at self.old.link).sink_faults (L.at self.new.link).sink_faults }
     {
-        ask_nfs::<I, O, ReadlinkOk, Option<Attributes>>(
+        ask_nfs::<L, ReadlinkOk, Option<Attributes>>(
             self.alloc,
             &mut self.link,
             readlink_call(self.alloc, self.uid, self.gid, file),
@@ -196,14 +190,12 @@ impl<I: Source, O: Sink> Session<I, O> {
     /// Removes a name from a directory (REMOVE, RFC 1813 section 3.3.12). The result is about the directory.
     pub fn remove(&mut self, dir: &Handle, name: &Name) -> Result<WccData, ClientEnd>
         ensures asks { Asks remove_result (remove_call self.old.uid self.old.gid dir.now name.now)
-            (link_bytes (I.left self.old.link.source) (I.given self.old.link.source) (O.taken self.old.link.sink) self.old.link.read)
-            (link_bytes (I.left self.new.link.source) (I.given self.new.link.source) (O.taken self.new.link.sink) self.new.link.read)
-            self.old.link.requester self.new.link.requester result }
+            (L.at self.old.link).bytes (L.at self.new.link).bytes (L.at self.old.link).requester (L.at self.new.link).requester result }
         ensures user { (self.new.uid ≡ self.old.uid) × (self.new.gid ≡ self.old.gid) }
-        ensures source_faults { SourceFaults result (I.faults self.old.link.source) (I.faults self.new.link.source) }
-        ensures sink_faults { SinkFaults result (O.faults self.old.link.sink) (O.faults self.new.link.sink) }
+        ensures source_faults { SourceFaults result (L.at self.old.link).source_faults (L.at self.new.link).source_faults }
+        ensures sink_faults { SinkFaults result (L.at self.old.link).sink_faults (L.at self.new.link).sink_faults }
     {
-        ask_nfs::<I, O, WccData, WccData>(
+        ask_nfs::<L, WccData, WccData>(
             self.alloc,
             &mut self.link,
             remove_call(self.alloc, self.uid, self.gid, dir, name),
@@ -213,14 +205,12 @@ impl<I: Source, O: Sink> Session<I, O> {
     /// Makes a directory of this name in a directory, with mode 0755 (MKDIR, RFC 1813 section 3.3.9).
     pub fn mkdir(&mut self, dir: &Handle, name: &Name) -> Result<CreateOk, ClientEnd>
         ensures asks { Asks create_result (mkdir_call self.old.uid self.old.gid dir.now name.now)
-            (link_bytes (I.left self.old.link.source) (I.given self.old.link.source) (O.taken self.old.link.sink) self.old.link.read)
-            (link_bytes (I.left self.new.link.source) (I.given self.new.link.source) (O.taken self.new.link.sink) self.new.link.read)
-            self.old.link.requester self.new.link.requester result }
+            (L.at self.old.link).bytes (L.at self.new.link).bytes (L.at self.old.link).requester (L.at self.new.link).requester result }
         ensures user { (self.new.uid ≡ self.old.uid) × (self.new.gid ≡ self.old.gid) }
-        ensures source_faults { SourceFaults result (I.faults self.old.link.source) (I.faults self.new.link.source) }
-        ensures sink_faults { SinkFaults result (O.faults self.old.link.sink) (O.faults self.new.link.sink) }
+        ensures source_faults { SourceFaults result (L.at self.old.link).source_faults (L.at self.new.link).source_faults }
+        ensures sink_faults { SinkFaults result (L.at self.old.link).sink_faults (L.at self.new.link).sink_faults }
     {
-        ask_nfs::<I, O, CreateOk, WccData>(
+        ask_nfs::<L, CreateOk, WccData>(
             self.alloc,
             &mut self.link,
             mkdir_call(self.alloc, self.uid, self.gid, dir, name),
@@ -230,14 +220,12 @@ impl<I: Source, O: Sink> Session<I, O> {
     /// Makes a symbolic link of this name in a directory, which holds this path (SYMLINK, RFC 1813 section 3.3.10). No attribute is given.
     pub fn link(&mut self, dir: &Handle, name: &Name, path: &Path) -> Result<CreateOk, ClientEnd>
         ensures asks { Asks create_result (symlink_call self.old.uid self.old.gid dir.now name.now path.now)
-            (link_bytes (I.left self.old.link.source) (I.given self.old.link.source) (O.taken self.old.link.sink) self.old.link.read)
-            (link_bytes (I.left self.new.link.source) (I.given self.new.link.source) (O.taken self.new.link.sink) self.new.link.read)
-            self.old.link.requester self.new.link.requester result }
+            (L.at self.old.link).bytes (L.at self.new.link).bytes (L.at self.old.link).requester (L.at self.new.link).requester result }
         ensures user { (self.new.uid ≡ self.old.uid) × (self.new.gid ≡ self.old.gid) }
-        ensures source_faults { SourceFaults result (I.faults self.old.link.source) (I.faults self.new.link.source) }
-        ensures sink_faults { SinkFaults result (O.faults self.old.link.sink) (O.faults self.new.link.sink) }
+        ensures source_faults { SourceFaults result (L.at self.old.link).source_faults (L.at self.new.link).source_faults }
+        ensures sink_faults { SinkFaults result (L.at self.old.link).sink_faults (L.at self.new.link).sink_faults }
     {
-        ask_nfs::<I, O, CreateOk, WccData>(
+        ask_nfs::<L, CreateOk, WccData>(
             self.alloc,
             &mut self.link,
             symlink_call(self.alloc, self.uid, self.gid, dir, name, path),
@@ -248,12 +236,10 @@ impl<I: Source, O: Sink> Session<I, O> {
     /// bad (`BadPath`), no call is made.
     pub fn walk(&mut self, root: &Handle, path: &[u8]) -> Result<Handle, ClientEnd>
         ensures follows { Follows (walk_next self.old.uid self.old.gid root.now path.now)
-            (link_bytes (I.left self.old.link.source) (I.given self.old.link.source) (O.taken self.old.link.sink) self.old.link.read)
-            (link_bytes (I.left self.new.link.source) (I.given self.new.link.source) (O.taken self.new.link.sink) self.new.link.read)
-            self.old.link.requester self.new.link.requester result }
+            (L.at self.old.link).bytes (L.at self.new.link).bytes (L.at self.old.link).requester (L.at self.new.link).requester result }
         ensures user { (self.new.uid ≡ self.old.uid) × (self.new.gid ≡ self.old.gid) }
-        ensures source_faults { SourceFaults result (I.faults self.old.link.source) (I.faults self.new.link.source) }
-        ensures sink_faults { SinkFaults result (O.faults self.old.link.sink) (O.faults self.new.link.sink) }
+        ensures source_faults { SourceFaults result (L.at self.old.link).source_faults (L.at self.new.link).source_faults }
+        ensures sink_faults { SinkFaults result (L.at self.old.link).sink_faults (L.at self.new.link).sink_faults }
     {
         walk_over(self.alloc, &mut self.link, self.uid, self.gid, root, path)
     }
@@ -266,12 +252,10 @@ impl<I: Source, O: Sink> Session<I, O> {
         path: &[u8],
     ) -> Result<(Handle, Name), ClientEnd>
         ensures follows { Follows (parent_next self.old.uid self.old.gid root.now path.now)
-            (link_bytes (I.left self.old.link.source) (I.given self.old.link.source) (O.taken self.old.link.sink) self.old.link.read)
-            (link_bytes (I.left self.new.link.source) (I.given self.new.link.source) (O.taken self.new.link.sink) self.new.link.read)
-            self.old.link.requester self.new.link.requester result }
+            (L.at self.old.link).bytes (L.at self.new.link).bytes (L.at self.old.link).requester (L.at self.new.link).requester result }
         ensures user { (self.new.uid ≡ self.old.uid) × (self.new.gid ≡ self.old.gid) }
-        ensures source_faults { SourceFaults result (I.faults self.old.link.source) (I.faults self.new.link.source) }
-        ensures sink_faults { SinkFaults result (O.faults self.old.link.sink) (O.faults self.new.link.sink) }
+        ensures source_faults { SourceFaults result (L.at self.old.link).source_faults (L.at self.new.link).source_faults }
+        ensures sink_faults { SinkFaults result (L.at self.old.link).sink_faults (L.at self.new.link).sink_faults }
     {
         walk_to_parent_over(self.alloc, &mut self.link, self.uid, self.gid, root, path)
     }
@@ -280,12 +264,10 @@ impl<I: Source, O: Sink> Session<I, O> {
     /// 1048576; `BadReply` with reason 25 if a reply has no entry and isn't the last.
     pub fn list(&mut self, dir: &Handle) -> Result<Names, ClientEnd>
         ensures follows { Follows (list_next self.old.uid self.old.gid dir.now)
-            (link_bytes (I.left self.old.link.source) (I.given self.old.link.source) (O.taken self.old.link.sink) self.old.link.read)
-            (link_bytes (I.left self.new.link.source) (I.given self.new.link.source) (O.taken self.new.link.sink) self.new.link.read)
-            self.old.link.requester self.new.link.requester result }
+            (L.at self.old.link).bytes (L.at self.new.link).bytes (L.at self.old.link).requester (L.at self.new.link).requester result }
         ensures user { (self.new.uid ≡ self.old.uid) × (self.new.gid ≡ self.old.gid) }
-        ensures source_faults { SourceFaults result (I.faults self.old.link.source) (I.faults self.new.link.source) }
-        ensures sink_faults { SinkFaults result (O.faults self.old.link.sink) (O.faults self.new.link.sink) }
+        ensures source_faults { SourceFaults result (L.at self.old.link).source_faults (L.at self.new.link).source_faults }
+        ensures sink_faults { SinkFaults result (L.at self.old.link).sink_faults (L.at self.new.link).sink_faults }
     {
         list_over(self.alloc, &mut self.link, self.uid, self.gid, dir)
     }
@@ -295,13 +277,11 @@ impl<I: Source, O: Sink> Session<I, O> {
     /// the bytes that came.
     pub fn read_file<K: Sink>(&mut self, file: &Handle, out: &mut K) -> Result<(), ClientEnd>
         ensures reads { ReadsFile self.old.uid self.old.gid file.now
-            (link_bytes (I.left self.old.link.source) (I.given self.old.link.source) (O.taken self.old.link.sink) self.old.link.read)
-            (link_bytes (I.left self.new.link.source) (I.given self.new.link.source) (O.taken self.new.link.sink) self.new.link.read)
-            self.old.link.requester self.new.link.requester (K.taken out.old) (K.taken out.new) result }
+            (L.at self.old.link).bytes (L.at self.new.link).bytes (L.at self.old.link).requester (L.at self.new.link).requester (K.taken out.old) (K.taken out.new) result }
         ensures out_faults { OutputFaults result (K.faults out.old) (K.faults out.new) }
         ensures user { (self.new.uid ≡ self.old.uid) × (self.new.gid ≡ self.old.gid) }
-        ensures source_faults { SourceFaults result (I.faults self.old.link.source) (I.faults self.new.link.source) }
-        ensures sink_faults { SinkFaults result (O.faults self.old.link.sink) (O.faults self.new.link.sink) }
+        ensures source_faults { SourceFaults result (L.at self.old.link).source_faults (L.at self.new.link).source_faults }
+        ensures sink_faults { SinkFaults result (L.at self.old.link).sink_faults (L.at self.new.link).sink_faults }
     {
         read_file_over(self.alloc, &mut self.link, self.uid, self.gid, file, out)
     }
@@ -317,15 +297,13 @@ impl<I: Source, O: Sink> Session<I, O> {
         input: &mut N,
     ) -> Result<(), ClientEnd>
         ensures writes { WritesFile self.old.uid self.old.gid dir.now name.now
-            (link_bytes (I.left self.old.link.source) (I.given self.old.link.source) (O.taken self.old.link.sink) self.old.link.read)
-            (link_bytes (I.left self.new.link.source) (I.given self.new.link.source) (O.taken self.new.link.sink) self.new.link.read)
-            self.old.link.requester self.new.link.requester (N.left input.old) (N.given input.old) (N.left input.new) (N.given input.new) result }
+            (L.at self.old.link).bytes (L.at self.new.link).bytes (L.at self.old.link).requester (L.at self.new.link).requester (N.left input.old) (N.given input.old) (N.left input.new) (N.given input.new) result }
         ensures input_faults { InputFaults result (N.faults input.old) (N.faults input.new) }
         // Once a read of the input failed, nothing more is read of it.
         ensures input_stops { StopsAtFault N.faults N.left N.given result input.old input.new }
         ensures user { (self.new.uid ≡ self.old.uid) × (self.new.gid ≡ self.old.gid) }
-        ensures source_faults { SourceFaults result (I.faults self.old.link.source) (I.faults self.new.link.source) }
-        ensures sink_faults { SinkFaults result (O.faults self.old.link.sink) (O.faults self.new.link.sink) }
+        ensures source_faults { SourceFaults result (L.at self.old.link).source_faults (L.at self.new.link).source_faults }
+        ensures sink_faults { SinkFaults result (L.at self.old.link).sink_faults (L.at self.new.link).sink_faults }
     {
         write_file_over(
             self.alloc,
@@ -337,9 +315,11 @@ impl<I: Source, O: Sink> Session<I, O> {
             input,
         )
     }
+}
 
+impl<I: Source, O: Sink> Session<Link<I, O>> {
     /// As `read_file`, by several jobs, 1 to 16, each in a thread of its own if there is one. The session ends: its source and its sink come back.
-    /// At most 4 pieces of each job, of 1048576 bytes, are held ahead of what was written.
+    /// At most 2 pieces of each job, of 1048576 bytes, are held ahead of what was written.
     pub fn read_file_by_jobs<R: Threads + Wait + Sync, K: Sink>(
         self,
         rt: &R,
@@ -363,7 +343,7 @@ impl<I: Source, O: Sink> Session<I, O> {
             gid,
         } = self;
         let call = getattr_call(alloc, uid, gid, file);
-        let size = match ask_nfs::<I, O, Attributes, ()>(alloc, &mut link, call) {
+        let size = match ask_nfs::<Link<I, O>, Attributes, ()>(alloc, &mut link, call) {
             Ok(attributes) => attributes.size,
             Err(end) => {
                 let (source, sink) = link.into_link();

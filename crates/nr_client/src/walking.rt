@@ -2,57 +2,51 @@
 
 ghost use Rattle.nr_client.specs.Following.{Follows};
 ghost use Rattle.nr_client.specs.Requests.{Asks, SinkFaults, SourceFaults, lookup_call};
-ghost use Rattle.nr_client.specs.Transfers.{link_bytes};
 ghost use Rattle.nr_client.specs.Walking.{object_result, parent_along, parent_next, walk_from, walk_next};
 
 use crate::asking::ask_nfs;
 use crate::client_end::ClientEnd;
-use crate::link::Link;
+use crate::link_calls::Calls;
 use crate::path::components;
 use crate::requests::lookup_call;
 use nr_nfs_base::{Attributes, Handle, Name};
 use nr_nfs_res::LookupOk;
-use nr_outside::{Sink, Source};
 use std::alloc::Global;
 
 /// The file handle of a name in a directory.
-fn object_over<I: Source, O: Sink>(
+fn object_over<L: Calls>(
     alloc: Global,
-    link: &mut Link<I, O>,
+    link: &mut L,
     uid: u32,
     gid: u32,
     dir: &Handle,
     name: &Name,
 ) -> Result<Handle, ClientEnd>
     ensures asks { Asks object_result (lookup_call uid gid dir.now name.now)
-        (link_bytes (I.left link.old.source) (I.given link.old.source) (O.taken link.old.sink) link.old.read)
-        (link_bytes (I.left link.new.source) (I.given link.new.source) (O.taken link.new.sink) link.new.read)
-        link.old.requester link.new.requester result }
-    ensures source_faults { SourceFaults result (I.faults link.old.source) (I.faults link.new.source) }
-    ensures sink_faults { SinkFaults result (O.faults link.old.sink) (O.faults link.new.sink) }
+        (L.at link.old).bytes (L.at link.new).bytes (L.at link.old).requester (L.at link.new).requester result }
+    ensures source_faults { SourceFaults result (L.at link.old).source_faults (L.at link.new).source_faults }
+    ensures sink_faults { SinkFaults result (L.at link.old).sink_faults (L.at link.new).sink_faults }
 {
     let call = lookup_call(alloc, uid, gid, dir, name);
-    match ask_nfs::<I, O, LookupOk, Option<Attributes>>(alloc, link, call) {
+    match ask_nfs::<L, LookupOk, Option<Attributes>>(alloc, link, call) {
         Ok(LookupOk { object, .. }) => Ok(object),
         Err(end) => Err(end),
     }
 }
 
 /// The file handle to which names lead from a directory, one after another.
-fn walk_names<I: Source, O: Sink>(
+fn walk_names<L: Calls>(
     alloc: Global,
-    link: &mut Link<I, O>,
+    link: &mut L,
     uid: u32,
     gid: u32,
     root: &Handle,
     names: &[Name],
 ) -> Result<Handle, ClientEnd>
     ensures follows { Follows (walk_from uid gid root.now names.now)
-        (link_bytes (I.left link.old.source) (I.given link.old.source) (O.taken link.old.sink) link.old.read)
-        (link_bytes (I.left link.new.source) (I.given link.new.source) (O.taken link.new.sink) link.new.read)
-        link.old.requester link.new.requester result }
-    ensures source_faults { SourceFaults result (I.faults link.old.source) (I.faults link.new.source) }
-    ensures sink_faults { SinkFaults result (O.faults link.old.sink) (O.faults link.new.sink) }
+        (L.at link.old).bytes (L.at link.new).bytes (L.at link.old).requester (L.at link.new).requester result }
+    ensures source_faults { SourceFaults result (L.at link.old).source_faults (L.at link.new).source_faults }
+    ensures sink_faults { SinkFaults result (L.at link.old).sink_faults (L.at link.new).sink_faults }
 {
     let Ok(mut dir) = Handle::from_slice(alloc, root.as_slice()) else {
         return Err(ClientEnd::Memory);
@@ -67,9 +61,9 @@ fn walk_names<I: Source, O: Sink>(
 }
 
 /// The file handle of the directory that the last of some names stands in, and that name. They end at this offset.
-fn parent_of_names<I: Source, O: Sink>(
+fn parent_of_names<L: Calls>(
     alloc: Global,
-    link: &mut Link<I, O>,
+    link: &mut L,
     uid: u32,
     gid: u32,
     root: &Handle,
@@ -77,11 +71,9 @@ fn parent_of_names<I: Source, O: Sink>(
     names: &[Name],
 ) -> Result<(Handle, Name), ClientEnd>
     ensures follows { Follows (parent_along uid gid root.now at names.now)
-        (link_bytes (I.left link.old.source) (I.given link.old.source) (O.taken link.old.sink) link.old.read)
-        (link_bytes (I.left link.new.source) (I.given link.new.source) (O.taken link.new.sink) link.new.read)
-        link.old.requester link.new.requester result }
-    ensures source_faults { SourceFaults result (I.faults link.old.source) (I.faults link.new.source) }
-    ensures sink_faults { SinkFaults result (O.faults link.old.sink) (O.faults link.new.sink) }
+        (L.at link.old).bytes (L.at link.new).bytes (L.at link.old).requester (L.at link.new).requester result }
+    ensures source_faults { SourceFaults result (L.at link.old).source_faults (L.at link.new).source_faults }
+    ensures sink_faults { SinkFaults result (L.at link.old).sink_faults (L.at link.new).sink_faults }
 {
     if names.is_empty() {
         return Err(ClientEnd::BadPath { at });
@@ -97,20 +89,18 @@ fn parent_of_names<I: Source, O: Sink>(
 }
 
 /// The file handle of a path.
-pub(crate) fn walk_over<I: Source, O: Sink>(
+pub(crate) fn walk_over<L: Calls>(
     alloc: Global,
-    link: &mut Link<I, O>,
+    link: &mut L,
     uid: u32,
     gid: u32,
     root: &Handle,
     path: &[u8],
 ) -> Result<Handle, ClientEnd>
     ensures follows { Follows (walk_next uid gid root.now path.now)
-        (link_bytes (I.left link.old.source) (I.given link.old.source) (O.taken link.old.sink) link.old.read)
-        (link_bytes (I.left link.new.source) (I.given link.new.source) (O.taken link.new.sink) link.new.read)
-        link.old.requester link.new.requester result }
-    ensures source_faults { SourceFaults result (I.faults link.old.source) (I.faults link.new.source) }
-    ensures sink_faults { SinkFaults result (O.faults link.old.sink) (O.faults link.new.sink) }
+        (L.at link.old).bytes (L.at link.new).bytes (L.at link.old).requester (L.at link.new).requester result }
+    ensures source_faults { SourceFaults result (L.at link.old).source_faults (L.at link.new).source_faults }
+    ensures sink_faults { SinkFaults result (L.at link.old).sink_faults (L.at link.new).sink_faults }
 {
     let names = match components(alloc, path) {
         Ok(names) => names,
@@ -120,20 +110,18 @@ pub(crate) fn walk_over<I: Source, O: Sink>(
 }
 
 /// The file handle of the directory that a path's last component stands in, and that component.
-pub(crate) fn walk_to_parent_over<I: Source, O: Sink>(
+pub(crate) fn walk_to_parent_over<L: Calls>(
     alloc: Global,
-    link: &mut Link<I, O>,
+    link: &mut L,
     uid: u32,
     gid: u32,
     root: &Handle,
     path: &[u8],
 ) -> Result<(Handle, Name), ClientEnd>
     ensures follows { Follows (parent_next uid gid root.now path.now)
-        (link_bytes (I.left link.old.source) (I.given link.old.source) (O.taken link.old.sink) link.old.read)
-        (link_bytes (I.left link.new.source) (I.given link.new.source) (O.taken link.new.sink) link.new.read)
-        link.old.requester link.new.requester result }
-    ensures source_faults { SourceFaults result (I.faults link.old.source) (I.faults link.new.source) }
-    ensures sink_faults { SinkFaults result (O.faults link.old.sink) (O.faults link.new.sink) }
+        (L.at link.old).bytes (L.at link.new).bytes (L.at link.old).requester (L.at link.new).requester result }
+    ensures source_faults { SourceFaults result (L.at link.old).source_faults (L.at link.new).source_faults }
+    ensures sink_faults { SinkFaults result (L.at link.old).sink_faults (L.at link.new).sink_faults }
 {
     let names = match components(alloc, path) {
         Ok(names) => names,

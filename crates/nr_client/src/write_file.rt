@@ -7,7 +7,6 @@ ghost use Rattle.nr_outside.specs.Whole.{input_max};
 ghost use Rattle.nr_client.specs.Reading.{InputFaults};
 ghost use Rattle.nr_client.specs.Requests.{Asks, SinkFaults, SourceFaults};
 ghost use Rattle.nr_client.specs.Results.{IsOfCall};
-ghost use Rattle.nr_client.specs.Transfers.{link_bytes};
 ghost use Rattle.nr_client.specs.Writing.{StopsAtFault, WritesFile, create_call, created_file};
 ghost use Rattle.nr_client.specs.private.FileSteps.{FailsToWrite, StreamsOn, StreamsTo, WritesOn};
 ghost use Rattle.nr_client.specs.private.InputWindows.{IsReadyAt, wanted_at};
@@ -17,9 +16,9 @@ use crate::client_end::ClientEnd;
 use crate::file_calls::{create_call, write_call};
 use crate::file_results::{created_in, written_in};
 use crate::input_window::InputWindow;
-use crate::link::Link;
+use crate::link_calls::Calls;
 use nr_nfs_base::{Handle, Name, TRANSFER_MAX};
-use nr_outside::{INPUT_MAX, Sink, Source};
+use nr_outside::{INPUT_MAX, Source};
 use std::alloc::Global;
 
 /// How many bytes of the input are wanted at this offset: what the next WRITE sends; at the maximum, one that tells that more came.
@@ -35,9 +34,9 @@ fn wanted_at(at: usize) -> usize
 }
 
 /// One WRITE. Gives how many bytes it wrote.
-fn write_piece<I: Source, O: Sink>(
+fn write_piece<L: Calls>(
     alloc: Global,
-    link: &mut Link<I, O>,
+    link: &mut L,
     uid: u32,
     gid: u32,
     file: &Handle,
@@ -46,18 +45,14 @@ fn write_piece<I: Source, O: Sink>(
 ) -> Result<usize, ClientEnd>
     requires { length piece.now ≤ transfer_max }
     ensures ok { IfOk result (λ count. WritesOn uid gid file.now piece.now at (at + count)
-        (link_bytes (I.left link.old.source) (I.given link.old.source) (O.taken link.old.sink) link.old.read)
-        (link_bytes (I.left link.new.source) (I.given link.new.source) (O.taken link.new.sink) link.new.read)
-        link.old.requester link.new.requester) }
+        (L.at link.old).bytes (L.at link.new).bytes (L.at link.old).requester (L.at link.new).requester) }
     ensures more { IfOk result (λ count. 0 < count) }
     ensures within { IfOk result (λ count. count ≤ length piece.now) }
     ensures err { IfErr result (λ end. FailsToWrite uid gid file.now piece.now at
-        (link_bytes (I.left link.old.source) (I.given link.old.source) (O.taken link.old.sink) link.old.read)
-        (link_bytes (I.left link.new.source) (I.given link.new.source) (O.taken link.new.sink) link.new.read)
-        link.old.requester link.new.requester end) }
+        (L.at link.old).bytes (L.at link.new).bytes (L.at link.old).requester (L.at link.new).requester end) }
     ensures of_call { IfErr result IsOfCall }
-    ensures source_faults { SourceFaults result (I.faults link.old.source) (I.faults link.new.source) }
-    ensures sink_faults { SinkFaults result (O.faults link.old.sink) (O.faults link.new.sink) }
+    ensures source_faults { SourceFaults result (L.at link.old).source_faults (L.at link.new).source_faults }
+    ensures sink_faults { SinkFaults result (L.at link.old).sink_faults (L.at link.new).sink_faults }
 {
     let outcome = match outcome_of(link, write_call(alloc, uid, gid, file, at as u64, piece)) {
         Ok(outcome) => outcome,
@@ -75,9 +70,9 @@ fn write_piece<I: Source, O: Sink>(
 }
 
 /// One WRITE, of the bytes in the window. Those that it wrote leave the window, and the input is read until it is full again.
-fn write_next<I: Source, O: Sink, N: Source>(
+fn write_next<L: Calls, N: Source>(
     alloc: Global,
-    link: &mut Link<I, O>,
+    link: &mut L,
     uid: u32,
     gid: u32,
     file: &Handle,
@@ -91,17 +86,13 @@ fn write_next<I: Source, O: Sink, N: Source>(
     ensures ready { OnOk result (IsReadyAt at.new (N.left input.new) window.new) }
     ensures more { OnOk result (at.old < at.new) }
     ensures ok { OnOk result (StreamsOn uid gid file.now at.old at.new window.old window.new
-        (link_bytes (I.left link.old.source) (I.given link.old.source) (O.taken link.old.sink) link.old.read)
-        (link_bytes (I.left link.new.source) (I.given link.new.source) (O.taken link.new.sink) link.new.read)
-        link.old.requester link.new.requester (N.left input.old) (N.given input.old) (N.left input.new) (N.given input.new)) }
+        (L.at link.old).bytes (L.at link.new).bytes (L.at link.old).requester (L.at link.new).requester (N.left input.old) (N.given input.old) (N.left input.new) (N.given input.new)) }
     ensures err { OnErr result (StreamsTo uid gid file.now at.old window.old
-        (link_bytes (I.left link.old.source) (I.given link.old.source) (O.taken link.old.sink) link.old.read)
-        (link_bytes (I.left link.new.source) (I.given link.new.source) (O.taken link.new.sink) link.new.read)
-        link.old.requester link.new.requester (N.left input.old) (N.given input.old) (N.left input.new) (N.given input.new) result) }
+        (L.at link.old).bytes (L.at link.new).bytes (L.at link.old).requester (L.at link.new).requester (N.left input.old) (N.given input.old) (N.left input.new) (N.given input.new) result) }
     ensures input_faults { InputFaults result (N.faults input.old) (N.faults input.new) }
     ensures input_stops { StopsAtFault N.faults N.left N.given result input.old input.new }
-    ensures source_faults { SourceFaults result (I.faults link.old.source) (I.faults link.new.source) }
-    ensures sink_faults { SinkFaults result (O.faults link.old.sink) (O.faults link.new.sink) }
+    ensures source_faults { SourceFaults result (L.at link.old).source_faults (L.at link.new).source_faults }
+    ensures sink_faults { SinkFaults result (L.at link.old).sink_faults (L.at link.new).sink_faults }
 {
     let count = match write_piece(alloc, link, uid, gid, file, window.kept(), *at) {
         Ok(count) => count,
@@ -116,9 +107,9 @@ fn write_next<I: Source, O: Sink, N: Source>(
 }
 
 /// Writes a file that is empty from an input, of which the first bytes are in the window.
-fn write_pieces<I: Source, O: Sink, N: Source>(
+fn write_pieces<L: Calls, N: Source>(
     alloc: Global,
-    link: &mut Link<I, O>,
+    link: &mut L,
     uid: u32,
     gid: u32,
     file: &Handle,
@@ -127,13 +118,11 @@ fn write_pieces<I: Source, O: Sink, N: Source>(
 ) -> Result<(), ClientEnd>
     requires { IsReadyAt 0 (N.left input.old) window.old }
     ensures writes { StreamsTo uid gid file.now 0 window.old
-        (link_bytes (I.left link.old.source) (I.given link.old.source) (O.taken link.old.sink) link.old.read)
-        (link_bytes (I.left link.new.source) (I.given link.new.source) (O.taken link.new.sink) link.new.read)
-        link.old.requester link.new.requester (N.left input.old) (N.given input.old) (N.left input.new) (N.given input.new) result }
+        (L.at link.old).bytes (L.at link.new).bytes (L.at link.old).requester (L.at link.new).requester (N.left input.old) (N.given input.old) (N.left input.new) (N.given input.new) result }
     ensures input_faults { InputFaults result (N.faults input.old) (N.faults input.new) }
     ensures input_stops { StopsAtFault N.faults N.left N.given result input.old input.new }
-    ensures source_faults { SourceFaults result (I.faults link.old.source) (I.faults link.new.source) }
-    ensures sink_faults { SinkFaults result (O.faults link.old.sink) (O.faults link.new.sink) }
+    ensures source_faults { SourceFaults result (L.at link.old).source_faults (L.at link.new).source_faults }
+    ensures sink_faults { SinkFaults result (L.at link.old).sink_faults (L.at link.new).sink_faults }
 {
     let mut at = 0;
     'pieces: while at < INPUT_MAX && window.len() > 0 {
@@ -151,21 +140,19 @@ fn write_pieces<I: Source, O: Sink, N: Source>(
 }
 
 /// CREATE of a name: the handle of the file.
-fn create_over<I: Source, O: Sink>(
+fn create_over<L: Calls>(
     alloc: Global,
-    link: &mut Link<I, O>,
+    link: &mut L,
     uid: u32,
     gid: u32,
     dir: &Handle,
     name: &Name,
 ) -> Result<Handle, ClientEnd>
     ensures asks { Asks created_file (create_call uid gid dir.now name.now)
-        (link_bytes (I.left link.old.source) (I.given link.old.source) (O.taken link.old.sink) link.old.read)
-        (link_bytes (I.left link.new.source) (I.given link.new.source) (O.taken link.new.sink) link.new.read)
-        link.old.requester link.new.requester result }
+        (L.at link.old).bytes (L.at link.new).bytes (L.at link.old).requester (L.at link.new).requester result }
     ensures of_call { IfErr result IsOfCall }
-    ensures source_faults { SourceFaults result (I.faults link.old.source) (I.faults link.new.source) }
-    ensures sink_faults { SinkFaults result (O.faults link.old.sink) (O.faults link.new.sink) }
+    ensures source_faults { SourceFaults result (L.at link.old).source_faults (L.at link.new).source_faults }
+    ensures sink_faults { SinkFaults result (L.at link.old).sink_faults (L.at link.new).sink_faults }
 {
     let outcome = match outcome_of(link, create_call(alloc, uid, gid, dir, name)) {
         Ok(outcome) => outcome,
@@ -175,9 +162,9 @@ fn create_over<I: Source, O: Sink>(
 }
 
 /// Makes a file, and writes it from an input, of which the first bytes are in the window.
-fn write_window<I: Source, O: Sink, N: Source>(
+fn write_window<L: Calls, N: Source>(
     alloc: Global,
-    link: &mut Link<I, O>,
+    link: &mut L,
     uid: u32,
     gid: u32,
     dir: &Handle,
@@ -188,13 +175,11 @@ fn write_window<I: Source, O: Sink, N: Source>(
     requires { IsReadyAt 0 (N.left input.old) window.old }
     ensures writes { (left given : Option (List ℕ)) → HandsOut left given (N.left input.old) (N.given input.old) window.old.kept
         → WritesFile uid gid dir.now name.now
-        (link_bytes (I.left link.old.source) (I.given link.old.source) (O.taken link.old.sink) link.old.read)
-        (link_bytes (I.left link.new.source) (I.given link.new.source) (O.taken link.new.sink) link.new.read)
-        link.old.requester link.new.requester left given (N.left input.new) (N.given input.new) result }
+        (L.at link.old).bytes (L.at link.new).bytes (L.at link.old).requester (L.at link.new).requester left given (N.left input.new) (N.given input.new) result }
     ensures input_faults { InputFaults result (N.faults input.old) (N.faults input.new) }
     ensures input_stops { StopsAtFault N.faults N.left N.given result input.old input.new }
-    ensures source_faults { SourceFaults result (I.faults link.old.source) (I.faults link.new.source) }
-    ensures sink_faults { SinkFaults result (O.faults link.old.sink) (O.faults link.new.sink) }
+    ensures source_faults { SourceFaults result (L.at link.old).source_faults (L.at link.new).source_faults }
+    ensures sink_faults { SinkFaults result (L.at link.old).sink_faults (L.at link.new).sink_faults }
 {
     let file = match create_over(alloc, link, uid, gid, dir, name) {
         Ok(file) => file,
@@ -206,9 +191,9 @@ fn write_window<I: Source, O: Sink, N: Source>(
 }
 
 /// Writes a file from an input.
-pub(crate) fn write_file_over<I: Source, O: Sink, N: Source>(
+pub(crate) fn write_file_over<L: Calls, N: Source>(
     alloc: Global,
-    link: &mut Link<I, O>,
+    link: &mut L,
     uid: u32,
     gid: u32,
     dir: &Handle,
@@ -216,13 +201,11 @@ pub(crate) fn write_file_over<I: Source, O: Sink, N: Source>(
     input: &mut N,
 ) -> Result<(), ClientEnd>
     ensures writes { WritesFile uid gid dir.now name.now
-        (link_bytes (I.left link.old.source) (I.given link.old.source) (O.taken link.old.sink) link.old.read)
-        (link_bytes (I.left link.new.source) (I.given link.new.source) (O.taken link.new.sink) link.new.read)
-        link.old.requester link.new.requester (N.left input.old) (N.given input.old) (N.left input.new) (N.given input.new) result }
+        (L.at link.old).bytes (L.at link.new).bytes (L.at link.old).requester (L.at link.new).requester (N.left input.old) (N.given input.old) (N.left input.new) (N.given input.new) result }
     ensures input_faults { InputFaults result (N.faults input.old) (N.faults input.new) }
     ensures input_stops { StopsAtFault N.faults N.left N.given result input.old input.new }
-    ensures source_faults { SourceFaults result (I.faults link.old.source) (I.faults link.new.source) }
-    ensures sink_faults { SinkFaults result (O.faults link.old.sink) (O.faults link.new.sink) }
+    ensures source_faults { SourceFaults result (L.at link.old).source_faults (L.at link.new).source_faults }
+    ensures sink_faults { SinkFaults result (L.at link.old).sink_faults (L.at link.new).sink_faults }
 {
     let mut window = InputWindow::new(alloc);
     match window.fill(input, wanted_at(0)) {

@@ -8,18 +8,14 @@ use Rattle.nr_client.specs.declared.client_end.ClientEnd.{ClientEnd}
 use Rattle.nr_client.specs.declared.client_end.ClientEnd.TheVariants as client
 use Rattle.nr_client.specs.Following.{Follows, Next}
 use Rattle.nr_client.specs.Requests.{Asks, SinkFaults, SourceFaults}
-use Rattle.nr_client.specs.Transfers.{LinkBytes, link_bytes}
+use Rattle.nr_client.specs.Views.{LinkView, link_view}
 
--- A session at a moment: what is known of the bytes of its link, its requester, and the fault counts of the link's source and sink.
-pub record SessionAt : Type 0 where
-  pub bytes : LinkBytes
-  pub requester : RequesterSide
-  pub source_faults : ℕ
-  pub sink_faults : ℕ
+-- A session at a moment: its link.
+abbrev pub SessionAt : Type 0
+SessionAt = LinkView
 
 abbrev pub session_at : (left given taken : Option (List ℕ)) → ℕ → RequesterSide → (source_faults sink_faults : ℕ) → SessionAt
-session_at left given taken read requester source_faults sink_faults =
-    record { bytes = link_bytes left given taken read; requester = requester; source_faults = source_faults; sink_faults = sink_faults }
+session_at left given taken read requester source_faults sink_faults = link_view left given taken read requester source_faults sink_faults
 
 -- the source and the sink of its link
 abbrev pub source_of : SessionAt → SourceAt

@@ -11,7 +11,7 @@ ghost use Rattle.nr_commands.specs.Sessions.{session_at};
 
 use crate::files::keep_pieces;
 use crate::finding::find;
-use nr_client::{ClientEnd, Session};
+use nr_client::{ClientEnd, Link, Session};
 use nr_links::{Dialer, LinkNumber, LinkSink, LinkSource, NumberedSink, NumberedSource};
 use nr_nfs_base::Handle;
 use nr_outside::Sink;
@@ -47,7 +47,7 @@ fn read_and_close<
     K: Sink,
 >(
     rt: &R,
-    session: Session<NumberedSource<P, N>, NumberedSink<Q, N>>,
+    session: Session<Link<NumberedSource<P, N>, NumberedSink<Q, N>>>,
     file: &Handle,
     jobs: usize,
     dial: &mut D,
@@ -90,7 +90,7 @@ where
         (dialer_at (D.asked dial.new) (D.ended dial.new) (D.lost dial.new) (D.faults dial.new))
         (sink_at (K.taken out.old) (K.faults out.old)) (sink_at (K.taken out.new) (K.faults out.new)) result }
 {
-    let opened = Session::<NumberedSource<P, N>, NumberedSink<Q, N>>::open(
+    let opened = Session::<Link<NumberedSource<P, N>, NumberedSink<Q, N>>>::open(
         alloc,
         dial,
         get.addr,
@@ -115,7 +115,7 @@ where
 }
 
 /// Runs a `get` by several jobs, 1 to 16: opens a session, finds the file, reads it by the jobs, each in a thread of its own if there is one,
-/// and hangs the link up. The bytes of the file are written to `out` in order of offset, those of at most 4 pieces of each job at a time.
+/// and hangs the link up. The bytes of the file are written to `out` in order of offset, those of at most 2 pieces of each job at a time.
 ///
 /// # Errors
 ///

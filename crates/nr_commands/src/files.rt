@@ -2,10 +2,9 @@
 
 ghost use Rattle.nr_outside.specs.Streams.{sink_at, source_at};
 ghost use Rattle.nr_commands.specs.Commands.{Gets, IsSilent, Puts};
-ghost use Rattle.nr_commands.specs.Sessions.{session_at};
 
 use crate::finding::{find, find_parent};
-use nr_client::{ClientEnd, Session};
+use nr_client::{Calls, ClientEnd, Session};
 use nr_outside::{Sink, Source, raise_trim_threshold};
 use nr_xdr::Octets;
 use std::alloc::Global;
@@ -30,17 +29,15 @@ fn silent(alloc: Global, done: Result<(), ClientEnd>) -> Result<Octets, ClientEn
 }
 
 /// `get`: the bytes of a file are written to an output. Nothing else is printed.
-pub(crate) fn get<I: Source, O: Sink, K: Sink>(
+pub(crate) fn get<L: Calls, K: Sink>(
     alloc: Global,
-    session: &mut Session<I, O>,
+    session: &mut Session<L>,
     export: &str,
     path: &str,
     out: &mut K,
 ) -> Result<Octets, ClientEnd>
     ensures { Gets session.old.uid session.old.gid export.now path.now
-        (sink_at (K.taken out.old) (K.faults out.old)) (sink_at (K.taken out.new) (K.faults out.new))
-        (session_at (I.left session.old.link.source) (I.given session.old.link.source) (O.taken session.old.link.sink) session.old.link.read session.old.link.requester (I.faults session.old.link.source) (O.faults session.old.link.sink))
-        (session_at (I.left session.new.link.source) (I.given session.new.link.source) (O.taken session.new.link.sink) session.new.link.read session.new.link.requester (I.faults session.new.link.source) (O.faults session.new.link.sink)) result }
+        (sink_at (K.taken out.old) (K.faults out.old)) (sink_at (K.taken out.new) (K.faults out.new)) (L.at session.old.link) (L.at session.new.link) result }
 {
     let file = match find(alloc, session, export, path) {
         Ok(file) => file,
@@ -52,17 +49,15 @@ pub(crate) fn get<I: Source, O: Sink, K: Sink>(
 }
 
 /// `put`: the bytes of an input are written to a file, which is made or emptied first. Nothing is printed.
-pub(crate) fn put<I: Source, O: Sink, N: Source>(
+pub(crate) fn put<L: Calls, N: Source>(
     alloc: Global,
-    session: &mut Session<I, O>,
+    session: &mut Session<L>,
     export: &str,
     path: &str,
     input: &mut N,
 ) -> Result<Octets, ClientEnd>
     ensures { Puts session.old.uid session.old.gid export.now path.now
-        (source_at (N.left input.old) (N.given input.old) (N.faults input.old)) (source_at (N.left input.new) (N.given input.new) (N.faults input.new))
-        (session_at (I.left session.old.link.source) (I.given session.old.link.source) (O.taken session.old.link.sink) session.old.link.read session.old.link.requester (I.faults session.old.link.source) (O.faults session.old.link.sink))
-        (session_at (I.left session.new.link.source) (I.given session.new.link.source) (O.taken session.new.link.sink) session.new.link.read session.new.link.requester (I.faults session.new.link.source) (O.faults session.new.link.sink)) result }
+        (source_at (N.left input.old) (N.given input.old) (N.faults input.old)) (source_at (N.left input.new) (N.given input.new) (N.faults input.new)) (L.at session.old.link) (L.at session.new.link) result }
 {
     let place = match find_parent(alloc, session, export, path) {
         Ok(place) => place,

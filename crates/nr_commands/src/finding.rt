@@ -2,25 +2,21 @@
 
 ghost use Rattle.std.specs.Prelude.{◌≡◌};
 ghost use Rattle.nr_commands.specs.Commands.{Finds, FindsParent, Mounts};
-ghost use Rattle.nr_commands.specs.Sessions.{session_at};
 
-use nr_client::{ClientEnd, Session};
+use nr_client::{Calls, ClientEnd, Session};
 use nr_nfs_base::{Handle, MOUNT_PATH_MAX, MountPath, Name};
-use nr_outside::{Sink, Source};
 use std::alloc::Global;
 
 /// The maximum length of the path of an export in bytes.
 const EXPORT_MAX: usize = MOUNT_PATH_MAX as usize;
 
 /// The file handle of the root of an export.
-pub(crate) fn mount<I: Source, O: Sink>(
+pub(crate) fn mount<L: Calls>(
     alloc: Global,
-    session: &mut Session<I, O>,
+    session: &mut Session<L>,
     export: &str,
 ) -> Result<Handle, ClientEnd>
-    ensures part { Mounts session.old.uid session.old.gid export.now
-        (session_at (I.left session.old.link.source) (I.given session.old.link.source) (O.taken session.old.link.sink) session.old.link.read session.old.link.requester (I.faults session.old.link.source) (O.faults session.old.link.sink))
-        (session_at (I.left session.new.link.source) (I.given session.new.link.source) (O.taken session.new.link.sink) session.new.link.read session.new.link.requester (I.faults session.new.link.source) (O.faults session.new.link.sink)) result }
+    ensures part { Mounts session.old.uid session.old.gid export.now (L.at session.old.link) (L.at session.new.link) result }
     ensures user { (session.new.uid ≡ session.old.uid) × (session.new.gid ≡ session.old.gid) }
 {
     let len = export.len();
@@ -36,15 +32,13 @@ pub(crate) fn mount<I: Source, O: Sink>(
 }
 
 /// The file handle of a path in an export.
-pub(crate) fn find<I: Source, O: Sink>(
+pub(crate) fn find<L: Calls>(
     alloc: Global,
-    session: &mut Session<I, O>,
+    session: &mut Session<L>,
     export: &str,
     path: &str,
 ) -> Result<Handle, ClientEnd>
-    ensures part { Finds session.old.uid session.old.gid export.now path.now
-        (session_at (I.left session.old.link.source) (I.given session.old.link.source) (O.taken session.old.link.sink) session.old.link.read session.old.link.requester (I.faults session.old.link.source) (O.faults session.old.link.sink))
-        (session_at (I.left session.new.link.source) (I.given session.new.link.source) (O.taken session.new.link.sink) session.new.link.read session.new.link.requester (I.faults session.new.link.source) (O.faults session.new.link.sink)) result }
+    ensures part { Finds session.old.uid session.old.gid export.now path.now (L.at session.old.link) (L.at session.new.link) result }
     ensures user { (session.new.uid ≡ session.old.uid) × (session.new.gid ≡ session.old.gid) }
 {
     let root = match mount(alloc, session, export) {
@@ -55,15 +49,13 @@ pub(crate) fn find<I: Source, O: Sink>(
 }
 
 /// The file handle of the directory that has the last component of a path in an export, and that component.
-pub(crate) fn find_parent<I: Source, O: Sink>(
+pub(crate) fn find_parent<L: Calls>(
     alloc: Global,
-    session: &mut Session<I, O>,
+    session: &mut Session<L>,
     export: &str,
     path: &str,
 ) -> Result<(Handle, Name), ClientEnd>
-    ensures part { FindsParent session.old.uid session.old.gid export.now path.now
-        (session_at (I.left session.old.link.source) (I.given session.old.link.source) (O.taken session.old.link.sink) session.old.link.read session.old.link.requester (I.faults session.old.link.source) (O.faults session.old.link.sink))
-        (session_at (I.left session.new.link.source) (I.given session.new.link.source) (O.taken session.new.link.sink) session.new.link.read session.new.link.requester (I.faults session.new.link.source) (O.faults session.new.link.sink)) result }
+    ensures part { FindsParent session.old.uid session.old.gid export.now path.now (L.at session.old.link) (L.at session.new.link) result }
     ensures user { (session.new.uid ≡ session.old.uid) × (session.new.gid ≡ session.old.gid) }
 {
     let root = match mount(alloc, session, export) {

@@ -5,13 +5,12 @@ ghost use Rattle.nr_outside.specs.Streams.{sink_at, source_at};
 ghost use Rattle.nr_words.specs.Lines.{plain_action, plain_client};
 ghost use Rattle.nr_client.specs.Dialing.{dialer_at};
 ghost use Rattle.nr_commands.specs.Running.{IsPrinted, Runs, text_of};
-ghost use Rattle.nr_commands.specs.Sessions.{session_at};
 
 use crate::files::{get, put};
 use crate::texts::{
     list_text, make_directory, make_link, mount_text, read_link_text, remove, stat_text,
 };
-use nr_client::{ClientEnd, Session};
+use nr_client::{Calls, ClientEnd, Link, Session};
 use nr_links::{Dialer, LinkNumber, LinkSink, LinkSource, NumberedSink, NumberedSource};
 use nr_outside::{Sink, Source, write_whole};
 use nr_words::{Action, Client};
@@ -20,9 +19,9 @@ use std::alloc::Global;
 use std::marker::Brand;
 
 /// Makes the requests of a command, and gives the text that it prints.
-fn text_of<P: Source, Q: Sink, N: Source, K: Sink>(
+fn text_of<L: Calls, N: Source, K: Sink>(
     alloc: Global,
-    session: &mut Session<P, Q>,
+    session: &mut Session<L>,
     export: &str,
     action: &Action<&str>,
     input: &mut N,
@@ -31,8 +30,7 @@ fn text_of<P: Source, Q: Sink, N: Source, K: Sink>(
     ensures { text_of session.old.uid session.old.gid export.now (plain_action action.now)
         (source_at (N.left input.old) (N.given input.old) (N.faults input.old)) (source_at (N.left input.new) (N.given input.new) (N.faults input.new))
         (sink_at (K.taken out.old) (K.faults out.old)) (sink_at (K.taken out.new) (K.faults out.new))
-        (session_at (P.left session.old.link.source) (P.given session.old.link.source) (Q.taken session.old.link.sink) session.old.link.read session.old.link.requester (P.faults session.old.link.source) (Q.faults session.old.link.sink))
-        (session_at (P.left session.new.link.source) (P.given session.new.link.source) (Q.taken session.new.link.sink) session.new.link.read session.new.link.requester (P.faults session.new.link.source) (Q.faults session.new.link.sink)) result }
+        (L.at session.old.link) (L.at session.new.link) result }
 {
     match action {
         Action::Mount => mount_text(alloc, session, export),
@@ -83,7 +81,7 @@ fn run_at<
         (source_at (I.left input.old) (I.given input.old) (I.faults input.old)) (source_at (I.left input.new) (I.given input.new) (I.faults input.new))
         (sink_at (K.taken out.old) (K.faults out.old)) (sink_at (K.taken out.new) (K.faults out.new)) result }
 {
-    let opened = Session::<NumberedSource<P, N>, NumberedSink<Q, N>>::open(
+    let opened = Session::<Link<NumberedSource<P, N>, NumberedSink<Q, N>>>::open(
         alloc,
         dial,
         client.addr,

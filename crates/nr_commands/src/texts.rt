@@ -3,14 +3,12 @@
 ghost use Rattle.std.specs.Prelude.{◌≡◌, List, ℕ, IfOk, MatchResult};
 ghost use Rattle.nr_client.specs.declared.client_end.ClientEnd.TheVariants as client;
 ghost use Rattle.nr_commands.specs.Commands.{Lists, MakesDirectory, MakesSymlink, MountsAndPrints, ReadsLink, Removes, Stats, Symlinks};
-ghost use Rattle.nr_commands.specs.Sessions.{session_at};
 
 use crate::finding::{find, find_parent, mount};
 use crate::printing::{attributes_text, handle_text, names_text, path_text};
-use nr_client::{ClientEnd, Session};
+use nr_client::{Calls, ClientEnd, Session};
 use nr_nfs_base::{Handle, LINK_TARGET_MAX, Name, Path};
 use nr_nfs_res::CreateOk;
-use nr_outside::{Sink, Source};
 use nr_xdr::{Memory, Octets};
 use std::alloc::Global;
 
@@ -28,14 +26,12 @@ fn printed(text: Result<Octets, Memory>) -> Result<Octets, ClientEnd>
 }
 
 /// `mount`: the file handle of the root of an export.
-pub(crate) fn mount_text<I: Source, O: Sink>(
+pub(crate) fn mount_text<L: Calls>(
     alloc: Global,
-    session: &mut Session<I, O>,
+    session: &mut Session<L>,
     export: &str,
 ) -> Result<Octets, ClientEnd>
-    ensures part { MountsAndPrints session.old.uid session.old.gid export.now
-        (session_at (I.left session.old.link.source) (I.given session.old.link.source) (O.taken session.old.link.sink) session.old.link.read session.old.link.requester (I.faults session.old.link.source) (O.faults session.old.link.sink))
-        (session_at (I.left session.new.link.source) (I.given session.new.link.source) (O.taken session.new.link.sink) session.new.link.read session.new.link.requester (I.faults session.new.link.source) (O.faults session.new.link.sink)) result }
+    ensures part { MountsAndPrints session.old.uid session.old.gid export.now (L.at session.old.link) (L.at session.new.link) result }
     ensures user { (session.new.uid ≡ session.old.uid) × (session.new.gid ≡ session.old.gid) }
 {
     let root = match mount(alloc, session, export) {
@@ -46,15 +42,13 @@ pub(crate) fn mount_text<I: Source, O: Sink>(
 }
 
 /// `ls`: the names in a directory.
-pub(crate) fn list_text<I: Source, O: Sink>(
+pub(crate) fn list_text<L: Calls>(
     alloc: Global,
-    session: &mut Session<I, O>,
+    session: &mut Session<L>,
     export: &str,
     path: &str,
 ) -> Result<Octets, ClientEnd>
-    ensures part { Lists session.old.uid session.old.gid export.now path.now
-        (session_at (I.left session.old.link.source) (I.given session.old.link.source) (O.taken session.old.link.sink) session.old.link.read session.old.link.requester (I.faults session.old.link.source) (O.faults session.old.link.sink))
-        (session_at (I.left session.new.link.source) (I.given session.new.link.source) (O.taken session.new.link.sink) session.new.link.read session.new.link.requester (I.faults session.new.link.source) (O.faults session.new.link.sink)) result }
+    ensures part { Lists session.old.uid session.old.gid export.now path.now (L.at session.old.link) (L.at session.new.link) result }
     ensures user { (session.new.uid ≡ session.old.uid) × (session.new.gid ≡ session.old.gid) }
 {
     let dir = match find(alloc, session, export, path) {
@@ -69,15 +63,13 @@ pub(crate) fn list_text<I: Source, O: Sink>(
 }
 
 /// `stat`: the attributes of a file.
-pub(crate) fn stat_text<I: Source, O: Sink>(
+pub(crate) fn stat_text<L: Calls>(
     alloc: Global,
-    session: &mut Session<I, O>,
+    session: &mut Session<L>,
     export: &str,
     path: &str,
 ) -> Result<Octets, ClientEnd>
-    ensures part { Stats session.old.uid session.old.gid export.now path.now
-        (session_at (I.left session.old.link.source) (I.given session.old.link.source) (O.taken session.old.link.sink) session.old.link.read session.old.link.requester (I.faults session.old.link.source) (O.faults session.old.link.sink))
-        (session_at (I.left session.new.link.source) (I.given session.new.link.source) (O.taken session.new.link.sink) session.new.link.read session.new.link.requester (I.faults session.new.link.source) (O.faults session.new.link.sink)) result }
+    ensures part { Stats session.old.uid session.old.gid export.now path.now (L.at session.old.link) (L.at session.new.link) result }
     ensures user { (session.new.uid ≡ session.old.uid) × (session.new.gid ≡ session.old.gid) }
 {
     let file = match find(alloc, session, export, path) {
@@ -92,15 +84,13 @@ pub(crate) fn stat_text<I: Source, O: Sink>(
 }
 
 /// `readlink`: the path of a symbolic link.
-pub(crate) fn read_link_text<I: Source, O: Sink>(
+pub(crate) fn read_link_text<L: Calls>(
     alloc: Global,
-    session: &mut Session<I, O>,
+    session: &mut Session<L>,
     export: &str,
     path: &str,
 ) -> Result<Octets, ClientEnd>
-    ensures part { ReadsLink session.old.uid session.old.gid export.now path.now
-        (session_at (I.left session.old.link.source) (I.given session.old.link.source) (O.taken session.old.link.sink) session.old.link.read session.old.link.requester (I.faults session.old.link.source) (O.faults session.old.link.sink))
-        (session_at (I.left session.new.link.source) (I.given session.new.link.source) (O.taken session.new.link.sink) session.new.link.read session.new.link.requester (I.faults session.new.link.source) (O.faults session.new.link.sink)) result }
+    ensures part { ReadsLink session.old.uid session.old.gid export.now path.now (L.at session.old.link) (L.at session.new.link) result }
     ensures user { (session.new.uid ≡ session.old.uid) × (session.new.gid ≡ session.old.gid) }
 {
     let file = match find(alloc, session, export, path) {
@@ -115,15 +105,13 @@ pub(crate) fn read_link_text<I: Source, O: Sink>(
 }
 
 /// `mkdir`: a directory is made. Nothing is printed.
-pub(crate) fn make_directory<I: Source, O: Sink>(
+pub(crate) fn make_directory<L: Calls>(
     alloc: Global,
-    session: &mut Session<I, O>,
+    session: &mut Session<L>,
     export: &str,
     path: &str,
 ) -> Result<Octets, ClientEnd>
-    ensures part { MakesDirectory session.old.uid session.old.gid export.now path.now
-        (session_at (I.left session.old.link.source) (I.given session.old.link.source) (O.taken session.old.link.sink) session.old.link.read session.old.link.requester (I.faults session.old.link.source) (O.faults session.old.link.sink))
-        (session_at (I.left session.new.link.source) (I.given session.new.link.source) (O.taken session.new.link.sink) session.new.link.read session.new.link.requester (I.faults session.new.link.source) (O.faults session.new.link.sink)) result }
+    ensures part { MakesDirectory session.old.uid session.old.gid export.now path.now (L.at session.old.link) (L.at session.new.link) result }
     ensures user { (session.new.uid ≡ session.old.uid) × (session.new.gid ≡ session.old.gid) }
 {
     let place = match find_parent(alloc, session, export, path) {
@@ -138,15 +126,13 @@ pub(crate) fn make_directory<I: Source, O: Sink>(
 }
 
 /// `rm`: what is no directory is removed. Nothing is printed.
-pub(crate) fn remove<I: Source, O: Sink>(
+pub(crate) fn remove<L: Calls>(
     alloc: Global,
-    session: &mut Session<I, O>,
+    session: &mut Session<L>,
     export: &str,
     path: &str,
 ) -> Result<Octets, ClientEnd>
-    ensures part { Removes session.old.uid session.old.gid export.now path.now
-        (session_at (I.left session.old.link.source) (I.given session.old.link.source) (O.taken session.old.link.sink) session.old.link.read session.old.link.requester (I.faults session.old.link.source) (O.faults session.old.link.sink))
-        (session_at (I.left session.new.link.source) (I.given session.new.link.source) (O.taken session.new.link.sink) session.new.link.read session.new.link.requester (I.faults session.new.link.source) (O.faults session.new.link.sink)) result }
+    ensures part { Removes session.old.uid session.old.gid export.now path.now (L.at session.old.link) (L.at session.new.link) result }
     ensures user { (session.new.uid ≡ session.old.uid) × (session.new.gid ≡ session.old.gid) }
 {
     let place = match find_parent(alloc, session, export, path) {
@@ -161,16 +147,14 @@ pub(crate) fn remove<I: Source, O: Sink>(
 }
 
 /// SYMLINK with this path.
-fn symlink<I: Source, O: Sink>(
+fn symlink<L: Calls>(
     alloc: Global,
-    session: &mut Session<I, O>,
+    session: &mut Session<L>,
     dir: &Handle,
     name: &Name,
     target: &str,
 ) -> Result<CreateOk, ClientEnd>
-    ensures part { Symlinks session.old.uid session.old.gid dir.now name.now target.now
-        (session_at (I.left session.old.link.source) (I.given session.old.link.source) (O.taken session.old.link.sink) session.old.link.read session.old.link.requester (I.faults session.old.link.source) (O.faults session.old.link.sink))
-        (session_at (I.left session.new.link.source) (I.given session.new.link.source) (O.taken session.new.link.sink) session.new.link.read session.new.link.requester (I.faults session.new.link.source) (O.faults session.new.link.sink)) result }
+    ensures part { Symlinks session.old.uid session.old.gid dir.now name.now target.now (L.at session.old.link) (L.at session.new.link) result }
     ensures user { (session.new.uid ≡ session.old.uid) × (session.new.gid ≡ session.old.gid) }
 {
     let len = target.len();
@@ -186,16 +170,14 @@ fn symlink<I: Source, O: Sink>(
 }
 
 /// `ln`: a symbolic link is made. Nothing is printed.
-pub(crate) fn make_link<I: Source, O: Sink>(
+pub(crate) fn make_link<L: Calls>(
     alloc: Global,
-    session: &mut Session<I, O>,
+    session: &mut Session<L>,
     export: &str,
     path: &str,
     target: &str,
 ) -> Result<Octets, ClientEnd>
-    ensures part { MakesSymlink session.old.uid session.old.gid export.now path.now target.now
-        (session_at (I.left session.old.link.source) (I.given session.old.link.source) (O.taken session.old.link.sink) session.old.link.read session.old.link.requester (I.faults session.old.link.source) (O.faults session.old.link.sink))
-        (session_at (I.left session.new.link.source) (I.given session.new.link.source) (O.taken session.new.link.sink) session.new.link.read session.new.link.requester (I.faults session.new.link.source) (O.faults session.new.link.sink)) result }
+    ensures part { MakesSymlink session.old.uid session.old.gid export.now path.now target.now (L.at session.old.link) (L.at session.new.link) result }
     ensures user { (session.new.uid ≡ session.old.uid) × (session.new.gid ≡ session.old.gid) }
 {
     let place = match find_parent(alloc, session, export, path) {

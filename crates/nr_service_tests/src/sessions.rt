@@ -2,7 +2,7 @@
 
 use crate::compare::same;
 use crate::runs::{dialer, same_sent};
-use nr_client::Session;
+use nr_client::{Link, Session};
 use nr_links::{Counted, NumberedSink, NumberedSource};
 use nr_nfs_base::{Handle, Name};
 use nr_outside::{MemSink, MemSource};
@@ -12,8 +12,7 @@ use std::process::Abort;
 
 /// The first session over a new dialer.
 type FirstSession = Session<
-    NumberedSource<Counted<MemSource>, Brand>,
-    NumberedSink<Counted<MemSink>, Brand>,
+    Link<NumberedSource<Counted<MemSource>, Brand>, NumberedSink<Counted<MemSink>, Brand>>,
 >;
 
 /// A client of two units says them in private data of its hello, which is own. LOOKUP of `a` in file 1 is the first call.

@@ -1,5 +1,4 @@
 use Rattle.std.proofs.Common.{inr, refl}
-use Rattle.nr_client.specs.Transfers.{link_bytes}
 use Rattle.nr_client.proofs.CallsMade.{answered_as, given_up_as}
 use Rattle.nr_client.proofs.Outcomes.{same_asked}
 use Rattle.nr_client.proofs.answer.outcome_of.Goals as goal
@@ -9,10 +8,10 @@ returns-in-Err-clause-err g c asked is = inr (refl, (refl, refl))
 
 pub returns-in-Err-call-clause-err : goal.returns-in-Err-call-clause-err
 returns-in-Err-call-clause-err g c asked is =
-    given_up_as c.in-Ok.call asked c.in-Err-call.end (link_bytes (g.I.Source.left c.args.link.now.source) (g.I.Source.given c.args.link.now.source) (g.O.Sink.taken c.args.link.now.sink) c.args.link.now.read) (link_bytes (g.I.Source.left c.call.new.self.source) (g.I.Source.given c.call.new.self.source) (g.O.Sink.taken c.call.new.self.sink) c.call.new.self.read)
-    c.args.link.now.requester c.call.new.self.requester (same_asked c.in-Ok.call asked c.in-Ok.is is) c.in-Err-call.ensures.err c.in-Err-call.ensures.cause
+    given_up_as c.in-Ok.call asked c.in-Err-call.end (g.L.Calls.at c.args.link.now).bytes (g.L.Calls.at c.call.new.self).bytes
+    (g.L.Calls.at c.args.link.now).requester (g.L.Calls.at c.call.new.self).requester (same_asked c.in-Ok.call asked c.in-Ok.is is) c.in-Err-call.ensures.err c.in-Err-call.ensures.cause
 
 pub returns-in-Ok-call-clause-ok : goal.returns-in-Ok-call-clause-ok
 returns-in-Ok-call-clause-ok g c asked is =
-    answered_as c.in-Ok.call asked c.in-Ok-call.outcome (link_bytes (g.I.Source.left c.args.link.now.source) (g.I.Source.given c.args.link.now.source) (g.O.Sink.taken c.args.link.now.sink) c.args.link.now.read) (link_bytes (g.I.Source.left c.call.new.self.source) (g.I.Source.given c.call.new.self.source) (g.O.Sink.taken c.call.new.self.sink) c.call.new.self.read)
-    c.args.link.now.requester c.call.new.self.requester (same_asked c.in-Ok.call asked c.in-Ok.is is) c.in-Ok-call.ensures.ok
+    answered_as c.in-Ok.call asked c.in-Ok-call.outcome (g.L.Calls.at c.args.link.now).bytes (g.L.Calls.at c.call.new.self).bytes
+    (g.L.Calls.at c.args.link.now).requester (g.L.Calls.at c.call.new.self).requester (same_asked c.in-Ok.call asked c.in-Ok.is is) c.in-Ok-call.ensures.ok

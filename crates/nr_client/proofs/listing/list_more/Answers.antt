@@ -1,6 +1,5 @@
 use Rattle.nr_nfs_base.specs.Procedures.{nfs_program, nfs_version}
 use Rattle.nr_client.specs.Listing.{listed_after, readdir_call}
-use Rattle.nr_client.specs.Transfers.{link_bytes}
 use Rattle.nr_client.proofs.CallsMade.{asks_by_answer, asks_by_end}
 use Rattle.nr_client.proofs.Outcomes.{writable}
 use Rattle.nr_client.proofs.listing.list_more.Goals as goal
@@ -10,12 +9,12 @@ outcome_of-requires g c = writable c.readdir_call-call.result nfs_program nfs_ve
 
 pub returns-in-Err-clause-asks : goal.returns-in-Err-clause-asks
 returns-in-Err-clause-asks g c =
-    asks_by_end _ (listed_after c.args.listed.now) (readdir_call c.args.uid c.args.gid c.args.dir.now c.args.listed.now.cookie c.args.listed.now.verifier) (link_bytes (g.I.Source.left c.args.link.now.source) (g.I.Source.given c.args.link.now.source) (g.O.Sink.taken c.args.link.now.sink) c.args.link.now.read)
-    (link_bytes (g.I.Source.left c.outcome_of.new.link.source) (g.I.Source.given c.outcome_of.new.link.source) (g.O.Sink.taken c.outcome_of.new.link.sink) c.outcome_of.new.link.read)
-    c.args.link.now.requester c.outcome_of.new.link.requester c.in-Err.end (c.in-Err.ensures.err _ c.readdir_call-call.ensures)
+    asks_by_end _ (listed_after c.args.listed.now) (readdir_call c.args.uid c.args.gid c.args.dir.now c.args.listed.now.cookie c.args.listed.now.verifier) (g.L.Calls.at c.args.link.now).bytes
+    (g.L.Calls.at c.outcome_of.new.link).bytes
+    (g.L.Calls.at c.args.link.now).requester (g.L.Calls.at c.outcome_of.new.link).requester c.in-Err.end (c.in-Err.ensures.err _ c.readdir_call-call.ensures)
 
 pub returns-in-Ok-clause-asks : goal.returns-in-Ok-clause-asks
 returns-in-Ok-clause-asks g c =
-    asks_by_answer (listed_after c.args.listed.now) (readdir_call c.args.uid c.args.gid c.args.dir.now c.args.listed.now.cookie c.args.listed.now.verifier) (link_bytes (g.I.Source.left c.args.link.now.source) (g.I.Source.given c.args.link.now.source) (g.O.Sink.taken c.args.link.now.sink) c.args.link.now.read)
-    (link_bytes (g.I.Source.left c.outcome_of.new.link.source) (g.I.Source.given c.outcome_of.new.link.source) (g.O.Sink.taken c.outcome_of.new.link.sink) c.outcome_of.new.link.read)
-    c.args.link.now.requester c.outcome_of.new.link.requester c.in-Ok.outcome _ (c.in-Ok.ensures.ok _ c.readdir_call-call.ensures) c.add_outcome.ensures.gives
+    asks_by_answer (listed_after c.args.listed.now) (readdir_call c.args.uid c.args.gid c.args.dir.now c.args.listed.now.cookie c.args.listed.now.verifier) (g.L.Calls.at c.args.link.now).bytes
+    (g.L.Calls.at c.outcome_of.new.link).bytes
+    (g.L.Calls.at c.args.link.now).requester (g.L.Calls.at c.outcome_of.new.link).requester c.in-Ok.outcome _ (c.in-Ok.ensures.ok _ c.readdir_call-call.ensures) c.add_outcome.ensures.gives

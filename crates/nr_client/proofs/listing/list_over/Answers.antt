@@ -1,6 +1,5 @@
 use Rattle.std.proofs.Common.{◌≡◌, ◌<◌, ◌-◌, suc, length, Bool, true, false, if◌then◌else◌, arith, sym, subst, ◌∙◌}
 use Rattle.nr_client.specs.Listing.{entries_max, list_next, readdir_call}
-use Rattle.nr_client.specs.Transfers.{link_bytes}
 use Rattle.nr_client.proofs.Listings.{asked_shrinks, calls_left, list_ends, list_goes_on, list_stops}
 use Rattle.nr_client.proofs.listing.list_over.Goals as goal
 
@@ -9,16 +8,16 @@ loop-listed-preserved g c =
     let (within, sources, sinks, leads) = c.loop-listed.invariant in
     let unfinished : c.loop-listed.listed.eof ≡ false = grind (arith, c.loop-listed-test.true) in (
       (asked_shrinks (readdir_call c.args.uid c.args.gid c.args.dir.now c.loop-listed.listed.cookie c.loop-listed.listed.verifier) c.loop-listed.listed c.list_more.new.listed
-          (link_bytes (g.I.Source.left c.loop-listed.link.source) (g.I.Source.given c.loop-listed.link.source) (g.O.Sink.taken c.loop-listed.link.sink) c.loop-listed.link.read)
-          (link_bytes (g.I.Source.left c.list_more.new.link.source) (g.I.Source.given c.list_more.new.link.source) (g.O.Sink.taken c.list_more.new.link.sink) c.list_more.new.link.read)
-          c.loop-listed.link.requester c.list_more.new.link.requester c.in-Ok.ensures.asks).within,
+          (g.L.Calls.at c.loop-listed.link).bytes
+          (g.L.Calls.at c.list_more.new.link).bytes
+          (g.L.Calls.at c.loop-listed.link).requester (g.L.Calls.at c.list_more.new.link).requester c.in-Ok.ensures.asks).within,
       c.in-Ok.ensures.source_faults ∙ sources,
       c.in-Ok.ensures.sink_faults ∙ sinks,
       list_goes_on c.args.uid c.args.gid (list_next c.args.uid c.args.gid c.args.dir.now) c.args.dir.now c.loop-listed.listed unfinished
-          (link_bytes (g.I.Source.left c.args.link.now.source) (g.I.Source.given c.args.link.now.source) (g.O.Sink.taken c.args.link.now.sink) c.args.link.now.read)
-          (link_bytes (g.I.Source.left c.loop-listed.link.source) (g.I.Source.given c.loop-listed.link.source) (g.O.Sink.taken c.loop-listed.link.sink) c.loop-listed.link.read)
-          (link_bytes (g.I.Source.left c.list_more.new.link.source) (g.I.Source.given c.list_more.new.link.source) (g.O.Sink.taken c.list_more.new.link.sink) c.list_more.new.link.read)
-          c.args.link.now.requester c.loop-listed.link.requester c.list_more.new.link.requester leads c.list_more.new.listed c.in-Ok.ensures.asks,
+          (g.L.Calls.at c.args.link.now).bytes
+          (g.L.Calls.at c.loop-listed.link).bytes
+          (g.L.Calls.at c.list_more.new.link).bytes
+          (g.L.Calls.at c.args.link.now).requester (g.L.Calls.at c.loop-listed.link).requester (g.L.Calls.at c.list_more.new.link).requester leads c.list_more.new.listed c.in-Ok.ensures.asks,
     )
 
 pub loop-listed-smaller : goal.loop-listed-smaller
@@ -26,25 +25,25 @@ loop-listed-smaller g c =
     let unfinished : c.loop-listed.listed.eof ≡ false = grind (arith, c.loop-listed-test.true) in
     subst (λ (eof : Bool). calls_left c.list_more.new.listed < (if eof then 0 else suc (entries_max - length c.loop-listed.listed.names))) (sym unfinished)
     (asked_shrinks (readdir_call c.args.uid c.args.gid c.args.dir.now c.loop-listed.listed.cookie c.loop-listed.listed.verifier) c.loop-listed.listed c.list_more.new.listed
-    (link_bytes (g.I.Source.left c.loop-listed.link.source) (g.I.Source.given c.loop-listed.link.source) (g.O.Sink.taken c.loop-listed.link.sink) c.loop-listed.link.read)
-    (link_bytes (g.I.Source.left c.list_more.new.link.source) (g.I.Source.given c.list_more.new.link.source) (g.O.Sink.taken c.list_more.new.link.sink) c.list_more.new.link.read)
-    c.loop-listed.link.requester c.list_more.new.link.requester c.in-Ok.ensures.asks).left
+    (g.L.Calls.at c.loop-listed.link).bytes
+    (g.L.Calls.at c.list_more.new.link).bytes
+    (g.L.Calls.at c.loop-listed.link).requester (g.L.Calls.at c.list_more.new.link).requester c.in-Ok.ensures.asks).left
 
 pub returns-in-Err-clause-follows : goal.returns-in-Err-clause-follows
 returns-in-Err-clause-follows g c =
     let (within, sources, sinks, leads) = c.loop-listed.invariant in
     let unfinished : c.loop-listed.listed.eof ≡ false = grind (arith, c.loop-listed-test.true) in
     list_stops c.args.uid c.args.gid (list_next c.args.uid c.args.gid c.args.dir.now) c.args.dir.now c.loop-listed.listed unfinished
-    (link_bytes (g.I.Source.left c.args.link.now.source) (g.I.Source.given c.args.link.now.source) (g.O.Sink.taken c.args.link.now.sink) c.args.link.now.read)
-    (link_bytes (g.I.Source.left c.loop-listed.link.source) (g.I.Source.given c.loop-listed.link.source) (g.O.Sink.taken c.loop-listed.link.sink) c.loop-listed.link.read)
-    (link_bytes (g.I.Source.left c.list_more.new.link.source) (g.I.Source.given c.list_more.new.link.source) (g.O.Sink.taken c.list_more.new.link.sink) c.list_more.new.link.read)
-    c.args.link.now.requester c.loop-listed.link.requester c.list_more.new.link.requester leads c.in-Err.end c.in-Err.ensures.asks
+    (g.L.Calls.at c.args.link.now).bytes
+    (g.L.Calls.at c.loop-listed.link).bytes
+    (g.L.Calls.at c.list_more.new.link).bytes
+    (g.L.Calls.at c.args.link.now).requester (g.L.Calls.at c.loop-listed.link).requester (g.L.Calls.at c.list_more.new.link).requester leads c.in-Err.end c.in-Err.ensures.asks
 
 pub returns-clause-follows : goal.returns-clause-follows
 returns-clause-follows g c =
     let (within, sources, sinks, leads) = c.loop-listed.invariant in
     let finished : c.loop-listed.listed.eof ≡ true = grind (arith, c.loop-listed-test.false) in
     list_ends c.args.uid c.args.gid (list_next c.args.uid c.args.gid c.args.dir.now) c.args.dir.now c.loop-listed.listed
-    (link_bytes (g.I.Source.left c.args.link.now.source) (g.I.Source.given c.args.link.now.source) (g.O.Sink.taken c.args.link.now.sink) c.args.link.now.read)
-    (link_bytes (g.I.Source.left c.loop-listed.link.source) (g.I.Source.given c.loop-listed.link.source) (g.O.Sink.taken c.loop-listed.link.sink) c.loop-listed.link.read)
-    c.args.link.now.requester c.loop-listed.link.requester finished leads
+    (g.L.Calls.at c.args.link.now).bytes
+    (g.L.Calls.at c.loop-listed.link).bytes
+    (g.L.Calls.at c.args.link.now).requester (g.L.Calls.at c.loop-listed.link).requester finished leads

@@ -1,5 +1,4 @@
 use Rattle.std.proofs.Common.{List, ℕ, subst, sym}
-use Rattle.nr_client.specs.Transfers.{link_bytes}
 use Rattle.nr_client.specs.private.OpenReads.{ReadSoFar}
 use Rattle.nr_client.proofs.FileEnds.{all_read}
 use Rattle.nr_client.proofs.read_file.read_pieces.Goals as goal
@@ -8,8 +7,8 @@ pub returns-clause-ends : goal.returns-clause-ends
 returns-clause-ends g c first taken so_far =
     let (ahead, sources, sinks, outs, on) = c.pieces.invariant in
     all_read c.args.file.now.uid c.args.file.now.gid c.args.file.now.handle.now c.args.file.now.size c.pieces.at c.pieces.at c.pieces.tickets.items first taken (g.K.Sink.taken c.pieces.out)
-    (link_bytes (g.I.Source.left c.pieces.link.source) (g.I.Source.given c.pieces.link.source) (g.O.Sink.taken c.pieces.link.sink) c.pieces.link.read)
-    c.pieces.link.requester c.pieces-test.false
+    (g.L.Calls.at c.pieces.link).bytes
+    (g.L.Calls.at c.pieces.link).requester c.pieces-test.false
     (on first taken (subst (λ (l : List ℕ). ReadSoFar c.args.file.now.uid c.args.file.now.gid c.args.file.now.handle.now c.args.file.now.size first taken 0 0 l
-    (link_bytes (g.I.Source.left c.args.link.now.source) (g.I.Source.given c.args.link.now.source) (g.O.Sink.taken c.args.link.now.sink) c.args.link.now.read)
-    c.args.link.now.requester (g.K.Sink.taken c.args.out.now)) (sym c.requires) so_far))
+    (g.L.Calls.at c.args.link.now).bytes
+    (g.L.Calls.at c.args.link.now).requester (g.K.Sink.taken c.args.out.now)) (sym c.requires) so_far))

@@ -6,11 +6,11 @@ use Rattle.nr_client.proofs.reading_ahead.forget_all.Given as goal
 
 abbrev pub invariant-tickets : goal.invariant-tickets
 invariant-tickets g l =
-    AreOpen l.link.requester.state l.tickets.items
-    × (l.link.source ≡ l.initial.link.source)
-    × (l.link.sink ≡ l.initial.link.sink)
-    × (l.link.read ≡ l.initial.link.read)
-    × ((j : RequesterSide) → ForgetsCalls l.tickets.items l.link.requester j → ForgetsCalls l.initial.tickets.items l.initial.link.requester j)
+    AreOpen (g.L.Calls.at l.link).requester.state l.tickets.items
+    × ((g.L.Calls.at l.link).bytes ≡ (g.L.Calls.at l.initial.link).bytes)
+    × ((g.L.Calls.at l.link).source_faults ≡ (g.L.Calls.at l.initial.link).source_faults)
+    × ((g.L.Calls.at l.link).sink_faults ≡ (g.L.Calls.at l.initial.link).sink_faults)
+    × ((j : RequesterSide) → ForgetsCalls l.tickets.items (g.L.Calls.at l.link).requester j → ForgetsCalls l.initial.tickets.items (g.L.Calls.at l.initial.link).requester j)
 
 abbrev pub decreases-tickets : goal.decreases-tickets
 decreases-tickets g l = goal.left-tickets g l

@@ -1,18 +1,17 @@
 use Rattle.nr_client.specs.Requests.{lookup_call}
-use Rattle.nr_client.specs.Transfers.{link_bytes}
 use Rattle.nr_client.proofs.Walks.{asks_no_object, asks_object}
 use Rattle.nr_client.proofs.walking.object_over.Goals as goal
 
 pub returns-in-Ok-clause-asks : goal.returns-in-Ok-clause-asks
 returns-in-Ok-clause-asks g c =
     asks_object (lookup_call c.args.uid c.args.gid c.args.dir.now c.args.name.now)
-    (link_bytes (g.I.Source.left c.args.link.now.source) (g.I.Source.given c.args.link.now.source) (g.O.Sink.taken c.args.link.now.sink) c.args.link.now.read)
-    (link_bytes (g.I.Source.left c.ask_nfs.new.link.source) (g.I.Source.given c.ask_nfs.new.link.source) (g.O.Sink.taken c.ask_nfs.new.link.sink) c.ask_nfs.new.link.read)
-    c.args.link.now.requester c.ask_nfs.new.link.requester c.in-Ok.field-0 (c.in-Ok.ensures.asks _ c.lookup_call-call.ensures)
+    (g.L.Calls.at c.args.link.now).bytes
+    (g.L.Calls.at c.ask_nfs.new.link).bytes
+    (g.L.Calls.at c.args.link.now).requester (g.L.Calls.at c.ask_nfs.new.link).requester c.in-Ok.field-0 (c.in-Ok.ensures.asks _ c.lookup_call-call.ensures)
 
 pub returns-in-Err-clause-asks : goal.returns-in-Err-clause-asks
 returns-in-Err-clause-asks g c =
     asks_no_object (lookup_call c.args.uid c.args.gid c.args.dir.now c.args.name.now)
-    (link_bytes (g.I.Source.left c.args.link.now.source) (g.I.Source.given c.args.link.now.source) (g.O.Sink.taken c.args.link.now.sink) c.args.link.now.read)
-    (link_bytes (g.I.Source.left c.ask_nfs.new.link.source) (g.I.Source.given c.ask_nfs.new.link.source) (g.O.Sink.taken c.ask_nfs.new.link.sink) c.ask_nfs.new.link.read)
-    c.args.link.now.requester c.ask_nfs.new.link.requester c.in-Err.end (c.in-Err.ensures.asks _ c.lookup_call-call.ensures)
+    (g.L.Calls.at c.args.link.now).bytes
+    (g.L.Calls.at c.ask_nfs.new.link).bytes
+    (g.L.Calls.at c.args.link.now).requester (g.L.Calls.at c.ask_nfs.new.link).requester c.in-Err.end (c.in-Err.ensures.asks _ c.lookup_call-call.ensures)

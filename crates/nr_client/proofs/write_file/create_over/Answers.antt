@@ -1,6 +1,5 @@
 use Rattle.std.proofs.Common.{ℕ, List}
 use Rattle.nr_nfs_base.specs.Procedures.{nfs_program, nfs_version}
-use Rattle.nr_client.specs.Transfers.{link_bytes}
 use Rattle.nr_client.specs.Writing.{create_call, created_file}
 use Rattle.nr_client.proofs.CallsMade.{asks_by_answer, asks_by_end}
 use Rattle.nr_client.proofs.Outcomes.{writable}
@@ -11,12 +10,12 @@ outcome_of-requires g c = writable c.create_call.result nfs_program nfs_version 
 
 pub returns-in-Err-clause-asks : goal.returns-in-Err-clause-asks
 returns-in-Err-clause-asks g c =
-    asks_by_end (List ℕ) created_file (create_call c.args.uid c.args.gid c.args.dir.now c.args.name.now) (link_bytes (g.I.Source.left c.args.link.now.source) (g.I.Source.given c.args.link.now.source) (g.O.Sink.taken c.args.link.now.sink) c.args.link.now.read) (link_bytes (g.I.Source.left c.outcome_of.new.link.source) (g.I.Source.given c.outcome_of.new.link.source) (g.O.Sink.taken c.outcome_of.new.link.sink) c.outcome_of.new.link.read)
-    c.args.link.now.requester c.outcome_of.new.link.requester
+    asks_by_end (List ℕ) created_file (create_call c.args.uid c.args.gid c.args.dir.now c.args.name.now) (g.L.Calls.at c.args.link.now).bytes (g.L.Calls.at c.outcome_of.new.link).bytes
+    (g.L.Calls.at c.args.link.now).requester (g.L.Calls.at c.outcome_of.new.link).requester
     c.in-Err.end (c.in-Err.ensures.err _ c.create_call.ensures)
 
 pub returns-clause-asks : goal.returns-clause-asks
 returns-clause-asks g c =
-    asks_by_answer created_file (create_call c.args.uid c.args.gid c.args.dir.now c.args.name.now) (link_bytes (g.I.Source.left c.args.link.now.source) (g.I.Source.given c.args.link.now.source) (g.O.Sink.taken c.args.link.now.sink) c.args.link.now.read) (link_bytes (g.I.Source.left c.outcome_of.new.link.source) (g.I.Source.given c.outcome_of.new.link.source) (g.O.Sink.taken c.outcome_of.new.link.sink) c.outcome_of.new.link.read)
-    c.args.link.now.requester c.outcome_of.new.link.requester
+    asks_by_answer created_file (create_call c.args.uid c.args.gid c.args.dir.now c.args.name.now) (g.L.Calls.at c.args.link.now).bytes (g.L.Calls.at c.outcome_of.new.link).bytes
+    (g.L.Calls.at c.args.link.now).requester (g.L.Calls.at c.outcome_of.new.link).requester
     c.in-Ok.outcome c.created_in.result (c.in-Ok.ensures.ok _ c.create_call.ensures) c.created_in.ensures.gives

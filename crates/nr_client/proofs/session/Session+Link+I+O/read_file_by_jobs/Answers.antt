@@ -3,7 +3,7 @@ use Rattle.nr_outside.specs.Streams.{sink_at, source_at}
 use Rattle.nr_nfs_base.specs.Procedures.{nfs_program, nfs_version}
 use Rattle.nr_client.proofs.JobReading.{no_attributes, shared_after}
 use Rattle.nr_client.proofs.Outcomes.{writable}
-use Rattle.nr_client.proofs.session.Session.read_file_by_jobs.Goals as goal
+use Rattle.nr_client.proofs.session.Session+Link+I+O.read_file_by_jobs.Goals as goal
 
 pub ask_nfs-requires : goal.ask_nfs-requires
 ask_nfs-requires g c = writable c.getattr_call-call.result nfs_program nfs_version 1 c.self.inside.uid c.self.inside.gid _ c.getattr_call-call.ensures

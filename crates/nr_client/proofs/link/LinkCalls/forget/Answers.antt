@@ -1,7 +1,7 @@
 use Rattle.std.proofs.Common.{◌≡◌, true, is_some, arith, sym}
 use Rattle.nr_requester.specs.OpenCalls.{open_call}
 use Rattle.nr_client.proofs.Answering.{forgets_call}
-use Rattle.nr_client.proofs.link.Link.forget.Goals as goal
+use Rattle.nr_client.proofs.link.LinkCalls.forget.Goals as goal
 
 pub returns-clause-forgets : goal.returns-clause-forgets
 returns-clause-forgets g c =

@@ -1,6 +1,6 @@
 use Rattle.nr_shared.specs.declared.entry.Entry.TheVariants as entries
 use Rattle.nr_client.specs.Jobs.{FileReads}
-use Rattle.nr_client.proofs.session.Session.read_file_by_jobs.Given as goal
+use Rattle.nr_client.proofs.session.Session+Link+I+O.read_file_by_jobs.Given as goal
 
 abbrev pub ghosts-read_shared-N-Appended : goal.ghosts-read_shared-N-Appended
 ghosts-read_shared-N-Appended g a = record { entry = entries.Initial (record { requester = a.link.requester; faults = g.O.Sink.faults a.link.sink; taken = g.O.Sink.taken a.link.sink }) }
