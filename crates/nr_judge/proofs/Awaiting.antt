@@ -1,10 +1,9 @@
 -- A list of the calls that are awaited goes along, line by line.
 use Rattle.std.specs.Prelude.{not, ◌==◌, ◌&&◌, ◌||◌, Contains}
 use Rattle.std.specs.List.{filter, list_any}
-use Rattle.std.proofs.Common.{◌≡◌, ◌≢◌, ℕ, ◌+◌, ◌<◌, ◌≤◌, ◌⊎◌, ◌↔◌, inl, inr, Bool, true, false, cond, eqb, eqb-true, eq-eqb, true≢false, List, [], ◌∷◌, ◌++◌, length, map, refl, sym, ap, subst, ◌∙◌, append-nil, append_assoc, arith}
+use Rattle.std.proofs.Common.{◌≡◌, ◌≢◌, ℕ, ◌+◌, ◌<◌, ◌≤◌, ◌⊎◌, inl, inr, Bool, true, false, cond, eqb, eqb-true, eq-eqb, true≢false, List, [], ◌∷◌, ◌++◌, map, refl, sym, ap, subst, ◌∙◌, append-nil, append_assoc, arith}
 use Rattle.std.proofs.lemmas.Bool.{cases_eq}
 use Rattle.std.proofs.lemmas.List.Elements.{Contains-append_left, Contains-append_right, Contains-append_cases, Contains-push, Contains-push_cases}
-use Rattle.nr_wire.specs.declared.hello.Side.TheVariants.{Initiator, Responder}
 use Rattle.nr_reduce.specs.declared.call.Call.{Call}
 use Rattle.nr_reduce.specs.declared.call.Form.{Form}
 use Rattle.nr_reduce.specs.declared.call.Outcome.{Outcome}
@@ -18,14 +17,13 @@ use Rattle.nr_reduce.specs.History.{AcceptedCall, CompletedCall, accepted_at, ac
 use Rattle.nr_reduce.specs.Run.{client}
 use Rattle.nr_reduce.specs.SubmitAnswer.{next_sent_xid}
 use Rattle.nr_reduce.specs.Matched.{IsPrefixOf}
-use Rattle.nr_reduce.specs.Asked.{AskedMark, AskedSoFar, IsAwaited, IsAwaitedOf, IsAwaitedOrWaits, as_accepted, client_calls}
+use Rattle.nr_reduce.specs.Asked.{AskedMark, AskedSoFar, IsAwaited, IsAwaitedOf, IsAwaitedOrWaits, as_accepted}
 use Rattle.nr_reduce.proofs.Standing.{one_more}
 use Rattle.nr_reduce.proofs.Waiting.{accepted_one}
 use Rattle.nr_reduce.proofs.Placing.{sent_rises, sent_after_submit}
-use Rattle.nr_capture.specs.declared.capture.CapturedMark.{CapturedMark}
 use Rattle.nr_capture.specs.declared.capture.CapturedMark.TheVariants as marks
 use Rattle.nr_judge.specs.CapturedRun.{Setting, mark_after}
-use Rattle.nr_judge.specs.Awaiting.{AwaitsExactly, without_xid, awaited_after, AwaitedGoOn}
+use Rattle.nr_judge.specs.Awaiting.{AwaitsExactly, without_xid, AwaitedGoOn}
 
 -- ---- Elements of lists
 

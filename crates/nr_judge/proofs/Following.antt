@@ -1,5 +1,5 @@
 -- One line more: what is in transit on each link.
-use Rattle.std.specs.Prelude.{◌&&◌, slice_get, slice_set, slice_index_or}
+use Rattle.std.specs.Prelude.{◌&&◌, slice_get, slice_set}
 use Rattle.std.proofs.Common.{◌≡◌, ◌≢◌, ℕ, ◌+◌, ◌-◌, ◌<◌, ◌≤◌, Bool, true, false, cond, eqb, eqb-true, eq-eqb, true≢false, List, [], ◌∷◌, ◌++◌, length, Option, None, Some, refl, sym, ap, subst, ◌∙◌, arith, get_or, zero, suc, leb, leb-true, replicate, get_or-set_same, get_or-set_other, length-set}
 use Rattle.std.specs.List.{AllByRecursion}
 use Rattle.std.proofs.lemmas.Bool.{and_parts}
@@ -12,7 +12,6 @@ use Rattle.nr_reduce.specs.declared.mark.Mark.{Mark}
 use Rattle.nr_reduce.specs.declared.mark.Mark.TheVariants as runs
 use Rattle.nr_reduce.specs.History.{written_at, fed_at, same_side, bytes_sent, bytes_received}
 use Rattle.nr_reduce.specs.Matched.{Matched, MatchedMark}
-use Rattle.nr_reduce.specs.AtEachMark.{AtEachMark}
 use Rattle.nr_reduce.proofs.Standing.{AtEachMark_more}
 use Rattle.nr_reduce.proofs.Placing.{AtEachMark_at}
 use Rattle.nr_capture.specs.declared.capture.CapturedMark.{CapturedMark}
@@ -20,7 +19,6 @@ use Rattle.nr_capture.specs.declared.capture.CapturedMark.TheVariants as marks
 use Rattle.nr_texts.specs.declared.opening.Opening.{Opening}
 use Rattle.nr_capture.specs.Capture.{is_link, link_of}
 use Rattle.nr_judge.specs.CapturedRun.{Setting, mark_after, run_after}
-use Rattle.nr_judge.specs.Transit.{IsTaken}
 use Rattle.nr_judge.specs.Matching.{LinkBytes, nothing_in_transit, StandsFor, link_at, StandForAll, IsLinkAt, AllMatch, MatchesMark, after_wrote, IsFed, WroteOn, FedOn}
 use Rattle.nr_judge.proofs.Runs.{run_one}
 use Rattle.nr_judge.proofs.Transits.{transit_stays, transit_written, transit_fed, fed_keeps, fed_breaks}

@@ -1,17 +1,15 @@
 -- A capture has one verdict: the laws of a link that hold so far of some marks hold so far of each first part of them.
-use Rattle.std.proofs.Common.{◌≡◌, ℕ, ◌+◌, ◌-◌, ◌<◌, ◌≤◌, ◌⊎◌, List, [], ◌++◌, length, take, drop, sym, ap, subst, ◌∙◌, arith, inl, inr}
+use Rattle.std.proofs.Common.{◌≡◌, ℕ, ◌+◌, ◌-◌, ◌<◌, ◌≤◌, ◌⊎◌, List, [], ◌++◌, take, drop, sym, ap, subst, ◌∙◌, arith, inl, inr}
 use Rattle.std.proofs.lemmas.Bool.{cases_lt, cases_order}
 use Rattle.std.proofs.lemmas.List.{take-append-drop, take-take}
-use Rattle.nr_reduce.specs.declared.mark.Entry.{Entry}
 use Rattle.nr_reduce.specs.declared.mark.Mark.{Mark}
 use Rattle.nr_reduce.specs.declared.mark.LinkParameters.{LinkParameters}
-use Rattle.nr_reduce.specs.Matched.{Matched}
 use Rattle.nr_reduce.specs.SoFar.{SoFar, InFull}
 use Rattle.nr_reduce.proofs.SoFarLaws.{so_far, first_part}
 use Rattle.nr_capture.specs.declared.capture.CapturedMark.{CapturedMark}
 use Rattle.nr_capture.specs.Capture.{CaptureLines}
-use Rattle.nr_judge.specs.CapturedRun.{Setting, mark_after, run_after, run_of, first_marks}
-use Rattle.nr_judge.specs.Verdicts.{Law, HoldsSoFar, HoldsInFull, IsLinkOf, IsYes, FailsAt, FailsAfterAll, IsNo, IsFirstUnmatched, YesIsNotNo, NoHasOneLine, UnmatchedIsNotYes, NoIsBeforeUnmatched}
+use Rattle.nr_judge.specs.CapturedRun.{Setting, run_after, run_of, first_marks}
+use Rattle.nr_judge.specs.Verdicts.{Law, HoldsSoFar, HoldsInFull, FailsAt, FailsAfterAll, YesIsNotNo, NoHasOneLine, UnmatchedIsNotYes, NoIsBeforeUnmatched}
 use Rattle.nr_judge.specs.Verdicts.Law.{AskedLaw, ServedLaw, MatchedLaw, GrantLaw}
 use Rattle.nr_judge.proofs.Runs.{run_goes_on, run_in_parts}
 
@@ -61,22 +59,22 @@ law_in_full GrantLaw opened link run h = h.grant
 -- ---- One verdict
 
 pub yes_is_not_no : YesIsNotNo
-yes_is_not_no s capture J line law holds (inl fails) =
-    fails.fails (law_so_far law (s.opened fails.link) fails.link (first_marks s capture line)
-        (full_soon (s.opened fails.link) fails.link (first_marks s capture line) (run_of s capture) (begins_run s capture line) (holds.laws fails.link fails.is_link)))
-yes_is_not_no s capture J line law holds (inr fails) = fails.fails (law_in_full law (s.opened fails.link) fails.link (run_of s capture) (holds.laws fails.link fails.is_link))
+yes_is_not_no s capture J line law holds (inl refusal) =
+    refusal.fails (law_so_far law (s.opened refusal.link) refusal.link (first_marks s capture line)
+        (full_soon (s.opened refusal.link) refusal.link (first_marks s capture line) (run_of s capture) (begins_run s capture line) (holds.laws refusal.link refusal.is_link)))
+yes_is_not_no s capture J line law holds (inr refusal) = refusal.fails (law_in_full law (s.opened refusal.link) refusal.link (run_of s capture) (holds.laws refusal.link refusal.is_link))
 
--- of two lines the earlier one is fails No
+-- a No at a line leaves none at a later one
 not_earlier : (s : Setting) (capture : CaptureLines) (line other : ℕ) (law another : Law) → FailsAt s capture line law → FailsAt s capture other another → line < other → ⊥
-not_earlier s capture line other law another fails later lt =
+not_earlier s capture line other law another refusal later lt =
     let le : line ≤ other - 1 = omega (arith, lt) in
-    fails.fails (law_so_far law (s.opened fails.link) fails.link (first_marks s capture line)
-        (soon (s.opened fails.link) fails.link (first_marks s capture line) (first_marks s capture (other - 1)) (begins_later s capture line (other - 1) le) (later.before fails.link fails.is_link)))
+    refusal.fails (law_so_far law (s.opened refusal.link) refusal.link (first_marks s capture line)
+        (soon (s.opened refusal.link) refusal.link (first_marks s capture line) (first_marks s capture (other - 1)) (begins_later s capture line (other - 1) le) (later.before refusal.link refusal.is_link)))
 
 not_after_all : (s : Setting) (capture : CaptureLines) (line other : ℕ) (law another : Law) → FailsAt s capture line law → FailsAfterAll s capture other another → ⊥
-not_after_all s capture line other law another fails all =
-    fails.fails (law_so_far law (s.opened fails.link) fails.link (first_marks s capture line)
-        (soon (s.opened fails.link) fails.link (first_marks s capture line) (run_of s capture) (begins_run s capture line) (all.so_far fails.link fails.is_link)))
+not_after_all s capture line other law another refusal all =
+    refusal.fails (law_so_far law (s.opened refusal.link) refusal.link (first_marks s capture line)
+        (soon (s.opened refusal.link) refusal.link (first_marks s capture line) (run_of s capture) (begins_run s capture line) (all.so_far refusal.link refusal.is_link)))
 
 same_line : (line other : ℕ) → (line < other → ⊥) → (other < line → ⊥) → line ≡ other
 same_line line other a b = by (cases_order line other)
@@ -87,10 +85,10 @@ same_line line other a b = by (cases_order line other)
     by (inr (inr lt)) = absurd (b lt)
 
 pub no_has_one_line : NoHasOneLine
-no_has_one_line s capture line other law another (inl fails) (inl second) =
-    same_line line other (not_earlier s capture line other law another fails second) (not_earlier s capture other line another law second fails)
-no_has_one_line s capture line other law another (inl fails) (inr all) = absurd (not_after_all s capture line other law another fails all)
-no_has_one_line s capture line other law another (inr all) (inl fails) = absurd (not_after_all s capture other line another law fails all)
+no_has_one_line s capture line other law another (inl refusal) (inl second) =
+    same_line line other (not_earlier s capture line other law another refusal second) (not_earlier s capture other line another law second refusal)
+no_has_one_line s capture line other law another (inl refusal) (inr all) = absurd (not_after_all s capture line other law another refusal all)
+no_has_one_line s capture line other law another (inr all) (inl refusal) = absurd (not_after_all s capture other line another law refusal all)
 no_has_one_line s capture line other law another (inr all) (inr all2) = all.is_next ∙ sym all2.is_next
 
 pub unmatched_is_not_yes : UnmatchedIsNotYes
@@ -98,12 +96,12 @@ unmatched_is_not_yes s capture J line first holds =
     first.fails (full_soon (s.opened first.link) first.link (first_marks s capture line) (run_of s capture) (begins_run s capture line) (holds.laws first.link first.is_link)).matched
 
 pub no_is_before_unmatched : NoIsBeforeUnmatched
-no_is_before_unmatched s capture line other law first (inl fails) = by (cases_lt line other)
+no_is_before_unmatched s capture line other law first (inl refusal) = by (cases_lt line other)
   where
     by : (line < other) ⊎ (other ≤ line) → other ≤ line
     by (inr le) = le
     by (inl lt) =
         let le : line ≤ other - 1 = omega (arith, lt) in
-        absurd (first.fails (soon (s.opened first.link) first.link (first_marks s capture line) (first_marks s capture (other - 1)) (begins_later s capture line (other - 1) le) (fails.before first.link first.is_link)).matched)
+        absurd (first.fails (soon (s.opened first.link) first.link (first_marks s capture line) (first_marks s capture (other - 1)) (begins_later s capture line (other - 1) le) (refusal.before first.link first.is_link)).matched)
 no_is_before_unmatched s capture line other law first (inr all) =
     absurd (first.fails (soon (s.opened first.link) first.link (first_marks s capture line) (run_of s capture) (begins_run s capture line) (all.so_far first.link first.is_link)).matched)

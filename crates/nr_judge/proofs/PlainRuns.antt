@@ -1,7 +1,7 @@
 -- What an execution of a capture leaves out is what the plain server gives there.
-use Rattle.std.specs.Prelude.{is_some, is_ok, ◌&&◌}
+use Rattle.std.specs.Prelude.{is_some, is_ok}
 use Rattle.std.specs.List.{flat_map, AllByRecursion}
-use Rattle.std.proofs.Common.{◌≡◌, ℕ, ◌≤◌, true, false, Bool, leb, leb-true, List, [], ◌∷◌, ◌++◌, length, Option, None, Some, Result, Ok, Err, refl, sym, ap, subst, ◌∙◌, append-nil, append_assoc}
+use Rattle.std.proofs.Common.{◌≡◌, ℕ, ◌≤◌, true, leb, leb-true, List, [], ◌∷◌, ◌++◌, length, Option, None, Some, Result, Ok, refl, sym, ap, subst, ◌∙◌, append-nil, append_assoc}
 use Rattle.std.proofs.lemmas.Bool.{and_parts}
 use Rattle.nr_outside.specs.declared.moment.Moment.{Moment}
 use Rattle.nr_rpc.specs.declared.head.CallHead.{CallHead}
@@ -15,17 +15,15 @@ use Rattle.nr_reduce.specs.declared.mark.Entry.{Entry}
 use Rattle.nr_reduce.specs.declared.mark.Mark.{Mark}
 use Rattle.nr_reduce.specs.declared.mark.Mark.TheVariants as runs
 use Rattle.nr_reduce.specs.AtEachMark.{AtEachMark}
-use Rattle.nr_reduce.specs.PlainJournal.{PlainServer, any_that_adds, entries_added, journal}
-use Rattle.nr_reduce.specs.Journal.{PlacedMark, Journaled, PlainMark, AnsweredByPlainServer}
+use Rattle.nr_reduce.specs.PlainJournal.{any_that_adds, entries_added, journal}
+use Rattle.nr_reduce.specs.Journal.{PlacedMark, PlainMark}
 use Rattle.nr_reduce.specs.Matched.{IsPrefixOf}
-use Rattle.nr_reduce.specs.Served.{ServedMark, ServedSoFar, IsExecuted, next_call}
+use Rattle.nr_reduce.specs.Served.{ServedMark, next_call}
 use Rattle.nr_reduce.proofs.Calls.{executed_head}
 use Rattle.nr_capture.specs.declared.capture.CapturedMark.{CapturedMark}
 use Rattle.nr_capture.specs.declared.capture.CapturedMark.TheVariants as marks
-use Rattle.nr_capture.specs.Capture.{CaptureLines, is_link, link_of}
-use Rattle.nr_capture.specs.Writable.{IsWritable}
+use Rattle.nr_capture.specs.Capture.{is_link, link_of}
 use Rattle.nr_judge.specs.CapturedRun.{Setting, mark_after, run_after, run_of, journal_of, moment_of, payload_or_none, bytes_or_none}
-use Rattle.nr_judge.specs.Verdicts.{IsLinkOf}
 use Rattle.nr_judge.specs.PlainRuns.{plain_server, ServedRunIsPlain}
 
 -- ---- One journal

@@ -1,8 +1,7 @@
 -- Each test of a line is met if and only if the mark of the line keeps its law.
-use Rattle.std.proofs.Common.{◌≡◌, ℕ, ◌+◌, ◌<◌, ◌≤◌, ◌↔◌, List, [], ◌∷◌, ◌++◌, length, map, Option, None, Some, Result, Ok, Err, refl, sym, ap, subst, ◌∙◌, append-nil, append_assoc}
+use Rattle.std.proofs.Common.{◌≡◌, ℕ, ◌+◌, ◌<◌, ◌≤◌, ◌↔◌, List, [], ◌++◌, map, Option, None, Some, refl, sym, ap, subst, ◌∙◌, append-nil, append_assoc}
 use Rattle.std.specs.Prelude.{Contains}
 use Rattle.std.proofs.lemmas.List.{append_cancel_left}
-use Rattle.nr_wire.specs.declared.hello.Side.{Side}
 use Rattle.nr_wire.specs.declared.hello.Side.TheVariants.{Initiator, Responder}
 use Rattle.nr_link.specs.declared.end.End.{End}
 use Rattle.nr_reduce.specs.declared.call.Call.{Call}
@@ -12,24 +11,20 @@ use Rattle.nr_reduce.specs.declared.mark.LinkParameters.{LinkParameters}
 use Rattle.nr_reduce.specs.declared.mark.ResumedCall.{ResumedCall}
 use Rattle.nr_reduce.specs.declared.outline.Plan.{Plan}
 use Rattle.nr_reduce.specs.Limits.{numbers_end}
-use Rattle.nr_reduce.specs.Plans.{TooLarge, plan_of, regions_needed}
-use Rattle.nr_reduce.specs.History.{AcceptedCall, CompletedCall, accepted_calls, completed_calls, bytes_sent, bytes_received, is_abandoned}
+use Rattle.nr_reduce.specs.Plans.{plan_of, regions_needed}
+use Rattle.nr_reduce.specs.History.{AcceptedCall, accepted_calls, bytes_sent}
 use Rattle.nr_reduce.specs.ClientState.{WaitingCall, ClientState, call_payload, plan_for, plan_unless, first_of, stags_taken, stags_unless_waiting}
-use Rattle.nr_reduce.specs.ServerState.{ServerState, ReadyCall}
-use Rattle.nr_reduce.specs.EndRules.{EndState}
-use Rattle.nr_reduce.specs.KeptClient.{KeptClient, ClientKeeps, MemoryKeeps}
 use Rattle.nr_reduce.specs.Run.{client, server, output_due}
-use Rattle.nr_reduce.specs.AtEachMark.{AtEachMark}
-use Rattle.nr_reduce.specs.Credits.{calls_outstanding, credits_granted, WithinGrant}
+use Rattle.nr_reduce.specs.Credits.{calls_outstanding, credits_granted}
 use Rattle.nr_reduce.specs.SubmitAnswer.{first_xid_or, next_sent_xid}
 use Rattle.nr_reduce.specs.Matched.{IsPrefixOf}
-use Rattle.nr_reduce.specs.Asked.{Asked, AskedMark, IsAll, IsAccepted, IsResent, IsAwaited, IsAwaitedOf, IsAwaitedOrWaits, IsCompleted, IsRevoked, as_accepted, client_calls, revoked_bytes}
-use Rattle.nr_reduce.specs.Served.{Served, ServedMark, IsExecuted, first_ready, next_call}
+use Rattle.nr_reduce.specs.Asked.{AskedMark, IsAll, IsAccepted, IsResent, IsAwaited, IsAwaitedOf, IsAwaitedOrWaits, as_accepted, client_calls, revoked_bytes}
+use Rattle.nr_reduce.specs.Served.{ServedMark, IsExecuted, first_ready, next_call}
 use Rattle.nr_reduce.proofs.Unresumed.{resent_marks, none_resent, awaited_or_waits}
 use Rattle.nr_capture.specs.declared.capture.CapturedMark.{CapturedMark}
 use Rattle.nr_capture.specs.declared.capture.CapturedMark.TheVariants as marks
 use Rattle.nr_judge.specs.CapturedRun.{Setting, mark_after, payload_or_none}
-use Rattle.nr_judge.specs.Tests.{JudgedClient, ClientIsJudged, KeptAccepts, AskedTest, GrantTest, JudgedServer, ServerIsJudged, IsNext, ServedTest, AskedIsTested, ServedIsTested, GrantIsTested, AskedInFullIsTested, ServedInFullIsTested, AskedEndIsTested, ServedEndIsTested}
+use Rattle.nr_judge.specs.Tests.{JudgedClient, ClientIsJudged, KeptAccepts, AskedTest, JudgedServer, ServerIsJudged, IsNext, ServedTest, AskedIsTested, ServedIsTested, GrantIsTested, AskedInFullIsTested, ServedInFullIsTested, AskedEndIsTested, ServedEndIsTested}
 
 -- ---- What is written, after what was written before
 

@@ -1,5 +1,5 @@
 -- The run that a capture tells is that of a plain RPC server, where its servers keep their law so far.
-use Rattle.std.specs.Prelude.{◌≡◌, ℕ, List, length, Some}
+use Rattle.std.specs.Prelude.{◌≡◌, ℕ, length, Some}
 use Rattle.nr_plain.specs.Setup.{Setup}
 use Rattle.nr_plain.specs.Replies.{plain_reply}
 use Rattle.nr_plain.specs.Added.{entries_of_call}

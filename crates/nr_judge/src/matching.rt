@@ -1,6 +1,6 @@
 //! Whether what each side of each link received is what the other sent.
 
-ghost use Rattle.std.specs.Prelude.{◌≡◌, IfOk};
+ghost use Rattle.std.specs.Prelude.{IfOk};
 ghost use Rattle.nr_judge.specs.CapturedRun.{Setting};
 ghost use Rattle.nr_judge.specs.Verdicts.{FirstUnmatched};
 

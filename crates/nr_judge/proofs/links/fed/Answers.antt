@@ -1,4 +1,4 @@
-use Rattle.std.proofs.Common.{◌≡◌, ℕ, ◌-◌, Bool, false, Option, ap, refl}
+use Rattle.std.proofs.Common.{ℕ, ◌-◌, false, Option, ap, refl}
 use Rattle.std.specs.Prelude.{slice_set}
 use Rattle.nr_judge.specs.Matching.{LinkBytes, FedOn}
 use Rattle.nr_judge.proofs.Following.{found_at, not_found_at}

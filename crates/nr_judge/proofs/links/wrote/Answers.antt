@@ -1,6 +1,6 @@
-use Rattle.std.proofs.Common.{◌≡◌, ℕ, ◌-◌, Option, ap, ◌∙◌, sym, refl}
+use Rattle.std.proofs.Common.{◌-◌, Option, refl}
 use Rattle.std.specs.Prelude.{slice_set}
-use Rattle.nr_judge.specs.Matching.{LinkBytes, after_wrote, WroteOn}
+use Rattle.nr_judge.specs.Matching.{LinkBytes, WroteOn}
 use Rattle.nr_judge.proofs.Following.{found_at, not_found_at}
 use Rattle.nr_judge.proofs.links.wrote.Goals as goal
 
