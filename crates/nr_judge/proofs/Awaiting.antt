@@ -317,11 +317,11 @@ fresh opened link run call form xid below next = record {
   asked = (call_of xid call form);
   is_asked = subst (λ (calls : List AcceptedCall). Contains calls (call_of xid call form)) (sym (accepted_one link run (runs.Submit link call form (submissions.Accepted xid))))
       (Contains-append_right (accepted_calls link run) (accepted_at link (runs.Submit link call form (submissions.Accepted xid))) (call_of xid call form)
-          (subst (λ (calls : List AcceptedCall). Contains calls (call_of xid call form)) (sym (added link xid call form)) (Contains-push [] (call_of xid call form))));
+      (subst (λ (calls : List AcceptedCall). Contains calls (call_of xid call form)) (sym (added link xid call form)) (Contains-push [] (call_of xid call form))));
   own = refl;
   first = λ c there same. (
       let old : Contains (completed_calls link run) c =
-          subst (λ (cs : List CompletedCall). Contains cs c) (completed_one link run (runs.Submit link call form (submissions.Accepted xid)) ∙ append-nil (completed_calls link run)) there in
+      subst (λ (cs : List CompletedCall). Contains cs c) (completed_one link run (runs.Submit link call form (submissions.Accepted xid)) ∙ append-nil (completed_calls link run)) there in
       let lt = below.completed c old in
       omega (arith, lt, next, same));
   kept = any_one (abandons link xid) run (runs.Submit link call form (submissions.Accepted xid)) ∙ not_given_up opened link run xid below next (is_abandoned link xid run) refl;
@@ -391,21 +391,21 @@ awaited_go_on s link run (marks.In l side bytes) awaited none so_far asked h = s
 awaited_go_on s link run (marks.Exec l xid seconds) awaited none so_far asked h = same_list link run (mark_after s run (marks.Exec l xid seconds)) awaited refl refl (λ x. refl) h
 awaited_go_on s link run (marks.Done l xid outcome) awaited none so_far asked h =
     done_goes_on s link l xid run (runs.Done l xid outcome) awaited refl
-        (λ far. ap (λ (b : Bool). cond b (outcome_of xid outcome ∷ []) []) far)
-        (λ far x. refl)
-        (λ x far. (λ c there same. far (sym same ∙ sym (ap (λ (d : CompletedCall). d.xid) (none_if (eqb l link) c (outcome_of xid outcome) there).1)), refl))
-        (λ own is. not_completed link run (runs.Done l xid outcome) xid (outcome_of xid outcome)
-            (subst (λ (b : Bool). Contains (cond b (outcome_of xid outcome ∷ []) []) (outcome_of xid outcome)) (sym own) (Contains-push [] (outcome_of xid outcome))) is refl)
-        h
+    (λ far. ap (λ (b : Bool). cond b (outcome_of xid outcome ∷ []) []) far)
+    (λ far x. refl)
+    (λ x far. (λ c there same. far (sym same ∙ sym (ap (λ (d : CompletedCall). d.xid) (none_if (eqb l link) c (outcome_of xid outcome) there).1)), refl))
+    (λ own is. not_completed link run (runs.Done l xid outcome) xid (outcome_of xid outcome)
+    (subst (λ (b : Bool). Contains (cond b (outcome_of xid outcome ∷ []) []) (outcome_of xid outcome)) (sym own) (Contains-push [] (outcome_of xid outcome))) is refl)
+    h
 awaited_go_on s link run (marks.Forget l xid) awaited none so_far asked h =
     done_goes_on s link l xid run (runs.Forget l xid) awaited refl (λ far. refl) (λ far x. far_given_up link l xid x far)
-        (λ x far. (λ c there. absurd (none_in c there), given_up_not link l xid x far))
-        (λ own is. true≢false (sym (own_given_up link l xid own) ∙ not_abandoned link run (runs.Forget l xid) xid is))
-        h
+    (λ x far. (λ c there. absurd (none_in c there), given_up_not link l xid x far))
+    (λ own is. true≢false (sym (own_given_up link l xid own) ∙ not_abandoned link run (runs.Forget l xid) xid is))
+    h
 awaited_go_on s link run (marks.Revoke l xid) awaited none so_far asked h =
     done_goes_on s link l xid run (mark_after s run (marks.Revoke l xid)) awaited refl (λ far. refl) (λ far x. far_given_up link l xid x far)
-        (λ x far. (λ c there. absurd (none_in c there), given_up_not link l xid x far))
-        (λ own is. true≢false (sym (own_given_up link l xid own) ∙ not_abandoned link run (mark_after s run (marks.Revoke l xid)) xid is))
-        h
+    (λ x far. (λ c there. absurd (none_in c there), given_up_not link l xid x far))
+    (λ own is. true≢false (sym (own_given_up link l xid own) ∙ not_abandoned link run (mark_after s run (marks.Revoke l xid)) xid is))
+    h
 awaited_go_on s link run (marks.Drop l) awaited none so_far asked h = same_list link run (runs.Drop l) awaited refl refl (λ x. refl) h
 awaited_go_on s link run (marks.Grant l credits) awaited none so_far asked h = same_list link run (mark_after s run (marks.Grant l credits)) awaited refl refl (λ x. refl) h

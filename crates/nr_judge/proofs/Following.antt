@@ -140,10 +140,12 @@ out_follows : (s : Setting) (l : ℕ) (side : Side) (piece : List ℕ) (old new 
 unfolding mark_after
 out_follows s l side piece old new link is =
     let lt : l - 1 < length old = omega (arith, link.0, link.1) in
-    λ run h. (λ other. tt,
+    λ run h. (
+      λ other. tt,
       with_link old new (l - 1) (after_wrote side piece (link_at old (l - 1))) run (runs.Wrote l side piece) lt is
-        (wrote_on (l - 1 + 1) l side piece (link_at old (l - 1)) run (eq-eqb l (l - 1 + 1) (own_link l link.0)) (h (l - 1) lt))
-        (wrote_others l side piece old run link.0 h))
+          (wrote_on (l - 1 + 1) l side piece (link_at old (l - 1)) run (eq-eqb l (l - 1 + 1) (own_link l link.0)) (h (l - 1) lt))
+          (wrote_others l side piece old run link.0 h),
+    )
 
 -- a piece is fed
 in_keeps : (l : ℕ) (side : Side) (piece : List ℕ) (old new : List LinkBytes) (fed : LinkBytes) (run : List Mark) → IsLinkAt l old → IsFed side piece (link_at old (l - 1)) fed true →
@@ -151,11 +153,12 @@ in_keeps : (l : ℕ) (side : Side) (piece : List ℕ) (old new : List LinkBytes)
 in_keeps l side piece old new fed run link is at h =
     let lt : l - 1 < length old = omega (arith, link.0, link.1) in
     let own : l - 1 + 1 ≡ l = sym (own_link l link.0) in
-    let stands : StandsFor l (link_at old (l - 1)) run = subst (λ (n : ℕ). StandsFor n (link_at old (l - 1)) run) own (h (l - 1) lt) in
-    (λ other same. subst (λ (n : ℕ). MatchedMark n run (runs.Fed l side piece)) same (keeps_law l l side piece (link_at old (l - 1)) fed run is stands) same,
-     with_link old new (l - 1) fed run (runs.Fed l side piece) lt at
-       (fed_on (l - 1 + 1) l side piece (link_at old (l - 1)) fed run (eq-eqb l (l - 1 + 1) (own_link l link.0)) is (h (l - 1) lt))
-       (fed_others l side piece old run link.0 h))
+    let stands : StandsFor l (link_at old (l - 1)) run = subst (λ (n : ℕ). StandsFor n (link_at old (l - 1)) run) own (h (l - 1) lt) in (
+      λ other same. subst (λ (n : ℕ). MatchedMark n run (runs.Fed l side piece)) same (keeps_law l l side piece (link_at old (l - 1)) fed run is stands) same,
+      with_link old new (l - 1) fed run (runs.Fed l side piece) lt at
+          (fed_on (l - 1 + 1) l side piece (link_at old (l - 1)) fed run (eq-eqb l (l - 1 + 1) (own_link l link.0)) is (h (l - 1) lt))
+          (fed_others l side piece old run link.0 h),
+    )
 
 in_by : (l : ℕ) (side : Side) (piece : List ℕ) (old new : List LinkBytes) (fed : LinkBytes) (is : Bool) (run : List Mark) → IsLinkAt l old → IsFed side piece (link_at old (l - 1)) fed is →
     new ≡ slice_set old (l - 1) fed → StandForAll old run → AllMatch l new run (runs.Fed l side piece) is
@@ -276,8 +279,8 @@ unfolding bytes_sent bytes_received
 nothing_yet s links count is = record {
   matched = λ link. tt;
   stand = λ i lt.
-    let none : link_at links i ≡ nothing_in_transit = none_at count links i is lt in
-    record { up = ap (λ (b : LinkBytes). b.up) none; down = ap (λ (b : LinkBytes). b.down) none };
+      let none : link_at links i ≡ nothing_in_transit = none_at count links i is lt in
+      record { up = ap (λ (b : LinkBytes). b.up) none; down = ap (λ (b : LinkBytes). b.down) none };
 }
 
 -- ---- The link of a mark is one of the first line's

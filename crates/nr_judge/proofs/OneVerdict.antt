@@ -34,7 +34,7 @@ unfolding first_marks
 begins_later s capture line later le =
     let fits : line - 1 ≤ later - 1 = omega (arith, le) in
     subst (λ (ls : List CapturedMark). Begins (run_after s [] ls) (run_after s [] (take (later - 1) capture.marks))) (take-take (line - 1) (later - 1) capture.marks fits)
-        (begins_all s (take (later - 1) capture.marks) (line - 1))
+    (begins_all s (take (later - 1) capture.marks) (line - 1))
 
 -- ---- The laws of a link
 
@@ -61,7 +61,7 @@ law_in_full GrantLaw opened link run h = h.grant
 pub yes_is_not_no : YesIsNotNo
 yes_is_not_no s capture J line law holds (inl refusal) =
     refusal.fails (law_so_far law (s.opened refusal.link) refusal.link (first_marks s capture line)
-        (full_soon (s.opened refusal.link) refusal.link (first_marks s capture line) (run_of s capture) (begins_run s capture line) (holds.laws refusal.link refusal.is_link)))
+    (full_soon (s.opened refusal.link) refusal.link (first_marks s capture line) (run_of s capture) (begins_run s capture line) (holds.laws refusal.link refusal.is_link)))
 yes_is_not_no s capture J line law holds (inr refusal) = refusal.fails (law_in_full law (s.opened refusal.link) refusal.link (run_of s capture) (holds.laws refusal.link refusal.is_link))
 
 -- a No at a line leaves none at a later one
@@ -69,12 +69,12 @@ not_earlier : (s : Setting) (capture : CaptureLines) (line other : ℕ) (law ano
 not_earlier s capture line other law another refusal later lt =
     let le : line ≤ other - 1 = omega (arith, lt) in
     refusal.fails (law_so_far law (s.opened refusal.link) refusal.link (first_marks s capture line)
-        (soon (s.opened refusal.link) refusal.link (first_marks s capture line) (first_marks s capture (other - 1)) (begins_later s capture line (other - 1) le) (later.before refusal.link refusal.is_link)))
+    (soon (s.opened refusal.link) refusal.link (first_marks s capture line) (first_marks s capture (other - 1)) (begins_later s capture line (other - 1) le) (later.before refusal.link refusal.is_link)))
 
 not_after_all : (s : Setting) (capture : CaptureLines) (line other : ℕ) (law another : Law) → FailsAt s capture line law → FailsAfterAll s capture other another → ⊥
 not_after_all s capture line other law another refusal all =
     refusal.fails (law_so_far law (s.opened refusal.link) refusal.link (first_marks s capture line)
-        (soon (s.opened refusal.link) refusal.link (first_marks s capture line) (run_of s capture) (begins_run s capture line) (all.so_far refusal.link refusal.is_link)))
+    (soon (s.opened refusal.link) refusal.link (first_marks s capture line) (run_of s capture) (begins_run s capture line) (all.so_far refusal.link refusal.is_link)))
 
 same_line : (line other : ℕ) → (line < other → ⊥) → (other < line → ⊥) → line ≡ other
 same_line line other a b = by (cases_order line other)

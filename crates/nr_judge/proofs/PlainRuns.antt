@@ -62,7 +62,7 @@ replied : (setup : Setup) (before : List Mark) (moment : Moment) (payload : List
     ≡ Some (bytes_or_none (plain_reply setup (journal_of before) (length (journal_of before)) moment payload))
 replied setup before moment payload head is =
     let some : is_some (plain_reply setup (journal_of before) (length (journal_of before)) moment payload) ≡ true =
-        calls_alone setup (journal_of before) (length (journal_of before)) moment payload ∙ ok_of (call_of payload) head is in
+    calls_alone setup (journal_of before) (length (journal_of before)) moment payload ∙ ok_of (call_of payload) head is in
     sym (ap (λ (J : List Entry). plain_reply setup J (length J) moment payload) (journals_alike setup before))
     ∙ there_is (plain_reply setup (journal_of before) (length (journal_of before)) moment payload) some
 
@@ -129,11 +129,12 @@ plain_all s opening before (mark ∷ lines) links served = (
 pub served_run_is_plain : ServedRunIsPlain
 unfolding run_of
 served_run_is_plain s capture writable served =
-    let same : run_after s [] capture.marks ≡ told s [] capture.marks = run_told s [] capture.marks in
-    (record {
-       is = sym (journals_alike s.setup (run_after s [] capture.marks));
-       places = subst (λ (run : List Mark). AtEachMark (PlacedMark (plain_server s.setup)) [] run) (sym same) (placed_all s [] capture.marks);
-     },
-     subst (λ (run : List Mark). AtEachMark (PlainMark (plain_server s.setup)) [] run) (sym same)
-       (plain_all s capture.opening [] capture.marks writable.links
-           (λ link is. subst (λ (run : List Mark). AtEachMark (ServedMark IsPrefixOf (s.opened link) link) [] run) same (served link is))))
+    let same : run_after s [] capture.marks ≡ told s [] capture.marks = run_told s [] capture.marks in (
+      record {
+        is = sym (journals_alike s.setup (run_after s [] capture.marks));
+        places = subst (λ (run : List Mark). AtEachMark (PlacedMark (plain_server s.setup)) [] run) (sym same) (placed_all s [] capture.marks);
+      },
+      subst (λ (run : List Mark). AtEachMark (PlainMark (plain_server s.setup)) [] run) (sym same)
+          (plain_all s capture.opening [] capture.marks writable.links
+          (λ link is. subst (λ (run : List Mark). AtEachMark (ServedMark IsPrefixOf (s.opened link) link) [] run) same (served link is))),
+    )
