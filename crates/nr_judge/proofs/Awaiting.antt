@@ -27,13 +27,13 @@ use Rattle.nr_judge.specs.Awaiting.{AwaitsExactly, without_xid, AwaitedGoOn}
 
 -- ---- Elements of lists
 
-none_in : {X : Type 0} (x : X) → Contains (let none : List X = [] in none) x → ⊥
+pub none_in : {X : Type 0} (x : X) → Contains (let none : List X = [] in none) x → ⊥
 none_in x h = (let lt = h.1 in omega (arith, lt))
 
-head_in : {X : Type 0} (x : X) (xs : List X) → Contains (x ∷ xs) x
+pub head_in : {X : Type 0} (x : X) (xs : List X) → Contains (x ∷ xs) x
 head_in x xs = Contains-append_left (x ∷ []) xs x (Contains-push [] x)
 
-tail_in : {X : Type 0} (y : X) (xs : List X) (x : X) → Contains xs x → Contains (y ∷ xs) x
+pub tail_in : {X : Type 0} (y : X) (xs : List X) (x : X) → Contains xs x → Contains (y ∷ xs) x
 tail_in y xs x h = Contains-append_right (y ∷ []) xs x h
 
 one_in : {X : Type 0} (y x : X) → Contains (y ∷ []) x → y ≡ x
@@ -43,7 +43,7 @@ one_in y x h = by (Contains-push_cases [] y x h)
     by (inl none) = absurd (none_in x none)
     by (inr is) = is
 
-cons_in : {X : Type 0} (y : X) (xs : List X) (x : X) → Contains (y ∷ xs) x → (y ≡ x) ⊎ Contains xs x
+pub cons_in : {X : Type 0} (y : X) (xs : List X) (x : X) → Contains (y ∷ xs) x → (y ≡ x) ⊎ Contains xs x
 cons_in y xs x h = by (Contains-append_cases (y ∷ []) xs x h)
   where
     by : Contains (y ∷ []) x ⊎ Contains xs x → (y ≡ x) ⊎ Contains xs x
@@ -84,7 +84,7 @@ of_other x xid far = by (eqb x xid) refl
 
 -- ---- One mark more
 
-abbrev call_of : ℕ → Call → Form → AcceptedCall
+abbrev pub call_of : ℕ → Call → Form → AcceptedCall
 call_of xid call form = record { xid = xid; call = call; form = form }
 
 abbrev outcome_of : ℕ → Outcome → CompletedCall
@@ -122,7 +122,7 @@ stays_awaited link run mark xid others kept h = record {
     by c (inr there) = others c there
 
 -- a call that is awaited after a mark by which it wasn't accepted was awaited before
-was_awaited : (link : ℕ) (run : List Mark) (mark : Mark) (xid : ℕ) → ((a : AcceptedCall) → Contains (accepted_at link mark) a → a.xid ≢ xid) → IsAwaited link (run ++ mark ∷ []) xid → IsAwaited link run xid
+pub was_awaited : (link : ℕ) (run : List Mark) (mark : Mark) (xid : ℕ) → ((a : AcceptedCall) → Contains (accepted_at link mark) a → a.xid ≢ xid) → IsAwaited link (run ++ mark ∷ []) xid → IsAwaited link run xid
 was_awaited link run mark xid others h = record {
   asked = h.asked;
   is_asked = by (Contains-append_cases (accepted_calls link run) (accepted_at link mark) h.asked (subst (λ (calls : List AcceptedCall). Contains calls h.asked) (accepted_one link run mark) h.is_asked));
@@ -152,7 +152,7 @@ not_abandoned link run mark xid h = by (is_abandoned link xid run) (abandons lin
 
 -- ---- Xids of calls that were accepted, completed or given up are below the next one
 
-abbrev next_at : LinkParameters → ℕ → List Mark → ℕ
+abbrev pub next_at : LinkParameters → ℕ → List Mark → ℕ
 next_at opened link run = next_sent_xid (client opened link run).state
 
 record AreBelow (opened : LinkParameters) (link : ℕ) (run : List Mark) : Type 0 where
@@ -203,7 +203,7 @@ nothing_added opened link run mark accepted completed abandoned = record {
   abandoned = λ xid is. absurd (true≢false (sym is ∙ abandoned xid));
 }
 
-none_if : {X : Type 0} (b : Bool) (x : X) (y : X) → Contains (cond b (y ∷ []) []) x → (b ≡ true) × (y ≡ x)
+pub none_if : {X : Type 0} (b : Bool) (x : X) (y : X) → Contains (cond b (y ∷ []) []) x → (b ≡ true) × (y ≡ x)
 none_if true x y h = (refl, one_in y x h)
 none_if false x y h = absurd (none_in x h)
 

@@ -1,6 +1,6 @@
 //! Laws of what a judge tests, and of the run that a capture tells.
 
-ghost use Rattle.nr_judge.specs.Awaiting.{AwaitedGoOn};
+ghost use Rattle.nr_judge.specs.Awaiting.{AwaitedGoOn, CameGoOn};
 ghost use Rattle.nr_judge.specs.PlainRuns.{ServedRunIsPlain};
 ghost use Rattle.nr_judge.specs.Tests.{AskedEndIsTested, AskedInFullIsTested, AskedIsTested, GrantIsTested, ServedEndIsTested, ServedInFullIsTested, ServedIsTested};
 
@@ -18,9 +18,11 @@ pub fn lines_are_tested()
 {}
 
 /// On a first link, of a client that kept its law so far, a list of exactly the calls that are awaited goes along with a line that
-/// keeps the law: a call that is accepted joins it, and one whose outcome is handed over, or that is given up, leaves it.
+/// keeps the law: a call that is accepted joins it, and one whose outcome is handed over, or that is given up, leaves it. So does a
+/// list of exactly the outcomes that messages brought of these calls, with those that the line's mark brings.
 pub fn awaited_calls_go_on()
-    ensures { AwaitedGoOn }
+    ensures calls { AwaitedGoOn }
+    ensures outcomes { CameGoOn }
 {}
 
 /// If the servers of a capture that can be written keep their law so far on each link, each execution of the run that it tells
