@@ -109,6 +109,7 @@ took : (limits : ConnectionLimits) (read link : ℕ) (before : Outside) (left gi
     → Gives gave gave' (given_for t)
     → Taken (number_heard run link) before.view (r.turns ++ t ∷ []) view'
     → Runs limits read link before (outside left given sink gave' view') ahead [] (run ++ mark ∷ [])
+unfolding turn_taken turns_of
 took limits read link before left given sink gave gave' view view' ahead run mark t own fed written answers refuses some r serves others gives over =
     let turns = turn_taken link before.view view view' run mark t fed answers refuses some (turns_of limits read link before (outside left given sink gave view) ahead [] run r) over in
     let received : bytes_received link Responder (run ++ mark ∷ []) ≡ bytes_received link Responder run =
@@ -186,7 +187,7 @@ given_alone limits read link before left given sink gave gave' view view' ahead 
   turns = r.turns;
   answered = r.answered;
   refused = r.refused;
-  over = taken_others (number_heard run link) before.view view view' r.turns r.over added;
+  over = taken_others before.view view view' (number_heard run link) r.turns r.over added;
   greeted = r.greeted;
   gave = gives_more before.gave gave gave' (map given_for r.turns) moment (subst (λ (ms : List Moment). GivesAll before.gave gave ms) (append-nil (map given_for r.turns)) r.gave) gives;
   count = r.count;
@@ -197,6 +198,7 @@ pub fed : (limits : ConnectionLimits) (read link : ℕ) (before now : Outside) (
     → Runs limits read link before now (piece ++ ahead) [] run → AllQuiet limits link run
     → ((opened : LinkParameters) → IsOpenedWith limits opened → FrameMark opened link run (marks.Fed link Responder piece))
     → Runs limits read link before now ahead [] (run ++ marks.Fed link Responder piece ∷ [])
+unfolding fed_turns turns_of
 fed limits read link before now piece ahead run r quiet frames =
     let mark : Mark = marks.Fed link Responder piece in
     let received : bytes_received link Responder (run ++ mark ∷ []) ≡ bytes_received link Responder run ++ piece =
@@ -229,6 +231,7 @@ pub wrote : (limits : ConnectionLimits) (read link : ℕ) (before : Outside) (le
     → ((opened : LinkParameters) → IsOpenedWith limits opened → IsPrefixOf (bytes_sent link Responder run ++ bytes) (output_due opened link Responder run))
     → ((opened : LinkParameters) → IsOpenedWith limits opened → next_call opened link run ≡ None)
     → Runs limits read link before (outside left given sink' gave view) ahead [] (run ++ marks.Wrote link Responder bytes ∷ [])
+unfolding same_turns turns_of
 wrote limits read link before left given sink sink' gave view bytes ahead run r takes due none =
     let mark : Mark = marks.Wrote link Responder bytes in
     let sent : bytes_sent link Responder (run ++ mark ∷ []) ≡ bytes_sent link Responder run ++ bytes =

@@ -335,13 +335,13 @@ grown_by_turns before after client turns taken first J i =
 
 -- ---- What the turns say, of one more
 
-answered_one : (turns : List Turn) (t : Turn) → answered_in (turns ++ t ∷ []) ≡ answered_in turns ++ answered_at t
+pub answered_one : (turns : List Turn) (t : Turn) → answered_in (turns ++ t ∷ []) ≡ answered_in turns ++ answered_at t
 unfolding answered_in
 answered_one turns t = flat_map-append answered_at turns (t ∷ []) ∙ ap (λ (l : List Answered). flat_map answered_at turns ++ l) (append-nil (answered_at t))
 
-refused_one : (turns : List Turn) (t : Turn) → refused_in (turns ++ t ∷ []) ≡ refused_in turns ++ refused_at t
+pub refused_one : (turns : List Turn) (t : Turn) → refused_in (turns ++ t ∷ []) ≡ refused_in turns ++ refused_at t
 unfolding refused_in
 refused_one turns t = flat_map-append refused_at turns (t ∷ []) ∙ ap (λ (l : List ℕ). flat_map refused_at turns ++ l) (append-nil (refused_at t))
 
-given_one : (turns : List Turn) (t : Turn) → map given_for (turns ++ t ∷ []) ≡ map given_for turns ++ given_for t ∷ []
+pub given_one : (turns : List Turn) (t : Turn) → map given_for (turns ++ t ∷ []) ≡ map given_for turns ++ given_for t ∷ []
 given_one turns t = map-append given_for turns (t ∷ [])

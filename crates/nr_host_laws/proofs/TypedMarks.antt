@@ -85,7 +85,7 @@ reply_by s U (standings.Kept at) moment payload place reply tree entries is =
     let all : entries_alone U ≡ entries_alone r.earlier ++ entries_alone (r.own ∷ r.later) = ap entries_alone r.is_cut ∙ alone_more r.earlier (r.own ∷ r.later) in
     plain_reply_bytes s (entries_alone r.earlier) (length (entries_alone r.earlier)) moment _ reply tree (left_bytes (entries_alone r.earlier) (entries_alone (r.own ∷ r.later)) (subst EntriesInBytes all entries)) r.replied
 
-abbrev RepliesInBytes : List Answered → Type 0
+abbrev pub RepliesInBytes : List Answered → Type 0
 RepliesInBytes calls = AllByRecursion (λ (a : Answered). IsBytes a.reply) calls
 
 turn_replies : (s : Setup) (client : ℕ) (T : List TaggedEntry) (n : ℕ) (turns : List Turn) (mine : List ℕ) → IsInBytes s.tree → EntriesInBytes (entries_alone T) → AreTurns s client T n turns mine → RepliesInBytes (flat_map answered_at turns)
@@ -97,7 +97,7 @@ turn_replies s client T n (Answers given a ∷ turns) mine tree entries (k, (fro
     )
 turn_replies s client T n (Refuses given xid ∷ turns) mine tree entries (k, (from, (old, rest))) = turn_replies s client T k turns mine tree entries rest
 
-replies_of : (s : Setup) (client : ℕ) (T : List TaggedEntry) (n : ℕ) (turns : List Turn) (mine : List ℕ) (run : List Mark) → answered_in turns ≡ answers_of run → IsInBytes s.tree → EntriesInBytes (entries_alone T) → AreTurns s client T n turns mine
+pub replies_of : (s : Setup) (client : ℕ) (T : List TaggedEntry) (n : ℕ) (turns : List Turn) (mine : List ℕ) (run : List Mark) → answered_in turns ≡ answers_of run → IsInBytes s.tree → EntriesInBytes (entries_alone T) → AreTurns s client T n turns mine
     → RepliesInBytes (flat_map answer_of run)
 unfolding answered_in answers_of
 replies_of s client T n turns mine run same tree entries h = subst RepliesInBytes same (turn_replies s client T n turns mine tree entries h)
