@@ -118,6 +118,9 @@ goes_on_left (link_ends.Denied stag offset why) gave gave' view view' v v' other
 goes_on_left (link_ends.NoBuffer msn) gave gave' view view' v v' other left = left.1
 goes_on_left (link_ends.Terminated reason) gave gave' view view' v v' other left = left.1
 
+pub out_left : (end : End) (gave gave' : Option (List Moment)) (view view' : PassView) (v v' : ResponderSide) → end ≡ link_ends.Memory → Leaves end gave gave' view view' v v' → RunsOut gave gave' view view' v
+out_left end gave gave' view view' v v' is left = subst (λ (e : End). Leaves e gave gave' view view' v v') is left
+
 pub ends_after : (end : ConnEnd) (sink sink' : SinkState) (gave gave' : Option (List Moment)) (view view' : PassView) (v v' : ResponderSide)
     → GoesOn gave gave' view view' v v' → EndsAt end sink sink' v' → EndsWith end sink sink' gave gave' view view' v
 ends_after end sink sink' gave gave' view view' v v' goes at limits read link before left given ahead run most live =

@@ -23,6 +23,9 @@ use Rattle.std.specs.Prelude.{slice_get}
 use Rattle.nr_responder.specs.Standing.{ResponderRepresents}
 use Rattle.nr_responder.proofs.Answered.{answer_link}
 use Rattle.nr_plain.specs.History.{PassView, OnlyOthersAdded, xid_in}
+use Rattle.nr_plain.specs.Turns.{IsCauseFor}
+use Rattle.nr_plain.specs.declared.fault.Fault.{Fault}
+use Rattle.nr_plain.specs.declared.fault.Fault.TheVariants as faults
 use Rattle.nr_host.specs.Connections.{Outside, Runs, SinkState}
 use Rattle.nr_host.specs.Steps.{IsLive, GoesOn, Leaves, RunsOut, outside}
 use Rattle.nr_host.proofs.Marks.{executed, given_alone, refused}
@@ -87,6 +90,12 @@ stops_on limits read link before left given sink gave gave' view view' ahead run
     (λ opened granted. exact opened link run (live.stands opened granted)) (own_xid (opened_for limits) link run xid payload (exact (opened_for limits) link run stands))
     (number (opened_for limits) link run stands) (heard (opened_for limits) link run stands) gives numbered old
 
+-- A call that is old has a number, and its journal says so.
+pub old_cause : (before after : PassView) (client : ℕ) (payload : List ℕ) (e : Fault) (top : ℕ) → e ≡ faults.Old top → IsCauseFor before after client payload e → (client ≢ 0) × FindsOld before after client payload
+old_cause before after client payload e top is cause =
+    let old : IsCauseFor before after client payload (faults.Old top) = subst (λ (f : Fault). IsCauseFor before after client payload f) is cause in
+    (old.1, (top, old.2))
+
 -- It ends the responder, or memory ran out for that.
 pub leaves_old : (gave gave' : Option (List Moment)) (view view' : PassView) (v v' : ResponderSide) (client xid : ℕ) (now : Moment) (payload : List ℕ) (end : End) → end_of v' ≡ Some end
     → ((opened : LinkParameters) (l : ℕ) (r : List Mark) → ResponderRepresents opened l r v → IsExecuted opened l r xid payload)
@@ -107,7 +116,7 @@ leaves_old gave gave' view view' v v' client xid now payload end ended exact num
         (run ++ marks.Told link (Old xid (last_frame_at link run)) ∷ [], record { runs = told limits read link before left given sink ahead run live; stands = λ opened granted. stops opened link run xid (live.stands opened granted) })
 
     by : (end : End) → end_of v' ≡ Some end → Leaves end gave gave' view view' v v'
-    by link_ends.Memory is limits read link before left given sink ahead run live =
+    by link_ends.Memory is = λ limits read link before left given sink ahead run live.
         (run ++ marks.Told link (Old xid (last_frame_at link run)) ∷ [], [], (let none : 0 ≤ 1 = omega arith in none), told limits read link before left given sink ahead run live)
     by (link_ends.Bad at reason) is = (is, goes)
     by (link_ends.Denied stag offset why) is = (is, goes)

@@ -74,12 +74,15 @@ fn answer_all<O: Sink, C: Clock, R: Wait>(
     ensures never_falls { O.faults sink.old ≤ O.faults sink.new }
 {
     match execute_ready(rt, alloc, responder, shared, pass, clock) {
-        Ok(()) => {}
-        Err(End::Memory) => return Err(ConnEnd::Memory),
-        Err(end) => return Err(stopped(responder, sink, failed, end)),
+        Ok(()) => {
+            drain(responder, sink, failed);
+            Ok(())
+        }
+        Err(end) => match end {
+            End::Memory => Err(ConnEnd::Memory),
+            _ => Err(stopped(responder, sink, failed, end)),
+        },
     }
-    drain(responder, sink, failed);
-    Ok(())
 }
 
 /// The end of a connection whose responder ended so. What is still due, a Terminate, is written, or dropped once a

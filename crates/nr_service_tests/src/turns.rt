@@ -7,7 +7,7 @@ ghost use Rattle.nr_turnstile.specs.Passes.{Rests};
 use crate::compare::same;
 use nr_nfs_base::Verifier;
 use nr_outside::Moment;
-use nr_plain::{Server, execute, execute_for, share};
+use nr_plain::{Server, execute_for, share};
 use nr_tree::Tree;
 use nr_turnstile::{Machine, Pass, Turnstile};
 use nr_xdr::Octets;
@@ -78,12 +78,7 @@ fn same_reply<R: Abort + Wait>(
 {
     let payload = bytes(rt, alloc, call);
     let ending = bytes(rt, alloc, ending);
-    let answer = if client == 0 {
-        execute(rt, alloc, shared, pass, NOW, payload.as_slice())
-    } else {
-        execute_for(rt, alloc, shared, pass, client, NOW, payload.as_slice())
-    };
-    let Ok(reply) = answer else {
+    let Ok(reply) = execute_for(rt, alloc, shared, pass, client, NOW, payload.as_slice()) else {
         panic!(rt; "row {row}: not executed")
     };
     same(rt, row, reply.place, place);

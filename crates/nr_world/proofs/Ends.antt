@@ -27,6 +27,7 @@ use Rattle.nr_requester.specs.AfterCalls.{after_drain}
 use Rattle.nr_requester.specs.CountedMarks.{has_bytes, marks_if}
 use Rattle.nr_requester.specs.Standing.{RequesterRepresents, AnswersAfter, LinkKeeps}
 use Rattle.nr_requester.proofs.Queues.{written_writable}
+use Rattle.nr_responder.specs.Heard.{KeepsHeard}
 use Rattle.nr_responder.specs.ResponderState.{ResponderSide, queue, queued_bytes, may_write, end_of, after_drain as after_server_drain}
 use Rattle.nr_responder.specs.Standing.{RepresentsServer, ResponderRepresents}
 use Rattle.nr_responder.proofs.Drained.{split_queue}
@@ -113,9 +114,11 @@ responder_quiet o link run v n within none before after =
     let received : bytes_received link Responder (run ++ mark ∷ []) ≡ bytes_received link Responder run = same_received link Responder run mark refl in
     let q = v.link.state.send_queue in
     let left : queue (after_server_drain v n) ≡ [] = right_nil (take n (may_write v)) (queued_bytes (written n q)) (split_queue v.link.state.has_hello n q within ∙ none) in
+    let ends : before.end ≡ after.end = before.stands.keeps ∙ sym (after.stands.keeps ∙ same) in
     record {
       end = after.end;
       input = after.input;
+      heard = λ live. let h : KeepsHeard link run v.link.state = before.heard (ap (λ (e : EndState ServerState). e.ended) ends ∙ live) in record { last = h.last; client = h.client };
       stands = record {
         keeps = after.stands.keeps ∙ same;
         received = λ live. after.stands.received (ap (λ (e : EndState ServerState). e.ended) same ∙ live) ∙ ap (λ (bytes : List ℕ). input_of Initiator bytes) received;
