@@ -28,27 +28,27 @@ asking call reads next (outcome ∷ later) = go_on (reads outcome) (λ value. ne
 
 -- A request is a function from the outcomes of its calls so far to what it does next. Its first calls were made, one after another, and
 -- answered with these outcomes.
-abbrev pub MakesCalls : {A : Type 0} → (List Outcome → Next A) → List Outcome → (b b' : LinkBytes) (h h' : RequesterSide) → Type 0
-MakesCalls request [] b b' h h' = (b' ≡ b) × (h' ≡ h)
-MakesCalls request (outcome ∷ outcomes) b b' h h' =
-    (call : Call) × (c : LinkBytes) × (i : RequesterSide) ×
-    ((request [] ≡ Calls call) × (Answers b c h i call outcome × MakesCalls (λ later. request (outcome ∷ later)) outcomes c b' i h'))
+abbrev pub MakesCalls : {A : Type 0} → (List Outcome → Next A) → List Outcome → (b b' : LinkView) → Type 0
+MakesCalls request [] b b' = (b' ≡ b) × (b'.requester ≡ b.requester)
+MakesCalls request (outcome ∷ outcomes) b b' =
+    (call : Call) × (c : LinkView) ×
+    ((request [] ≡ Calls call) × (Answers b c b.requester i call outcome × MakesCalls (λ later. request (outcome ∷ later)) outcomes c b' i b'.requester))
 
 -- A call has no answer, for this cause; or memory ran out before it was made, and nothing changed.
-abbrev pub Unanswered : Call → (b b' : LinkBytes) (h h' : RequesterSide) → ClientEnd → Type 0
-Unanswered call b b' h h' end =
-    ((cause : CallEnd) × ((end ≡ client.Link cause) × (GivesUp b b' h h' call cause × IsCause cause b'.left b'.read h' call)))
-    ⊎ ((end ≡ client.Memory) × ((b' ≡ b) × (h' ≡ h)))
+abbrev pub Unanswered : Call → (b b' : LinkView) → ClientEnd → Type 0
+Unanswered call b b' end =
+    ((cause : CallEnd) × ((end ≡ client.Link cause) × (GivesUp b b' call cause × IsCause cause b'.bytes.left b'.bytes.read b'.requester call)))
+    ⊎ ((end ≡ client.Memory) × ((b' ≡ b) × (b'.requester ≡ b.requester)))
 
 -- Then it ends: with its result, unless memory ran out; or its next call has no answer.
-abbrev pub EndsWith : {A : Type 0} → Next A → (b b' : LinkBytes) (h h' : RequesterSide) → Result A ClientEnd → Type 0
-EndsWith (Returns result) b b' h h' given = Gives given result × ((b' ≡ b) × (h' ≡ h))
-EndsWith (Calls call) b b' h h' given = (end : ClientEnd) × ((given ≡ Err end) × Unanswered call b b' h h' end)
+abbrev pub EndsWith : {A : Type 0} → Next A → (b b' : LinkView) → Result A ClientEnd → Type 0
+EndsWith (Returns result) b b' given = Gives given result × ((b' ≡ b) × (b'.requester ≡ b.requester))
+EndsWith (Calls call) b b' given = (end : ClientEnd) × ((given ≡ Err end) × Unanswered call b b' end)
 
 -- A request was made: its calls in order, and it ended so.
-pub record Follows {A : Type 0} (request : List Outcome → Next A) (b b' : LinkBytes) (h h' : RequesterSide) (given : Result A ClientEnd) : Type 0 where
+pub record Follows {A : Type 0} (request : List Outcome → Next A) (b b' : LinkView) (given : Result A ClientEnd) : Type 0 where
   pub outcomes : List Outcome
   pub between : LinkBytes
   pub side : RequesterSide
-  pub made : MakesCalls request outcomes b between h side
-  pub ends : EndsWith (request outcomes) between b' side h' given
+  pub made : MakesCalls request outcomes b between b.requester side
+  pub ends : EndsWith (request outcomes) between b' side b'.requester given

@@ -180,12 +180,12 @@ NoneIsMadeAhead uid gid file s = (read_ahead uid gid file (file_read s.outcomes)
 -- A step: a call was made alone; or a READ was submitted ahead; or, when none is, the oldest READ was answered, which is the one that follows from
 -- the replies before.
 pub data ReadStep (uid gid : ℕ) (file : List ℕ) (s t : ReadingAt) : Type 0 where
-  MakesAlone : (call : Call) (outcome : Outcome) → IsMadeAlone uid gid file s call → Answers s.bytes t.bytes s.side t.side call outcome
+  MakesAlone : (call : Call) (outcome : Outcome) → IsMadeAlone uid gid file s call → Answers s t call outcome
       → t.outcomes ≡ s.outcomes ++ outcome ∷ [] → t.waiting ≡ s.waiting → ReadStep uid gid file s t
-  AsksAhead : (read : OpenRead) → IsMadeAhead uid gid file s read.call → Submits s.bytes t.bytes s.side t.side read.call read.xid
+  AsksAhead : (read : OpenRead) → IsMadeAhead uid gid file s read.call → Submits s t read.call read.xid
       → t.outcomes ≡ s.outcomes → t.waiting ≡ s.waiting ++ read ∷ [] → ReadStep uid gid file s t
   TakesOldest : (read : OpenRead) (outcome : Outcome) → NoneIsMadeAhead uid gid file s → reading uid gid file s.outcomes ≡ Calls read.call
-      → Completes read.xid outcome s.bytes t.bytes s.side t.side → t.outcomes ≡ s.outcomes ++ outcome ∷ [] → s.waiting ≡ read ∷ t.waiting → ReadStep uid gid file s t
+      → Completes read.xid outcome s t → t.outcomes ≡ s.outcomes ++ outcome ∷ [] → s.waiting ≡ read ∷ t.waiting → ReadStep uid gid file s t
 
 -- Steps lead from one state to another, by these states between, the last one first.
 abbrev pub LeadsBy : (uid gid : ℕ) → (file : List ℕ) → (first : ReadingAt) → List ReadingAt → (last : ReadingAt) → Type 0
@@ -216,30 +216,30 @@ EndsAtReply uid gid file outcomes taken taken' given =
 
 -- How it ends after these replies, with these READs still outstanding: with its result, or memory ran out; or the output failed; or the next call
 -- has no answer, or could not be submitted; or the oldest READ has no answer, and is forgotten.
-pub data EndsReading (uid gid : ℕ) (file : List ℕ) (s : ReadingAt) (left : List OpenRead) (b : LinkBytes) (h : RequesterSide) (taken taken' : Option (List ℕ)) (given : Result (Unit {0}) ClientEnd) : Type 0 where
-  EndsByReplies : (b ≡ s.bytes) × (h ≡ s.side) → (given ≡ Err client.Memory) ⊎ (reading uid gid file s.outcomes ≡ Returns given)
-      → left ≡ s.waiting → TakesRead given s.outcomes taken taken' → EndsReading uid gid file s left b h taken taken' given
-  OutputFails : given ≡ Err client.OutputFault → (b ≡ s.bytes) × (h ≡ s.side) → left ≡ s.waiting → TakesPart s.outcomes taken taken'
-      → EndsReading uid gid file s left b h taken taken' given
-  NotAnswered : (call : Call) (end : ClientEnd) → IsMadeAlone uid gid file s call → given ≡ Err end → Unanswered call s.bytes b s.side h end → left ≡ s.waiting
-      → TakesRead given s.outcomes taken taken' → EndsReading uid gid file s left b h taken taken' given
+pub data EndsReading (uid gid : ℕ) (file : List ℕ) (s : ReadingAt) (left : List OpenRead) (b : LinkView) (taken taken' : Option (List ℕ)) (given : Result (Unit {0}) ClientEnd) : Type 0 where
+  EndsByReplies : (b ≡ s.bytes) × (b.requester ≡ s.side) → (given ≡ Err client.Memory) ⊎ (reading uid gid file s.outcomes ≡ Returns given)
+      → left ≡ s.waiting → TakesRead given s.outcomes taken taken' → EndsReading uid gid file s left b taken taken' given
+  OutputFails : given ≡ Err client.OutputFault → (b ≡ s.bytes) × (b.requester ≡ s.side) → left ≡ s.waiting → TakesPart s.outcomes taken taken'
+      → EndsReading uid gid file s left b taken taken' given
+  NotAnswered : (call : Call) (end : ClientEnd) → IsMadeAlone uid gid file s call → given ≡ Err end → Unanswered call s.bytes b s.side b.requester end → left ≡ s.waiting
+      → TakesRead given s.outcomes taken taken' → EndsReading uid gid file s left b taken taken' given
   NotSubmitted : (call : Call) (end : CallEnd) → IsMadeAhead uid gid file s call → given ≡ Err (client.Link end)
-      → RefusesToSubmit s.bytes b s.side h call end × IsCause end b.left b.read h call → left ≡ s.waiting
-      → TakesRead given s.outcomes taken taken' → EndsReading uid gid file s left b h taken taken' given
+      → RefusesToSubmit s.bytes b s.side b.requester call end × IsCause end b.bytes.left b.bytes.read b.requester call → left ≡ s.waiting
+      → TakesRead given s.outcomes taken taken' → EndsReading uid gid file s left b taken taken' given
   OldestForgotten : (read : OpenRead) (end : CallEnd) → NoneIsMadeAhead uid gid file s → reading uid gid file s.outcomes ≡ Calls read.call → given ≡ Err (client.Link end)
-      → Forgets read.xid end s.bytes b s.side h × LinkCause end b.left b.read h → s.waiting ≡ read ∷ left
-      → TakesRead given s.outcomes taken taken' → EndsReading uid gid file s left b h taken taken' given
+      → Forgets read.xid end s.bytes b s.side b.requester × LinkCause end b.bytes.left b.bytes.read b.requester → s.waiting ≡ read ∷ left
+      → TakesRead given s.outcomes taken taken' → EndsReading uid gid file s left b taken taken' given
 
 -- A file was read into an output: its calls were made, several at a time, and the bytes of their replies were written in order. At an end
 -- the READs that are still outstanding are forgotten.
-pub record ReadsFile (uid gid : ℕ) (file : List ℕ) (b b' : LinkBytes) (h h' : RequesterSide) (taken taken' : Option (List ℕ)) (given : Result (Unit {0}) ClientEnd) : Type 0 where
+pub record ReadsFile (uid gid : ℕ) (file : List ℕ) (b b' : LinkView) (taken taken' : Option (List ℕ)) (given : Result (Unit {0}) ClientEnd) : Type 0 where
   pub between : List ReadingAt
   pub last : ReadingAt
-  pub made : LeadsBy uid gid file (starts_at b h) between last
+  pub made : LeadsBy uid gid file (starts_at b) between last
   pub left : List OpenRead
   pub side : RequesterSide
   pub ends : EndsReading uid gid file last left b' side taken taken' given
-  pub forgets : ForgetsCalls (xids_of left) side h'
+  pub forgets : ForgetsCalls (xids_of left) side b'.requester
 
 -- the fault count of the output rises at OutputFault alone, and that of an input at InputFault alone
 abbrev pub OutputFaults : {A : Type 0} → Result A ClientEnd → ℕ → ℕ → Type 0

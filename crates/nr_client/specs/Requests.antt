@@ -115,11 +115,11 @@ mnt_result outcome = handle_of (mount_done (result_of_outcome (status_union_code
 
 -- A request was made: its call was answered, and its result is what the outcome is read as; or the call has no answer; or memory ran out before
 -- it was made, and nothing changed.
-abbrev pub Asks : {A : Type 0} → (Outcome → Result A ClientEnd) → Call → (b b' : LinkBytes) (h h' : RequesterSide) → Result A ClientEnd → Type 0
-Asks reads call b b' h h' result =
-    ((outcome : Outcome) × (Answers b b' h h' call outcome × Gives result (reads outcome)))
-    ⊎ (((end : CallEnd) × ((result ≡ Err (client.Link end)) × (GivesUp b b' h h' call end × IsCause end b'.left b'.read h' call)))
-    ⊎ ((result ≡ Err client.Memory) × ((b' ≡ b) × (h' ≡ h))))
+abbrev pub Asks : {A : Type 0} → (Outcome → Result A ClientEnd) → Call → (b b' : LinkView) → Result A ClientEnd → Type 0
+Asks reads call b b' result =
+    ((outcome : Outcome) × (Answers b b' call outcome × Gives result (reads outcome)))
+    ⊎ (((end : CallEnd) × ((result ≡ Err (client.Link end)) × (GivesUp b b' call end × IsCause end b'.bytes.left b'.bytes.read b'.requester call)))
+    ⊎ ((result ≡ Err client.Memory) × ((b' ≡ b) × (b'.requester ≡ b.requester))))
 
 -- the fault counts of the source and of the sink rise only if a call has no answer for that
 abbrev pub SourceFaults : {A : Type 0} → Result A ClientEnd → ℕ → ℕ → Type 0

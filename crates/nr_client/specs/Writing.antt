@@ -140,22 +140,22 @@ IsReadAhead (WriteEnds end) handed = ⊥
 -- How the calls end by which a file is written from an input, of which these bytes were read and these not. They follow from all its bytes and the
 -- replies, and by some first of the replies the bytes were not read too far. Or the first calls were made and answered, and then a read failed. When
 -- each read of the input was made, between which calls, isn't said.
-pub data EndsWriting (uid gid : ℕ) (dir name handed rest : List ℕ) (b b' : LinkBytes) (h h' : RequesterSide) (result : Result (Unit {0}) ClientEnd) : Type 0 where
-  FollowsInput : (follows : Follows (writing uid gid dir name (handed ++ rest)) b b' h h' result) → (count : ℕ)
-      → IsReadAhead (file_write (handed ++ rest) (take count follows.outcomes)) handed → EndsWriting uid gid dir name handed rest b b' h h' result
-  InputFails : (outcomes : List Outcome) → result ≡ Err client.InputFault → MakesCalls (writing uid gid dir name (handed ++ rest)) outcomes b b' h h'
-      → IsReadAhead (file_write (handed ++ rest) outcomes) handed → EndsWriting uid gid dir name handed rest b b' h h' result
+pub data EndsWriting (uid gid : ℕ) (dir name handed rest : List ℕ) (b b' : LinkView) (result : Result (Unit {0}) ClientEnd) : Type 0 where
+  FollowsInput : (follows : Follows (writing uid gid dir name (handed ++ rest)) b b' result) → (count : ℕ)
+      → IsReadAhead (file_write (handed ++ rest) (take count follows.outcomes)) handed → EndsWriting uid gid dir name handed rest b b' result
+  InputFails : (outcomes : List Outcome) → result ≡ Err client.InputFault → MakesCalls (writing uid gid dir name (handed ++ rest)) outcomes b b'
+      → IsReadAhead (file_write (handed ++ rest) outcomes) handed → EndsWriting uid gid dir name handed rest b b' result
 
 -- A file was written from an input, which is all the bytes that were read and the rest. If anything was done on the link, what the first WRITE sends
 -- was read, before or after it.
-pub record WritesFile (uid gid : ℕ) (dir name : List ℕ) (b b' : LinkBytes) (h h' : RequesterSide) (left given left' given' : Option (List ℕ)) (result : Result (Unit {0}) ClientEnd) : Type 0 where
+pub record WritesFile (uid gid : ℕ) (dir name : List ℕ) (b b' : LinkView) (left given left' given' : Option (List ℕ)) (result : Result (Unit {0}) ClientEnd) : Type 0 where
   pub handed : List ℕ
   pub rest : List ℕ
   pub hands_out : HandsOut left given left' given' handed
   pub is_rest : IfSome left' (λ known. rest ≡ known)
   pub is_read : IsRead result handed rest
-  pub begins : ((b' ≡ b) × (h' ≡ h)) ⊎ (length (piece_at (handed ++ rest) 0) ≤ length handed)
-  pub calls : EndsWriting uid gid dir name handed rest b b' h h' result
+  pub begins : ((b' ≡ b) × (b'.requester ≡ b.requester)) ⊎ (length (piece_at (handed ++ rest) 0) ≤ length handed)
+  pub calls : EndsWriting uid gid dir name handed rest b b' result
 
 -- ---- A read of the input that failed
 

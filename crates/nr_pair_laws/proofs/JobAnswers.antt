@@ -364,10 +364,10 @@ module _ (s : Setup) (J : List Entry) (uid gid : ℕ) (export path file : List �
   whole_read (inl (root, (m, (mounts, walks)))) outcome alone are_names keep later taken taken' answers read =
       let R = AnsweredAfter s J from in
       let mounts_made = (tells_mounts uid gid export at m (Ok root) mounts).made in
-      let walks_made = (followed_exchanges (walk_next uid gid root path) m.bytes mid.bytes m.requester mid.requester (Ok file) walks.0).made in
+      let walks_made = (followed_exchanges (walk_next uid gid root path) m mid (Ok file) walks.0).made in
       let parts = judged_both R [] mounts_made walks_made alone.finding in
       let mount = mounted R uid gid export at m root (nat_lt mount_path_max (length export)) mounts parts.0 in
-      let walk = followed R (walk_next uid gid root path) m.bytes mid.bytes m.requester mid.requester file walks.0 (reads_after [] mounts_made) parts.1 in
+      let walk = followed R (walk_next uid gid root path) m mid file walks.0 (reads_after [] mounts_made) parts.1 in
       record {
         outcomes = outcome ∷ later;
         gets = record {

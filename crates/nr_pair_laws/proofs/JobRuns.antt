@@ -246,7 +246,7 @@ not_found_run : (opened : LinkParameters) (link : ℕ) (addr : List ℕ) (units 
     → IsSession opened (terms_with units invalidates) → IsJobsRun opened link s (source_of s') (sink_of s') dialed.ended after.ended result (tells_finds uid gid export path s s' (Err end) finds).made []
 not_found_run opened link addr units invalidates uid gid export path before dialed after s s' end opens finds result is closes session =
     let exchanges = tells_finds uid gid export path s s' (Err end) finds in
-    let has = does_as {A = List ℕ} {B = Unit {0}} (Err end) result s.bytes s'.bytes s.requester s'.requester exchanges (λ e ended. same_end {A = List ℕ} result end e is ended) (has_finds uid gid export path s s' (Err end) finds) in
+    let has = does_as {A = List ℕ} {B = Unit {0}} (Err end) result s s' exchanges (λ e ended. same_end {A = List ℕ} result end e is ended) (has_finds uid gid export path s s' (Err end) finds) in
     let done = has opened link [] session.fine (sessions_begin_lem addr (terms_with units invalidates) before dialed s opened link opens session.first_xid session.first_stag session.wished) in
     alone_run opened link addr (terms_with units invalidates) before dialed after s opens (source_of s') (sink_of s') s'.bytes.read s'.requester result exchanges session.wished.1.1 done closes
 

@@ -19,8 +19,8 @@ use Rattle.nr_service_laws.proofs.ServedLaws.{served_not_ended_lem}
 
 -- ---- The causes
 
-cause_of : (F : ClientEnd → Type 0) (result : Result (Unit {0}) ClientEnd) (b : LinkBytes) (h : RequesterSide) (end : CallEnd) → result ≡ Err (client.Link end) → GivenIs Any F result b h → CauseAt end b h
-cause_of F result b h end same is = subst (λ (r : Result (Unit {0}) ClientEnd). GivenIs Any F r b h) same is
+cause_of : (F : ClientEnd → Type 0) (result : Result (Unit {0}) ClientEnd) (b : LinkView) (end : CallEnd) → result ≡ Err (client.Link end) → GivenIs Any F result b → CauseAt end b
+cause_of F result b end same is = subst (λ (r : Result (Unit {0}) ClientEnd). GivenIs Any F r b) same is
 
 pub ends_have_causes_lem : EndsHaveCauses
 ends_have_causes_lem c before after input input' out out' result (NotOpened end is fails same_input same_out) = tt

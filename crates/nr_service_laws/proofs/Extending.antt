@@ -119,25 +119,25 @@ extends_both opened link run b c d ahead made then more later one two =
 -- ---- Doing
 
 -- nothing was done
-pub does_none : {A : Type 0} (result : Result A ClientEnd) (b : LinkBytes) (h : RequesterSide) → HasDone result b b h h none
-does_none result b h opened link run fine live = record {
+pub does_none : {A : Type 0} (result : Result A ClientEnd) (b : LinkView) → HasDone result b b none
+does_none result b opened link run fine live = record {
   more = [];
   ahead = [];
   extends = extends_none opened link run b;
-  stands = inl (subst (λ (all : List Mark). IsLive opened link h all) (sym (append-nil run)) live, refl);
+  stands = inl (subst (λ (all : List Mark). IsLive opened link b.requester all) (sym (append-nil run)) live, refl);
   written = tt;
   lacks = tt;
   whole = inr tt;
 }
 
-pub does_none_at : {A : Type 0} (result : Result A ClientEnd) (b c : LinkBytes) (h i : RequesterSide) → (c ≡ b) × (i ≡ h) → HasDone result b c h i none
-does_none_at result b c h i same =
-    subst (λ (x : LinkBytes). HasDone result b x h i none) (sym same.0) (subst (λ (y : RequesterSide). HasDone result b b h y none) (sym same.1) (does_none result b h))
+pub does_none_at : {A : Type 0} (result : Result A ClientEnd) (b c : LinkView) → (c ≡ b) × (c.requester ≡ b.requester) → HasDone result b c none
+does_none_at result b c same =
+    subst (λ (x : LinkBytes). HasDone result b x b.requester c.requester none) (sym same.0) (subst (λ (y : RequesterSide). HasDone result b b y none) (sym same.1) (does_none result b))
 
 -- with another result: memory ran out for a frame only if it does for the other one
-pub does_as : {A B : Type 0} (result : Result A ClientEnd) (given : Result B ClientEnd) (b c : LinkBytes) (h i : RequesterSide) (exchanges : Exchanges)
-    → ((end : ClientEnd) → result ≡ Err end → given ≡ Err end) → HasDone result b c h i exchanges → HasDone given b c h i exchanges
-does_as result given b c h i exchanges same does opened link run fine live =
+pub does_as : {A B : Type 0} (result : Result A ClientEnd) (given : Result B ClientEnd) (b c : LinkView) (exchanges : Exchanges)
+    → ((end : ClientEnd) → result ≡ Err end → given ≡ Err end) → HasDone result b c exchanges → HasDone given b c exchanges
+does_as result given b c exchanges same does opened link run fine live =
     let done = does opened link run fine live in
     record {
       more = done.more;
@@ -181,15 +181,15 @@ does_more given result opened link run b c d i j exchanges later on does fine mo
 does_more given result opened link run b c d i j exchanges later on does fine more ahead extends (inr (is, out)) whole = absurd (on.fed is)
 
 -- one thing was done, and then another
-pub does_after : {A B : Type 0} (given : Result A ClientEnd) (result : Result B ClientEnd) (b c d : LinkBytes) (h i j : RequesterSide) (exchanges later : Exchanges)
-    → LetsGoOn given → HasDone given b c h i exchanges → HasDone result c d i j later → HasDone result b d h j (and_then exchanges later)
-does_after given result b c d h i j exchanges later on one two opened link run fine live =
+pub does_after : {A B : Type 0} (given : Result A ClientEnd) (result : Result B ClientEnd) (b c d : LinkView) (exchanges later : Exchanges)
+    → LetsGoOn given → HasDone given b c exchanges → HasDone result c d later → HasDone result b d (and_then exchanges later)
+does_after given result b c d exchanges later on one two opened link run fine live =
     let done = one opened link run fine live in
-    does_more given result opened link run b c d i j exchanges later on two fine done.more done.ahead done.extends done.stands done.whole
+    does_more given result opened link run b c d exchanges later on two fine done.more done.ahead done.extends done.stands done.whole
 
 pub has_value : {A : Type 0} (value : A) → LetsGoOn {A = A} (Ok value)
 has_value value = record { written = λ e. absurd cc; fed = λ e. absurd cc }
 
-pub does_both : {A B : Type 0} (value : A) (result : Result B ClientEnd) (b c d : LinkBytes) (h i j : RequesterSide) (exchanges later : Exchanges)
-    → HasDone {A = A} (Ok value) b c h i exchanges → HasDone result c d i j later → HasDone result b d h j (and_then exchanges later)
-does_both {A} value result b c d h i j exchanges later one two = does_after {A = A} (Ok value) result b c d h i j exchanges later (has_value value) one two
+pub does_both : {A B : Type 0} (value : A) (result : Result B ClientEnd) (b c d : LinkView) (exchanges later : Exchanges)
+    → HasDone {A = A} (Ok value) b c exchanges → HasDone result c d later → HasDone result b d (and_then exchanges later)
+does_both {A} value result b c d exchanges later one two = does_after {A = A} (Ok value) result b c d exchanges later (has_value value) one two

@@ -101,24 +101,24 @@ abbrev pub GivenIs : {A : Type 0} → (A → Type 0) → (ClientEnd → Type 0) 
 GivenIs V F (Ok value) b h = V value
 GivenIs V F (Err end) b h = EndsAs F end b h
 
-end_is : (F : ClientEnd → Type 0) (end : ClientEnd) (b : LinkBytes) (h : RequesterSide) → IsReadEnd F end → EndsAs F end b h
-end_is F client.DialFault b h is = is
-end_is F (client.Link end) b h is = absurd is
-end_is F (client.Rpc kind code) b h is = is
-end_is F (client.Mount status) b h is = is
-end_is F (client.Nfs status) b h is = is
-end_is F client.Chunk b h is = is
-end_is F (client.Version low high) b h is = is
-end_is F (client.BadReply at reason) b h is = is
-end_is F (client.BadPath at) b h is = is
-end_is F client.InputFault b h is = absurd is
-end_is F client.OutputFault b h is = absurd is
-end_is F (client.Budget count) b h is = is
-end_is F client.Memory b h is = tt
+end_is : (F : ClientEnd → Type 0) (end : ClientEnd) (b : LinkView) → IsReadEnd F end → EndsAs F end b
+end_is F client.DialFault b is = is
+end_is F (client.Link end) b is = absurd is
+end_is F (client.Rpc kind code) b is = is
+end_is F (client.Mount status) b is = is
+end_is F (client.Nfs status) b is = is
+end_is F client.Chunk b is = is
+end_is F (client.Version low high) b is = is
+end_is F (client.BadReply at reason) b is = is
+end_is F (client.BadPath at) b is = is
+end_is F client.InputFault b is = absurd is
+end_is F client.OutputFault b is = absurd is
+end_is F (client.Budget count) b is = is
+end_is F client.Memory b is = tt
 
-read_is : {A : Type 0} (V : A → Type 0) (F : ClientEnd → Type 0) (result : Result A ClientEnd) (b : LinkBytes) (h : RequesterSide) → ResultIs V F result → GivenIs V F result b h
-read_is V F (Ok value) b h is = is
-read_is V F (Err end) b h is = end_is F end b h is
+read_is : {A : Type 0} (V : A → Type 0) (F : ClientEnd → Type 0) (result : Result A ClientEnd) (b : LinkView) → ResultIs V F result → GivenIs V F result b
+read_is V F (Ok value) b is = is
+read_is V F (Err end) b is = end_is F end b is
 
 -- what is given is what is read, or memory ran out
 given_or_memory : {A : Type 0} (given read : Result A ClientEnd) → Gives given read → (given ≡ Err client.Memory) ⊎ (read ≡ given)
@@ -137,62 +137,62 @@ given_or_memory (Err client.OutputFault) read gives = inr gives
 given_or_memory (Err (client.Budget count)) read gives = inr gives
 given_or_memory (Err client.Memory) read gives = inl refl
 
-gives_is : {A : Type 0} (V : A → Type 0) (F : ClientEnd → Type 0) (given read : Result A ClientEnd) (b : LinkBytes) (h : RequesterSide) → Gives given read → ResultIs V F read → GivenIs V F given b h
-gives_is {A} V F given read b h gives is = by (given_or_memory given read gives)
+gives_is : {A : Type 0} (V : A → Type 0) (F : ClientEnd → Type 0) (given read : Result A ClientEnd) (b : LinkView) → Gives given read → ResultIs V F read → GivenIs V F given b
+gives_is {A} V F given read b gives is = by (given_or_memory given read gives)
   where
-    by : (given ≡ Err client.Memory) ⊎ (read ≡ given) → GivenIs V F given b h
-    by (inl same) = subst (λ (r : Result A ClientEnd). GivenIs V F r b h) (sym same) tt
-    by (inr same) = read_is V F given b h (subst (λ (r : Result A ClientEnd). ResultIs V F r) same is)
+    by : (given ≡ Err client.Memory) ⊎ (read ≡ given) → GivenIs V F given b
+    by (inl same) = subst (λ (r : Result A ClientEnd). GivenIs V F r b) (sym same) tt
+    by (inr same) = read_is V F given b (subst (λ (r : Result A ClientEnd). ResultIs V F r) same is)
 
-link_cause_at : (end : CallEnd) (b : LinkBytes) (h : RequesterSide) → LinkCause end b.left b.read h → CauseAt end b h
-link_cause_at (calls.Ended end) b h cause = inr cause
-link_cause_at calls.LinkRead b h cause = cause
-link_cause_at calls.LinkWrite b h cause = tt
-link_cause_at calls.Closed b h cause = cause
-link_cause_at (calls.Spent left_over need) b h cause = absurd cause
-link_cause_at (calls.TooLarge need room) b h cause = absurd cause
-link_cause_at (calls.Budget count) b h cause = cause
-link_cause_at calls.Memory b h cause = tt
+link_cause_at : (end : CallEnd) (b : LinkView) → LinkCause end b.bytes.left b.bytes.read b.requester → CauseAt end b
+link_cause_at (calls.Ended end) b cause = inr cause
+link_cause_at calls.LinkRead b cause = cause
+link_cause_at calls.LinkWrite b cause = tt
+link_cause_at calls.Closed b cause = cause
+link_cause_at (calls.Spent left_over need) b cause = absurd cause
+link_cause_at (calls.TooLarge need room) b cause = absurd cause
+link_cause_at (calls.Budget count) b cause = cause
+link_cause_at calls.Memory b cause = tt
 
-cause_at : (end : CallEnd) (b : LinkBytes) (h : RequesterSide) (call : Call) → IsCause end b.left b.read h call → CauseAt end b h
-cause_at (calls.Ended end) b h call cause = inr cause
-cause_at calls.LinkRead b h call cause = cause
-cause_at calls.LinkWrite b h call cause = tt
-cause_at calls.Closed b h call cause = cause
-cause_at (calls.Spent left_over need) b h call cause = (call, cause)
-cause_at (calls.TooLarge need room) b h call cause = (call, cause)
-cause_at (calls.Budget count) b h call cause = cause
-cause_at calls.Memory b h call cause = tt
+cause_at : (end : CallEnd) (b : LinkView) (call : Call) → IsCause end b.bytes.left b.bytes.read b.requester call → CauseAt end b
+cause_at (calls.Ended end) b call cause = inr cause
+cause_at calls.LinkRead b call cause = cause
+cause_at calls.LinkWrite b call cause = tt
+cause_at calls.Closed b call cause = cause
+cause_at (calls.Spent left_over need) b call cause = (call, cause)
+cause_at (calls.TooLarge need room) b call cause = (call, cause)
+cause_at (calls.Budget count) b call cause = cause
+cause_at calls.Memory b call cause = tt
 
-unanswered_is : (F : ClientEnd → Type 0) (call : Call) (b c : LinkBytes) (h i : RequesterSide) (end : ClientEnd) → Unanswered call b c h i end → EndsAs F end c i
-unanswered_is F call b c h i end (inl (cause, (is, (gives_up, why)))) = subst (λ (e : ClientEnd). EndsAs F e c i) (sym is) (cause_at cause c i call why)
-unanswered_is F call b c h i end (inr (is, same)) = subst (λ (e : ClientEnd). EndsAs F e c i) (sym is) tt
+unanswered_is : (F : ClientEnd → Type 0) (call : Call) (b c : LinkView) (end : ClientEnd) → Unanswered call b c end → EndsAs F end c
+unanswered_is F call b c end (inl (cause, (is, (gives_up, why)))) = subst (λ (e : ClientEnd). EndsAs F e c) (sym is) (cause_at cause c call why)
+unanswered_is F call b c end (inr (is, same)) = subst (λ (e : ClientEnd). EndsAs F e c) (sym is) tt
 
 -- ---- Requests
 
-asks_is : {A : Type 0} (R : Call → Outcome → Type 0) (V : A → Type 0) (F : ClientEnd → Type 0) (reads : Outcome → Result A ClientEnd) (call : Call) (b c : LinkBytes) (h i : RequesterSide) (result : Result A ClientEnd)
-    (asks : Asks reads call b c h i result) (before : List OpenRead) → ((o : Outcome) → R call o → ResultIs V F (reads o)) → AreJudged R before (asked_exchanges reads call b c h i result asks).made → GivenIs V F result c i
-asks_is R V F reads call b c h i result (inl (outcome, (answers, gives))) before judge are = gives_is V F result (reads outcome) c i gives (judge outcome are.0)
-asks_is {A} R V F reads call b c h i result (inr (inl (cause, (is, (gives_up, why))))) before judge are =
-    subst (λ (r : Result A ClientEnd). GivenIs V F r c i) (sym is) (cause_at cause c i call why)
-asks_is {A} R V F reads call b c h i result (inr (inr (is, same))) before judge are = subst (λ (r : Result A ClientEnd). GivenIs V F r c i) (sym is) tt
+asks_is : {A : Type 0} (R : Call → Outcome → Type 0) (V : A → Type 0) (F : ClientEnd → Type 0) (reads : Outcome → Result A ClientEnd) (call : Call) (b c : LinkView) (result : Result A ClientEnd)
+    (asks : Asks reads call b c result) (before : List OpenRead) → ((o : Outcome) → R call o → ResultIs V F (reads o)) → AreJudged R before (asked_exchanges reads call b c result asks).made → GivenIs V F result c
+asks_is R V F reads call b c result (inl (outcome, (answers, gives))) before judge are = gives_is V F result (reads outcome) c gives (judge outcome are.0)
+asks_is {A} R V F reads call b c result (inr (inl (cause, (is, (gives_up, why))))) before judge are =
+    subst (λ (r : Result A ClientEnd). GivenIs V F r c) (sym is) (cause_at cause c call why)
+asks_is {A} R V F reads call b c result (inr (inr (is, same))) before judge are = subst (λ (r : Result A ClientEnd). GivenIs V F r c) (sym is) tt
 
-pub answers_of : {A : Type 0} (R : Call → Outcome → Type 0) (request : List Outcome → Next A) (outcomes : List Outcome) (b c : LinkBytes) (h i : RequesterSide) (made : MakesCalls request outcomes b c h i) (before : List OpenRead)
-    → AreJudged R before (made_exchanges request outcomes b c h i made).made → AreAnswers R request outcomes
-answers_of R request [] b c h i made before are = tt
-answers_of R request (outcome ∷ outcomes) b c h i (call, d, j, (is, (answers, rest))) before (judged, are) =
-    ((call, (is, judged)), answers_of R (λ later. request (outcome ∷ later)) outcomes d c j i rest before are)
+pub answers_of : {A : Type 0} (R : Call → Outcome → Type 0) (request : List Outcome → Next A) (outcomes : List Outcome) (b c : LinkView) (made : MakesCalls request outcomes b c) (before : List OpenRead)
+    → AreJudged R before (made_exchanges request outcomes b c made).made → AreAnswers R request outcomes
+answers_of R request [] b c made before are = tt
+answers_of R request (outcome ∷ outcomes) b c (call, d, j, (is, (answers, rest))) before (judged, are) =
+    ((call, (is, judged)), answers_of R (λ later. request (outcome ∷ later)) outcomes d c j c.requester rest before are)
 
-ends_is : {A : Type 0} (V : A → Type 0) (F : ClientEnd → Type 0) (next : Next A) (b c : LinkBytes) (h i : RequesterSide) (given : Result A ClientEnd) → EndsWith next b c h i given → NextIs V F next → GivenIs V F given c i
-ends_is V F (Returns result) b c h i given (gives, same) is = gives_is V F given result c i gives is
-ends_is {A} V F (Calls call) b c h i given (end, (same, gone)) is = subst (λ (r : Result A ClientEnd). GivenIs V F r c i) (sym same) (unanswered_is F call b c h i end gone)
+ends_is : {A : Type 0} (V : A → Type 0) (F : ClientEnd → Type 0) (next : Next A) (b c : LinkView) (given : Result A ClientEnd) → EndsWith next b c given → NextIs V F next → GivenIs V F given c
+ends_is V F (Returns result) b c given (gives, same) is = gives_is V F given result c gives is
+ends_is {A} V F (Calls call) b c given (end, (same, gone)) is = subst (λ (r : Result A ClientEnd). GivenIs V F r c) (sym same) (unanswered_is F call b c end gone)
 
-follows_is : {A : Type 0} (R : Call → Outcome → Type 0) (V : A → Type 0) (F : ClientEnd → Type 0) (request : List Outcome → Next A) (b c : LinkBytes) (h i : RequesterSide) (given : Result A ClientEnd)
-    (f : Follows request b c h i given) (before : List OpenRead) → RequestIs R V F request → AreJudged R before (followed_exchanges request b c h i given f).made → GivenIs V F given c i
-follows_is R V F request b c h i given f before judge are =
-    let made = (made_exchanges request f.outcomes b f.between h f.side f.made).made in
-    ends_is V F (request f.outcomes) f.between c f.side i given f.ends
-    (judge f.outcomes (answers_of R request f.outcomes b f.between h f.side f.made before (judged_both R before made _ are).0))
+follows_is : {A : Type 0} (R : Call → Outcome → Type 0) (V : A → Type 0) (F : ClientEnd → Type 0) (request : List Outcome → Next A) (b c : LinkView) (given : Result A ClientEnd)
+    (f : Follows request b c given) (before : List OpenRead) → RequestIs R V F request → AreJudged R before (followed_exchanges request b c given f).made → GivenIs V F given c
+follows_is R V F request b c given f before judge are =
+    let made = (made_exchanges request f.outcomes b f.between b.requester f.side f.made).made in
+    ends_is V F (request f.outcomes) f.between c f.side c.requester given f.ends
+    (judge f.outcomes (answers_of R request f.outcomes b f.between b.requester f.side f.made before (judged_both R before made _ are).0))
 
 -- ---- A requester whose calls are forgotten
 
@@ -288,8 +288,8 @@ given_kept : (V : Unit {0} → Type 0) (F : ClientEnd → Type 0) (given : Resul
 given_kept V F (Ok value) b h i same is = is
 given_kept V F (Err end) b h i same is = ends_kept F end b h i same is
 
-given_out : (V : Unit {0} → Type 0) (F : ClientEnd → Type 0) (given : Result (Unit {0}) ClientEnd) (b : LinkBytes) (i : RequesterSide) → given ≡ Err (client.Link (calls.Ended ends.Memory)) → GivenIs V F given b i
-given_out V F given b i is = subst (λ (r : Result (Unit {0}) ClientEnd). GivenIs V F r b i) (sym is) (inl refl)
+given_out : (V : Unit {0} → Type 0) (F : ClientEnd → Type 0) (given : Result (Unit {0}) ClientEnd) (b : LinkView) → given ≡ Err (client.Link (calls.Ended ends.Memory)) → GivenIs V F given b
+given_out V F given b is = subst (λ (r : Result (Unit {0}) ClientEnd). GivenIs V F r b) (sym is) (inl refl)
 
 -- ---- A file that is read
 
@@ -331,16 +331,16 @@ step_judged R uid gid file reads s t (TakesOldest read outcome full is completes
       waiting = all.1;
     }
 
-pub steps_judged : (R : Call → Outcome → Type 0) (uid gid : ℕ) (file : List ℕ) (reads : List OpenRead) (b : LinkBytes) (h : RequesterSide) (states : List ReadingAt) (last : ReadingAt) (leads : LeadsBy uid gid file (starts_at b h) states last)
-    → AreJudged R reads (steps_exchanges uid gid file (starts_at b h) states last leads).made → IsReadSoFar R uid gid file (reads_after reads (steps_exchanges uid gid file (starts_at b h) states last leads).made) last
+pub steps_judged : (R : Call → Outcome → Type 0) (uid gid : ℕ) (file : List ℕ) (reads : List OpenRead) (b : LinkView) (states : List ReadingAt) (last : ReadingAt) (leads : LeadsBy uid gid file (starts_at b) states last)
+    → AreJudged R reads (steps_exchanges uid gid file (starts_at b) states last leads).made → IsReadSoFar R uid gid file (reads_after reads (steps_exchanges uid gid file (starts_at b) states last leads).made) last
 unfolding AllOf
-steps_judged R uid gid file reads b h [] last same are = subst (λ (s : ReadingAt). IsReadSoFar R uid gid file reads s) (sym same) (record { answers = tt; waiting = tt })
-steps_judged R uid gid file reads b h (s ∷ states) last (step, leads) are =
-    let before = (steps_exchanges uid gid file (starts_at b h) states s leads).made in
+steps_judged R uid gid file reads b [] last same are = subst (λ (s : ReadingAt). IsReadSoFar R uid gid file reads s) (sym same) (record { answers = tt; waiting = tt })
+steps_judged R uid gid file reads b (s ∷ states) last (step, leads) are =
+    let before = (steps_exchanges uid gid file (starts_at b) states s leads).made in
     let one = (step_exchanges uid gid file s last step).made in
     let both = judged_both R reads before one are in
     subst (λ (r : List OpenRead). IsReadSoFar R uid gid file r last) (sym (after_both reads before one))
-    (step_judged R uid gid file (reads_after reads before) s last step (steps_judged R uid gid file reads b h states s leads both.0) both.1)
+    (step_judged R uid gid file (reads_after reads before) s last step (steps_judged R uid gid file reads b states s leads both.0) both.1)
   where
     after_both : (rs : List OpenRead) (made later : List Exchange) → reads_after rs (made ++ later) ≡ reads_after (reads_after rs made) later
     after_both rs [] later = refl
@@ -350,20 +350,20 @@ steps_judged R uid gid file reads b h (s ∷ states) last (step, leads) are =
     after_both rs (HandedOver xid outcome ∷ rest) later = after_both rs rest later
     after_both rs (GivenUp xid ∷ rest) later = after_both rs rest later
 
-returned_is : (F : ClientEnd → Type 0) (given : Result (Unit {0}) ClientEnd) (next : Next (Unit {0})) (b : LinkBytes) (h : RequesterSide) → NextIs Any F next → (given ≡ Err client.Memory) ⊎ (next ≡ Returns given) → GivenIs Any F given b h
-returned_is F given next b h is (inl same) = subst (λ (r : Result (Unit {0}) ClientEnd). GivenIs Any F r b h) (sym same) tt
-returned_is F given next b h is (inr same) = read_is Any F given b h (subst (λ (n : Next (Unit {0})). NextIs Any F n) same is)
+returned_is : (F : ClientEnd → Type 0) (given : Result (Unit {0}) ClientEnd) (next : Next (Unit {0})) (b : LinkView) → NextIs Any F next → (given ≡ Err client.Memory) ⊎ (next ≡ Returns given) → GivenIs Any F given b
+returned_is F given next b is (inl same) = subst (λ (r : Result (Unit {0}) ClientEnd). GivenIs Any F r b) (sym same) tt
+returned_is F given next b is (inr same) = read_is Any F given b (subst (λ (n : Next (Unit {0})). NextIs Any F n) same is)
 
-reading_end_is : (F : ClientEnd → Type 0) (uid gid : ℕ) (file : List ℕ) (s : ReadingAt) (left : List OpenRead) (b : LinkBytes) (h : RequesterSide) (taken taken' : Option (List ℕ)) (given : Result (Unit {0}) ClientEnd)
-    → EndsReading uid gid file s left b h taken taken' given → (given ≡ Err client.OutputFault → F client.OutputFault) → NextIs Any F (reading uid gid file s.outcomes) → GivenIs Any F given b h
-reading_end_is F uid gid file s left b h taken taken' given (EndsByReplies same is waits takes) fault next = returned_is F given (reading uid gid file s.outcomes) b h next is
-reading_end_is F uid gid file s left b h taken taken' given (OutputFails is same waits takes) fault next = subst (λ (r : Result (Unit {0}) ClientEnd). GivenIs Any F r b h) (sym is) (fault is)
-reading_end_is F uid gid file s left b h taken taken' given (NotAnswered call end alone is gone waits takes) fault next =
-    subst (λ (r : Result (Unit {0}) ClientEnd). GivenIs Any F r b h) (sym is) (unanswered_is F call s.bytes b s.side h end gone)
-reading_end_is F uid gid file s left b h taken taken' given (NotSubmitted call end ahead is refused waits takes) fault next =
-    subst (λ (r : Result (Unit {0}) ClientEnd). GivenIs Any F r b h) (sym is) (cause_at end b h call refused.1)
-reading_end_is F uid gid file s left b h taken taken' given (OldestForgotten read end full is given_is forgets waits takes) fault next =
-    subst (λ (r : Result (Unit {0}) ClientEnd). GivenIs Any F r b h) (sym given_is) (link_cause_at end b h forgets.1)
+reading_end_is : (F : ClientEnd → Type 0) (uid gid : ℕ) (file : List ℕ) (s : ReadingAt) (left : List OpenRead) (b : LinkView) (taken taken' : Option (List ℕ)) (given : Result (Unit {0}) ClientEnd)
+    → EndsReading uid gid file s left b taken taken' given → (given ≡ Err client.OutputFault → F client.OutputFault) → NextIs Any F (reading uid gid file s.outcomes) → GivenIs Any F given b
+reading_end_is F uid gid file s left b taken taken' given (EndsByReplies same is waits takes) fault next = returned_is F given (reading uid gid file s.outcomes) b next is
+reading_end_is F uid gid file s left b taken taken' given (OutputFails is same waits takes) fault next = subst (λ (r : Result (Unit {0}) ClientEnd). GivenIs Any F r b) (sym is) (fault is)
+reading_end_is F uid gid file s left b taken taken' given (NotAnswered call end alone is gone waits takes) fault next =
+    subst (λ (r : Result (Unit {0}) ClientEnd). GivenIs Any F r b) (sym is) (unanswered_is F call s.bytes b s.side b.requester end gone)
+reading_end_is F uid gid file s left b taken taken' given (NotSubmitted call end ahead is refused waits takes) fault next =
+    subst (λ (r : Result (Unit {0}) ClientEnd). GivenIs Any F r b) (sym is) (cause_at end b call refused.1)
+reading_end_is F uid gid file s left b taken taken' given (OldestForgotten read end full is given_is forgets waits takes) fault next =
+    subst (λ (r : Result (Unit {0}) ClientEnd). GivenIs Any F r b) (sym given_is) (link_cause_at end b forgets.1)
 
 -- ---- Parts
 
@@ -371,21 +371,21 @@ pub live_after : {A : Type 0} (value : A) (opened : LinkParameters) (link : ℕ)
 live_after value opened link h ahead run (inl (live, fed)) = live
 live_after value opened link h ahead run (inr (is, out)) = absurd (let wrong = is in cc)
 
-reads_is : (R : Call → Outcome → Type 0) (F : ClientEnd → Type 0) (uid gid : ℕ) (file : List ℕ) (b c : LinkBytes) (h i : RequesterSide) (taken taken' : Option (List ℕ)) (given : Result (Unit {0}) ClientEnd)
-    (f : ReadsFile uid gid file b c h i taken taken' given) (before : List OpenRead) (opened : LinkParameters) (link : ℕ) (run : List Mark) → (given ≡ Err client.OutputFault → F client.OutputFault) → RequestIs R Any F (reading uid gid file)
-    → IsOpened opened → IsLive opened link h run → AreJudged R before (read_exchanges uid gid file b c h i taken taken' given f).made → GivenIs Any F given c i
-reads_is R F uid gid file b c h i taken taken' given f before opened link run fault judge fine live are =
-    let steps = (steps_exchanges uid gid file (starts_at b h) f.between f.last f.made).made in
-    let so_far = steps_judged R uid gid file before b h f.between f.last f.made (judged_both R before steps _ are).0 in
+reads_is : (R : Call → Outcome → Type 0) (F : ClientEnd → Type 0) (uid gid : ℕ) (file : List ℕ) (b c : LinkView) (taken taken' : Option (List ℕ)) (given : Result (Unit {0}) ClientEnd)
+    (f : ReadsFile uid gid file b c taken taken' given) (before : List OpenRead) (opened : LinkParameters) (link : ℕ) (run : List Mark) → (given ≡ Err client.OutputFault → F client.OutputFault) → RequestIs R Any F (reading uid gid file)
+    → IsOpened opened → IsLive opened link b.requester run → AreJudged R before (read_exchanges uid gid file b c taken taken' given f).made → GivenIs Any F given c
+reads_is R F uid gid file b c taken taken' given f before opened link run fault judge fine live are =
+    let steps = (steps_exchanges uid gid file (starts_at b) f.between f.last f.made).made in
+    let so_far = steps_judged R uid gid file before b f.between f.last f.made (judged_both R before steps _ are).0 in
     let end = reading_end_is F uid gid file f.last f.left c f.side taken taken' given f.ends fault (judge f.last.outcomes so_far.answers) in
-    let done = does_steps uid gid file (starts_at b h) f.between f.last f.made opened link run fine live in
+    let done = does_steps uid gid file (starts_at b) f.between f.last f.made opened link run fine live in
     let there = live_after {A = Unit {0}} tt opened link f.last.side done.ahead (run ++ done.more) done.stands in
     let last = does_reading_end uid gid file f.last f.left c f.side taken taken' given f.ends opened link (run ++ done.more) fine there in
     by last.ahead ((run ++ done.more) ++ last.more) last.stands end
   where
-    by : (ahead : List ℕ) (all : List Mark) → StandsAt given opened link f.side ahead all → GivenIs Any F given c f.side → GivenIs Any F given c i
-    by ahead all (inl (stands, fed)) is = given_kept Any F given c f.side i (keeps_cause opened link all f.side i (xids_of f.left) stands f.forgets) is
-    by ahead all (inr (out, stands)) is = given_out Any F given c i out
+    by : (ahead : List ℕ) (all : List Mark) → StandsAt given opened link f.side ahead all → GivenIs Any F given c f.side → GivenIs Any F given c
+    by ahead all (inl (stands, fed)) is = given_kept Any F given c f.side c.requester (keeps_cause opened link all f.side c.requester (xids_of f.left) stands f.forgets) is
+    by ahead all (inr (out, stands)) is = given_out Any F given c out
 
 -- what each part gives, with the cause of its end
 abbrev pub PartIs : (Call → Outcome → Type 0) → {A : Type 0} → (A → Type 0) → (ClientEnd → Type 0) → (part : Part A) → Tells part → Type 0
@@ -399,10 +399,10 @@ text_is R F text s s' (Err end) (same, is) before opened link run fine live are 
 
 pub request_is : {A : Type 0} (R : Call → Outcome → Type 0) (V : A → Type 0) (F : ClientEnd → Type 0) (reads : Outcome → Result A ClientEnd) (call : Call) → ((o : Outcome) → R call o → ResultIs V F (reads o))
     → PartIs R V F (Request reads call) (tells_request reads call)
-request_is R V F reads call judge s s' result is before opened link run fine live are = asks_is R V F reads call s.bytes s'.bytes s.requester s'.requester result is.0 before judge are
+request_is R V F reads call judge s s' result is before opened link run fine live are = asks_is R V F reads call s s' result is.0 before judge are
 
 pub requests_is : {A : Type 0} (R : Call → Outcome → Type 0) (V : A → Type 0) (F : ClientEnd → Type 0) (request : List Outcome → Next A) → RequestIs R V F request → PartIs R V F (Requests request) (tells_requests request)
-requests_is R V F request judge s s' result is before opened link run fine live are = follows_is R V F request s.bytes s'.bytes s.requester s'.requester result is.0 before judge are
+requests_is R V F request judge s s' result is before opened link run fine live are = follows_is R V F request s s' result is.0 before judge are
 
 pub then_is : {A B : Type 0} (R : Call → Outcome → Type 0) (V : A → Type 0) (W : B → Type 0) (F : ClientEnd → Type 0) (first : Part A) (next : A → Part B) (exchanges : Tells first) (later : (value : A) → Tells (next value))
     → Has first exchanges → PartIs R V F first exchanges → ((value : A) → V value → PartIs R W F (next value) (later value)) → PartIs R W F (Then first next) (tells_then first next exchanges later)
@@ -465,14 +465,14 @@ module _ (R : Call → Outcome → Type 0) (V : List ℕ → Type 0) (F : Client
   pub reads_out_is : (file : List ℕ) (out out' : SinkAt) → (Rises out.faults out'.faults → F client.OutputFault) → V file → PartIs R Any F (ReadsOut uid gid file out out') (tells_reads_out uid gid file out out')
   reads_out_is file out out' fault holds s s' text (done, ((reads, counts), silent)) before opened link run fine live are =
       silent_is s' done text silent
-      (reads_is R F uid gid file s.bytes s'.bytes s.requester s'.requester out.taken out'.taken done reads before opened link run (λ is. fault (output_rose done out.faults out'.faults counts.0 is))
+      (reads_is R F uid gid file s s' out.taken out'.taken done reads before opened link run (λ is. fault (output_rose done out.faults out'.faults counts.0 is))
       (reading_is R V F uid gid judge file holds) fine live are)
 
-  writes_is : (dir name handed rest : List ℕ) (b c : LinkBytes) (h i : RequesterSide) (result : Result (Unit {0}) ClientEnd) (w : EndsWriting uid gid dir name handed rest b c h i result)
-      (before : List OpenRead) → (input_max < length (handed ++ rest) → F (client.Budget input_max)) → (result ≡ Err client.InputFault → F client.InputFault) → AreJudged R before (write_exchanges_by uid gid dir name handed rest b c h i result w).made → GivenIs Any F result c i
-  writes_is dir name handed rest b c h i result (FollowsInput follows count ahead) before over fault are =
-      follows_is R Any F (writing uid gid dir name (handed ++ rest)) b c h i result follows before (writing_is R V F uid gid judge dir name (handed ++ rest) over) are
-  writes_is dir name handed rest b c h i result (InputFails outcomes is made ahead) before over fault are = subst (λ (r : Result (Unit {0}) ClientEnd). GivenIs Any F r c i) (sym is) (fault is)
+  writes_is : (dir name handed rest : List ℕ) (b c : LinkView) (result : Result (Unit {0}) ClientEnd) (w : EndsWriting uid gid dir name handed rest b c result)
+      (before : List OpenRead) → (input_max < length (handed ++ rest) → F (client.Budget input_max)) → (result ≡ Err client.InputFault → F client.InputFault) → AreJudged R before (write_exchanges_by uid gid dir name handed rest b c result w).made → GivenIs Any F result c
+  writes_is dir name handed rest b c result (FollowsInput follows count ahead) before over fault are =
+      follows_is R Any F (writing uid gid dir name (handed ++ rest)) b c result follows before (writing_is R V F uid gid judge dir name (handed ++ rest) over) are
+  writes_is dir name handed rest b c result (InputFails outcomes is made ahead) before over fault are = subst (λ (r : Result (Unit {0}) ClientEnd). GivenIs Any F r c) (sym is) (fault is)
 
   -- an input that was read is its bytes
   whole_input : (handed rest : List ℕ) (left left' : Option (List ℕ)) → Consumes left left' handed → IfSome left' (λ known. rest ≡ known) → input_max < length (handed ++ rest) → IfSome left (λ known. input_max < length known)
@@ -483,5 +483,5 @@ module _ (R : Call → Outcome → Type 0) (V : List ℕ → Type 0) (F : Client
 
   pub writes_in_is : (dir name : List ℕ) (input input' : SourceAt) → (IfSome input.left (λ known. input_max < length known) → F (client.Budget input_max)) → (Rises input.faults input'.faults → F client.InputFault) → PartIs R Any F (WritesIn uid gid dir name input input') (tells_writes_in uid gid dir name input input')
   writes_in_is dir name input input' over fault s s' text (done, ((writes, counts), silent)) before opened link run fine live are =
-      silent_is s' done text silent (writes_is dir name writes.handed writes.rest s.bytes s'.bytes s.requester s'.requester done writes.calls before
+      silent_is s' done text silent (writes_is dir name writes.handed writes.rest s s' done writes.calls before
       (λ long. over (whole_input writes.handed writes.rest input.left input'.left writes.hands_out.from_left writes.is_rest long)) (λ is. fault (input_rose done input.faults input'.faults counts.0 is)) are)

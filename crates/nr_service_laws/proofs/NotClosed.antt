@@ -59,10 +59,10 @@ record WaitsAt (opened : LinkParameters) (link : ℕ) (run : List Mark) : Type 0
   written : HasWritten opened link Initiator run
   waiting : 0 < calls_outstanding opened link run
 
-waits_at : (opened : LinkParameters) (link : ℕ) (run : List Mark) (b : LinkBytes) (h : RequesterSide) → IsLive opened link h run → CauseAt calls.Closed b h → WaitsAt opened link run
-waits_at opened link run b h live cause =
+waits_at : (opened : LinkParameters) (link : ℕ) (run : List Mark) (b : LinkView) → IsLive opened link b.requester run → CauseAt calls.Closed b → WaitsAt opened link run
+waits_at opened link run b live cause =
     let (ended, (at_end, (few, (some, none)))) = cause in
-    record { written = written_now opened link run h none live; waiting = subst (λ (k : ℕ). 0 < k) (counts_as_client opened link h run live.stands).0 some }
+    record { written = written_now opened link run b.requester none live; waiting = subst (λ (k : ℕ). 0 < k) (counts_as_client opened link b.requester run live.stands).0 some }
 
 live_at : (result : Result (Unit {0}) ClientEnd) (opened : LinkParameters) (link : ℕ) (h : RequesterSide) (ahead : List ℕ) (run : List Mark) → result ≡ Err (client.Link calls.Closed)
     → StandsAt result opened link h ahead run → IsLive opened link h run

@@ -150,8 +150,8 @@ printed_fine handed_over (Err why) (Err end) out out' s s' (is, same) one =
     subst (λ (e : ClientEnd). IsFine handed_over {A = Unit {0}} s s' (Err e)) (sym is) (counts_as (List ℕ) (Unit {0}) s s' why one.0, one.1)
 
 -- no session ends for its dialer
-not_dial : (F : ClientEnd → Type 0) (result : Result (Unit {0}) ClientEnd) (b : LinkBytes) (h : RequesterSide) → GivenIs Any F result b h → result ≡ Err client.DialFault → ⊥
-not_dial F result b h is same = subst (λ (r : Result (Unit {0}) ClientEnd). GivenIs Any F r b h) same is
+not_dial : (F : ClientEnd → Type 0) (result : Result (Unit {0}) ClientEnd) (b : LinkView) → GivenIs Any F result b → result ≡ Err client.DialFault → ⊥
+not_dial F result b is same = subst (λ (r : Result (Unit {0}) ClientEnd). GivenIs Any F r b) same is
 
 pub replies_exclude_ends_lem : RepliesExcludeEnds
 replies_exclude_ends_lem c before after input input' out out' result (NotOpened end is fails same_input same_out) = tt

@@ -92,36 +92,36 @@ giving_up exchanges xids = record { made = exchanges.made ++ map GivenUp xids; u
 -- ---- Requests of nr_client
 
 -- a call without an answer: it was not submitted, or it was, and was forgotten
-abbrev pub given_up_exchanges : (b b' : LinkBytes) (h h' : RequesterSide) (call : Call) (end : CallEnd) → GivesUp b b' h h' call end → Exchanges
-given_up_exchanges b b' h h' call end (inl refused) = refused_by end
-given_up_exchanges b b' h h' call end (inr gone) = lost_by (Forgotten call) end
+abbrev pub given_up_exchanges : (b b' : LinkView) (call : Call) (end : CallEnd) → GivesUp b b' call end → Exchanges
+given_up_exchanges b b' call end (inl refused) = refused_by end
+given_up_exchanges b b' call end (inr gone) = lost_by (Forgotten call) end
 
-abbrev pub unanswered_exchanges : (call : Call) (b b' : LinkBytes) (h h' : RequesterSide) (end : ClientEnd) → Unanswered call b b' h h' end → Exchanges
-unanswered_exchanges call b b' h h' end (inl (cause, (is, (gives_up, why)))) = given_up_exchanges b b' h h' call cause gives_up
-unanswered_exchanges call b b' h h' end (inr memory) = none
+abbrev pub unanswered_exchanges : (call : Call) (b b' : LinkView) (end : ClientEnd) → Unanswered call b b' end → Exchanges
+unanswered_exchanges call b b' end (inl (cause, (is, (gives_up, why)))) = given_up_exchanges b b' call cause gives_up
+unanswered_exchanges call b b' end (inr memory) = none
 
 -- a request of one call
-abbrev pub asked_exchanges : {A : Type 0} (reads : Outcome → Result A ClientEnd) (call : Call) (b b' : LinkBytes) (h h' : RequesterSide) (result : Result A ClientEnd)
-    → Asks reads call b b' h h' result → Exchanges
-asked_exchanges reads call b b' h h' result (inl (outcome, is)) = one (Answered call outcome)
-asked_exchanges reads call b b' h h' result (inr (inl (cause, (is, (gives_up, why))))) = given_up_exchanges b b' h h' call cause gives_up
-asked_exchanges reads call b b' h h' result (inr (inr memory)) = none
+abbrev pub asked_exchanges : {A : Type 0} (reads : Outcome → Result A ClientEnd) (call : Call) (b b' : LinkView) (result : Result A ClientEnd)
+    → Asks reads call b b' result → Exchanges
+asked_exchanges reads call b b' result (inl (outcome, is)) = one (Answered call outcome)
+asked_exchanges reads call b b' result (inr (inl (cause, (is, (gives_up, why))))) = given_up_exchanges b b' call cause gives_up
+asked_exchanges reads call b b' result (inr (inr memory)) = none
 
 -- a request of several calls
-abbrev pub made_exchanges : {A : Type 0} (request : List Outcome → Next A) (outcomes : List Outcome) (b b' : LinkBytes) (h h' : RequesterSide)
-    → MakesCalls request outcomes b b' h h' → Exchanges
-made_exchanges request [] b b' h h' made = none
-made_exchanges request (outcome ∷ outcomes) b b' h h' (call, c, i, (is, (answers, rest))) =
-    and_then (one (Answered call outcome)) (made_exchanges (λ later. request (outcome ∷ later)) outcomes c b' i h' rest)
+abbrev pub made_exchanges : {A : Type 0} (request : List Outcome → Next A) (outcomes : List Outcome) (b b' : LinkView)
+    → MakesCalls request outcomes b b' → Exchanges
+made_exchanges request [] b b' made = none
+made_exchanges request (outcome ∷ outcomes) b b' (call, c, i, (is, (answers, rest))) =
+    and_then (one (Answered call outcome)) (made_exchanges (λ later. request (outcome ∷ later)) outcomes c b' i b'.requester rest)
 
-abbrev pub end_exchanges : {A : Type 0} (next : Next A) (b b' : LinkBytes) (h h' : RequesterSide) (given : Result A ClientEnd) → EndsWith next b b' h h' given → Exchanges
-end_exchanges (Returns result) b b' h h' given ends = none
-end_exchanges (Calls call) b b' h h' given (end, (is, unanswered)) = unanswered_exchanges call b b' h h' end unanswered
+abbrev pub end_exchanges : {A : Type 0} (next : Next A) (b b' : LinkView) (given : Result A ClientEnd) → EndsWith next b b' given → Exchanges
+end_exchanges (Returns result) b b' given ends = none
+end_exchanges (Calls call) b b' given (end, (is, unanswered)) = unanswered_exchanges call b b' end unanswered
 
-abbrev pub followed_exchanges : {A : Type 0} (request : List Outcome → Next A) (b b' : LinkBytes) (h h' : RequesterSide) (given : Result A ClientEnd)
-    → Follows request b b' h h' given → Exchanges
-followed_exchanges request b b' h h' given f =
-    and_then (made_exchanges request f.outcomes b f.between h f.side f.made) (end_exchanges (request f.outcomes) f.between b' f.side h' given f.ends)
+abbrev pub followed_exchanges : {A : Type 0} (request : List Outcome → Next A) (b b' : LinkView) (given : Result A ClientEnd)
+    → Follows request b b' given → Exchanges
+followed_exchanges request b b' given f =
+    and_then (made_exchanges request f.outcomes b f.between b.requester f.side f.made) (end_exchanges (request f.outcomes) f.between b' f.side b'.requester given f.ends)
 
 -- a file is read: its READs are submitted before the outcomes of earlier ones are handed over
 abbrev pub step_exchanges : (uid gid : ℕ) (file : List ℕ) (s t : ReadingAt) → ReadStep uid gid file s t → Exchanges
@@ -134,31 +134,31 @@ steps_exchanges uid gid file first [] last same = none
 steps_exchanges uid gid file first (s ∷ states) last (step, leads) =
     and_then (steps_exchanges uid gid file first states s leads) (step_exchanges uid gid file s last step)
 
-abbrev pub reading_end_exchanges : (uid gid : ℕ) (file : List ℕ) (s : ReadingAt) (left : List OpenRead) (b : LinkBytes) (h : RequesterSide) (taken taken' : Option (List ℕ)) (given : Result (Unit {0}) ClientEnd)
-    → EndsReading uid gid file s left b h taken taken' given → Exchanges
-reading_end_exchanges uid gid file s left b h taken taken' given (EndsByReplies same is waits takes) = none
-reading_end_exchanges uid gid file s left b h taken taken' given (OutputFails is same waits takes) = none
-reading_end_exchanges uid gid file s left b h taken taken' given (NotAnswered call end alone is unanswered waits takes) = unanswered_exchanges call s.bytes b s.side h end unanswered
-reading_end_exchanges uid gid file s left b h taken taken' given (NotSubmitted call end ahead is refused waits takes) = refused_by end
-reading_end_exchanges uid gid file s left b h taken taken' given (OldestForgotten read end full is given_is forgets waits takes) = lost_by (GivenUp read.xid) end
+abbrev pub reading_end_exchanges : (uid gid : ℕ) (file : List ℕ) (s : ReadingAt) (left : List OpenRead) (b : LinkView) (taken taken' : Option (List ℕ)) (given : Result (Unit {0}) ClientEnd)
+    → EndsReading uid gid file s left b taken taken' given → Exchanges
+reading_end_exchanges uid gid file s left b taken taken' given (EndsByReplies same is waits takes) = none
+reading_end_exchanges uid gid file s left b taken taken' given (OutputFails is same waits takes) = none
+reading_end_exchanges uid gid file s left b taken taken' given (NotAnswered call end alone is unanswered waits takes) = unanswered_exchanges call s.bytes b s.side b.requester end unanswered
+reading_end_exchanges uid gid file s left b taken taken' given (NotSubmitted call end ahead is refused waits takes) = refused_by end
+reading_end_exchanges uid gid file s left b taken taken' given (OldestForgotten read end full is given_is forgets waits takes) = lost_by (GivenUp read.xid) end
 
-abbrev pub read_exchanges : (uid gid : ℕ) (file : List ℕ) (b b' : LinkBytes) (h h' : RequesterSide) (taken taken' : Option (List ℕ)) (given : Result (Unit {0}) ClientEnd)
-    → ReadsFile uid gid file b b' h h' taken taken' given → Exchanges
-read_exchanges uid gid file b b' h h' taken taken' given f =
-    and_then (steps_exchanges uid gid file (starts_at b h) f.between f.last f.made)
+abbrev pub read_exchanges : (uid gid : ℕ) (file : List ℕ) (b b' : LinkView) (taken taken' : Option (List ℕ)) (given : Result (Unit {0}) ClientEnd)
+    → ReadsFile uid gid file b b' taken taken' given → Exchanges
+read_exchanges uid gid file b b' taken taken' given f =
+    and_then (steps_exchanges uid gid file (starts_at b) f.between f.last f.made)
     (giving_up (reading_end_exchanges uid gid file f.last f.left b' f.side taken taken' given f.ends) (xids_of f.left))
 
 -- a file is written
-abbrev pub write_exchanges_by : (uid gid : ℕ) (dir name handed rest : List ℕ) (b b' : LinkBytes) (h h' : RequesterSide) (result : Result (Unit {0}) ClientEnd)
-    → EndsWriting uid gid dir name handed rest b b' h h' result → Exchanges
-write_exchanges_by uid gid dir name handed rest b b' h h' result (FollowsInput follows count ahead) =
-    followed_exchanges (writing uid gid dir name (handed ++ rest)) b b' h h' result follows
-write_exchanges_by uid gid dir name handed rest b b' h h' result (InputFails outcomes is made ahead) =
-    made_exchanges (writing uid gid dir name (handed ++ rest)) outcomes b b' h h' made
+abbrev pub write_exchanges_by : (uid gid : ℕ) (dir name handed rest : List ℕ) (b b' : LinkView) (result : Result (Unit {0}) ClientEnd)
+    → EndsWriting uid gid dir name handed rest b b' result → Exchanges
+write_exchanges_by uid gid dir name handed rest b b' result (FollowsInput follows count ahead) =
+    followed_exchanges (writing uid gid dir name (handed ++ rest)) b b' result follows
+write_exchanges_by uid gid dir name handed rest b b' result (InputFails outcomes is made ahead) =
+    made_exchanges (writing uid gid dir name (handed ++ rest)) outcomes b b' made
 
-abbrev pub write_exchanges : (uid gid : ℕ) (dir name : List ℕ) (b b' : LinkBytes) (h h' : RequesterSide) (left given left' given' : Option (List ℕ)) (result : Result (Unit {0}) ClientEnd)
-    → WritesFile uid gid dir name b b' h h' left given left' given' result → Exchanges
-write_exchanges uid gid dir name b b' h h' left given left' given' result w = write_exchanges_by uid gid dir name w.handed w.rest b b' h h' result w.calls
+abbrev pub write_exchanges : (uid gid : ℕ) (dir name : List ℕ) (b b' : LinkView) (left given left' given' : Option (List ℕ)) (result : Result (Unit {0}) ClientEnd)
+    → WritesFile uid gid dir name b b' left given left' given' result → Exchanges
+write_exchanges uid gid dir name b b' left given left' given' result w = write_exchanges_by uid gid dir name w.handed w.rest b b' result w.calls
 
 -- ---- Parts of a command
 
@@ -170,10 +170,10 @@ abbrev pub tells_none : {A : Type 0} (part : Part A) → Tells part
 tells_none part s s' result is = none
 
 abbrev pub tells_request : {A : Type 0} (reads : Outcome → Result A ClientEnd) (call : Call) → Tells (Request reads call)
-tells_request reads call s s' result is = asked_exchanges reads call s.bytes s'.bytes s.requester s'.requester result is.0
+tells_request reads call s s' result is = asked_exchanges reads call s s' result is.0
 
 abbrev pub tells_requests : {A : Type 0} (request : List Outcome → Next A) → Tells (Requests request)
-tells_requests request s s' result is = followed_exchanges request s.bytes s'.bytes s.requester s'.requester result is.0
+tells_requests request s s' result is = followed_exchanges request s s' result is.0
 
 -- one part, and then the part that follows from its value
 abbrev pub tells_then : {A B : Type 0} (first : Part A) (next : A → Part B) → Tells first → ((value : A) → Tells (next value)) → Tells (Then first next)
@@ -249,11 +249,11 @@ tells_make_symlink uid gid export path target =
 
 abbrev pub tells_reads_out : (uid gid : ℕ) (file : List ℕ) (out out' : SinkAt) → Tells (ReadsOut uid gid file out out')
 tells_reads_out uid gid file out out' s s' text (done, ((reads, counts), silent)) =
-    read_exchanges uid gid file s.bytes s'.bytes s.requester s'.requester out.taken out'.taken done reads
+    read_exchanges uid gid file s s' out.taken out'.taken done reads
 
 abbrev pub tells_writes_in : (uid gid : ℕ) (dir name : List ℕ) (input input' : SourceAt) → Tells (WritesIn uid gid dir name input input')
 tells_writes_in uid gid dir name input input' s s' text (done, ((writes, counts), silent)) =
-    write_exchanges uid gid dir name s.bytes s'.bytes s.requester s'.requester input.left input.given input'.left input'.given done writes
+    write_exchanges uid gid dir name s s' input.left input.given input'.left input'.given done writes
 
 abbrev pub tells_get : (uid gid : ℕ) (export path : List ℕ) (out out' : SinkAt) → Tells (Gets uid gid export path out out')
 tells_get uid gid export path out out' s s' text (inl (file, (mid, (finds, reads)))) =

@@ -48,46 +48,46 @@ pub record Does {A : Type 0} (result : Result A ClientEnd) (opened : LinkParamet
   pub lacks : LacksOutcome exchanges.lost opened link (run ++ more)
 
 -- so it is for all marks that the requester stood for
-abbrev pub HasDone : {A : Type 0} → Result A ClientEnd → (b b' : LinkBytes) (h h' : RequesterSide) → Exchanges → Type 0
-HasDone result b b' h h' exchanges = (opened : LinkParameters) (link : ℕ) (run : List Mark) → IsOpened opened → IsLive opened link h run → Does result opened link run b b' h' exchanges
+abbrev pub HasDone : {A : Type 0} → Result A ClientEnd → (b b' : LinkView) → Exchanges → Type 0
+HasDone result b b' exchanges = (opened : LinkParameters) (link : ℕ) (run : List Mark) → IsOpened opened → IsLive opened link b.requester run → Does result opened link run b b' exchanges
 
 -- ---- Each request of a session
 
 -- a request of one call; a request of several calls
 abbrev pub AsksHaveMarks : Type 0 → Type 0
 AsksHaveMarks A =
-    (reads : Outcome → Result A ClientEnd) (call : Call) (b b' : LinkBytes) (h h' : RequesterSide) (result : Result A ClientEnd) (asks : Asks reads call b b' h h' result) →
-    HasDone result b b' h h' (asked_exchanges reads call b b' h h' result asks)
+    (reads : Outcome → Result A ClientEnd) (call : Call) (b b' : LinkView) (result : Result A ClientEnd) (asks : Asks reads call b b' result) →
+    HasDone result b b' (asked_exchanges reads call b b' result asks)
 
 abbrev pub FollowsHaveMarks : Type 0 → Type 0
 FollowsHaveMarks A =
-    (request : List Outcome → Next A) (b b' : LinkBytes) (h h' : RequesterSide) (result : Result A ClientEnd) (follows : Follows request b b' h h' result) →
-    HasDone result b b' h h' (followed_exchanges request b b' h h' result follows)
+    (request : List Outcome → Next A) (b b' : LinkView) (result : Result A ClientEnd) (follows : Follows request b b' result) →
+    HasDone result b b' (followed_exchanges request b b' result follows)
 
 -- a file is read; a file is written
 abbrev pub ReadsHaveMarks : Type 0
 ReadsHaveMarks =
-    (uid gid : ℕ) (file : List ℕ) (b b' : LinkBytes) (h h' : RequesterSide) (taken taken' : Option (List ℕ)) (result : Result (Unit {0}) ClientEnd)
-    (reads : ReadsFile uid gid file b b' h h' taken taken' result) →
-    HasDone result b b' h h' (read_exchanges uid gid file b b' h h' taken taken' result reads)
+    (uid gid : ℕ) (file : List ℕ) (b b' : LinkView) (taken taken' : Option (List ℕ)) (result : Result (Unit {0}) ClientEnd)
+    (reads : ReadsFile uid gid file b b' taken taken' result) →
+    HasDone result b b' (read_exchanges uid gid file b b' taken taken' result reads)
 
 abbrev pub WritesHaveMarks : Type 0
 WritesHaveMarks =
-    (uid gid : ℕ) (dir name : List ℕ) (b b' : LinkBytes) (h h' : RequesterSide) (left given left' given' : Option (List ℕ)) (result : Result (Unit {0}) ClientEnd)
-    (writes : WritesFile uid gid dir name b b' h h' left given left' given' result) →
-    HasDone result b b' h h' (write_exchanges uid gid dir name b b' h h' left given left' given' result writes)
+    (uid gid : ℕ) (dir name : List ℕ) (b b' : LinkView) (left given left' given' : Option (List ℕ)) (result : Result (Unit {0}) ClientEnd)
+    (writes : WritesFile uid gid dir name b b' left given left' given' result) →
+    HasDone result b b' (write_exchanges uid gid dir name b b' left given left' given' result writes)
 
 -- The outcomes that are handed over by these marks are the ones from which each call and the result of a request follow.
 abbrev pub FollowsOutcomes : Type 0 → Type 0
 FollowsOutcomes A =
-    (request : List Outcome → Next A) (b b' : LinkBytes) (h h' : RequesterSide) (result : Result A ClientEnd) (follows : Follows request b b' h h' result) →
-    outcomes_in (followed_exchanges request b b' h h' result follows).made ≡ follows.outcomes
+    (request : List Outcome → Next A) (b b' : LinkView) (result : Result A ClientEnd) (follows : Follows request b b' result) →
+    outcomes_in (followed_exchanges request b b' result follows).made ≡ follows.outcomes
 
 abbrev pub ReadsInOrder : Type 0
 ReadsInOrder =
-    (uid gid : ℕ) (file : List ℕ) (b b' : LinkBytes) (h h' : RequesterSide) (taken taken' : Option (List ℕ)) (result : Result (Unit {0}) ClientEnd)
-    (reads : ReadsFile uid gid file b b' h h' taken taken' result) →
-    outcomes_in (read_exchanges uid gid file b b' h h' taken taken' result reads).made ≡ reads.last.outcomes
+    (uid gid : ℕ) (file : List ℕ) (b b' : LinkView) (taken taken' : Option (List ℕ)) (result : Result (Unit {0}) ClientEnd)
+    (reads : ReadsFile uid gid file b b' taken taken' result) →
+    outcomes_in (read_exchanges uid gid file b b' taken taken' result reads).made ≡ reads.last.outcomes
 
 -- A session goes on after this result: no write failed, and memory didn't run out for a frame.
 pub record LetsGoOn {A : Type 0} (result : Result A ClientEnd) : Type 0 where
@@ -97,8 +97,8 @@ pub record LetsGoOn {A : Type 0} (result : Result A ClientEnd) : Type 0 where
 -- Two of them one after another, whatever the first gives after which a session goes on: a value, or a refusal of the server.
 abbrev pub MarksGoOn : Type 0 → Type 0 → Type 0
 MarksGoOn A B =
-    (given : Result A ClientEnd) (result : Result B ClientEnd) (b c d : LinkBytes) (h i j : RequesterSide) (first later : Exchanges) →
-    LetsGoOn given → HasDone given b c h i first → HasDone result c d i j later → HasDone result b d h j (and_then first later)
+    (given : Result A ClientEnd) (result : Result B ClientEnd) (b c d : LinkView) (first later : Exchanges) →
+    LetsGoOn given → HasDone given b c first → HasDone result c d later → HasDone result b d (and_then first later)
 
 -- A session that was opened stands for no marks.
 abbrev pub SessionsBegin : Type 0

@@ -54,30 +54,30 @@ module _ (s : Setup) (J : List Entry) (uid gid : ℕ) (ids : AreIds uid gid) (sa
   user = caller_of (creds.Sys 0 machine uid gid [])
 
   -- what remains of the request after a READDIR
-  abbrev Remains : (place : ℕ) (outcomes : List Outcome) (c m b' : LinkBytes) (i k h' : RequesterSide) (result : Result (List (List ℕ)) ClientEnd) (rest : List Exchange) → Result Names ClientEnd → Type 0
-  Remains place outcomes c m b' i k h' result rest x =
-      (more : MakesCalls (λ later. go_on x (λ l. list_from uid gid dir l later)) outcomes c m i k) × ((ends : EndsWith (go_on x (λ l. list_from uid gid dir l outcomes)) m b' k h' result)
-      × AreAnsweredFrom s J place [] (exchanged (λ later. go_on x (λ l. list_from uid gid dir l later)) outcomes c m b' i k h' result more ends rest))
+  abbrev Remains : (place : ℕ) (outcomes : List Outcome) (c m b' : LinkView) (result : Result (List (List ℕ)) ClientEnd) (rest : List Exchange) → Result Names ClientEnd → Type 0
+  Remains place outcomes c m b' result rest x =
+      (more : MakesCalls (λ later. go_on x (λ l. list_from uid gid dir l later)) outcomes c m) × ((ends : EndsWith (go_on x (λ l. list_from uid gid dir l outcomes)) m b' result)
+      × AreAnsweredFrom s J place [] (exchanged (λ later. go_on x (λ l. list_from uid gid dir l later)) outcomes c m b' result more ends rest))
 
   -- all is listed: no call follows
-  finished : (outcomes : List Outcome) (names : List (List ℕ)) (cookie place : ℕ) (c m b' : LinkBytes) (i k h' : RequesterSide) (result : Result (List (List ℕ)) ClientEnd) (rest : List Exchange)
-      → Remains place outcomes c m b' i k h' result rest (Ok (record { names = names; cookie = cookie; verifier = cookie_verifier; eof = true })) → IsUnanswered result ⊎ ((result ≡ Ok names) × AreAnsweredFrom s J place [] rest)
-  finished [] names cookie place c m b' i k h' result rest (made, (ends, are)) = by (given result (Ok names) ends.0)
+  finished : (outcomes : List Outcome) (names : List (List ℕ)) (cookie place : ℕ) (c m b' : LinkView) (result : Result (List (List ℕ)) ClientEnd) (rest : List Exchange)
+      → Remains place outcomes c m b' result rest (Ok (record { names = names; cookie = cookie; verifier = cookie_verifier; eof = true })) → IsUnanswered result ⊎ ((result ≡ Ok names) × AreAnsweredFrom s J place [] rest)
+  finished [] names cookie place c m b' result rest (made, (ends, are)) = by (given result (Ok names) ends.0)
     where
       by : IsUnanswered result ⊎ (result ≡ Ok names) → IsUnanswered result ⊎ ((result ≡ Ok names) × AreAnsweredFrom s J place [] rest)
       by (inl un) = inl un
       by (inr is) = inr (is, are)
-  finished (o ∷ outcomes) names cookie place c m b' i k h' result rest ((call, d, j, (is, more)), (ends, are)) =
+  finished (o ∷ outcomes) names cookie place c m b' result rest ((call, d, j, (is, more)), (ends, are)) =
       absurd (let wrong : ◌≡◌ {A = Next (List (List ℕ))} (Returns (Ok names)) (Calls call) = is in cc)
 
-  listing : (outcomes : List Outcome) (names : List (List ℕ)) (cookie : ℕ) → cookie < 2 ^ 64 → (b m b' : LinkBytes) (h k h' : RequesterSide) (result : Result (List (List ℕ)) ClientEnd)
-      (made : MakesCalls (list_from uid gid dir (open_at names cookie)) outcomes b m h k) (ends : EndsWith (list_from uid gid dir (open_at names cookie) outcomes) m b' k h' result) (from : ℕ) (rest : List Exchange)
-      → AreAnsweredFrom s J from [] (exchanged (list_from uid gid dir (open_at names cookie)) outcomes b m b' h k h' result made ends rest) → IsUnanswered result ⊎ IsListing s J user dir names cookie from result rest
-  listing [] names cookie fits b m b' h k h' result made (end, (is, un)) from rest are = inl (no_answer (readdir_call uid gid dir cookie cookie_verifier) m b' k h' end result is un)
-  listing (o ∷ outcomes) names cookie fits b m b' h k h' result (call, c, i, (is, (answers, more))) ends from rest (place, (a, (low, later))) =
+  listing : (outcomes : List Outcome) (names : List (List ℕ)) (cookie : ℕ) → cookie < 2 ^ 64 → (b m b' : LinkView) (result : Result (List (List ℕ)) ClientEnd)
+      (made : MakesCalls (list_from uid gid dir (open_at names cookie)) outcomes b m) (ends : EndsWith (list_from uid gid dir (open_at names cookie) outcomes) m b' result) (from : ℕ) (rest : List Exchange)
+      → AreAnsweredFrom s J from [] (exchanged (list_from uid gid dir (open_at names cookie)) outcomes b m b' result made ends rest) → IsUnanswered result ⊎ IsListing s J user dir names cookie from result rest
+  listing [] names cookie fits b m b' result made (end, (is, un)) from rest are = inl (no_answer (readdir_call uid gid dir cookie cookie_verifier) m b' end result is un)
+  listing (o ∷ outcomes) names cookie fits b m b' result (call, c, i, (is, (answers, more))) ends from rest (place, (a, (low, later))) =
       by (readdir_reply (tree_at s J place) user (readdir_of dir cookie)) refl
-      (subst (Remains place outcomes c m b' i k h' result rest) there.0.is (more, (ends, subst (λ (x : ℕ). AreAnsweredFrom s J x [] (exchanged (λ later. go_on (listed_after (open_at names cookie) o) (λ l. list_from uid gid dir l later)) outcomes c m b' i k h' result more ends rest)) there.1 at.1)))
-      (λ names' cookie' fits' (more', (ends', are')). listing outcomes names' cookie' fits' c m b' i k h' result more' ends' place rest are')
+      (subst (Remains place outcomes c m b' i m.requester b'.requester result rest) there.0.is (more, (ends, subst (λ (x : ℕ). AreAnsweredFrom s J x [] (exchanged (λ later. go_on (listed_after (open_at names cookie) o) (λ l. list_from uid gid dir l later)) outcomes c m b' i m.requester b'.requester result more ends rest)) there.1 at.1)))
+      (λ names' cookie' fits' (more', (ends', are')). listing outcomes names' cookie' fits' c m b' i m.requester b'.requester result more' ends' place rest are')
     where
       same : readdir_call uid gid dir cookie cookie_verifier ≡ call
       same = let calls : ◌≡◌ {A = Next (List (List ℕ))} (Calls (readdir_call uid gid dir cookie cookie_verifier)) (Calls call) = is in cc

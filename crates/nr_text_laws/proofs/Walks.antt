@@ -59,8 +59,8 @@ module _ (s : Setup) (J : List Entry) (uid gid : ℕ) (ids : AreIds uid gid) whe
   -- a request that is answered from a place on with what the trees give
   abbrev Follows : {A : Type 0} → (List Outcome → Next A) → ((trees : ℕ → Tree) → Result A ClientEnd) → Type 0
   Follows {A} request finds =
-      (outcomes : List Outcome) (b m b' : LinkBytes) (h k h' : RequesterSide) (result : Result A ClientEnd) (made : MakesCalls request outcomes b m h k) (ends : EndsWith (request outcomes) m b' k h' result) (from : ℕ) (rest : List Exchange)
-      → AreAnsweredFrom s J from [] (exchanged request outcomes b m b' h k h' result made ends rest) → Placed finds from result rest
+      (outcomes : List Outcome) (b m b' : LinkView) (result : Result A ClientEnd) (made : MakesCalls request outcomes b m) (ends : EndsWith (request outcomes) m b' result) (from : ℕ) (rest : List Exchange)
+      → AreAnsweredFrom s J from [] (exchanged request outcomes b m b' result made ends rest) → Placed finds from result rest
 
   -- a request that makes no call
   ended : {A : Type 0} (r : Result A ClientEnd) → Follows (λ later. Returns r) (λ trees. r)

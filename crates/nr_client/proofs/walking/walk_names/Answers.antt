@@ -32,6 +32,4 @@ pub returns-clause-follows : goal.returns-clause-follows
 returns-clause-follows g c =
     let (sources, sinks, leads) = c.loop-name.invariant in
     walk_ends c.args.uid c.args.gid (walk_from c.args.uid c.args.gid c.args.root.now c.args.names.now) c.loop-name.dir c.args.names.now c.loop-name.name-index
-    (g.L.Calls.at c.args.link.now).bytes
-    (g.L.Calls.at c.loop-name.link).bytes
-    (g.L.Calls.at c.args.link.now).requester (g.L.Calls.at c.loop-name.link).requester c.loop-name-test.false leads
+    (g.L.Calls.at c.args.link.now) (g.L.Calls.at c.loop-name.link) c.loop-name-test.false leads
