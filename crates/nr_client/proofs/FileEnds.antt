@@ -9,12 +9,11 @@ use Rattle.nr_nfs_base.specs.declared.attributes.Attributes.{Attributes}
 use Rattle.nr_nfs_res.specs.declared.bytes.ReadOk.{ReadOk}
 use Rattle.nr_reduce.specs.declared.call.Call.{Call}
 use Rattle.nr_reduce.specs.declared.call.Outcome.{Outcome}
-use Rattle.nr_requester.specs.RequesterState.{RequesterSide}
 use Rattle.nr_client.specs.declared.client_end.ClientEnd.{ClientEnd}
 use Rattle.nr_client.specs.declared.client_end.ClientEnd.TheVariants as client
 use Rattle.nr_client.specs.declared.call_end.CallEnd.{CallEnd}
 use Rattle.nr_client.specs.Calls.{Answers, Completes, Forgets, ForgetsCalls, RefusesToSubmit}
-use Rattle.nr_client.specs.Ending.{IsCause, LinkCause}
+use Rattle.nr_client.specs.Ending.{HasCause, LinkCause}
 use Rattle.nr_client.specs.Following.{Unanswered}
 use Rattle.nr_client.specs.Following.Next.{Returns}
 use Rattle.nr_client.specs.Reading.{EndsAtReply, EndsReading, FileRead, OpenRead, ReadingAt, ReadsFile, TakesPart, bytes_of, bytes_read, file_read, next_read, piece_left, read_call, read_result, starts_at, with_size}
@@ -23,7 +22,7 @@ use Rattle.nr_client.specs.Reading.ReadStep.{MakesAlone, TakesOldest}
 use Rattle.nr_client.specs.Reading.EndsReading.{EndsByReplies, OutputFails, NotAnswered, NotSubmitted, OldestForgotten}
 use Rattle.nr_client.specs.Requests.{Asks, getattr_call, getattr_result}
 use Rattle.nr_client.specs.Results.{Gives}
-use Rattle.nr_client.specs.Transfers.{LinkBytes}
+use Rattle.nr_client.specs.Views.{LinkView}
 use Rattle.nr_client.specs.private.OpenReads.{GivesNone, HasEnded, IsFull, IsInPiece, MayAsk, ReadSoFar, ReadsAhead, reads_from}
 use Rattle.nr_client.proofs.CallsMade.{end_in, end_of_reply}
 use Rattle.nr_client.proofs.FilePieces.{xids_from}
@@ -48,7 +47,7 @@ all_read uid gid file size at from xids first t u b above so_far =
       made = so_far.made;
       left = reads_from uid gid file size from xids;
       same = xids_from uid gid file size from xids;
-      ends = EndsByReplies (refl, refl) (inr (ap (next_read uid gid file) so_far.state ∙ returns)) refl
+      ends = EndsByReplies refl (inr (ap (next_read uid gid file) so_far.state ∙ returns)) refl
           (inl (takes_bytes so_far.outcomes (SizeKnown size at so_far.bytes) t u so_far.state so_far.appends));
     }
 
@@ -62,13 +61,13 @@ out_before uid gid file size at from xids first t u b so_far =
       made = so_far.made;
       left = reads_from uid gid file size from xids;
       same = xids_from uid gid file size from xids;
-      ends = EndsByReplies (refl, refl) (inl refl) refl (inl (takes_bytes so_far.outcomes (SizeKnown size at so_far.bytes) t u so_far.state so_far.appends));
+      ends = EndsByReplies refl (inl refl) refl (inl (takes_bytes so_far.outcomes (SizeKnown size at so_far.bytes) t u so_far.state so_far.appends));
     }
 
 -- a READ was not submitted
 pub not_submitted : (uid gid : ℕ) (file : List ℕ) (size at next : ℕ) (xids : List ℕ) (end : CallEnd) (first : ReadingAt) (t u : Option (List ℕ)) (b c : LinkView)
     → at < size → ReadsAhead b.requester size at next xids → MayAsk size next xids b.requester
-    → RefusesToSubmit b c (read_call uid gid file next (piece_left size next)) end → IsCause end c.bytes.left c.bytes.read c.requester (read_call uid gid file next (piece_left size next))
+    → RefusesToSubmit b c (read_call uid gid file next (piece_left size next)) end → HasCause end c (read_call uid gid file next (piece_left size next))
     → ReadSoFar uid gid file size first t at at xids b u → HasEnded uid gid file first t xids c u (Err (client.Link end))
 not_submitted uid gid file size at next xids end first t u b c below ahead may refuses cause so_far =
     record {
@@ -166,8 +165,8 @@ at_reply uid gid file size at count bytes outcomes outcome why t u v same state 
 
 of_reply : (uid gid : ℕ) (file : List ℕ) (outcomes : List Outcome) (waiting : List OpenRead) (t v : Option (List ℕ)) (b : LinkView) (given : Result (Unit {0}) ClientEnd)
     → EndsAtReply uid gid file outcomes t v given → EndsReading uid gid file (moment outcomes waiting b) waiting b t v given
-of_reply uid gid file outcomes waiting t v b given (inl (why, took)) = EndsByReplies (refl, refl) why refl took
-of_reply uid gid file outcomes waiting t v b given (inr (is, part)) = OutputFails is (refl, refl) refl part
+of_reply uid gid file outcomes waiting t v b given (inl (why, took)) = EndsByReplies refl why refl took
+of_reply uid gid file outcomes waiting t v b given (inr (is, part)) = OutputFails is refl refl part
 
 ends_data : (uid gid : ℕ) (file : List ℕ) (size at count : ℕ) (bytes : List ℕ) (outcomes : List Outcome) (outcome : Outcome) (waiting : List OpenRead) (why : ClientEnd) (t u v : Option (List ℕ)) (b : LinkView)
     → count ≡ piece_left size at → file_read outcomes ≡ SizeKnown size at bytes → Appends t u bytes → GivesNone count outcome why u v
@@ -231,13 +230,13 @@ fails_from uid gid file size at next count xid xs xids outcome why first t u v b
 
 pub not_submitted_from : (uid gid : ℕ) (file : List ℕ) (size at next count : ℕ) (xids ys : List ℕ) (call : Call) (end : CallEnd) (first : ReadingAt) (t u : Option (List ℕ)) (b c : LinkView)
     → ys ≡ xids → call ≡ read_call uid gid file next count → count ≡ piece_left size next → at < size → ReadsAhead b.requester size at next xids → MayAsk size next xids b.requester
-    → RefusesToSubmit b c call end → IsCause end c.bytes.left c.bytes.read c.requester call
+    → RefusesToSubmit b c call end → HasCause end c call
     → ReadSoFar uid gid file size first t at at xids b u → HasEnded uid gid file first t ys c u (Err (client.Link end))
 not_submitted_from uid gid file size at next count xids ys call end first t u b c all is same below ahead may refuses cause so_far =
     let asked : call ≡ read_call uid gid file next (piece_left size next) = is ∙ ap (read_call uid gid file next) same in
     subst (λ (l : List ℕ). HasEnded uid gid file first t l c u (Err (client.Link end))) (sym all)
     (not_submitted uid gid file size at next xids end first t u b c below ahead may
-    (subst (λ (a : Call). RefusesToSubmit b c a end) asked refuses) (subst (λ (a : Call). IsCause end c.bytes.left c.bytes.read c.requester a) asked cause) so_far)
+    (subst (λ (a : Call). RefusesToSubmit b c a end) asked refuses) (subst (λ (a : Call). HasCause end c a) asked cause) so_far)
 
 pub out_before_from : (uid gid : ℕ) (file : List ℕ) (size at from : ℕ) (xids ys : List ℕ) (first : ReadingAt) (t u : Option (List ℕ)) (b : LinkView)
     → ys ≡ xids → ReadSoFar uid gid file size first t at from xids b u → HasEnded uid gid file first t ys b u (Err client.Memory)
@@ -248,16 +247,16 @@ out_before_from uid gid file size at from xids ys first t u b all so_far =
 
 -- the READs that are left are forgotten
 pub read_and_forgot : (uid gid : ℕ) (file : List ℕ) (xids : List ℕ) (b c d : LinkView) (t u : Option (List ℕ)) (given : Result (Unit {0}) ClientEnd)
-    → HasEnded uid gid file (starts_at b) t xids c u given → ForgetsCalls xids c.requester d.requester → d ≡ c → ReadsFile uid gid file b d t u given
-read_and_forgot uid gid file xids b c d t u given ended forgets same =
+    → HasEnded uid gid file (starts_at b) t xids c u given → ForgetsCalls xids c d → ReadsFile uid gid file b d t u given
+read_and_forgot uid gid file xids b c d t u given ended forgets =
     record {
       between = ended.between;
       last = ended.last;
       made = ended.made;
       left = ended.left;
-      side = c.requester;
-      ends = subst (λ (x : LinkBytes). EndsReading uid gid file ended.last ended.left x c.requester t u given) (sym same) ended.ends;
-      forgets = subst (λ (l : List ℕ). ForgetsCalls l c.requester d.requester) (sym ended.same) forgets;
+      ended = c;
+      ends = ended.ends;
+      forgets = subst (λ (l : List ℕ). ForgetsCalls l c d) (sym ended.same) forgets;
     }
 
 -- the size did not come
@@ -269,7 +268,7 @@ size_failed uid gid file b c t end (inl (outcome, (answered, gives))) =
       last = moment (outcome ∷ []) [] c;
       made = (MakesAlone (getattr_call uid gid file) outcome (refl, refl) answered refl refl, refl);
       left = [];
-      side = c.requester;
+      ended = c;
       ends = by (end_of_reply {A = Attributes} (Unit {0}) end (getattr_result outcome) gives);
       forgets = refl;
     }
@@ -277,9 +276,9 @@ size_failed uid gid file b c t end (inl (outcome, (answered, gives))) =
     by : (end ≡ client.Memory) ⊎ ((getattr_result outcome ≡ Err end) × Gives {A = Unit {0}} (Err end) (Err end))
         → EndsReading uid gid file (moment (outcome ∷ []) [] c) [] c t t (Err end)
     by (inl memory) =
-        EndsByReplies (refl, refl) (inl (ap (λ (e : ClientEnd). Err e) memory)) refl (inr (ap (λ (e : ClientEnd). Err e) memory, ([], outcome, (refl, Appends-nil t))))
+        EndsByReplies refl (inl (ap (λ (e : ClientEnd). Err e) memory)) refl (inr (ap (λ (e : ClientEnd). Err e) memory, ([], outcome, (refl, Appends-nil t))))
     by (inr (reads, same)) =
-        EndsByReplies (refl, refl) (inr (ap (λ (r : Result Attributes ClientEnd). next_read uid gid file (with_size r)) reads)) refl
+        EndsByReplies refl (inr (ap (λ (r : Result Attributes ClientEnd). next_read uid gid file (with_size r)) reads)) refl
         (inl (takes_bytes (outcome ∷ []) (ReadEnds end []) t t (ap with_size reads) (Appends-nil t)))
 size_failed uid gid file b c t end (inr (inl (cause, (is, rest)))) =
     record {
@@ -287,7 +286,7 @@ size_failed uid gid file b c t end (inr (inl (cause, (is, rest)))) =
       last = starts_at b;
       made = refl;
       left = [];
-      side = c.requester;
+      ended = c;
       ends = NotAnswered (getattr_call uid gid file) (client.Link cause) (refl, refl) (ap (λ (e : ClientEnd). Err e) (ap (end_in {A = Attributes}) is)) (inl (cause, (refl, rest))) refl (inl (Appends-nil t));
       forgets = refl;
     }
@@ -297,7 +296,7 @@ size_failed uid gid file b c t end (inr (inr (is, rest))) =
       last = starts_at b;
       made = refl;
       left = [];
-      side = c.requester;
+      ended = c;
       ends = EndsByReplies rest (inl (ap (λ (e : ClientEnd). Err e) (ap (end_in {A = Attributes}) is))) refl (inl (Appends-nil t));
       forgets = refl;
     }

@@ -17,14 +17,14 @@ use Rattle.nr_client.specs.Reading.FileRead.{NothingKnown, SizeKnown}
 use Rattle.nr_client.specs.Reading.ReadStep.{MakesAlone, AsksAhead, TakesOldest}
 use Rattle.nr_client.specs.Requests.{Asks, getattr_call, getattr_result}
 use Rattle.nr_client.specs.Steps.{HasCreditLeft}
-use Rattle.nr_client.specs.Transfers.{LinkBytes}
+use Rattle.nr_client.specs.Views.{LinkView}
 use Rattle.nr_client.specs.private.OpenReads.{GivesData, IsFull, IsInPiece, MayAsk, ReadSoFar, ReadsAhead, reads_from}
 use Rattle.nr_client.proofs.FilePieces.{asks_next, asks_none, next_after_last, not_at_piece, now_at_piece, reads_with_last}
 use Rattle.nr_client.proofs.Tickets.{open_with_last}
 
 -- a moment of it
-abbrev pub moment : List Outcome → List OpenRead → LinkBytes → RequesterSide → ReadingAt
-moment outcomes waiting b h = record { outcomes = outcomes; waiting = waiting; bytes = b; side = h }
+abbrev pub moment : List Outcome → List OpenRead → LinkView → ReadingAt
+moment outcomes waiting b = record { outcomes = outcomes; waiting = waiting; link = b }
 
 -- what comes next: a READ before the size, and nothing from there on
 pub next_is : (uid gid : ℕ) (file : List ℕ) (size at : ℕ) (bytes : List ℕ) → at < size

@@ -8,14 +8,13 @@ use Rattle.nr_nfs_base.specs.Limits.{transfer_max}
 use Rattle.nr_outside.specs.Content.{HandsOut}
 use Rattle.nr_outside.proofs.Moves.{HandsOut_append}
 use Rattle.nr_reduce.specs.declared.call.Outcome.{Outcome}
-use Rattle.nr_requester.specs.RequesterState.{RequesterSide}
 use Rattle.nr_client.specs.declared.client_end.ClientEnd.{ClientEnd}
 use Rattle.nr_client.specs.declared.client_end.ClientEnd.TheVariants as client
 use Rattle.nr_client.specs.Following.{EndsWith, Follows, MakesCalls}
 use Rattle.nr_client.specs.Following.Next.{Calls, Returns}
 use Rattle.nr_client.specs.Requests.{Asks}
 use Rattle.nr_client.specs.Results.{Gives, IsOfCall}
-use Rattle.nr_client.specs.Transfers.{LinkBytes}
+use Rattle.nr_client.specs.Views.{LinkView}
 use Rattle.nr_outside.specs.Whole.{input_max}
 use Rattle.nr_client.specs.Writing.{EndsWriting, FileWrite, IsRead, IsReadAhead, IsStopped, StopsAtFault, WritesFile, after_write_reply, create_call, created_file, file_write, next_write, piece_at, with_count, with_handle, write_call, write_end, write_result, writing}
 use Rattle.nr_client.specs.Writing.EndsWriting.{FollowsInput, InputFails}
@@ -56,7 +55,7 @@ write_started : (uid gid : ℕ) (dir name input : List ℕ) (b c : LinkView) (fi
 write_started uid gid dir name input b c file (inl (outcome, (answered, reads))) =
     record {
       outcomes = outcome ∷ [];
-      made = (create_call uid gid dir name, c, c.requester, (refl, (answered, (refl, refl))));
+      made = (create_call uid gid dir name, c, (refl, (answered, refl)));
       state = ap with_handle reads;
     }
 write_started uid gid dir name input b c file (inr (inl (end, (is, rest)))) = absurd (cc)
@@ -210,9 +209,9 @@ streams_on : (uid gid : ℕ) (file : List ℕ) (at count : ℕ) (w v : WindowSta
     → IsReadyAt at left w → at < input_max → 0 < length w.kept → count ≤ length w.kept → WritesOn uid gid file w.kept at (at + count) c d
     → TakesMore (wanted_at (at + count)) left given left' given' (record { kept = drop count w.kept; ended = w.ended }) v
     → StreamsOn uid gid file at (at + count) w v c d left given left' given'
-streams_on uid gid file at count w v c d left given left' given' ready below some within on takes dir name b h first first_given s =
-    streams_filled uid gid dir name b d h d.requester first first_given left given left' given' file (at + count) (wanted_at (at + count)) (record { kept = drop count w.kept; ended = w.ended }) v takes
-    (streams_written uid gid dir name b c d h c.requester d.requester first first_given left given file at count w ready below some within on s)
+streams_on uid gid file at count w v c d left given left' given' ready below some within on takes dir name b first first_given s =
+    streams_filled uid gid dir name b d first first_given left given left' given' file (at + count) (wanted_at (at + count)) (record { kept = drop count w.kept; ended = w.ended }) v takes
+    (streams_written uid gid dir name b c d first first_given left given file at count w ready below some within on s)
 
 -- ---- The ends
 
@@ -231,7 +230,7 @@ ends_after : (uid gid : ℕ) (dir name handed rest : List ℕ) (b c d : LinkView
     → first ++ more ≡ all → MakesCalls (writing uid gid dir name (handed ++ rest)) all b c → EndsWith (writing uid gid dir name (handed ++ rest) all) c d result
     → IsReadAhead (file_write (handed ++ rest) first) handed → EndsWriting uid gid dir name handed rest b d result
 ends_after uid gid dir name handed rest b c d first more all result same made ends ahead =
-    FollowsInput (record { outcomes = all; between = c; side = c.requester; made = made; ends = ends }) (length first)
+    FollowsInput (record { outcomes = all; between = c; made = made; ends = ends }) (length first)
     (subst (λ (l : List Outcome). IsReadAhead (file_write (handed ++ rest) l) handed) (sym (ap (take (length first)) (sym same) ∙ first_outcomes first more)) ahead)
 
 -- a WRITE has no answer, or its answer no count
@@ -291,11 +290,11 @@ streams_end uid gid dir name b c d left given left' given' file at w result ends
 
 streams_failed : (uid gid : ℕ) (file : List ℕ) (at : ℕ) (w : WindowState) (c d : LinkView) (left given : Option (List ℕ)) (end : ClientEnd)
     → IsReadyAt at left w → at < input_max → 0 < length w.kept → IsOfCall end → FailsToWrite uid gid file w.kept at c d end → StreamsTo uid gid file at w c d left given left given (Err end)
-streams_failed uid gid file at w c d left given end ready below some of fails dir name b h first first_given s =
+streams_failed uid gid file at w c d left given end ready below some of fails dir name b first first_given s =
     let rest : List ℕ = known_rest left in
     let may : MayFollow w.ended rest = rest_may_follow w.ended left ready.ends in
-    streams_end uid gid dir name b c d h c.requester d.requester first first_given left given file at w (Err end) ready.ends s (read_of_call end (s.written ++ w.kept) rest of)
-    (write_failed uid gid dir name (s.written ++ w.kept) rest b c d h c.requester d.requester file w.kept at end
+    streams_end uid gid dir name b c d first first_given left given file at w (Err end) ready.ends s (read_of_call end (s.written ++ w.kept) rest of)
+    (write_failed uid gid dir name (s.written ++ w.kept) rest b c d file w.kept at end
     (more_is_left s.written w.kept rest at s.offset below some) (sym (piece_is s.written w.kept rest at w.ended s.offset below ready.full ready.within may)) (s.calls rest may)
     (read_ahead ((s.written ++ w.kept) ++ rest) (s.calls rest may).outcomes file at s.written w.kept (s.calls rest may).state s.offset (omega (arith, ready.within, wanted_within at))) fails)
 
@@ -319,13 +318,13 @@ streams_stopped : (uid gid : ℕ) (file : List ℕ) (at count : ℕ) (w v : Wind
     → IsReadyAt at left w → at < input_max → 0 < length w.kept → count ≤ length w.kept → WritesOn uid gid file w.kept at (at + count) c d
     → TakesMore (wanted_at (at + count)) left given left' given' (record { kept = drop count w.kept; ended = w.ended }) v → IsOfInput end
     → StreamsTo uid gid file at w c d left given left' given' (Err end)
-streams_stopped uid gid file at count w v c d left given left' given' end ready below some within on takes of dir name b h first first_given before =
-    let s = streams_on uid gid file at count w v c d left given left' given' ready below some within on takes dir name b h first first_given before in
+streams_stopped uid gid file at count w v c d left given left' given' end ready below some within on takes of dir name b first first_given before =
+    let s = streams_on uid gid file at count w v c d left given left' given' ready below some within on takes dir name b first first_given before in
     let ends : EndsAt v.ended left' = takes.ends ready.ends in
     let rest : List ℕ = known_rest left' in
     let may : MayFollow v.ended rest = rest_may_follow v.ended left' ends in
-    streams_end uid gid dir name b d d h d.requester d.requester first first_given left' given' file (at + count) v (Err end) ends s (read_of_input end (s.written ++ v.kept) rest of)
-    (write_stopped uid gid dir name (s.written ++ v.kept) rest b d h d.requester file (at + count) end (s.calls rest may)
+    streams_end uid gid dir name b d d first first_given left' given' file (at + count) v (Err end) ends s (read_of_input end (s.written ++ v.kept) rest of)
+    (write_stopped uid gid dir name (s.written ++ v.kept) rest b d file (at + count) end (s.calls rest may)
     (read_ahead ((s.written ++ v.kept) ++ rest) (s.calls rest may).outcomes file (at + count) s.written v.kept (s.calls rest may).state s.offset (omega (arith, takes.within, wanted_within (at + count)))) of)
 
 -- nothing is left in the window
@@ -436,10 +435,10 @@ first_handed wanted left given left' given' w v is empty takes =
 -- the first bytes were not all read, and no call was made
 nothing_made : (uid gid : ℕ) (dir name handed rest : List ℕ) (b : LinkView) (end : ClientEnd) → length handed ≤ transfer_max → IsOfInput end
     → EndsWriting uid gid dir name handed rest b b (Err end)
-nothing_made uid gid dir name handed rest b end within (inl is) = InputFails [] (ap (λ (e : ClientEnd). Err e) is) (refl, refl) within
+nothing_made uid gid dir name handed rest b end within (inl is) = InputFails [] (ap (λ (e : ClientEnd). Err e) is) refl within
 nothing_made uid gid dir name handed rest b end within (inr is) =
     subst (λ (e : ClientEnd). EndsWriting uid gid dir name handed rest b b (Err e)) (sym is)
-    (FollowsInput (record { outcomes = []; between = b; side = b.requester; made = (refl, refl); ends = (client.Memory, (refl, inr (refl, (refl, refl)))) }) 0 within)
+    (FollowsInput (record { outcomes = []; between = b; made = refl; ends = (client.Memory, (refl, inr (refl, refl))) }) 0 within)
 
 pub read_failed : (uid gid : ℕ) (dir name : List ℕ) (b : LinkView) (wanted : ℕ) (left given left' given' : Option (List ℕ)) (w v : WindowState) (end : ClientEnd)
     → wanted ≡ wanted_at 0 → w ≡ record { kept = []; ended = false } → TakesMore wanted left given left' given' w v → IsOfInput end → WritesFile uid gid dir name b b left given left' given' (Err end)
@@ -452,7 +451,7 @@ read_failed uid gid dir name b wanted left given left' given' w v end is empty t
       hands_out = first.hands_out;
       is_rest = rest_is_known left';
       is_read = read_of_input end first.more (known_rest left') of;
-      begins = inl (refl, refl);
+      begins = inl refl;
       calls = nothing_made uid gid dir name first.more (known_rest left') b end (omega (arith, len, first.within, wanted_within 0)) of;
     }
 

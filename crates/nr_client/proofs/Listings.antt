@@ -5,7 +5,6 @@ use Rattle.nr_nfs_res.specs.Readdir.{ReaddirOk}
 use Rattle.nr_nfs_res.specs.declared.readdir.Entry.{Entry}
 use Rattle.nr_reduce.specs.declared.call.Call.{Call}
 use Rattle.nr_reduce.specs.declared.call.Outcome.{Outcome}
-use Rattle.nr_requester.specs.RequesterState.{RequesterSide}
 use Rattle.nr_client.specs.declared.client_end.ClientEnd.{ClientEnd}
 use Rattle.nr_client.specs.declared.client_end.ClientEnd.TheVariants as client
 use Rattle.nr_client.specs.declared.listing.Listed.{Listed}
@@ -14,7 +13,7 @@ use Rattle.nr_client.specs.Following.Next.{Calls, Returns}
 use Rattle.nr_client.specs.Listing.{entries_max, eof_offset, is_empty, is_stuck, last_cookie, list_from, listed_after, listed_or, listed_with, no_progress, readdir_call, readdir_result}
 use Rattle.nr_client.specs.Requests.{Asks}
 use Rattle.nr_client.specs.Results.{Gives}
-use Rattle.nr_client.specs.Transfers.{LinkBytes}
+use Rattle.nr_client.specs.Views.{LinkView}
 use Rattle.nr_client.proofs.Sequences.{LeadsTo, ends_there, given_end, gives_itself, goes_on, returns_at_once}
 
 -- ---- From call to call
@@ -24,15 +23,15 @@ module _ (uid gid : ℕ) (whole : List Outcome → Next (List (List ℕ))) (dir 
   first : list_from uid gid dir listed [] ≡ Calls (readdir_call uid gid dir listed.cookie listed.verifier)
   first = ap (λ (eof : Bool). if eof then Returns (Ok listed.names) else Calls (readdir_call uid gid dir listed.cookie listed.verifier)) unfinished
 
-  pub list_goes_on : (more : Listed) → Asks (listed_after listed) (readdir_call uid gid dir listed.cookie listed.verifier) c d i j (Ok more) → LeadsTo whole b h (list_from uid gid dir more) d j
-  list_goes_on more asks = λ e k result rest.
-      so_far e k result
-      (goes_on (list_from uid gid dir listed) (readdir_call uid gid dir listed.cookie listed.verifier) (listed_after listed) (list_from uid gid dir) more c d e i j k result first (λ outcome. refl) asks rest)
+  pub list_goes_on : (more : Listed) → Asks (listed_after listed) (readdir_call uid gid dir listed.cookie listed.verifier) c d (Ok more) → LeadsTo whole b (list_from uid gid dir more) d
+  list_goes_on more asks = λ e result rest.
+      so_far e result
+      (goes_on (list_from uid gid dir listed) (readdir_call uid gid dir listed.cookie listed.verifier) (listed_after listed) (list_from uid gid dir) more c d e result first (λ outcome. refl) asks rest)
 
-  pub list_stops : (end : ClientEnd) → Asks (listed_after listed) (readdir_call uid gid dir listed.cookie listed.verifier) c d i j (Err end) → Follows whole b d h j (Err end)
+  pub list_stops : (end : ClientEnd) → Asks (listed_after listed) (readdir_call uid gid dir listed.cookie listed.verifier) c d (Err end) → Follows whole b d (Err end)
   list_stops end asks =
-      so_far d j (Err end)
-      (ends_there (list_from uid gid dir listed) (readdir_call uid gid dir listed.cookie listed.verifier) (listed_after listed) (list_from uid gid dir) end c d i j first (λ outcome. refl) asks)
+      so_far d (Err end)
+      (ends_there (list_from uid gid dir listed) (readdir_call uid gid dir listed.cookie listed.verifier) (listed_after listed) (list_from uid gid dir) end c d first (λ outcome. refl) asks)
 
 pub list_ends : (uid gid : ℕ) (whole : List Outcome → Next (List (List ℕ))) (dir : List ℕ) (listed : Listed) (b c : LinkView)
     → listed.eof ≡ true → LeadsTo whole b (list_from uid gid dir listed) c → Follows whole b c (Ok listed.names)

@@ -2,14 +2,13 @@
 use Rattle.std.proofs.Common.{◌≡◌, ◌⊎◌, List, [], ◌∷◌, Result, Ok, Err, inl, inr, refl, sym, ap, subst, ◌∙◌}
 use Rattle.nr_reduce.specs.declared.call.Call.{Call}
 use Rattle.nr_reduce.specs.declared.call.Outcome.{Outcome}
-use Rattle.nr_requester.specs.RequesterState.{RequesterSide}
 use Rattle.nr_client.specs.declared.client_end.ClientEnd.{ClientEnd}
 use Rattle.nr_client.specs.declared.client_end.ClientEnd.TheVariants as client
 use Rattle.nr_client.specs.Following.{EndsWith, Follows, MakesCalls, Next, go_on}
 use Rattle.nr_client.specs.Following.Next.{Calls, Returns}
 use Rattle.nr_client.specs.Requests.{Asks}
 use Rattle.nr_client.specs.Results.{Gives}
-use Rattle.nr_client.specs.Transfers.{LinkBytes}
+use Rattle.nr_client.specs.Views.{LinkView}
 
 pub gives_itself : (A : Type 0) (end : ClientEnd) → Gives {A = A} (Err end) (Err end)
 gives_itself A client.DialFault = refl
@@ -43,11 +42,11 @@ given_end client.Memory read gives = inl refl
 
 -- memory runs out at any moment
 out_at : {A : Type 0} (next : Next A) (b : LinkView) → EndsWith next b b (Err client.Memory)
-out_at (Calls call) b = (client.Memory, (refl, inr (refl, (refl, refl))))
-out_at (Returns answer) b = (tt, (refl, refl))
+out_at (Calls call) b = (client.Memory, (refl, inr (refl, refl)))
+out_at (Returns answer) b = (tt, refl)
 
 pub runs_out : {A : Type 0} (request : List Outcome → Next A) (b : LinkView) → Follows request b b (Err client.Memory)
-runs_out request b = record { outcomes = []; between = b; side = b.requester; made = (refl, refl); ends = out_at (request []) b }
+runs_out request b = record { outcomes = []; between = b; made = refl; ends = out_at (request []) b }
 
 -- a request that has its result
 pub returns_at_once : {A : Type 0} (request : List Outcome → Next A) (answer result : Result A ClientEnd) (b : LinkView)
@@ -55,9 +54,8 @@ pub returns_at_once : {A : Type 0} (request : List Outcome → Next A) (answer r
 returns_at_once {A} request answer result b is gives = record {
   outcomes = [];
   between = b;
-  side = b.requester;
-  made = (refl, refl);
-  ends = subst (λ (next : Next A). EndsWith next b b result) (sym is) (gives, (refl, refl));
+  made = refl;
+  ends = subst (λ (next : Next A). EndsWith next b b result) (sym is) (gives, refl);
 }
 
 -- after a first call the request goes on with what its outcome is read as
@@ -75,9 +73,8 @@ goes_on {A} {B} request call reads next value b c d result first later (inl (out
     record {
       outcomes = outcome ∷ rest.outcomes;
       between = rest.between;
-      side = rest.side;
-      made = (call, c, c.requester, (first, (answers, subst (λ (f : List Outcome → Next A). MakesCalls f rest.outcomes c rest.between c.requester rest.side) (sym same) rest.made)));
-      ends = subst (λ (f : List Outcome → Next A). EndsWith (f rest.outcomes) rest.between d rest.side d.requester result) (sym same) rest.ends;
+      made = (call, c, (first, (answers, subst (λ (f : List Outcome → Next A). MakesCalls f rest.outcomes c rest.between) (sym same) rest.made)));
+      ends = subst (λ (f : List Outcome → Next A). EndsWith (f rest.outcomes) rest.between d result) (sym same) rest.ends;
     }
 goes_on request call reads next value b c d result first later (inr (inl (cause, (is, given_up)))) rest = absurd (let wrong : Ok value ≡ Err (client.Link cause) = is in cc)
 goes_on request call reads next value b c d result first later (inr (inr (is, same))) rest = absurd (let wrong : Ok value ≡ Err client.Memory = is in cc)
@@ -92,7 +89,7 @@ ended : {A B : Type 0} (end : ClientEnd) (next : Next A) (read : Result B Client
 ended {A} end next read more b is (inl out) = subst (λ (e : ClientEnd). EndsWith next b b (Err e)) (sym out) (out_at next b)
 ended {A} {B} end next read more b is (inr failed) =
     let returns : next ≡ Returns (Err end) = is ∙ ap (λ (r : Result B ClientEnd). go_on r more) failed in
-    subst (λ (n : Next A). EndsWith n b b (Err end)) (sym returns) (gives_itself A end, (refl, refl))
+    subst (λ (n : Next A). EndsWith n b b (Err end)) (sym returns) (gives_itself A end, refl)
 
 -- A call was made and had no result, or it has no answer: so the request has none.
 pub ends_there : {A B : Type 0} (request : List Outcome → Next A) (call : Call) (reads : Outcome → Result B ClientEnd) (next : B → List Outcome → Next A) (end : ClientEnd)
@@ -102,22 +99,19 @@ pub ends_there : {A B : Type 0} (request : List Outcome → Next A) (call : Call
 ends_there {A} {B} request call reads next end b c first later (inl (outcome, (answers, gives))) = record {
   outcomes = outcome ∷ [];
   between = c;
-  side = c.requester;
-  made = (call, c, c.requester, (first, (answers, (refl, refl))));
+  made = (call, c, (first, (answers, refl)));
   ends = ended end (request (outcome ∷ [])) (reads outcome) (λ v. next v []) c (ap (λ (f : List Outcome → Next A). f []) (later outcome)) (given_end end (reads outcome) gives);
 }
 ends_there {A} {B} request call reads next end b c first later (inr (inl (cause, (is, given_up)))) = record {
   outcomes = [];
   between = b;
-  side = b.requester;
-  made = (refl, refl);
+  made = refl;
   ends = subst (λ (n : Next A). EndsWith n b c (Err end)) (sym first) (end, (refl, inl (cause, (ap (λ (r : Result B ClientEnd). end_of r) is, given_up))));
 }
 ends_there {A} {B} request call reads next end b c first later (inr (inr (is, same))) = record {
   outcomes = [];
   between = b;
-  side = b.requester;
-  made = (refl, refl);
+  made = refl;
   ends = subst (λ (n : Next A). EndsWith n b c (Err end)) (sym first) (end, (refl, inr (ap (λ (r : Result B ClientEnd). end_of r) is, same)));
 }
 

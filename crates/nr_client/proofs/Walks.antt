@@ -4,7 +4,6 @@ use Rattle.std.proofs.lemmas.List.{drop_all, drop_more, get_or-drop, take_all, t
 use Rattle.nr_nfs_res.specs.declared.lookup.LookupOk.{LookupOk}
 use Rattle.nr_reduce.specs.declared.call.Call.{Call}
 use Rattle.nr_reduce.specs.declared.call.Outcome.{Outcome}
-use Rattle.nr_requester.specs.RequesterState.{RequesterSide}
 use Rattle.nr_client.specs.declared.client_end.ClientEnd.{ClientEnd}
 use Rattle.nr_client.specs.declared.client_end.ClientEnd.TheVariants as client
 use Rattle.nr_client.specs.Following.{EndsWith, Follows, MakesCalls, Next, asking, go_on}
@@ -12,7 +11,7 @@ use Rattle.nr_client.specs.Following.Next.{Calls, Returns}
 use Rattle.nr_client.specs.Paths.{path_names}
 use Rattle.nr_client.specs.Requests.{Asks, lookup_call, lookup_result}
 use Rattle.nr_client.specs.Results.{Gives}
-use Rattle.nr_client.specs.Transfers.{LinkBytes}
+use Rattle.nr_client.specs.Views.{LinkView}
 use Rattle.nr_client.specs.Walking.{object_in, object_result, parent_along, parent_from, walk_from}
 use Rattle.nr_client.proofs.Sequences.{LeadsTo, end_of, ends_there, gives_itself, given_end, goes_on, returns_at_once, runs_out}
 
@@ -43,17 +42,17 @@ module _ (uid gid : ℕ) (whole : List Outcome → Next (List ℕ)) (dir : List 
   now : LeadsTo whole b (walk_from uid gid dir (name ∷ drop (index + 1) names)) c
   now = subst (λ (left : List (List ℕ)). LeadsTo whole b (walk_from uid gid dir left) c) (at_name names index name inside is) so_far
 
-  pub walk_goes_on : (object : List ℕ) → Asks object_result (lookup_call uid gid dir name) c d i j (Ok object) → LeadsTo whole b h (walk_from uid gid object (drop (index + 1) names)) d j
-  walk_goes_on object asks = λ e k result rest.
-      now e k result
+  pub walk_goes_on : (object : List ℕ) → Asks object_result (lookup_call uid gid dir name) c d (Ok object) → LeadsTo whole b (walk_from uid gid object (drop (index + 1) names)) d
+  walk_goes_on object asks = λ e result rest.
+      now e result
       (goes_on (walk_from uid gid dir (name ∷ drop (index + 1) names)) (lookup_call uid gid dir name) object_result (λ found. walk_from uid gid found (drop (index + 1) names))
-      object c d e i j k result refl (λ outcome. refl) asks rest)
+      object c d e result refl (λ outcome. refl) asks rest)
 
-  pub walk_stops : (end : ClientEnd) → Asks object_result (lookup_call uid gid dir name) c d i j (Err end) → Follows whole b d h j (Err end)
+  pub walk_stops : (end : ClientEnd) → Asks object_result (lookup_call uid gid dir name) c d (Err end) → Follows whole b d (Err end)
   walk_stops end asks =
-      now d j (Err end)
+      now d (Err end)
       (ends_there (walk_from uid gid dir (name ∷ drop (index + 1) names)) (lookup_call uid gid dir name) object_result (λ found. walk_from uid gid found (drop (index + 1) names))
-      end c d i j refl (λ outcome. refl) asks)
+      end c d refl (λ outcome. refl) asks)
 
 pub walk_ends : (uid gid : ℕ) (whole : List Outcome → Next (List ℕ)) (dir : List ℕ) (names : List (List ℕ)) (index : ℕ) (b c : LinkView)
     → length names ≤ index → LeadsTo whole b (walk_from uid gid dir (drop index names)) c → Follows whole b c (Ok dir)
@@ -95,15 +94,14 @@ parent_is uid gid at last (name ∷ front) dir (outcome ∷ later) =
 made_with_last : (last : List ℕ) (down : List Outcome → Next (List ℕ)) (up : List Outcome → Next (List ℕ × List ℕ)) → ((outcomes : List Outcome) → up outcomes ≡ with_last last (down outcomes))
     → (outcomes : List Outcome) (b c : LinkView) → MakesCalls down outcomes b c → MakesCalls up outcomes b c
 made_with_last last down up same [] b c made = made
-made_with_last last down up same (outcome ∷ later) b c (call, d, j, (first, (answers, more))) = (
+made_with_last last down up same (outcome ∷ later) b c (call, d, (first, (answers, more))) = (
   call,
   d,
-  j,
   (
     same [] ∙ ap (λ (next : Next (List ℕ)). with_last last next) first,
     (
       answers,
-      made_with_last last (λ outcomes. down (outcome ∷ outcomes)) (λ outcomes. up (outcome ∷ outcomes)) (λ outcomes. same (outcome ∷ outcomes)) later d c j c.requester more,
+      made_with_last last (λ outcomes. down (outcome ∷ outcomes)) (λ outcomes. up (outcome ∷ outcomes)) (λ outcomes. same (outcome ∷ outcomes)) later d c more,
     ),
   ),
 )
@@ -127,11 +125,10 @@ pub parent_follows : (uid gid at : ℕ) (last : List ℕ) (front : List (List �
 parent_follows uid gid at last front dir b c result walked = record {
   outcomes = walked.outcomes;
   between = walked.between;
-  side = walked.side;
-  made = made_with_last last (walk_from uid gid dir front) (parent_along uid gid dir at (front ++ last ∷ [])) (parent_is uid gid at last front dir) walked.outcomes b walked.between b.requester walked.side walked.made;
-  ends = subst (λ (next : Next (List ℕ × List ℕ)). EndsWith next walked.between c walked.side c.requester (beside last result))
+  made = made_with_last last (walk_from uid gid dir front) (parent_along uid gid dir at (front ++ last ∷ [])) (parent_is uid gid at last front dir) walked.outcomes b walked.between walked.made;
+  ends = subst (λ (next : Next (List ℕ × List ℕ)). EndsWith next walked.between c (beside last result))
       (sym (parent_is uid gid at last front dir walked.outcomes))
-      (ends_with_last last (walk_from uid gid dir front walked.outcomes) walked.between c walked.side c.requester result walked.ends);
+      (ends_with_last last (walk_from uid gid dir front walked.outcomes) walked.between c result walked.ends);
 }
 
 -- ---- The names of a path

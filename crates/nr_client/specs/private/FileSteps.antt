@@ -2,12 +2,11 @@
 use Rattle.std.specs.Prelude.{◌≡◌, ℕ, ◌+◌, ◌≤◌, ◌⊎◌, List, ◌++◌, length, Option, Result, Ok, Err}
 use Rattle.nr_outside.specs.Content.{HandsOut}
 use Rattle.nr_reduce.specs.declared.call.Outcome.{Outcome}
-use Rattle.nr_requester.specs.RequesterState.{RequesterSide}
 use Rattle.nr_client.specs.declared.client_end.ClientEnd.{ClientEnd}
 use Rattle.nr_client.specs.Calls.{Answers}
 use Rattle.nr_client.specs.Following.{MakesCalls, Unanswered}
 use Rattle.nr_client.specs.Results.{Gives}
-use Rattle.nr_client.specs.Transfers.{LinkBytes}
+use Rattle.nr_client.specs.Views.{LinkView}
 use Rattle.nr_client.specs.Writing.{WritesFile, file_write, piece_at, write_call, write_result, writing}
 use Rattle.nr_client.specs.Writing.FileWrite.{Created}
 use Rattle.nr_client.specs.private.InputWindows.{MayFollow, WindowState}

@@ -13,7 +13,7 @@ use Rattle.nr_client.specs.Reading.{EndsReading, LeadsBy, OpenRead, ReadingAt, f
 use Rattle.nr_client.specs.Reading.FileRead.{SizeKnown}
 use Rattle.nr_client.specs.Results.{Gives}
 use Rattle.nr_client.specs.Steps.{HasCreditLeft}
-use Rattle.nr_client.specs.Transfers.{LinkBytes}
+use Rattle.nr_client.specs.Views.{LinkView}
 
 -- calls of all these xids, which differ, are open
 abbrev pub AreOpen : RequesterState → List ℕ → Type 0
@@ -56,7 +56,7 @@ pub record ReadSoFar (uid gid : ℕ) (file : List ℕ) (size : ℕ) (first : Rea
   pub between : List ReadingAt
   pub outcomes : List Outcome
   pub bytes : List ℕ
-  pub made : LeadsBy uid gid file first between (record { outcomes = outcomes; waiting = reads_from uid gid file size from xids; bytes = b; side = b.requester })
+  pub made : LeadsBy uid gid file first between (record { outcomes = outcomes; waiting = reads_from uid gid file size from xids; link = b })
   pub state : file_read outcomes ≡ SizeKnown size at bytes
   pub appends : Appends taken taken' bytes
 

@@ -4,7 +4,7 @@ use Rattle.nr_client.proofs.Outcomes.{same_asked}
 use Rattle.nr_client.proofs.answer.outcome_of.Goals as goal
 
 pub returns-in-Err-clause-err : goal.returns-in-Err-clause-err
-returns-in-Err-clause-err g c asked is = inr (refl, (refl, refl))
+returns-in-Err-clause-err g c asked is = inr (refl, refl)
 
 pub returns-in-Err-call-clause-err : goal.returns-in-Err-call-clause-err
 returns-in-Err-call-clause-err g c asked is =

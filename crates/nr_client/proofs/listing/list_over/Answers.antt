@@ -12,10 +12,7 @@ loop-listed-preserved g c =
       c.in-Ok.ensures.source_faults ∙ sources,
       c.in-Ok.ensures.sink_faults ∙ sinks,
       list_goes_on c.args.uid c.args.gid (list_next c.args.uid c.args.gid c.args.dir.now) c.args.dir.now c.loop-listed.listed unfinished
-          (g.L.Calls.at c.args.link.now).bytes
-          (g.L.Calls.at c.loop-listed.link).bytes
-          (g.L.Calls.at c.list_more.new.link).bytes
-          (g.L.Calls.at c.args.link.now).requester (g.L.Calls.at c.loop-listed.link).requester (g.L.Calls.at c.list_more.new.link).requester leads c.list_more.new.listed c.in-Ok.ensures.asks,
+          (g.L.Calls.at c.args.link.now) (g.L.Calls.at c.loop-listed.link) (g.L.Calls.at c.list_more.new.link) leads c.list_more.new.listed c.in-Ok.ensures.asks,
     )
 
 pub loop-listed-smaller : goal.loop-listed-smaller
@@ -30,10 +27,7 @@ returns-in-Err-clause-follows g c =
     let (within, sources, sinks, leads) = c.loop-listed.invariant in
     let unfinished : c.loop-listed.listed.eof ≡ false = grind (arith, c.loop-listed-test.true) in
     list_stops c.args.uid c.args.gid (list_next c.args.uid c.args.gid c.args.dir.now) c.args.dir.now c.loop-listed.listed unfinished
-    (g.L.Calls.at c.args.link.now).bytes
-    (g.L.Calls.at c.loop-listed.link).bytes
-    (g.L.Calls.at c.list_more.new.link).bytes
-    (g.L.Calls.at c.args.link.now).requester (g.L.Calls.at c.loop-listed.link).requester (g.L.Calls.at c.list_more.new.link).requester leads c.in-Err.end c.in-Err.ensures.asks
+    (g.L.Calls.at c.args.link.now) (g.L.Calls.at c.loop-listed.link) (g.L.Calls.at c.list_more.new.link) leads c.in-Err.end c.in-Err.ensures.asks
 
 pub returns-clause-follows : goal.returns-clause-follows
 returns-clause-follows g c =

@@ -8,14 +8,12 @@ use Rattle.nr_client.proofs.reading_ahead.ask.Goals as goal
 pub returns-in-Err-clause-err : goal.returns-in-Err-clause-err
 returns-in-Err-clause-err g c at t below ahead first taken so_far =
     out_before_from c.args.file.now.uid c.args.file.now.gid c.args.file.now.handle.now c.args.file.now.size at at c.args.tickets.now.items c.reserve.new.self.items first taken t
-    (g.L.Calls.at c.args.link.now).bytes
-    (g.L.Calls.at c.args.link.now).requester c.reserve.ensures.items so_far
+    (g.L.Calls.at c.args.link.now) c.reserve.ensures.items so_far
 
 pub returns-in-Err-read_call-clause-err : goal.returns-in-Err-read_call-clause-err
 returns-in-Err-read_call-clause-err g c at t below ahead first taken so_far =
     out_before_from c.args.file.now.uid c.args.file.now.gid c.args.file.now.handle.now c.args.file.now.size at at c.args.tickets.now.items c.reserve.new.self.items first taken t
-    (g.L.Calls.at c.args.link.now).bytes
-    (g.L.Calls.at c.args.link.now).requester c.reserve.ensures.items so_far
+    (g.L.Calls.at c.args.link.now) c.reserve.ensures.items so_far
 
 pub returns-in-Err-submit-clause-open : goal.returns-in-Err-submit-clause-open
 returns-in-Err-submit-clause-open g c =

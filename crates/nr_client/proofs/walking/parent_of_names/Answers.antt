@@ -9,11 +9,10 @@ use Rattle.nr_client.proofs.walking.parent_of_names.Goals as goal
 pub returns-then-is_empty-clause-follows : goal.returns-then-is_empty-clause-follows
 returns-then-is_empty-clause-follows g c =
     no_parent c.args.uid c.args.gid c.args.at c.args.root.now c.args.names.now
-    (g.L.Calls.at c.args.link.now).bytes
-    (g.L.Calls.at c.args.link.now).requester (eqb-true (length c.args.names.now) 0 (sym c.is_empty.ensures ∙ c.if-is_empty.true))
+    (g.L.Calls.at c.args.link.now) (eqb-true (length c.args.names.now) 0 (sym c.is_empty.ensures ∙ c.if-is_empty.true))
 
 pub returns-in_default-clause-follows : goal.returns-in_default-clause-follows
-returns-in_default-clause-follows g c = runs_out (parent_along c.args.uid c.args.gid c.args.root.now c.args.at c.args.names.now) (g.L.Calls.at c.args.link.now).bytes (g.L.Calls.at c.args.link.now).requester
+returns-in_default-clause-follows g c = runs_out (parent_along c.args.uid c.args.gid c.args.root.now c.args.at c.args.names.now) (g.L.Calls.at c.args.link.now)
 
 pub returns-in-Ok-walk_names-clause-follows : goal.returns-in-Ok-walk_names-clause-follows
 returns-in-Ok-walk_names-clause-follows g c =

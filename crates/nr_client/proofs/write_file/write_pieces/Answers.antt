@@ -20,12 +20,12 @@ returns-in-Err-clause-writes g c dir name b h first first_given s =
 pub returns-then-len-gt0-2-clause-writes : goal.returns-then-len-gt0-2-clause-writes
 returns-then-len-gt0-2-clause-writes g c dir name b h first first_given s =
     let above : input_max ≤ c.pieces.at = elim c.pieces-test.branch [ then-pieces-test+else-len-gt0 w ↦ omega arith | else-pieces-test w ↦ omega arith ] in
-    streams_beyond c.args.uid c.args.gid c.args.file.now c.pieces.at c.pieces.window (g.L.Calls.at c.pieces.link).bytes (g.L.Calls.at c.pieces.link).requester (g.N.Source.left c.pieces.input) (g.N.Source.given c.pieces.input)
+    streams_beyond c.args.uid c.args.gid c.args.file.now c.pieces.at c.pieces.window (g.L.Calls.at c.pieces.link) (g.N.Source.left c.pieces.input) (g.N.Source.given c.pieces.input)
     c.pieces.invariant.0 above (omega arith) dir name b h first first_given (c.pieces.invariant.1 dir name b h first first_given s)
 
 pub returns-clause-writes : goal.returns-clause-writes
 returns-clause-writes g c dir name b h first first_given s =
-    streams_done c.args.uid c.args.gid c.args.file.now c.pieces.at c.pieces.window (g.L.Calls.at c.pieces.link).bytes (g.L.Calls.at c.pieces.link).requester (g.N.Source.left c.pieces.input) (g.N.Source.given c.pieces.input)
+    streams_done c.args.uid c.args.gid c.args.file.now c.pieces.at c.pieces.window (g.L.Calls.at c.pieces.link) (g.N.Source.left c.pieces.input) (g.N.Source.given c.pieces.input)
     c.pieces.invariant.0 (omega arith) dir name b h first first_given (c.pieces.invariant.1 dir name b h first first_given s)
 
 pub returns-in-Err-clause-input_stops : goal.returns-in-Err-clause-input_stops

@@ -7,7 +7,7 @@ returns-in-Err-clause-writes g c left given hands =
 
 pub returns-clause-writes : goal.returns-clause-writes
 returns-clause-writes g c left given hands =
-    c.write_pieces-result.ensures.writes c.args.dir.now c.args.name.now (g.L.Calls.at c.args.link.now).bytes (g.L.Calls.at c.args.link.now).requester left given
+    c.write_pieces-result.ensures.writes c.args.dir.now c.args.name.now (g.L.Calls.at c.args.link.now) left given
     (streams_begin c.args.uid c.args.gid c.args.dir.now c.args.name.now (g.L.Calls.at c.args.link.now) (g.L.Calls.at c.create_over.new.link) left given (g.N.Source.left c.args.input.now) (g.N.Source.given c.args.input.now) c.in-Ok.file c.args.window.now hands c.requires c.in-Ok.ensures.asks)
 
 pub returns-in-Err-clause-input_stops : goal.returns-in-Err-clause-input_stops
