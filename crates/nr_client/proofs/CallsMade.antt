@@ -6,7 +6,7 @@ use Rattle.nr_client.specs.declared.client_end.ClientEnd.{ClientEnd}
 use Rattle.nr_client.specs.declared.client_end.ClientEnd.TheVariants as client
 use Rattle.nr_client.specs.declared.call_end.CallEnd.{CallEnd}
 use Rattle.nr_client.specs.Calls.{Answers, GivesUp}
-use Rattle.nr_client.specs.Ending.{HasCause}
+use Rattle.nr_client.specs.Ending.{IsCauseIn}
 use Rattle.nr_client.specs.Following.{EndsWith, Follows, MakesCalls, Next, Unanswered}
 use Rattle.nr_client.specs.Following.Next.{Calls, Returns}
 use Rattle.nr_client.specs.Requests.{Asks}
@@ -105,10 +105,10 @@ follows_asked {A} {B} request reads b c call end is then (inr (inr (same, rest))
 pub answered_as : (call asked : Call) (outcome : Outcome) (b c : LinkView) → call ≡ asked → Answers b c call outcome → Answers b c asked outcome
 answered_as call asked outcome b c same answered = subst (λ (a : Call). Answers b c a outcome) same answered
 
-pub given_up_as : (call asked : Call) (cause : CallEnd) (b c : LinkView) → call ≡ asked → GivesUp b c call cause → HasCause cause c call
+pub given_up_as : (call asked : Call) (cause : CallEnd) (b c : LinkView) → call ≡ asked → GivesUp b c call cause → IsCauseIn cause c call
     → Unanswered asked b c (client.Link cause)
 given_up_as call asked cause b c same given_up is =
-    inl (cause, (refl, (subst (λ (a : Call). GivesUp b c a cause) same given_up, subst (λ (a : Call). HasCause cause c a) same is)))
+    inl (cause, (refl, (subst (λ (a : Call). GivesUp b c a cause) same given_up, subst (λ (a : Call). IsCauseIn cause c a) same is)))
 
 -- a call whose outcome is read
 pub asks_by_answer : {A : Type 0} (reads : Outcome → Result A ClientEnd) (call : Call) (b c : LinkView) (outcome : Outcome) (result : Result A ClientEnd)

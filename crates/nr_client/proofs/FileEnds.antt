@@ -13,7 +13,7 @@ use Rattle.nr_client.specs.declared.client_end.ClientEnd.{ClientEnd}
 use Rattle.nr_client.specs.declared.client_end.ClientEnd.TheVariants as client
 use Rattle.nr_client.specs.declared.call_end.CallEnd.{CallEnd}
 use Rattle.nr_client.specs.Calls.{Answers, Completes, Forgets, ForgetsCalls, RefusesToSubmit}
-use Rattle.nr_client.specs.Ending.{HasCause, LinkCause}
+use Rattle.nr_client.specs.Ending.{IsCauseIn, LinkCause}
 use Rattle.nr_client.specs.Following.{Unanswered}
 use Rattle.nr_client.specs.Following.Next.{Returns}
 use Rattle.nr_client.specs.Reading.{EndsAtReply, EndsReading, FileRead, OpenRead, ReadingAt, ReadsFile, TakesPart, bytes_of, bytes_read, file_read, next_read, piece_left, read_call, read_result, starts_at, with_size}
@@ -67,7 +67,7 @@ out_before uid gid file size at from xids first t u b so_far =
 -- a READ was not submitted
 pub not_submitted : (uid gid : ℕ) (file : List ℕ) (size at next : ℕ) (xids : List ℕ) (end : CallEnd) (first : ReadingAt) (t u : Option (List ℕ)) (b c : LinkView)
     → at < size → ReadsAhead b.requester size at next xids → MayAsk size next xids b.requester
-    → RefusesToSubmit b c (read_call uid gid file next (piece_left size next)) end → HasCause end c (read_call uid gid file next (piece_left size next))
+    → RefusesToSubmit b c (read_call uid gid file next (piece_left size next)) end → IsCauseIn end c (read_call uid gid file next (piece_left size next))
     → ReadSoFar uid gid file size first t at at xids b u → HasEnded uid gid file first t xids c u (Err (client.Link end))
 not_submitted uid gid file size at next xids end first t u b c below ahead may refuses cause so_far =
     record {
@@ -230,13 +230,13 @@ fails_from uid gid file size at next count xid xs xids outcome why first t u v b
 
 pub not_submitted_from : (uid gid : ℕ) (file : List ℕ) (size at next count : ℕ) (xids ys : List ℕ) (call : Call) (end : CallEnd) (first : ReadingAt) (t u : Option (List ℕ)) (b c : LinkView)
     → ys ≡ xids → call ≡ read_call uid gid file next count → count ≡ piece_left size next → at < size → ReadsAhead b.requester size at next xids → MayAsk size next xids b.requester
-    → RefusesToSubmit b c call end → HasCause end c call
+    → RefusesToSubmit b c call end → IsCauseIn end c call
     → ReadSoFar uid gid file size first t at at xids b u → HasEnded uid gid file first t ys c u (Err (client.Link end))
 not_submitted_from uid gid file size at next count xids ys call end first t u b c all is same below ahead may refuses cause so_far =
     let asked : call ≡ read_call uid gid file next (piece_left size next) = is ∙ ap (read_call uid gid file next) same in
     subst (λ (l : List ℕ). HasEnded uid gid file first t l c u (Err (client.Link end))) (sym all)
     (not_submitted uid gid file size at next xids end first t u b c below ahead may
-    (subst (λ (a : Call). RefusesToSubmit b c a end) asked refuses) (subst (λ (a : Call). HasCause end c a) asked cause) so_far)
+    (subst (λ (a : Call). RefusesToSubmit b c a end) asked refuses) (subst (λ (a : Call). IsCauseIn end c a) asked cause) so_far)
 
 pub out_before_from : (uid gid : ℕ) (file : List ℕ) (size at from : ℕ) (xids ys : List ℕ) (first : ReadingAt) (t u : Option (List ℕ)) (b : LinkView)
     → ys ≡ xids → ReadSoFar uid gid file size first t at from xids b u → HasEnded uid gid file first t ys b u (Err client.Memory)

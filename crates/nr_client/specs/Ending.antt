@@ -34,8 +34,8 @@ IsCause calls.Memory left read h call = ⊤
 IsCause end left read h call = LinkCause end left read h
 
 -- the cause of the end of a call over a link
-abbrev pub HasCause : CallEnd → LinkView → Call → Type 0
-HasCause end v call = IsCause end v.bytes.left v.bytes.read v.requester call
+abbrev pub IsCauseIn : CallEnd → LinkView → Call → Type 0
+IsCauseIn end v call = IsCause end v.bytes.left v.bytes.read v.requester call
 
 -- a refusal of a call while a credit is left, by a client without a number, and the end of the call then
 abbrev pub HasCredit : Refused → Type 0

@@ -6,7 +6,7 @@ use Rattle.nr_client.specs.declared.client_end.ClientEnd.{ClientEnd}
 use Rattle.nr_client.specs.declared.client_end.ClientEnd.TheVariants as client
 use Rattle.nr_client.specs.declared.call_end.CallEnd.{CallEnd}
 use Rattle.nr_client.specs.Calls.{Answers, GivesUp}
-use Rattle.nr_client.specs.Ending.{HasCause}
+use Rattle.nr_client.specs.Ending.{IsCauseIn}
 use Rattle.nr_client.specs.Results.{Gives}
 use Rattle.nr_client.specs.Views.{LinkView}
 
@@ -36,7 +36,7 @@ MakesCalls request (outcome ∷ outcomes) v w =
 -- A call has no answer, for this cause; or memory ran out before it was made, and nothing changed.
 abbrev pub Unanswered : Call → (v w : LinkView) → ClientEnd → Type 0
 Unanswered call v w end =
-    ((cause : CallEnd) × ((end ≡ client.Link cause) × (GivesUp v w call cause × HasCause cause w call)))
+    ((cause : CallEnd) × ((end ≡ client.Link cause) × (GivesUp v w call cause × IsCauseIn cause w call)))
     ⊎ ((end ≡ client.Memory) × (w ≡ v))
 
 -- Then it ends: with its result, unless memory ran out; or its next call has no answer.

@@ -22,7 +22,7 @@ use Rattle.nr_client.specs.declared.client_end.ClientEnd.{ClientEnd}
 use Rattle.nr_client.specs.declared.client_end.ClientEnd.TheVariants as client
 use Rattle.nr_client.specs.declared.call_end.CallEnd.{CallEnd}
 use Rattle.nr_client.specs.Calls.{Answers, Completes, Forgets, ForgetsCalls, RefusesToSubmit, Submits}
-use Rattle.nr_client.specs.Ending.{HasCause, LinkCause}
+use Rattle.nr_client.specs.Ending.{IsCauseIn, LinkCause}
 use Rattle.nr_client.specs.Following.{Next, Unanswered}
 use Rattle.nr_client.specs.Following.Next.{Calls, Returns}
 use Rattle.nr_client.specs.Listing.{no_progress}
@@ -222,7 +222,7 @@ pub data EndsReading (uid gid : ℕ) (file : List ℕ) (s : ReadingAt) (left : L
   NotAnswered : (call : Call) (end : ClientEnd) → IsMadeAlone uid gid file s call → given ≡ Err end → Unanswered call s.link w end → left ≡ s.waiting
       → TakesRead given s.outcomes taken taken' → EndsReading uid gid file s left w taken taken' given
   NotSubmitted : (call : Call) (end : CallEnd) → IsMadeAhead uid gid file s call → given ≡ Err (client.Link end)
-      → RefusesToSubmit s.link w call end × HasCause end w call → left ≡ s.waiting
+      → RefusesToSubmit s.link w call end × IsCauseIn end w call → left ≡ s.waiting
       → TakesRead given s.outcomes taken taken' → EndsReading uid gid file s left w taken taken' given
   OldestForgotten : (read : OpenRead) (end : CallEnd) → NoneIsMadeAhead uid gid file s → reading uid gid file s.outcomes ≡ Calls read.call → given ≡ Err (client.Link end)
       → Forgets read.xid end s.link w × LinkCause end w.bytes.left w.bytes.read w.requester → s.waiting ≡ read ∷ left

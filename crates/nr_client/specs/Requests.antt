@@ -34,7 +34,7 @@ use Rattle.nr_client.specs.declared.client_end.ClientEnd.{ClientEnd}
 use Rattle.nr_client.specs.declared.client_end.ClientEnd.TheVariants as client
 use Rattle.nr_client.specs.declared.call_end.CallEnd.{CallEnd}
 use Rattle.nr_client.specs.Calls.{Answers, GivesUp}
-use Rattle.nr_client.specs.Ending.{HasCause, SinkCountAt, SourceCountAt}
+use Rattle.nr_client.specs.Ending.{IsCauseIn, SinkCountAt, SourceCountAt}
 use Rattle.nr_client.specs.Results.{Gives, mount_done, nfs_done, result_of_outcome}
 use Rattle.nr_client.specs.Views.{LinkView}
 
@@ -117,7 +117,7 @@ mnt_result outcome = handle_of (mount_done (result_of_outcome (status_union_code
 abbrev pub Asks : {A : Type 0} → (Outcome → Result A ClientEnd) → Call → (v w : LinkView) → Result A ClientEnd → Type 0
 Asks reads call v w result =
     ((outcome : Outcome) × (Answers v w call outcome × Gives result (reads outcome)))
-    ⊎ (((end : CallEnd) × ((result ≡ Err (client.Link end)) × (GivesUp v w call end × HasCause end w call)))
+    ⊎ (((end : CallEnd) × ((result ≡ Err (client.Link end)) × (GivesUp v w call end × IsCauseIn end w call)))
     ⊎ ((result ≡ Err client.Memory) × (w ≡ v)))
 
 -- the fault counts of the source and of the sink rise only if a call has no answer for that

@@ -6,7 +6,7 @@ ghost use Rattle.nr_link.specs.declared.end.End.TheVariants as ends;
 ghost use Rattle.nr_links.specs.Limits.{read_max};
 ghost use Rattle.nr_requester.specs.OpenCalls.{ClosesTicket, KeepsTickets, OpensTicket, open_call};
 ghost use Rattle.nr_client.specs.Calls.{Answers, Completes, Forgets, ForgetsCall, GivesUp, RefusesToSubmit, Submits};
-ghost use Rattle.nr_client.specs.Ending.{HasCause, LinkCause, SinkCount, SourceCount};
+ghost use Rattle.nr_client.specs.Ending.{IsCauseIn, LinkCause, SinkCount, SourceCount};
 
 use crate::call_end::CallEnd;
 use nr_reduce::{Call, Outcome};
@@ -26,7 +26,7 @@ pub trait Calls {
         ensures ok { IfOk result (λ outcome. Answers (at self.old) (at self.new) call outcome) }
         ensures err { IfErr result (λ end. GivesUp (at self.old) (at self.new) call end) }
         ensures memory { OnOk result ((at self.new).requester.state.side.ended ≢ Some ends.Memory) }
-        ensures cause { IfErr result (λ end. HasCause end (at self.new) call) }
+        ensures cause { IfErr result (λ end. IsCauseIn end (at self.new) call) }
         ensures tickets { KeepsTickets (at self.old).requester.state (at self.new).requester.state }
         ensures source_count { SourceCount result (at self.old).source_faults (at self.new).source_faults }
         ensures sink_count { SinkCount result (at self.old).sink_faults (at self.new).sink_faults }
@@ -37,7 +37,7 @@ pub trait Calls {
         requires { CanWriteCred call.cred }
         ensures ok { IfOk result (λ xid. Submits (at self.old) (at self.new) call xid) }
         ensures err { IfErr result (λ end. RefusesToSubmit (at self.old) (at self.new) call end) }
-        ensures cause { IfErr result (λ end. HasCause end (at self.new) call) }
+        ensures cause { IfErr result (λ end. IsCauseIn end (at self.new) call) }
         ensures opens { IfOk result (λ xid. OpensTicket xid call (at self.old).requester.state (at self.new).requester.state) }
         ensures keeps { OnErr result (KeepsTickets (at self.old).requester.state (at self.new).requester.state) }
         ensures source_count { SourceCount result (at self.old).source_faults (at self.new).source_faults }

@@ -7,7 +7,6 @@ use Rattle.nr_words.specs.Limits.{mount_path_max}
 use Rattle.nr_reduce.specs.declared.call.Call.{Call}
 use Rattle.nr_reduce.specs.declared.call.Outcome.{Outcome}
 use Rattle.nr_reduce.specs.declared.mark.Entry.{Entry}
-use Rattle.nr_requester.specs.RequesterState.{RequesterSide}
 use Rattle.nr_plain.specs.Setup.{Setup}
 use Rattle.nr_client.specs.declared.client_end.ClientEnd.{ClientEnd}
 use Rattle.nr_client.specs.declared.client_end.ClientEnd.TheVariants as client
@@ -16,8 +15,8 @@ use Rattle.nr_client.specs.Following.Next.{Calls, Returns}
 use Rattle.nr_client.specs.Reading.{EndsReading, OpenRead, ReadsFile, TakesRead, bytes_read, reading, starts_at}
 use Rattle.nr_client.specs.Reading.EndsReading.{EndsByReplies, NotAnswered, NotSubmitted, OldestForgotten, OutputFails}
 use Rattle.nr_client.specs.Requests.{mnt_call, mnt_result}
-use Rattle.nr_client.specs.Transfers.{LinkBytes}
 use Rattle.nr_client.specs.Walking.{walk_next}
+use Rattle.nr_client.specs.Views.{LinkView}
 use Rattle.nr_commands.specs.Sessions.{Fails, Request, SessionAt}
 use Rattle.nr_service_laws.specs.Exchanges.{Exchange, followed_exchanges, made_exchanges, read_exchanges, steps_exchanges, tells_finds, tells_mounts, tells_reads_out, tells_request, within_exchanges}
 use Rattle.nr_service_laws.specs.Exchanges.Exchange.{Answered, Forgotten, GivenUp, HandedOver, Submitted}
@@ -80,10 +79,10 @@ pub record HasValue {A : Type 0} (R : Call → Outcome → Type 0) (request : Li
 pub followed : {A : Type 0} (R : Call → Outcome → Type 0) (request : List Outcome → Next A) (b c : LinkView) (value : A) (f : Follows request b c (Ok value)) (before : List OpenRead)
     → AreJudged R before (followed_exchanges request b c (Ok value) f).made → HasValue R request value
 followed {A} R request b c value f before are =
-    let made = (made_exchanges request f.outcomes b f.between b.requester f.side f.made).made in
-    record { outcomes = f.outcomes; answers = answers_of R request f.outcomes b f.between b.requester f.side f.made before (judged_both R before made _ are).0; is = ends (request f.outcomes) f.ends }
+    let made = (made_exchanges request f.outcomes b f.between f.made).made in
+    record { outcomes = f.outcomes; answers = answers_of R request f.outcomes b f.between f.made before (judged_both R before made _ are).0; is = ends (request f.outcomes) f.ends }
   where
-    ends : (next : Next A) → EndsWith next f.between c f.side c.requester (Ok value) → next ≡ Returns (Ok value)
+    ends : (next : Next A) → EndsWith next f.between c (Ok value) → next ≡ Returns (Ok value)
     ends (Returns result) (gives, same) = ap (λ (r : Result A ClientEnd). Returns r) gives
     ends (Calls call) (end, (same, gone)) = absurd (let wrong = same in cc)
 
@@ -118,7 +117,7 @@ read_whole R uid gid file b c taken taken' f before are =
     returned (inl wrong) = absurd (let w = wrong in cc)
     returned (inr is) = is
 
-    by : EndsReading uid gid file f.last f.left c f.side taken taken' (Ok tt) → AreAnswers R (reading uid gid file) f.last.outcomes → IsReadWhole R uid gid file taken taken'
+    by : EndsReading uid gid file f.last f.left f.ended taken taken' (Ok tt) → AreAnswers R (reading uid gid file) f.last.outcomes → IsReadWhole R uid gid file taken taken'
     by (EndsByReplies same is waits takes) answers = record { outcomes = f.last.outcomes; answers = answers; is = returned is; takes = takes_all takes }
     by (OutputFails wrong same waits takes) answers = absurd (let w = wrong in cc)
     by (NotAnswered call end alone wrong unanswered waits takes) answers = absurd (let w = wrong in cc)

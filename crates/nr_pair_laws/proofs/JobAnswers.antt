@@ -40,7 +40,7 @@ use Rattle.nr_plain.specs.Setup.{Setup}
 use Rattle.nr_client.specs.declared.client_end.ClientEnd.{ClientEnd}
 use Rattle.nr_client.specs.Following.Next.{Returns}
 use Rattle.nr_outside.specs.Streams.{SinkAt, SourceAt}
-use Rattle.nr_client.specs.Jobs.{AreExchanges, EndsByJobs, IsExchange, LinkAt, ReadsFileByJobs, ReadsShared, bytes_at}
+use Rattle.nr_client.specs.Jobs.{AreExchanges, EndsByJobs, IsExchange, LinkAt, ReadsFileByJobs, ReadsShared, view_at}
 use Rattle.nr_client.specs.Jobs.ReadsFileByJobs.{NoAttributes, Shared}
 use Rattle.nr_client.specs.Paths.{path_names}
 use Rattle.nr_client.specs.Reading.{bytes_read, reading}
@@ -289,7 +289,7 @@ jobs_are_served_lem limits first J opened link outside outside' end connection g
         IsTyped both → IsServedJobs (setup_in first) J connection.over.more opened link ran.run both made history) (tells_finds get.uid get.gid get.export get.path s s' (Ok file) finds).made
         get.uid get.gid file s' hangs.source hangs.sink out.taken out'.taken result reads
     by (NoAttributes mid why gets is same none) = λ ran both sides typed.
-        served (found ++ (asked_exchanges getattr_result (getattr_call get.uid get.gid file) (bytes_at (link_of s')) (bytes_at mid) (link_of s').requester mid.requester (Err why) gets.asks).made) [] ran none_earlier both sides typed
+        served (found ++ (asked_exchanges getattr_result (getattr_call get.uid get.gid file) (view_at (link_of s')) (view_at mid) (Err why) gets.asks).made) [] ran none_earlier both sides typed
     by (Shared mid outcome attributes gets shared) = λ ran both sides typed.
         served (found ++ Answered (getattr_call get.uid get.gid file) outcome ∷ []) shared.back.history ran shared.back.earlier both sides typed
 

@@ -8,16 +8,15 @@ use Rattle.nr_words.specs.Limits.{mount_path_max}
 use Rattle.nr_reduce.specs.declared.call.Call.{Call}
 use Rattle.nr_reduce.specs.declared.call.Outcome.{Outcome}
 use Rattle.nr_reduce.specs.declared.mark.Entry.{Entry}
-use Rattle.nr_requester.specs.RequesterState.{RequesterSide}
 use Rattle.nr_plain.specs.Setup.{Setup}
 use Rattle.nr_client.specs.declared.client_end.ClientEnd.TheVariants as client
 use Rattle.nr_client.specs.Following.{EndsWith, Follows, MakesCalls, Next}
 use Rattle.nr_client.specs.Following.Next.{Calls, Returns}
 use Rattle.nr_client.specs.Requests.{mnt_call, mnt_result}
-use Rattle.nr_client.specs.Transfers.{LinkBytes}
 use Rattle.nr_client.specs.Walking.{parent_next}
 use Rattle.nr_client.specs.Writing.{EndsWriting, WritesFile, writing}
 use Rattle.nr_client.specs.Writing.EndsWriting.{FollowsInput, InputFails}
+use Rattle.nr_client.specs.Views.{LinkView}
 use Rattle.nr_commands.specs.Commands.{FindsParent, Mounts, WritesIn}
 use Rattle.nr_commands.specs.Sessions.{Fails, Request, SessionAt}
 use Rattle.nr_service_laws.specs.Exchanges.{Exchange, end_exchanges, followed_exchanges, made_exchanges, none, tells_finds_parent, tells_mounts, tells_request, tells_requests, tells_writes_in, within_exchanges, write_exchanges, write_exchanges_by}
@@ -50,10 +49,10 @@ module _ (s : Setup) (J : List Entry) (names : List (List ℕ)) (last : ℕ) whe
   pub made_in_order : {A : Type 0} (request : List Outcome → Next A) (os : List Outcome) (b b' : LinkView) (made : MakesCalls request os b b') (least : ℕ) (rest : List Exchange)
       → IsKept least ((made_exchanges request os b b' made).made ++ rest) → Part request os least rest
   made_in_order request [] b b' made least rest k = record { to = least; made = refl; later = k }
-  made_in_order {A} request (o ∷ os) b b' (call, c, i, (is, (answers, more))) least rest k =
+  made_in_order {A} request (o ∷ os) b b' (call, c, (is, (answers, more))) least rest k =
       let place : ℕ = k.answered.0 in
       let a : IsAnsweredAt s J call o place = k.answered.1.0 in
-      let part = made_in_order (λ later. request (o ∷ later)) os c b' i b'.requester more (place_after s J call o place a) rest (record { answered = k.answered.1.1.1; kept = k.kept.1 }) in
+      let part = made_in_order (λ later. request (o ∷ later)) os c b' more (place_after s J call o place a) rest (record { answered = k.answered.1.1.1; kept = k.kept.1 }) in
       record {
         to = part.to;
         made = on_call (request []) call (λ x. (place : ℕ) × (answered : IsAnsweredAt s J x o place) × ((least ≤ place) × (KeepPath s J root_handle names least place
@@ -76,12 +75,12 @@ module _ (s : Setup) (J : List Entry) (names : List (List ℕ)) (last : ℕ) whe
   pub followed : {A : Type 0} (request : List Outcome → Next A) (b b' : LinkView) (value : A) (f : Follows request b b' (Ok value)) (least : ℕ) (rest : List Exchange)
       → IsKept least ((followed_exchanges request b b' (Ok value) f).made ++ rest) → Done request value least rest
   followed request b b' value f least rest k =
-      let ends = no_more (request f.outcomes) f.between b' f.side b'.requester value f.ends in
-      let first = (made_exchanges request f.outcomes b f.between b.requester f.side f.made).made in
+      let ends = no_more (request f.outcomes) f.between b' value f.ends in
+      let first = (made_exchanges request f.outcomes b f.between f.made).made in
       let whole : (followed_exchanges request b b' (Ok value) f).made ++ rest ≡ first ++ rest = ap (λ (l : List Exchange). (first ++ l) ++ rest) ends.1 ∙ ap (λ (l : List Exchange). l ++ rest) (append-nil first) in
       record {
         outcomes = f.outcomes;
-        part = made_in_order request f.outcomes b f.between b.requester f.side f.made least rest (subst (λ (l : List Exchange). IsKept least l) whole k);
+        part = made_in_order request f.outcomes b f.between f.made least rest (subst (λ (l : List Exchange). IsKept least l) whole k);
         gives = ends.0;
       }
 

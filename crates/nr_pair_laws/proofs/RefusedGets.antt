@@ -25,7 +25,6 @@ use Rattle.nr_reduce.specs.declared.call.Call.{Call}
 use Rattle.nr_reduce.specs.declared.call.Outcome.{Outcome}
 use Rattle.nr_reduce.specs.declared.call.Outcome.TheVariants as outcomes
 use Rattle.nr_reduce.specs.declared.mark.Entry.{Entry}
-use Rattle.nr_requester.specs.RequesterState.{RequesterSide}
 use Rattle.nr_tree.specs.Sane.{IsSane}
 use Rattle.nr_tree.specs.declared.node.Content.TheVariants.{Regular}
 use Rattle.nr_plain.specs.Journal.{tree_at}
@@ -42,8 +41,8 @@ use Rattle.nr_client.specs.Reading.EndsReading.{EndsByReplies, NotAnswered, NotS
 use Rattle.nr_client.specs.Reading.FileRead.{NothingKnown, ReadEnds, SizeKnown}
 use Rattle.nr_client.specs.Requests.{getattr_result, handle_of as root_of, lookup_call, mnt_call, mnt_result}
 use Rattle.nr_client.specs.Results.{Gives, mount_done, result_by_reading, result_of_outcome, results_in, results_or}
-use Rattle.nr_client.specs.Transfers.{LinkBytes}
 use Rattle.nr_client.specs.Walking.{object_result, walk_from, walk_next}
+use Rattle.nr_client.specs.Views.{LinkView}
 use Rattle.nr_commands.specs.Commands.{Finds}
 use Rattle.nr_commands.specs.Sessions.{Fails, Request, SessionAt}
 use Rattle.nr_service_laws.specs.Exchanges.{Exchange, followed_exchanges, made_exchanges, read_exchanges, steps_exchanges, tells_finds, tells_mounts}
@@ -134,12 +133,12 @@ the_end given end status is same = (let both : Err end ≡ Err (client.Nfs statu
 ended_by : {A : Type 0} (R : Call → Outcome → Type 0) (request : List Outcome → Next A) (b c : LinkView) (status : Status) (given : Result A ClientEnd) → given ≡ Err (client.Nfs status)
     → (f : Follows request b c given) (before : List OpenRead) → AreJudged R before (followed_exchanges request b c given f).made → EndsByStatus R request status
 ended_by {A} R request b c status given is f before are =
-    let made = (made_exchanges request f.outcomes b f.between b.requester f.side f.made).made in
-    record { outcomes = f.outcomes; answers = answers_of R request f.outcomes b f.between b.requester f.side f.made before (judged_both R before made _ are).0; is = ends (request f.outcomes) f.ends }
+    let made = (made_exchanges request f.outcomes b f.between f.made).made in
+    record { outcomes = f.outcomes; answers = answers_of R request f.outcomes b f.between f.made before (judged_both R before made _ are).0; is = ends (request f.outcomes) f.ends }
   where
-    ends : (next : Next A) → EndsWith next f.between c f.side c.requester given → next ≡ Returns (Err (client.Nfs status))
+    ends : (next : Next A) → EndsWith next f.between c given → next ≡ Returns (Err (client.Nfs status))
     ends (Returns result) (gives, same) = ap (λ (r : Result A ClientEnd). Returns r) (subst (λ (g : Result A ClientEnd). Gives g result) is gives)
-    ends (Calls call) (end, (same, gone)) = absurd (unanswered call f.between c f.side c.requester status end (the_end given end status is same) gone)
+    ends (Calls call) (end, (same, gone)) = absurd (unanswered call f.between c status end (the_end given end status is same) gone)
 
 -- ---- MNT ends with no status of NFS
 
@@ -348,11 +347,11 @@ module _ (s : Setup) (J : List Entry) (uid gid : ℕ) (ids : AreIds uid gid) (na
         returned next (inl wrong) = absurd (let memory : end ≡ client.Memory = cc in let clash : client.Nfs status ≡ client.Memory = sym nfs ∙ memory in cc)
         returned next (inr is) = is ∙ ap (λ (e : ClientEnd). Returns (Err e)) nfs
 
-        by : EndsReading uid gid file f.last f.left c f.side taken taken' (Err end) → AreAnswers Each (reading uid gid file) f.last.outcomes → EndsByStatus Each (reading uid gid file) status
+        by : EndsReading uid gid file f.last f.left f.ended taken taken' (Err end) → AreAnswers Each (reading uid gid file) f.last.outcomes → EndsByStatus Each (reading uid gid file) status
         by (EndsByReplies same is waits takes) answers = record { outcomes = f.last.outcomes; answers = answers; is = returned (reading uid gid file f.last.outcomes) is }
         by (OutputFails wrong same waits takes) answers = absurd (let fault : end ≡ client.OutputFault = cc in let clash : client.Nfs status ≡ client.OutputFault = sym nfs ∙ fault in cc)
         by (NotAnswered call why alone is gone waits takes) answers =
-            absurd (unanswered call f.last.bytes c f.last.side f.side status why (the_end (Err end) why status (ap (λ (e : ClientEnd). Err e) nfs) is) gone)
+            absurd (unanswered call f.last.link f.ended status why (the_end (Err end) why status (ap (λ (e : ClientEnd). Err e) nfs) is) gone)
         by (NotSubmitted call why ahead is refused waits takes) answers =
             absurd (let link : end ≡ client.Link why = cc in let clash : client.Nfs status ≡ client.Link why = sym nfs ∙ link in cc)
         by (OldestForgotten read why full oldest is forgets waits takes) answers =

@@ -5,7 +5,6 @@ use Rattle.std.specs.List.{AllByRecursion}
 use Rattle.nr_xdr.specs.Item.{IsBytes}
 use Rattle.nr_reduce.specs.declared.call.Call.{Call}
 use Rattle.nr_reduce.specs.declared.call.Outcome.{Outcome}
-use Rattle.nr_requester.specs.RequesterState.{RequesterSide}
 use Rattle.nr_byte_laws.specs.DueBytes.{OutcomeIsBytes}
 use Rattle.nr_client.specs.declared.call_end.CallEnd.{CallEnd}
 use Rattle.nr_client.specs.declared.client_end.ClientEnd.{ClientEnd}
@@ -17,9 +16,9 @@ use Rattle.nr_client.specs.Reading.ReadStep.{MakesAlone, AsksAhead, TakesOldest}
 use Rattle.nr_client.specs.Reading.EndsReading.{EndsByReplies, OutputFails, NotAnswered, NotSubmitted, OldestForgotten}
 use Rattle.nr_client.specs.Requests.{Asks}
 use Rattle.nr_client.specs.Results.{Gives}
-use Rattle.nr_client.specs.Transfers.{LinkBytes}
 use Rattle.nr_client.specs.Writing.{EndsWriting, writing}
 use Rattle.nr_client.specs.Writing.EndsWriting.{FollowsInput, InputFails}
+use Rattle.nr_client.specs.Views.{LinkView}
 use Rattle.nr_commands.specs.Sessions.{Part, Request, Requests, SessionAt, Then}
 use Rattle.nr_service_laws.specs.Exchanges.{Exchange, Exchanges, Tells, asked_exchanges, end_exchanges, followed_exchanges, given_up_exchanges, made_exchanges, outcomes_in, read_exchanges, reading_end_exchanges, step_exchanges, steps_exchanges, tells_none, tells_request, tells_requests, tells_then, unanswered_exchanges, within_exchanges, write_exchanges_by}
 use Rattle.nr_service_laws.specs.Exchanges.Exchange.{Answered, Forgotten, GivenUp, HandedOver, Submitted}
@@ -91,9 +90,9 @@ asked_calls P reads call b b' result (inr (inr memory)) own of_reads = (tt, λ a
 made_calls : {A : Type 0} (P : A → Type 0) (request : List Outcome → Next A) (outcomes : List Outcome) (b b' : LinkView) (made : MakesCalls request outcomes b b')
     → RequestOfBytes P request → CallsAreBytes (made_exchanges request outcomes b b' made).made
 made_calls P request [] b b' made of_request = tt
-made_calls {A} P request (outcome ∷ outcomes) b b' (call, c, i, (is, (answers, rest))) of_request = (
+made_calls {A} P request (outcome ∷ outcomes) b b' (call, c, (is, (answers, rest))) of_request = (
   subst (λ (n : Next A). NextOfBytes P n) is (of_request [] tt),
-  λ o. made_calls P (λ later. request (outcome ∷ later)) outcomes c b' i b'.requester rest (λ later all. of_request (outcome ∷ later) (o, all)),
+  λ o. made_calls P (λ later. request (outcome ∷ later)) outcomes c b' rest (λ later all. of_request (outcome ∷ later) (o, all)),
 )
 
 end_calls : {A : Type 0} (P : A → Type 0) (next : Next A) (b b' : LinkView) (given : Result A ClientEnd) (ends : EndsWith next b b' given)
@@ -112,12 +111,12 @@ end_calls P (Calls call) b b' given (end, (is, gone)) n = (unanswered_calls call
 followed_calls : {A : Type 0} (P : A → Type 0) (request : List Outcome → Next A) (b b' : LinkView) (given : Result A ClientEnd) (f : Follows request b b' given)
     → RequestOfBytes P request → PartOfBytes P (followed_exchanges request b b' given f).made given
 followed_calls {A} P request b b' given f of_request =
-    let made = (made_exchanges request f.outcomes b f.between b.requester f.side f.made).made in
-    let end = (end_exchanges (request f.outcomes) f.between b' f.side b'.requester given f.ends).made in
+    let made = (made_exchanges request f.outcomes b f.between f.made).made in
+    let end = (end_exchanges (request f.outcomes) f.between b' given f.ends).made in
     let next : AreBytes made → NextOfBytes P (request f.outcomes) =
-    λ all. of_request f.outcomes (subst (λ (l : List Outcome). AllByRecursion OutcomeIsBytes l) (made_outcomes request f.outcomes b f.between b.requester f.side f.made) all) in (
-      both_calls made end (made_calls P request f.outcomes b f.between b.requester f.side f.made of_request) (λ all. (end_calls P (request f.outcomes) f.between b' f.side b'.requester given f.ends (next all)).0),
-      λ all value is. (end_calls P (request f.outcomes) f.between b' f.side b'.requester given f.ends (next (first_bytes made end all))).1 value is,
+    λ all. of_request f.outcomes (subst (λ (l : List Outcome). AllByRecursion OutcomeIsBytes l) (made_outcomes request f.outcomes b f.between f.made) all) in (
+      both_calls made end (made_calls P request f.outcomes b f.between f.made of_request) (λ all. (end_calls P (request f.outcomes) f.between b' given f.ends (next all)).0),
+      λ all value is. (end_calls P (request f.outcomes) f.between b' given f.ends (next (first_bytes made end all))).1 value is,
     )
 
 -- ---- A file that is read
@@ -139,7 +138,7 @@ reading_end_calls : (uid gid : ℕ) (file : List ℕ) → AreWords uid gid → I
 reading_end_calls uid gid file words f s left b taken taken' given (EndsByReplies same is waits takes) = tt
 reading_end_calls uid gid file words f s left b taken taken' given (OutputFails is same waits takes) = tt
 reading_end_calls uid gid file words f s left b taken taken' given (NotAnswered call end alone is gone waits takes) =
-    unanswered_calls call s.bytes b s.side b.requester end gone (reads_next uid gid file s.outcomes call words f alone.0)
+    unanswered_calls call s.link b end gone (reads_next uid gid file s.outcomes call words f alone.0)
 reading_end_calls uid gid file words f s left b taken taken' given (NotSubmitted call end ahead is refused waits takes) = tt
 reading_end_calls uid gid file words f s left b taken taken' given (OldestForgotten read end full is given_is forgets waits takes) = tt
 
@@ -151,9 +150,9 @@ pub read_calls : (uid gid : ℕ) (file : List ℕ) → AreWords uid gid → IsBy
     (reads : ReadsFile uid gid file b b' taken taken' given) → CallsAreBytes (read_exchanges uid gid file b b' taken taken' given reads).made
 read_calls uid gid file words f b b' taken taken' given r =
     let steps = (steps_exchanges uid gid file (starts_at b) r.between r.last r.made).made in
-    let end = (reading_end_exchanges uid gid file r.last r.left b' r.side taken taken' given r.ends).made in
+    let end = (reading_end_exchanges uid gid file r.last r.left r.ended taken taken' given r.ends).made in
     both_calls steps (end ++ map GivenUp (xids_of r.left)) (steps_calls uid gid file words f (starts_at b) r.between r.last r.made)
-    (λ all. both_calls end (map GivenUp (xids_of r.left)) (reading_end_calls uid gid file words f r.last r.left b' r.side taken taken' given r.ends) (λ more. given_up_all (xids_of r.left)))
+    (λ all. both_calls end (map GivenUp (xids_of r.left)) (reading_end_calls uid gid file words f r.last r.left r.ended taken taken' given r.ends) (λ more. given_up_all (xids_of r.left)))
 
 -- ---- A file that is written
 

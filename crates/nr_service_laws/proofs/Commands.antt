@@ -107,14 +107,14 @@ does_err {A} {B} end result s s' exchanges same does =
 
 has_get : (uid gid : ℕ) (export path : List ℕ) (out out' : SinkAt) → Has (Gets uid gid export path out out') (tells_get uid gid export path out out')
 has_get uid gid export path out out' s s' text (inl (file, (mid, (finds, reads)))) =
-    does_both {A = List ℕ} file text s.bytes mid.bytes s'.bytes s.requester mid.requester s'.requester (tells_finds uid gid export path s mid (Ok file) finds)
+    does_both {A = List ℕ} file text s mid s' (tells_finds uid gid export path s mid (Ok file) finds)
     (tells_reads_out uid gid file out out' mid s' text reads) (has_finds uid gid export path s mid (Ok file) finds) (has_reads_out uid gid file out out' mid s' text reads)
 has_get uid gid export path out out' s s' text (inr (end, (finds, (same, kept)))) =
     does_err {A = List ℕ} end text s s' (tells_finds uid gid export path s s' (Err end) finds) same (has_finds uid gid export path s s' (Err end) finds)
 
 has_put : (uid gid : ℕ) (export path : List ℕ) (input input' : SourceAt) → Has (Puts uid gid export path input input') (tells_put uid gid export path input input')
 has_put uid gid export path input input' s s' text (inl (place, (mid, (finds, writes)))) =
-    does_both {A = List ℕ × List ℕ} place text s.bytes mid.bytes s'.bytes s.requester mid.requester s'.requester (tells_finds_parent uid gid export path s mid (Ok place) finds)
+    does_both {A = List ℕ × List ℕ} place text s mid s' (tells_finds_parent uid gid export path s mid (Ok place) finds)
     (tells_writes_in uid gid place.0 place.1 input input' mid s' text writes) (has_finds_parent uid gid export path s mid (Ok place) finds)
     (has_writes_in uid gid place.0 place.1 input input' mid s' text writes)
 has_put uid gid export path input input' s s' text (inr (end, (finds, (same, kept)))) =

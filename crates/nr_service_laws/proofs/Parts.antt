@@ -25,7 +25,7 @@ abbrev pub Has : {A : Type 0} (part : Part A) → Tells part → Type 0
 Has {A} part exchanges = (s s' : SessionAt) (result : Result A ClientEnd) (is : part s s' result) → HasDone result s s' (exchanges s s' result is)
 
 does_stay : {A : Type 0} (s s' : SessionAt) (result : Result A ClientEnd) → s' ≡ s → HasDone result s s' none
-does_stay s s' result same = does_none_at result s s' (ap (λ (x : SessionAt). x.bytes) same, ap (λ (x : SessionAt). x.requester) same)
+does_stay s s' result same = does_none_at result s s' same
 
 pub has_text : (text : List ℕ) → Has (Prints text) (tells_none (Prints text))
 has_text text s s' result is = does_stay s s' result is.0
@@ -39,7 +39,7 @@ has_requests request s s' result is = does_follows request s s' result is.0
 pub has_then : {A B : Type 0} (first : Part A) (next : A → Part B) (exchanges : Tells first) (later : (value : A) → Tells (next value)) → Has first exchanges → ((value : A) → Has (next value) (later value))
     → Has (Then first next) (tells_then first next exchanges later)
 has_then {A} first next exchanges later has then s s' result (inl (value, (mid, (is, goes)))) =
-    does_both {A = A} value result s.bytes mid.bytes s'.bytes s.requester mid.requester s'.requester (exchanges s mid (Ok value) is) (later value mid s' result goes)
+    does_both {A = A} value result s mid s' (exchanges s mid (Ok value) is) (later value mid s' result goes)
     (has s mid (Ok value) is) (then value mid s' result goes)
 has_then {A} {B} first next exchanges later has then s s' result (inr (end, (is, same))) =
     does_as {A = A} {B = B} (Err end) result s s' (exchanges s s' (Err end) is)

@@ -6,7 +6,6 @@ use Rattle.nr_nfs_base.specs.Limits.{link_target_max}
 use Rattle.nr_words.specs.Limits.{mount_path_max}
 use Rattle.nr_reduce.specs.declared.call.Call.{Call}
 use Rattle.nr_reduce.specs.declared.call.Outcome.{Outcome}
-use Rattle.nr_requester.specs.RequesterState.{RequesterSide}
 use Rattle.nr_client.specs.declared.client_end.ClientEnd.{ClientEnd}
 use Rattle.nr_client.specs.declared.client_end.ClientEnd.TheVariants as client
 use Rattle.nr_client.specs.Following.{EndsWith, Follows, Next, Unanswered}
@@ -14,13 +13,13 @@ use Rattle.nr_client.specs.Following.Next.{Calls, Returns}
 use Rattle.nr_client.specs.Reading.{EndsReading, OpenRead, ReadingAt, ReadsFile, reading}
 use Rattle.nr_client.specs.Reading.EndsReading.{EndsByReplies, OutputFails, NotAnswered, NotSubmitted, OldestForgotten}
 use Rattle.nr_client.specs.Requests.{Asks, create_result, mnt_call, mnt_result, symlink_call}
-use Rattle.nr_client.specs.Transfers.{LinkBytes}
 use Rattle.nr_client.specs.Walking.{parent_next, walk_next}
 use Rattle.nr_client.specs.Writing.{EndsWriting, writing}
 use Rattle.nr_client.specs.Writing.EndsWriting.{FollowsInput, InputFails}
 use Rattle.nr_commands.specs.Commands.{Finds, FindsParent, IsSilent, Mounts, ReadsOut, Symlinks, WritesIn}
 use Rattle.nr_commands.specs.Sessions.{CountsFaults, Fails, Part, Request, Requests, SessionAt, Text as Prints, Then}
 use Rattle.nr_client.specs.Requests.{SinkFaults, SourceFaults}
+use Rattle.nr_client.specs.Views.{LinkView}
 use Rattle.nr_service_laws.specs.CommandEnds.{AreReplies, ResultCanFollowReplies, CanFollowReplies}
 use Rattle.nr_service_laws.specs.Exchanges.{Exchange, Exchanges, Tells, asked_exchanges, followed_exchanges, outcomes_in, read_exchanges, tells_finds, tells_finds_parent, tells_mounts, tells_none, tells_reads_out, tells_request, tells_requests, tells_symlinks, tells_then, tells_writes_in, within_exchanges, write_exchanges_by}
 use Rattle.nr_service_laws.proofs.OutcomesInOrder.{followed_outcomes, outcomes_both, read_outcomes}
@@ -55,7 +54,7 @@ end_fine {A} (Calls call) b c given (end, (is, gone)) fine = subst (λ (r : Resu
 follows_fine : {A : Type 0} (request : List Outcome → Next A) (b c : LinkView) (given : Result A ClientEnd) (f : Follows request b c given)
     → RequestFine request → AreReplies (outcomes_in (followed_exchanges request b c given f).made) → ResultCanFollowReplies given
 follows_fine request b c given f fine are =
-    end_fine (request f.outcomes) f.between c f.side c.requester given f.ends (fine f.outcomes (subst AreReplies (followed_outcomes request b c given f) are))
+    end_fine (request f.outcomes) f.between c given f.ends (fine f.outcomes (subst AreReplies (followed_outcomes request b c given f) are))
 
 -- ---- A file
 
@@ -69,7 +68,7 @@ reading_end_fine uid gid file s left b taken taken' given (EndsByReplies same is
     read_result_fine given given (reading uid gid file s.outcomes) (file_fine uid gid file s.outcomes are) is
 reading_end_fine uid gid file s left b taken taken' given (OutputFails is same waits takes) are = subst (λ (r : Result (Unit {0}) ClientEnd). ResultCanFollowReplies r) (sym is) tt
 reading_end_fine uid gid file s left b taken taken' given (NotAnswered call end alone is gone waits takes) are =
-    subst (λ (r : Result (Unit {0}) ClientEnd). ResultCanFollowReplies r) (sym is) (unanswered_fine call s.bytes b s.side b.requester end gone)
+    subst (λ (r : Result (Unit {0}) ClientEnd). ResultCanFollowReplies r) (sym is) (unanswered_fine call s.link b end gone)
 reading_end_fine uid gid file s left b taken taken' given (NotSubmitted call end ahead is refused waits takes) are =
     subst (λ (r : Result (Unit {0}) ClientEnd). ResultCanFollowReplies r) (sym is) tt
 reading_end_fine uid gid file s left b taken taken' given (OldestForgotten read end full is given_is forgets waits takes) are =
@@ -78,7 +77,7 @@ reading_end_fine uid gid file s left b taken taken' given (OldestForgotten read 
 reads_fine : (uid gid : ℕ) (file : List ℕ) (b c : LinkView) (taken taken' : Option (List ℕ)) (given : Result (Unit {0}) ClientEnd)
     (f : ReadsFile uid gid file b c taken taken' given) → AreReplies (outcomes_in (read_exchanges uid gid file b c taken taken' given f).made) → ResultCanFollowReplies given
 reads_fine uid gid file b c taken taken' given f are =
-    reading_end_fine uid gid file f.last f.left c f.side taken taken' given f.ends (subst AreReplies (read_outcomes uid gid file b c taken taken' given f) are)
+    reading_end_fine uid gid file f.last f.left f.ended taken taken' given f.ends (subst AreReplies (read_outcomes uid gid file b c taken taken' given f) are)
 
 writes_fine : (uid gid : ℕ) (dir name handed rest : List ℕ) (b c : LinkView) (result : Result (Unit {0}) ClientEnd) (w : EndsWriting uid gid dir name handed rest b c result)
     → AreReplies (outcomes_in (write_exchanges_by uid gid dir name handed rest b c result w).made) → ResultCanFollowReplies result

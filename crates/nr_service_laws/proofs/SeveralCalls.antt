@@ -2,12 +2,11 @@
 use Rattle.std.proofs.Common.{◌≡◌, List, [], ◌∷◌, Result, Ok, Err, inl, inr, sym, subst}
 use Rattle.nr_reduce.specs.declared.call.Call.{Call}
 use Rattle.nr_reduce.specs.declared.call.Outcome.{Outcome}
-use Rattle.nr_requester.specs.RequesterState.{RequesterSide}
 use Rattle.nr_client.specs.declared.client_end.ClientEnd.{ClientEnd}
 use Rattle.nr_client.specs.Following.{EndsWith, Follows, MakesCalls, Next, Unanswered}
 use Rattle.nr_client.specs.Following.Next.{Calls, Returns}
 use Rattle.nr_client.specs.Requests.{Asks}
-use Rattle.nr_client.specs.Transfers.{LinkBytes}
+use Rattle.nr_client.specs.Views.{LinkView}
 use Rattle.nr_service_laws.specs.Exchanges.{Exchanges, asked_exchanges, end_exchanges, followed_exchanges, made_exchanges, one, unanswered_exchanges}
 use Rattle.nr_service_laws.specs.Exchanges.Exchange.{Answered}
 use Rattle.nr_service_laws.specs.SessionMarks.{HasDone}
@@ -43,10 +42,10 @@ does_asks reads call b c result (inr (inr (is, same))) = does_none_at result b c
 pub does_made : {A : Type 0} (request : List Outcome → Next A) (outcomes : List Outcome) (b c : LinkView) (made : MakesCalls request outcomes b c)
     → HasDone {A = Unit {0}} (Ok tt) b c (made_exchanges request outcomes b c made)
 does_made request [] b c made = does_none_at {A = Unit {0}} (Ok tt) b c made
-does_made request (outcome ∷ outcomes) b c (call, d, j, (is, (answers, rest))) =
-    does_both {A = Unit {0}} {B = Unit {0}} tt (Ok tt) b d c b.requester j c.requester (one (Answered call outcome)) (made_exchanges (λ later. request (outcome ∷ later)) outcomes d c j c.requester rest)
-    (does_answers {A = Unit {0}} tt call outcome b d b.requester j answers)
-    (does_made (λ later. request (outcome ∷ later)) outcomes d c j c.requester rest)
+does_made request (outcome ∷ outcomes) b c (call, d, (is, (answers, rest))) =
+    does_both {A = Unit {0}} {B = Unit {0}} tt (Ok tt) b d c (one (Answered call outcome)) (made_exchanges (λ later. request (outcome ∷ later)) outcomes d c rest)
+    (does_answers {A = Unit {0}} tt call outcome b d answers)
+    (does_made (λ later. request (outcome ∷ later)) outcomes d c rest)
 
 pub does_end : {A : Type 0} (next : Next A) (b c : LinkView) (given : Result A ClientEnd) (ends : EndsWith next b c given)
     → HasDone given b c (end_exchanges next b c given ends)
@@ -57,7 +56,7 @@ does_end {A} (Calls call) b c given (end, (is, gone)) =
 pub does_follows : {A : Type 0} (request : List Outcome → Next A) (b c : LinkView) (given : Result A ClientEnd) (f : Follows request b c given)
     → HasDone given b c (followed_exchanges request b c given f)
 does_follows {A} request b c given f =
-    does_both {A = Unit {0}} {B = A} tt given b f.between c b.requester f.side c.requester (made_exchanges request f.outcomes b f.between b.requester f.side f.made)
-    (end_exchanges (request f.outcomes) f.between c f.side c.requester given f.ends)
-    (does_made request f.outcomes b f.between b.requester f.side f.made)
-    (does_end (request f.outcomes) f.between c f.side c.requester given f.ends)
+    does_both {A = Unit {0}} {B = A} tt given b f.between c (made_exchanges request f.outcomes b f.between f.made)
+    (end_exchanges (request f.outcomes) f.between c given f.ends)
+    (does_made request f.outcomes b f.between f.made)
+    (does_end (request f.outcomes) f.between c given f.ends)

@@ -188,12 +188,12 @@ module _ (s : Setup) (J : List Entry) (uid gid : ℕ) (ids : AreIds uid gid) (na
             (subst (λ (g : List ℕ). AnsweredSince s J (KeepPath s J root_handle names) (reading uid gid g) os from) same (since s J from root_handle names keep (reading uid gid file) os answers))
             (subst (λ (g : List ℕ). EndsAt why (reading uid gid g os)) same is)))
 
-        by : EndsReading uid gid file f.last f.left after.bytes f.side out.taken out'.taken (Err why) → AreAnswers Answers (reading uid gid file) f.last.outcomes → EndsReads why
+        by : EndsReading uid gid file f.last f.left f.ended out.taken out'.taken (Err why) → AreAnswers Answers (reading uid gid file) f.last.outcomes → EndsReads why
         by (EndsByReplies still is waits takes) answers = returned f.last.outcomes answers is
         by (OutputFails wrong still waits takes) answers = inr (inl (let fault : why ≡ client.OutputFault = cc in fault))
         by (NotAnswered call end alone is gone waits takes) answers =
             let this : why ≡ end = cc in
-            inl (no_answer {A = List ℕ} call f.last.bytes after.bytes f.last.side f.side end (Err why) (ap (λ (e : ClientEnd). Err e) this) gone)
+            inl (no_answer {A = List ℕ} call f.last.link f.ended end (Err why) (ap (λ (e : ClientEnd). Err e) this) gone)
         by (NotSubmitted call end ahead is refused waits takes) answers = inl (no_more why (client.Link end) (let link : why ≡ client.Link end = cc in link) tt)
         by (OldestForgotten read end full oldest is forgets waits takes) answers = inl (no_more why (client.Link end) (let link : why ≡ client.Link end = cc in link) tt)
 

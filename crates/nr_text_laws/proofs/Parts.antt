@@ -7,7 +7,6 @@ use Rattle.nr_nfs_base.specs.declared.mount_status.MountStatus.TheVariants as mo
 use Rattle.nr_reduce.specs.declared.call.Call.{Call}
 use Rattle.nr_reduce.specs.declared.call.Outcome.{Outcome}
 use Rattle.nr_reduce.specs.declared.mark.Entry.{Entry}
-use Rattle.nr_requester.specs.RequesterState.{RequesterSide}
 use Rattle.nr_tree.specs.Tree.{Tree}
 use Rattle.nr_plain.specs.Journal.{tree_at}
 use Rattle.nr_plain.specs.Setup.{Setup}
@@ -19,7 +18,7 @@ use Rattle.nr_client.specs.Following.{EndsWith, MakesCalls, Next, Unanswered}
 use Rattle.nr_client.specs.Following.Next.{Calls, Returns}
 use Rattle.nr_client.specs.Requests.{mnt_call, mnt_result}
 use Rattle.nr_client.specs.Results.{Gives}
-use Rattle.nr_client.specs.Transfers.{LinkBytes}
+use Rattle.nr_client.specs.Views.{LinkView}
 use Rattle.nr_commands.specs.Sessions.{Fails, Request, SessionAt}
 use Rattle.nr_service_laws.specs.Exchanges.{Exchange, end_exchanges, made_exchanges, tells_mounts, tells_request, within_exchanges}
 use Rattle.nr_reply_laws.specs.Replies.{AreIds}
@@ -116,7 +115,7 @@ returned {A} s J r [] b m b' result made ends from rest are = by (given result r
     by : IsUnanswered result ⊎ (result ≡ r) → IsUnanswered result ⊎ ((result ≡ r) × AreAnsweredFrom s J from [] rest)
     by (inl un) = inl un
     by (inr same) = inr (same, are)
-returned {A} s J r (o ∷ outcomes) b m b' result (call, c, i, (is, more)) ends from rest are = absurd (let wrong : Returns r ≡ Calls call = is in cc)
+returned {A} s J r (o ∷ outcomes) b m b' result (call, c, (is, more)) ends from rest are = absurd (let wrong : Returns r ≡ Calls call = is in cc)
 
 -- ---- MNT
 
