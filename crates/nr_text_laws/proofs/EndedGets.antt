@@ -178,8 +178,8 @@ module _ (s : Setup) (J : List Entry) (uid gid : ℕ) (ids : AreIds uid gid) (na
         → AreJudged Answers before (read_exchanges uid gid file mid after out.taken out'.taken (Err why) f).made → EndsReads why
     reads_ended out out' mid after file same why f before are =
         by f.ends
-        (steps_judged Answers uid gid file before mid.bytes mid.requester f.between f.last f.made
-        (judged_both Answers before (steps_exchanges uid gid file (starts_at mid.bytes mid.requester) f.between f.last f.made).made _ are).0).answers
+        (steps_judged Answers uid gid file before mid f.between f.last f.made
+        (judged_both Answers before (steps_exchanges uid gid file (starts_at mid) f.between f.last f.made).made _ are).0).answers
       where
         returned : (os : List Outcome) → AreAnswers Answers (reading uid gid file) os → (◌≡◌ {A = Result (Unit {0}) ClientEnd} (Err why) (Err client.Memory)) ⊎ (reading uid gid file os ≡ Returns (Err why)) → EndsReads why
         returned os answers (inl wrong) = inl (no_more why client.Memory (let memory : why ≡ client.Memory = cc in memory) tt)
