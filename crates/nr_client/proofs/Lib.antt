@@ -1,4 +1,5 @@
 pub mod Answering
+pub mod AskedReads
 pub mod CallsMade
 pub mod FileEnds
 pub mod FilePieces
