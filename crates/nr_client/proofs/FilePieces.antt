@@ -113,15 +113,15 @@ asks_none uid gid file size at next xids bytes above is =
     rw (here) (rw (le-ltb next size above) refl)
 
 -- some READ is outstanding if no more are asked for
-pub some_ahead : (h i : RequesterSide) (size at next : ℕ) (xids : List ℕ) → at < size → ReadsAhead h size at next xids → IsFull size next xids i → 0 < length xids
-some_ahead h i size at next [] below ahead (inl above) = absurd (let is = ahead.next_is in omega (arith, below, above, is))
-some_ahead h i size at next (xid ∷ xids) below ahead (inl above) = omega arith
-some_ahead h i size at next xids below ahead (inr (some, rest)) = some
+pub some_ahead : {V : Type 0} (rel : CallRelations V) (v w : V) (size at next : ℕ) (xids : List ℕ) → at < size → ReadsAhead rel v size at next xids → IsFull rel size next xids w → 0 < length xids
+some_ahead {V} rel v w size at next [] below ahead (inl above) = absurd (let is = ahead.next_is in omega (arith, below, above, is))
+some_ahead {V} rel v w size at next (xid ∷ xids) below ahead (inl above) = omega arith
+some_ahead {V} rel v w size at next xids below ahead (inr (some, rest)) = some
 
 -- after a piece READs of the later ones are outstanding
-pub piece_done : (h i : RequesterSide) (size at at' count next : ℕ) (xids ys : List ℕ) → at < size → at' ≡ at + count → count ≡ piece_left size at
-    → next_offset size (at + piece_left size at) ys ≡ next_offset size at xids → ReadsAhead h size at next xids → AreOpen i.state ys → ReadsAhead i size at' next ys
-piece_done h i size at at' count next xids ys below goes same moves ahead are =
+pub piece_done : {V : Type 0} (rel : CallRelations V) (v w : V) (size at at' count next : ℕ) (xids ys : List ℕ) → at < size → at' ≡ at + count → count ≡ piece_left size at
+    → next_offset size (at + piece_left size at) ys ≡ next_offset size at xids → ReadsAhead rel v size at next xids → AreOpen rel w ys → ReadsAhead rel w size at' next ys
+piece_done {V} rel v w size at at' count next xids ys below goes same moves ahead are =
     let ends : at + piece_left size at ≡ at' = ap (λ (n : ℕ). at + n) (sym same) ∙ sym goes in
     record {
       piece = subst (λ (k : ℕ). IsAtPiece size k) ends (at_next_piece size at below ahead.piece);
