@@ -5,13 +5,11 @@ use Rattle.nr_reduce.specs.declared.call.Outcome.{Outcome}
 use Rattle.nr_client.specs.declared.client_end.ClientEnd.{ClientEnd}
 use Rattle.nr_client.specs.declared.client_end.ClientEnd.TheVariants as client
 use Rattle.nr_client.specs.declared.call_end.CallEnd.{CallEnd}
-use Rattle.nr_client.specs.Calls.{Answers, GivesUp}
-use Rattle.nr_client.specs.Ending.{IsCauseIn}
-use Rattle.nr_client.specs.Following.{EndsWith, Follows, MakesCalls, Next, Unanswered}
+use Rattle.nr_client.specs.Following.{Next, FollowsOver, MakesCallsOver, UnansweredOver, EndsWithOver}
 use Rattle.nr_client.specs.Following.Next.{Calls, Returns}
-use Rattle.nr_client.specs.Requests.{Asks}
 use Rattle.nr_client.specs.Results.{Gives}
-use Rattle.nr_client.specs.Views.{LinkView}
+use Rattle.nr_client.specs.Relations.{CallRelations}
+use Rattle.nr_client.specs.Requests.{AsksOver}
 
 -- one call more
 pub calls_more : {V : Type 0} {A : Type 0} (rel : CallRelations V) (request : List Outcome → Next A) (outcomes : List Outcome) (b c d : V) (call : Call) (outcome : Outcome)

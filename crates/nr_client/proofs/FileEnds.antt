@@ -12,18 +12,16 @@ use Rattle.nr_reduce.specs.declared.call.Outcome.{Outcome}
 use Rattle.nr_client.specs.declared.client_end.ClientEnd.{ClientEnd}
 use Rattle.nr_client.specs.declared.client_end.ClientEnd.TheVariants as client
 use Rattle.nr_client.specs.declared.call_end.CallEnd.{CallEnd}
-use Rattle.nr_client.specs.Calls.{Answers, Completes, Forgets, ForgetsCalls, RefusesToSubmit}
-use Rattle.nr_client.specs.Ending.{IsCauseIn, LinkCause}
-use Rattle.nr_client.specs.Following.{Unanswered}
 use Rattle.nr_client.specs.Following.Next.{Returns}
-use Rattle.nr_client.specs.Reading.{EndsAtReply, EndsReading, FileRead, OpenRead, ReadingAt, ReadsFile, TakesPart, bytes_of, bytes_read, file_read, next_read, piece_left, read_call, read_result, starts_at, with_size}
+use Rattle.nr_client.specs.Reading.{EndsAtReply, FileRead, OpenRead, TakesPart, bytes_of, bytes_read, file_read, next_read, piece_left, read_call, read_result, starts_at, with_size, ReadingOver, EndsReadingOver, ReadsFileOver, ForgetsCallsOver}
 use Rattle.nr_client.specs.Reading.FileRead.{SizeKnown, ReadEnds}
-use Rattle.nr_client.specs.Reading.ReadStep.{MakesAlone, TakesOldest}
-use Rattle.nr_client.specs.Reading.EndsReading.{EndsByReplies, OutputFails, NotAnswered, NotSubmitted, OldestForgotten}
-use Rattle.nr_client.specs.Requests.{Asks, getattr_call, getattr_result}
+use Rattle.nr_client.specs.Reading.ReadStepOver.{MakesAlone, TakesOldest}
+use Rattle.nr_client.specs.Reading.EndsReadingOver.{EndsByReplies, OutputFails, NotAnswered, NotSubmitted, OldestForgotten}
+use Rattle.nr_client.specs.Requests.{getattr_call, getattr_result, AsksOver}
 use Rattle.nr_client.specs.Results.{Gives}
-use Rattle.nr_client.specs.Views.{LinkView}
 use Rattle.nr_client.specs.private.OpenReads.{GivesNone, HasEnded, IsFull, IsInPiece, MayAsk, ReadSoFar, ReadsAhead, reads_from}
+use Rattle.nr_client.specs.Relations.{CallRelations}
+use Rattle.nr_client.specs.Following.{UnansweredOver}
 use Rattle.nr_client.proofs.CallsMade.{end_in, end_of_reply}
 use Rattle.nr_client.proofs.FilePieces.{xids_from}
 use Rattle.nr_client.proofs.FileReading.{came_with, follows, is_ahead, is_alone, moment, none_ahead}

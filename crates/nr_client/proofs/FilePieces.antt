@@ -3,10 +3,10 @@ use Rattle.std.proofs.Common.{◌≡◌, ℕ, ◌+◌, ◌*◌, ◌/◌, ◌%◌
 use Rattle.std.proofs.lemmas.Bool.{cases_lt, eq-eqb, ne_eqb, lt-ltb, le-ltb}
 use Rattle.std.proofs.lemmas.Nat.{div-add-mod', mod-mul-add, mod_below}
 use Rattle.nr_nfs_base.specs.Limits.{transfer_max}
-use Rattle.nr_requester.specs.RequesterState.{RequesterSide}
 use Rattle.nr_client.specs.Reading.{OpenRead, is_at_piece, offset_ahead, piece_left, read_ahead, read_call, xids_of}
 use Rattle.nr_client.specs.Reading.FileRead.{SizeKnown}
 use Rattle.nr_client.specs.private.OpenReads.{AreOpen, IsAtPiece, IsFull, IsInPiece, ReadsAhead, next_offset, reads_from}
+use Rattle.nr_client.specs.Relations.{CallRelations}
 
 -- ---- Offsets within a piece
 

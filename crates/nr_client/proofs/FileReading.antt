@@ -8,17 +8,14 @@ use Rattle.nr_nfs_res.specs.declared.bytes.ReadOk.{ReadOk}
 use Rattle.nr_reduce.specs.declared.call.Call.{Call}
 use Rattle.nr_reduce.specs.declared.call.Outcome.{Outcome}
 use Rattle.nr_requester.specs.OpenCalls.{OpensTicket}
-use Rattle.nr_requester.specs.RequesterState.{RequesterSide}
 use Rattle.nr_client.specs.declared.client_end.ClientEnd.{ClientEnd}
-use Rattle.nr_client.specs.Calls.{Answers, Completes, Submits}
 use Rattle.nr_client.specs.Following.Next.{Calls}
-use Rattle.nr_client.specs.Reading.{FileRead, IsMadeAhead, IsMadeAlone, NoneIsMadeAhead, OpenRead, ReadingAt, after_reply, file_read, is_at_piece, next_read, piece_left, read_ahead, read_call, read_result, reading, reads_max, starts_at, with_data, with_size}
+use Rattle.nr_client.specs.Reading.{FileRead, IsMadeAlone, OpenRead, after_reply, file_read, is_at_piece, next_read, piece_left, read_ahead, read_call, read_result, reading, reads_max, starts_at, with_data, with_size, ReadingOver, IsMadeAheadOver, NoneIsMadeAheadOver}
 use Rattle.nr_client.specs.Reading.FileRead.{NothingKnown, SizeKnown}
-use Rattle.nr_client.specs.Reading.ReadStep.{MakesAlone, AsksAhead, TakesOldest}
-use Rattle.nr_client.specs.Requests.{Asks, getattr_call, getattr_result}
-use Rattle.nr_client.specs.Steps.{HasCreditLeft}
-use Rattle.nr_client.specs.Views.{LinkView}
+use Rattle.nr_client.specs.Reading.ReadStepOver.{MakesAlone, AsksAhead, TakesOldest}
+use Rattle.nr_client.specs.Requests.{getattr_call, getattr_result, AsksOver}
 use Rattle.nr_client.specs.private.OpenReads.{GivesData, IsFull, IsInPiece, MayAsk, ReadSoFar, ReadsAhead, reads_from}
+use Rattle.nr_client.specs.Relations.{CallRelations, OpensCall}
 use Rattle.nr_client.proofs.FilePieces.{asks_next, asks_none, next_after_last, not_at_piece, now_at_piece, reads_with_last}
 use Rattle.nr_client.proofs.Tickets.{open_with_last}
 

@@ -10,17 +10,17 @@ use Rattle.nr_outside.proofs.Moves.{HandsOut_append}
 use Rattle.nr_reduce.specs.declared.call.Outcome.{Outcome}
 use Rattle.nr_client.specs.declared.client_end.ClientEnd.{ClientEnd}
 use Rattle.nr_client.specs.declared.client_end.ClientEnd.TheVariants as client
-use Rattle.nr_client.specs.Following.{EndsWith, Follows, MakesCalls}
 use Rattle.nr_client.specs.Following.Next.{Calls, Returns}
-use Rattle.nr_client.specs.Requests.{Asks}
 use Rattle.nr_client.specs.Results.{Gives, IsOfCall}
-use Rattle.nr_client.specs.Views.{LinkView}
 use Rattle.nr_outside.specs.Whole.{input_max}
-use Rattle.nr_client.specs.Writing.{EndsWriting, FileWrite, IsRead, IsReadAhead, IsStopped, StopsAtFault, WritesFile, after_write_reply, create_call, created_file, file_write, next_write, piece_at, with_count, with_handle, write_call, write_end, write_result, writing}
-use Rattle.nr_client.specs.Writing.EndsWriting.{FollowsInput, InputFails}
+use Rattle.nr_client.specs.Writing.{FileWrite, IsRead, IsReadAhead, IsStopped, StopsAtFault, after_write_reply, create_call, created_file, file_write, next_write, piece_at, with_count, with_handle, write_call, write_end, write_result, writing, WritesFileOver, EndsWritingOver}
+use Rattle.nr_client.specs.Writing.EndsWritingOver.{FollowsInput, InputFails}
 use Rattle.nr_client.specs.Writing.FileWrite.{Created, NotCreated}
 use Rattle.nr_client.specs.private.FileSteps.{FailsToWrite, StreamsOn, StreamsSoFar, StreamsTo, WriteSoFar, WritesOn}
 use Rattle.nr_client.specs.private.InputWindows.{EndsAt, IsFull, IsOfInput, IsReadyAt, MayFollow, TakesMore, WindowState, wanted_at}
+use Rattle.nr_client.specs.Relations.{CallRelations}
+use Rattle.nr_client.specs.Requests.{AsksOver}
+use Rattle.nr_client.specs.Following.{FollowsOver, MakesCallsOver, EndsWithOver}
 use Rattle.nr_client.proofs.CallsMade.{calls_more, ends_answered, ends_done, ends_unanswered, follows_asked, memory_ends}
 
 write_is : (uid gid : ℕ) (dir name input file : List ℕ) (at : ℕ) → at < length (take input_max input)

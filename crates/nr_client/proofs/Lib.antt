@@ -1,4 +1,5 @@
 pub mod Answering
+use Rattle.nr_client.specs.Following.{Unanswered}
 pub mod CallsMade
 pub mod FileEnds
 pub mod FilePieces
@@ -7,6 +8,7 @@ pub mod FileWriting
 pub mod InputWindows
 pub mod JobCalls
 pub mod JobReading
+pub mod LinkRelations
 pub mod Listings
 pub mod Moves
 pub mod Outcomes

@@ -8,12 +8,12 @@ use Rattle.nr_reduce.specs.declared.call.Outcome.{Outcome}
 use Rattle.nr_client.specs.declared.client_end.ClientEnd.{ClientEnd}
 use Rattle.nr_client.specs.declared.client_end.ClientEnd.TheVariants as client
 use Rattle.nr_client.specs.declared.listing.Listed.{Listed}
-use Rattle.nr_client.specs.Following.{Follows, Next}
+use Rattle.nr_client.specs.Following.{Next, FollowsOver}
 use Rattle.nr_client.specs.Following.Next.{Calls, Returns}
 use Rattle.nr_client.specs.Listing.{entries_max, eof_offset, is_empty, is_stuck, last_cookie, list_from, listed_after, listed_or, listed_with, no_progress, readdir_call, readdir_result}
-use Rattle.nr_client.specs.Requests.{Asks}
 use Rattle.nr_client.specs.Results.{Gives}
-use Rattle.nr_client.specs.Views.{LinkView}
+use Rattle.nr_client.specs.Relations.{CallRelations}
+use Rattle.nr_client.specs.Requests.{AsksOver}
 use Rattle.nr_client.proofs.Sequences.{LeadsTo, ends_there, given_end, gives_itself, goes_on, returns_at_once}
 
 -- ---- From call to call

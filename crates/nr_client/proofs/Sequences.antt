@@ -4,11 +4,11 @@ use Rattle.nr_reduce.specs.declared.call.Call.{Call}
 use Rattle.nr_reduce.specs.declared.call.Outcome.{Outcome}
 use Rattle.nr_client.specs.declared.client_end.ClientEnd.{ClientEnd}
 use Rattle.nr_client.specs.declared.client_end.ClientEnd.TheVariants as client
-use Rattle.nr_client.specs.Following.{EndsWith, Follows, MakesCalls, Next, go_on}
+use Rattle.nr_client.specs.Following.{Next, go_on, FollowsOver, MakesCallsOver, EndsWithOver}
 use Rattle.nr_client.specs.Following.Next.{Calls, Returns}
-use Rattle.nr_client.specs.Requests.{Asks}
 use Rattle.nr_client.specs.Results.{Gives}
-use Rattle.nr_client.specs.Views.{LinkView}
+use Rattle.nr_client.specs.Relations.{CallRelations}
+use Rattle.nr_client.specs.Requests.{AsksOver}
 
 pub gives_itself : (A : Type 0) (end : ClientEnd) → Gives {A = A} (Err end) (Err end)
 gives_itself A client.DialFault = refl

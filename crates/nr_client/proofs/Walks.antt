@@ -6,13 +6,13 @@ use Rattle.nr_reduce.specs.declared.call.Call.{Call}
 use Rattle.nr_reduce.specs.declared.call.Outcome.{Outcome}
 use Rattle.nr_client.specs.declared.client_end.ClientEnd.{ClientEnd}
 use Rattle.nr_client.specs.declared.client_end.ClientEnd.TheVariants as client
-use Rattle.nr_client.specs.Following.{EndsWith, Follows, MakesCalls, Next, asking, go_on}
+use Rattle.nr_client.specs.Following.{Next, asking, go_on, FollowsOver, MakesCallsOver, EndsWithOver}
 use Rattle.nr_client.specs.Following.Next.{Calls, Returns}
 use Rattle.nr_client.specs.Paths.{path_names}
-use Rattle.nr_client.specs.Requests.{Asks, lookup_call, lookup_result}
+use Rattle.nr_client.specs.Requests.{lookup_call, lookup_result, AsksOver}
 use Rattle.nr_client.specs.Results.{Gives}
-use Rattle.nr_client.specs.Views.{LinkView}
 use Rattle.nr_client.specs.Walking.{object_in, object_result, parent_along, parent_from, walk_from}
+use Rattle.nr_client.specs.Relations.{CallRelations}
 use Rattle.nr_client.proofs.Sequences.{LeadsTo, end_of, ends_there, gives_itself, given_end, goes_on, returns_at_once, runs_out}
 
 -- the file handle in the results of a LOOKUP

@@ -1,7 +1,6 @@
 use Rattle.std.proofs.Common.{◌≡◌}
-use Rattle.nr_client.specs.Calls.{ForgetsCalls}
-use Rattle.nr_client.specs.Views.{LinkView}
 use Rattle.nr_client.specs.private.OpenReads.{AreOpen}
+use Rattle.nr_client.specs.Reading.{ForgetsCallsOver}
 use Rattle.nr_client.proofs.reading_ahead.forget_all.Given as goal
 
 abbrev pub invariant-tickets : goal.invariant-tickets
