@@ -12,15 +12,15 @@ use Rattle.nr_client.specs.Following.{EndsWith, Follows, Next, Unanswered}
 use Rattle.nr_client.specs.Following.Next.{Calls, Returns}
 use Rattle.nr_client.specs.Reading.{EndsReading, OpenRead, ReadingAt, ReadsFile, reading}
 use Rattle.nr_client.specs.Reading.EndsReadingOver.{EndsByReplies, OutputFails, NotAnswered, NotSubmitted, OldestForgotten}
-use Rattle.nr_client.specs.Requests.{Asks, create_result, mnt_call, mnt_result, symlink_call, CountsFaultsOver}
+use Rattle.nr_client.specs.Requests.{Asks, create_result, mnt_call, mnt_result, symlink_call}
 use Rattle.nr_client.specs.Walking.{parent_next, walk_next}
 use Rattle.nr_client.specs.Writing.{EndsWriting, writing}
 use Rattle.nr_client.specs.Writing.EndsWritingOver.{FollowsInput, InputFails}
+use Rattle.nr_client.proofs.LinkRelations.{both_counts}
 use Rattle.nr_commands.specs.Commands.{Finds, FindsParent, IsSilent, Mounts, ReadsOut, Symlinks, WritesIn}
 use Rattle.nr_commands.specs.Sessions.{CountsFaults, Fails, Part, Request, Requests, SessionAt, Text as Prints, Then}
 use Rattle.nr_client.specs.Requests.{SinkFaults, SourceFaults}
 use Rattle.nr_client.specs.Views.{LinkView}
-use Rattle.nr_client.specs.Calls.{link_relations, LinkFaults, faults_of}
 use Rattle.nr_service_laws.specs.CommandEnds.{AreReplies, ResultCanFollowReplies, CanFollowReplies}
 use Rattle.nr_service_laws.specs.Exchanges.{Exchange, Exchanges, Tells, asked_exchanges, followed_exchanges, outcomes_in, read_exchanges, tells_finds, tells_finds_parent, tells_mounts, tells_none, tells_reads_out, tells_request, tells_requests, tells_symlinks, tells_then, tells_writes_in, within_exchanges, write_exchanges_by}
 use Rattle.nr_service_laws.proofs.OutcomesInOrder.{followed_outcomes, outcomes_both, read_outcomes}
@@ -88,26 +88,6 @@ writes_fine uid gid dir name handed rest b c result (InputFails outcomes is made
 
 -- ---- Fault counts of two parts
 
-kept : (s s' : SessionAt) → faults_of s' ≡ faults_of s → (s'.source_faults ≡ s.source_faults) × (s'.sink_faults ≡ s.sink_faults)
-kept s s' same = (ap (λ (f : LinkFaults). f.source) same, ap (λ (f : LinkFaults). f.sink) same)
-
--- the fault counts, of the source and of the sink
-pub both_counts : {A : Type 0} (s s' : SessionAt) (result : Result A ClientEnd) → CountsFaultsOver link_relations result s s' → CountsFaults s s' result
-both_counts s s' (Ok value) same = kept s s' same
-both_counts s s' (Err (client.Link end)) counts = counts
-both_counts s s' (Err client.DialFault) same = kept s s' same
-both_counts s s' (Err (client.Rpc kind code)) same = kept s s' same
-both_counts s s' (Err (client.Mount status)) same = kept s s' same
-both_counts s s' (Err (client.Nfs status)) same = kept s s' same
-both_counts s s' (Err client.Chunk) same = kept s s' same
-both_counts s s' (Err (client.Version low high)) same = kept s s' same
-both_counts s s' (Err (client.BadReply at reason)) same = kept s s' same
-both_counts s s' (Err (client.BadPath at)) same = kept s s' same
-both_counts s s' (Err client.InputFault) same = kept s s' same
-both_counts s s' (Err client.OutputFault) same = kept s s' same
-both_counts s s' (Err (client.Budget count)) same = kept s s' same
-both_counts s s' (Err client.Memory) same = kept s s' same
-
 pub counts_then : {A B : Type 0} (s mid s' : SessionAt) (value : A) (result : Result B ClientEnd) → CountsFaults {A = A} s mid (Ok value) → CountsFaults mid s' result → CountsFaults s s' result
 counts_then s mid s' value result first second =
     (subst (λ (n : ℕ). SourceFaults result n s'.source_faults) first.0 second.0, subst (λ (n : ℕ). SinkFaults result n s'.sink_faults) first.1 second.1)
@@ -148,10 +128,10 @@ part_text text s s' (Ok t) (same, is) = (same_counts s s' same, λ are. tt)
 part_text text s s' (Err end) (same, is) = subst (λ (e : ClientEnd). IsFine [] {A = List ℕ} s s' (Err e)) (sym is) (same_counts s s' same, λ are. tt)
 
 pub part_request : {A : Type 0} (reads : Outcome → Result A ClientEnd) (call : Call) → ReadsReplies reads → PartFine (Request reads call) (tells_request reads call)
-part_request reads call fine s s' result is = (both_counts s s' result is.1, λ are. asks_fine reads call s s' result is.0 fine are)
+part_request reads call fine s s' result is = (both_counts result s s' is.1, λ are. asks_fine reads call s s' result is.0 fine are)
 
 pub part_requests : {A : Type 0} (request : List Outcome → Next A) → RequestFine request → PartFine (Requests request) (tells_requests request)
-part_requests request fine s s' result is = (both_counts s s' result is.1, λ are. follows_fine request s s' result is.0 fine are)
+part_requests request fine s s' result is = (both_counts result s s' is.1, λ are. follows_fine request s s' result is.0 fine are)
 
 pub part_then : {A B : Type 0} (first : Part A) (next : A → Part B) (exchanges : Tells first) (later : (value : A) → Tells (next value)) → PartFine first exchanges → ((value : A) → PartFine (next value) (later value))
     → PartFine (Then first next) (tells_then first next exchanges later)
@@ -203,9 +183,9 @@ silent_fine handed_over s s' (Err end) (Err why) silent fine =
 pub part_reads_out : (uid gid : ℕ) (file : List ℕ) (out out' : SinkAt) → PartFine (ReadsOut uid gid file out out') (tells_reads_out uid gid file out out')
 part_reads_out uid gid file out out' s s' text (done, ((reads, counts), silent)) =
     silent_fine (outcomes_in (tells_reads_out uid gid file out out' s s' text (done, ((reads, counts), silent))).made) s s' done text silent
-    (both_counts s s' done counts.1, λ are. reads_fine uid gid file s s' out.taken out'.taken done reads are)
+    (both_counts done s s' counts.1, λ are. reads_fine uid gid file s s' out.taken out'.taken done reads are)
 
 pub part_writes_in : (uid gid : ℕ) (dir name : List ℕ) (input input' : SourceAt) → PartFine (WritesIn uid gid dir name input input') (tells_writes_in uid gid dir name input input')
 part_writes_in uid gid dir name input input' s s' text (done, ((writes, counts), silent)) =
     silent_fine (outcomes_in (tells_writes_in uid gid dir name input input' s s' text (done, ((writes, counts), silent))).made) s s' done text silent
-    (both_counts s s' done counts.1, λ are. writes_fine uid gid dir name writes.handed writes.rest s s' done writes.calls are)
+    (both_counts done s s' counts.1, λ are. writes_fine uid gid dir name writes.handed writes.rest s s' done writes.calls are)
