@@ -62,7 +62,9 @@ impl<L> Model for Session<L> {
     ghost view = { λ s. record { link = s.link; uid = s.uid; gid = s.gid } };
 }
 
-impl<P: LinkSource, Q: LinkSink, N: LinkNumber> Session<Link<NumberedSource<P, N>, NumberedSink<Q, N>>> {
+impl<P: LinkSource, Q: LinkSink, N: LinkNumber> Session<
+    Link<NumberedSource<P, N>, NumberedSink<Q, N>>,
+> {
     /// A session of a user over a link to this address, with this many units for the client's Sends in each direction, of 1,024 bytes each, 1 to
     /// 16 (0 counts as 1, and more than 16 as 16), and with Sends with Invalidate, if it takes them and the server makes them. `DialFault` if the
     /// dialer failed. If memory runs out, the link is hung up as it was made.

@@ -11,7 +11,7 @@ pub loop-name-preserved : goal.loop-name-preserved
 loop-name-preserved g c = (
   c.in-Ok-object_over.ensures.faults ∙ c.loop-name.invariant.0,
   walk_goes_on g.L.Calls.relations c.args.uid c.args.gid (walk_from c.args.uid c.args.gid c.args.root.now c.args.names.now) c.loop-name.dir c.args.names.now c.loop-name.name-index c.name-item.result c.loop-name-test.true c.name-item.is
-    (g.L.Calls.at c.args.link.now) (g.L.Calls.at c.loop-name.link) (g.L.Calls.at c.object_over.new.link) c.loop-name.invariant.1 c.in-Ok-object_over.object c.in-Ok-object_over.ensures.asks,
+      (g.L.Calls.at c.args.link.now) (g.L.Calls.at c.loop-name.link) (g.L.Calls.at c.object_over.new.link) c.loop-name.invariant.1 c.in-Ok-object_over.object c.in-Ok-object_over.ensures.asks,
 )
 
 pub returns-in-Err-clause-follows : goal.returns-in-Err-clause-follows
