@@ -18,7 +18,7 @@ GOALS = {32_768: ((0.25, 0.4), (0.25, 0.4)), 1 << 20: ((0.7, None), (0.5, None))
 MOST = 1 << 20
 # How often the data of a call are copied by the side that sends them and by the one that receives them: of a READ the pages into the reply and
 # into frames, the frames into a region and that into the reply; of a WRITE the arguments into a region and into frames, the frames into a region
-# and that into pages. `get` copies them into results too, `put` into arguments.
+# and that into pages. `put` copies them into arguments too.
 SENT, RECEIVED = 2, 2
 # What copies are called.
 ALONE, COPIED = "alone", "with the copies"
@@ -99,7 +99,7 @@ def least_of(program, folder, note):
     for name, sent, received, more in ((ALONE, 0, 0, 0), (COPIED, SENT, RECEIVED, 1)):
         turns = lambda copies: pair(program, ["serve", READ_CALL, MOST, sent], ["turns", READ_CALL, MOST, count, copies])[0]
         note(("read", name), turns(received) / count)
-        note(("get", name), turns(received + more))
+        note(("get", name), turns(received))
         note(("write", name), pair(program, ["over", MOST, received], ["write", MOST, count, sent])[0] / count)
         with open(f"{folder}/file", "rb") as data:
             note(("put", name), pair(program, ["store", MOST, received], ["put", MOST, sent + more], stdin=data)[0])

@@ -18,7 +18,7 @@ from values import Value, call
 TABLE = os.path.join(ROOT, 'crates', 'nr_plain_tests', 'src', 'numbered.rt')
 NAMED = {'CREATE': 8, 'MKDIR': 9}
 USES = ('tree.specs.Roots.{root_only}', 'plain.specs.Journal.{state_of}', 'plain.specs.Replies.{plain_answer}',
-        'plain.specs.History.{entries_added, entries_alone, xid_in}', 'plain.specs.Numbered.{finding}')
+        'plain.specs.History.{entries_added, xid_in}', 'reduce.specs.NumberedJournal.{entries_alone}', 'plain.specs.Numbered.{finding}')
 Row = tuple[int, int, str, str, list[int]]
 
 

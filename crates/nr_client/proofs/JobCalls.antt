@@ -35,7 +35,7 @@ use Rattle.nr_client.specs.private.JobReads.{AreFetched, Grows}
 -- ---- Entries
 
 -- the last of these entries stands at one of the places
-last_at : (seen : List Entry) (ks : List ℕ) (es : List Entry) (e : Entry) → AreAt seen ks (es ++ e ∷ []) → (k : ℕ) × (IsIn k ks × (get_elem? seen k ≡ some e))
+pub last_at : (seen : List Entry) (ks : List ℕ) (es : List Entry) (e : Entry) → AreAt seen ks (es ++ e ∷ []) → (k : ℕ) × (IsIn k ks × (get_elem? seen k ≡ some e))
 last_at seen [] [] e at = absurd at
 last_at seen [] (f ∷ es) e at = absurd at
 last_at seen (j ∷ ks) [] e at = (j, ((0, refl), at.0))
@@ -56,10 +56,10 @@ initial_before (entries.WriteFailed ∷ xs) xid at c is = absurd cc
 initial_before (entries.Stopped cause previous ∷ xs) xid at c is = absurd cc
 initial_before (entries.OutOfMemory piece previous ∷ xs) xid at c is = absurd cc
 
-in_later : (xs ys : List ℕ) (y : ℕ) → IsIn y ys → IsIn y (xs ++ ys)
+pub in_later : (xs ys : List ℕ) (y : ℕ) → IsIn y ys → IsIn y (xs ++ ys)
 in_later xs ys y i = let a = at_after xs ys i.0 y i.1 in (a.0, a.1.1)
 
-still_there : (xs ys : List Entry) (k : ℕ) (e : Entry) → Begins xs ys → get_elem? xs k ≡ some e → get_elem? ys k ≡ some e
+pub still_there : (xs ys : List Entry) (k : ℕ) (e : Entry) → Begins xs ys → get_elem? xs k ≡ some e → get_elem? ys k ≡ some e
 still_there xs ys k e begins at = (still_at xs ys (k ∷ []) (e ∷ []) begins (at, tt)).0
 
 pub exchange_on : (xs ys : List Entry) (ks ls : List ℕ) (call : Call) (outcome : Outcome) → Begins xs ys → ((k : ℕ) → IsIn k ks → IsIn k ls) → IsExchange xs ks call outcome → IsExchange ys ls call outcome

@@ -1,5 +1,5 @@
 pub mod Answering
-use Rattle.nr_client.specs.Following.{Unanswered}
+pub mod AskedReads
 pub mod CallsMade
 pub mod FileEnds
 pub mod FilePieces

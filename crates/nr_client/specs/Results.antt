@@ -44,6 +44,14 @@ result_by_reading codec payload (Err at) = Err (client.BadReply at not_read)
 abbrev pub result_of_reply : {A : Type 0} → Codec A → List ℕ → Result A ClientEnd
 result_of_reply codec payload = result_by_reading codec payload (reply_of payload)
 
+-- where the results begin in the reply to a call that was executed, or why it has none
+abbrev pub results_start : Result ReplyHead ℕ → Result ℕ ClientEnd
+results_start (Ok (heads.Accepted xid stat results_at)) = if stat == 0 then Ok results_at else Err (client.Rpc kinds.Accept stat)
+results_start (Ok (heads.ProgMismatch xid low high)) = Err (client.Rpc kinds.Accept 2)
+results_start (Ok (heads.RpcMismatch xid low high)) = Err (client.Rpc kinds.Reject 0)
+results_start (Ok (heads.AuthError xid stat)) = Err (client.Rpc kinds.Reject 1)
+results_start (Err at) = Err (client.BadReply at not_read)
+
 -- of an outcome: the results with this codec, or why there are none
 abbrev pub result_of_outcome : {A : Type 0} → Codec A → Outcome → Result A ClientEnd
 result_of_outcome codec (outcomes.Reply payload) = result_of_reply codec payload

@@ -7,9 +7,9 @@ ghost use Rattle.nr_client.specs.Writing.{created_file, wcc_data_len, write_resu
 
 use crate::client_end::ClientEnd;
 use crate::reasons::NO_PROGRESS;
-use crate::results::nfs_results;
+use crate::results::{nfs_data_results, nfs_results};
 use nr_nfs_base::{Attributes, Handle, WccData};
-use nr_nfs_res::{CreateOk, ReadOk, WriteOk};
+use nr_nfs_res::{CreateOk, ReadOkRef, WriteOk};
 use nr_reduce::Outcome;
 use nr_rpc::{ReplyHead, read_reply};
 use std::alloc::Global;
@@ -53,20 +53,25 @@ fn wcc_data_len(wcc: &WccData) -> usize
     before + post_op_attr_len(&wcc.after)
 }
 
-/// The results of a READ of `count` bytes.
-pub(crate) fn read_in(alloc: Global, outcome: &Outcome, count: u32) -> Result<ReadOk, ClientEnd>
+/// The results of a READ of `count` bytes. The data are not copied.
+pub(crate) fn read_in<'a>(
+    alloc: Global,
+    outcome: &'a Outcome,
+    count: u32,
+) -> Result<ReadOkRef<'a>, ClientEnd>
     ensures gives { Gives result (read_result count outcome.now) }
     ensures of_reply { IfErr result IsOfReply }
     ensures within { IfOk result (λ r. length r.bytes ≤ count) }
     ensures sense { IfOk result (λ r. r.eof ≡ false → 0 < length r.bytes) }
 {
-    let results = match nfs_results::<ReadOk, Option<Attributes>>(alloc, outcome) {
+    let results = match nfs_data_results(alloc, outcome) {
         Ok(results) => results,
         Err(end) => return Err(end),
     };
-    let len = results.bytes.as_slice().len();
-    if len > count as usize || (len == 0 && !results.eof) {
-        let at = results_offset(outcome) + (12 + post_op_attr_len(&results.attributes));
+    let len = results.bytes().len();
+    if len > count as usize || (len == 0 && !results.eof()) {
+        let attributes = results.attributes();
+        let at = results_offset(outcome) + (12 + post_op_attr_len(&attributes));
         drop(results);
         return Err(ClientEnd::BadReply {
             at,

@@ -19,11 +19,10 @@ ghost use Rattle.nr_client.specs.Reading.FileRead.{SizeKnown};
 ghost use Rattle.nr_client.specs.private.JobReads.{AreFetched, EndsMore, Grows, IsDone, IsFetched, IsReady, IsRuleOf, ReadsMore};
 
 use crate::client_end::ClientEnd;
-use crate::file_calls::read_call;
+use crate::fetching::fetch;
 use crate::file_to_read::FileToRead;
 use crate::link::LinkEnds;
-use crate::read_data::piece_left;
-use crate::shared_calls::{outcome_of, share};
+use crate::shared_calls::share;
 use crate::written_pieces::write_piece;
 use nr_nfs_base::TRANSFER_MAX;
 use nr_outside::{Sink, Source};
@@ -34,60 +33,23 @@ use std::sync::Wait;
 use std::thread;
 use std::thread::Threads;
 
-/// The most pieces that a job reads in one round. What is held ahead of the output is at most so many pieces of each job.
-const PIECES_AHEAD: usize = 4;
+/// The most pieces of a job in one round: its READs are outstanding at once, and what is held ahead of the output is at most so many pieces of each
+/// job. With more, their data don't stay in a processor's caches until they are written.
+const PIECES_AHEAD: usize = 2;
 
 /// A piece of a file that a job has read: where it begins, and the outcome of its READ.
 #[derive(Drop)]
-struct PieceRead {
-    at: u64,
-    outcome: Outcome,
+pub(crate) struct PieceRead {
+    pub(crate) at: u64,
+    pub(crate) outcome: Outcome,
 }
 
 /// A job: a pass of the shared requester, where its pieces begin, and those that it has read.
 #[derive(Drop)]
-struct ReadJob<I: Source, O: Sink, C: CallRule> {
-    pass: Pass<I, O, C>,
-    offsets: Vec<u64>,
-    fetched: Vec<PieceRead>,
-}
-
-/// Reads the pieces of a job, one after another, up to one that gets no answer.
-fn fetch<R: Wait, I: Source, O: Sink, C: CallRule>(
-    rt: &R,
-    shared: &SharedRequester<I, O, C>,
-    file: &FileToRead<'_>,
-    job: &mut ReadJob<I, O, C>,
-)
-    requires rule { IsRuleOf C.allows file.now.uid file.now.gid file.now.handle.now file.now.size }
-    requires ready { IsReady shared.now file.now.uid file.now.gid file.now.handle.now file.now.size job.old }
-    ensures { IsDone shared.now file.now.uid file.now.gid file.now.handle.now file.now.size job.new }
-{
-    let mut next = 0;
-    'pieces: while next < job.offsets.len() {
-        let at = job.offsets[next];
-        let outcome = match outcome_of(
-            rt,
-            shared,
-            &mut job.pass,
-            read_call(
-                file.alloc,
-                file.uid,
-                file.gid,
-                file.handle,
-                at,
-                piece_left(file.size, at),
-            ),
-        ) {
-            Ok(outcome) => outcome,
-            Err(_) => return,
-        };
-        match job.fetched.push(PieceRead { at, outcome }) {
-            Ok(()) => {}
-            Err(_) => return,
-        }
-        next += 1;
-    }
+pub(crate) struct ReadJob<I: Source, O: Sink, C: CallRule> {
+    pub(crate) pass: Pass<I, O, C>,
+    pub(crate) offsets: Vec<u64>,
+    pub(crate) fetched: Vec<PieceRead>,
 }
 
 /// Each job reads its pieces, in a thread of its own if there is one.

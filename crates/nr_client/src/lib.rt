@@ -6,6 +6,7 @@ mod asking;
 mod call_end;
 mod calling;
 mod client_end;
+mod fetching;
 mod file_calls;
 mod file_results;
 mod file_to_read;

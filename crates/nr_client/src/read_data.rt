@@ -8,7 +8,7 @@ ghost use Rattle.nr_client.specs.private.OpenReads.{GivesData, GivesNone};
 use crate::client_end::ClientEnd;
 use crate::file_results::read_in;
 use nr_nfs_base::TRANSFER_MAX;
-use nr_nfs_res::ReadOk;
+use nr_nfs_res::ReadOkRef;
 use nr_outside::{Sink, write_whole};
 use nr_reduce::Outcome;
 use std::alloc::Global;
@@ -25,7 +25,7 @@ pub(crate) fn piece_left(size: u64, at: u64) -> u32
 }
 
 /// How far the next READ is after one of `count` bytes.
-fn advance(results: &ReadOk, count: u32) -> u32
+fn advance(results: &ReadOkRef<'_>, count: u32) -> u32
     requires some { 0 < count }
     requires within { length results.now.bytes ≤ count }
     requires sense { results.now.eof ≡ false → 0 < length results.now.bytes }
@@ -33,10 +33,10 @@ fn advance(results: &ReadOk, count: u32) -> u32
     ensures some { 0 < result }
     ensures within { result ≤ count }
 {
-    if results.eof {
+    if results.eof() {
         count
     } else {
-        results.bytes.as_slice().len() as u32
+        results.bytes().len() as u32
     }
 }
 
@@ -57,20 +57,11 @@ pub(crate) fn write_data<K: Sink>(
 {
     let results = match read_in(alloc, &outcome, count) {
         Ok(results) => results,
-        Err(end) => {
-            drop(outcome);
-            return Err(end);
-        }
+        Err(end) => return Err(end),
     };
-    drop(outcome);
     let step = advance(&results, count);
-    match write_whole(out, results.bytes.as_slice()) {
-        Ok(()) => {}
-        Err(_) => {
-            drop(results);
-            return Err(ClientEnd::OutputFault);
-        }
+    match write_whole(out, results.bytes()) {
+        Ok(()) => Ok(step),
+        Err(_) => Err(ClientEnd::OutputFault),
     }
-    drop(results);
-    Ok(step)
 }

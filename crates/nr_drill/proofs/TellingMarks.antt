@@ -1,5 +1,5 @@
 -- What a report says is what its marks say.
-use Rattle.std.proofs.Common.{◌≡◌, ℕ, zero, suc, ◌+◌, ◌-◌, ◌<◌, ◌≤◌, arith, Bool, true, false, cond, List, [], ◌∷◌, ◌++◌, length, map, take, drop, get_or, set, Some, refl, sym, ap, subst, ◌∙◌, append_assoc}
+use Rattle.std.proofs.Common.{◌≡◌, ℕ, zero, suc, ◌+◌, ◌-◌, ◌<◌, ◌≤◌, arith, Bool, true, false, cond, List, [], ◌∷◌, ◌++◌, length, map, take, drop, get_or, set, Some, refl, sym, ap, subst, ◌∙◌, append_assoc, le-ltb}
 use Rattle.std.specs.Prelude.{◌||◌, is_some, slice_get, nat_lt, if◌then◌else◌, slice_index_or}
 use Rattle.std.specs.List.{flat_map, range_with_len}
 use Rattle.std.proofs.lemmas.Grind.{flat_map-append}
@@ -142,11 +142,7 @@ module _ (s : Setting) (is : IsSetting s) where
   -- a call that is accepted is a new one
   not_again : (link : ℕ) (before : List Mark) (call : Call) (form : Form) (answer : Submission) → IsNextXid before (marks.Submit link call form answer) → is_sent_again s link answer ≡ false
   not_again link before call form (submissions.Accepted xid) next =
-      ap (λ (n : ℕ). nat_lt xid n) (is.ones link) ∙ later xid (omega (arith, next))
-    where
-      later : (xid : ℕ) → 1 ≤ xid → nat_lt xid 1 ≡ false
-      later zero some = absurd (omega (arith, some))
-      later (suc n) some = refl
+      ap (λ (n : ℕ). nat_lt xid n) (is.ones link) ∙ le-ltb xid 1 (omega (arith, next))
   not_again link before call form (submissions.Refused why) next = refl
   not_again link before call form submissions.Dropped next = refl
 

@@ -23,7 +23,7 @@ use Rattle.nr_link.specs.Limits.{send_unit}
 use Rattle.nr_link.specs.SegmentFaults.{ExpectedResponse}
 use Rattle.nr_link.specs.Frames.{Frame}
 use Rattle.nr_link.proofs.Agreements.{agreements_bounded}
-use Rattle.nr_endpoint.specs.Hellos.{own_private, received_max, receive_length_for, side_agreement}
+use Rattle.nr_endpoint.specs.Hellos.{own_private, received_max, client_heard, receive_length_for, side_agreement}
 use Rattle.nr_endpoint.specs.LinkState.{LinkState, LinkSide, has_ended, initial_link}
 use Rattle.nr_endpoint.specs.Judging.{after_frame, with_agreement, segment_end, next_frame, with_frame, with_segment_by, with_fpdu, with_peer_hello, with_effect, with_read_response, next_segment}
 use Rattle.nr_endpoint.specs.SendQueue.{SendQueue, written}
@@ -46,30 +46,31 @@ begins_longer side bytes more hello h =
       ap (λ (n : ℕ). hello_of side (take n (bytes ++ more))) len ∙ ap (hello_of side) (take-append-le (frame_len (HelloFrom side) bytes) bytes more w.frame) ∙ h.1,
     )
 
-agreed_longer : (terms : SideTerms) (side : Side) (bytes more private : List ℕ) (agreed : Agreement) → HasAgreed terms side bytes private agreed → HasAgreed terms side (bytes ++ more) private agreed
-agreed_longer terms side bytes more private agreed h = (h.0, begins_longer (peer side) bytes more h.0 h.1, h.2, h.3)
+agreed_longer : (terms : SideTerms) (side : Side) (bytes more private : List ℕ) (agreed : Agreement) (client : ℕ) → HasAgreed terms side bytes private agreed client → HasAgreed terms side (bytes ++ more) private agreed client
+agreed_longer terms side bytes more private agreed client h = (h.0, begins_longer (peer side) bytes more h.0 h.1, h.2, h.3, h.4)
 
 -- ---- What is known of a side that was fed these bytes
 
 -- Its terms and which side it is stay. Until it has ended, a side without the peer's hello awaits that, and keeps all bytes of it; afterwards it awaits an FPDU.
-record Knows (terms : SideTerms) (side : Side) (fed : List ℕ) (a : Awaited) (rest : List ℕ) (over has_hello : Bool) (own_terms : SideTerms) (own_side : Side) (private : List ℕ) (agreed : Agreement) (message_max : ℕ) : Type 0 where
+record Knows (terms : SideTerms) (side : Side) (fed : List ℕ) (a : Awaited) (rest : List ℕ) (over has_hello : Bool) (own_terms : SideTerms) (own_side : Side) (private : List ℕ) (agreed : Agreement) (message_max client : ℕ) : Type 0 where
   same_terms : own_terms ≡ terms
   same_side : own_side ≡ side
-  is : IsAgreed terms side fed has_hello private agreed message_max
+  is : IsAgreed terms side fed has_hello private agreed message_max client
   before : over ≡ false → has_hello ≡ false → (a ≡ HelloFrom (peer side)) × (rest ≡ fed) × (is_whole (HelloFrom (peer side)) fed ≡ false)
   after : over ≡ false → has_hello ≡ true → a ≡ Fpdu
 
 module _ (terms : SideTerms) (side : Side) where
   abbrev SideKnows : List ℕ → Awaited → List ℕ → LinkState → Type 0
-  SideKnows fed a rest s = Knows terms side fed a rest (has_ended s) s.has_hello s.terms s.side s.private s.agreed s.message_max
+  SideKnows fed a rest s = Knows terms side fed a rest (has_ended s) s.has_hello s.terms s.side s.private s.agreed s.message_max s.client
 
   abbrev LinkKnows : List ℕ → LinkSide → Type 0
   LinkKnows fed link = SideKnows fed link.awaited link.rest link.state
 
-  longer : (fed more : List ℕ) (has_hello : Bool) (private : List ℕ) (agreed : Agreement) (message_max : ℕ) → IsAgreed terms side fed has_hello private agreed message_max → IsAgreed terms side (fed ++ more) has_hello private agreed message_max
-  longer fed more has_hello private agreed message_max is = record {
+  longer : (fed more : List ℕ) (has_hello : Bool) (private : List ℕ) (agreed : Agreement) (message_max client : ℕ) → IsAgreed terms side fed has_hello private agreed message_max client → IsAgreed terms side (fed ++ more) has_hello private agreed message_max client
+  longer fed more has_hello private agreed message_max client is = record {
     before = is.before;
-    after = λ some. agreed_longer terms side fed more private agreed (is.after some);
+    unheard = is.unheard;
+    after = λ some. agreed_longer terms side fed more private agreed client (is.after some);
     received = is.received;
     fits = is.fits;
     up = is.up;
@@ -77,12 +78,12 @@ module _ (terms : SideTerms) (side : Side) where
   }
 
   -- a side that has ended keeps what it has agreed
-  ended_knows : (fed more : List ℕ) (a b : Awaited) (rest left : List ℕ) (over now has_hello : Bool) (own_terms : SideTerms) (own_side : Side) (private : List ℕ) (agreed : Agreement) (message_max : ℕ) → now ≡ true →
-      Knows terms side fed a rest over has_hello own_terms own_side private agreed message_max → Knows terms side (fed ++ more) b left now has_hello own_terms own_side private agreed message_max
-  ended_knows fed more a b rest left over now has_hello own_terms own_side private agreed message_max is k = record {
+  ended_knows : (fed more : List ℕ) (a b : Awaited) (rest left : List ℕ) (over now has_hello : Bool) (own_terms : SideTerms) (own_side : Side) (private : List ℕ) (agreed : Agreement) (message_max client : ℕ) → now ≡ true →
+      Knows terms side fed a rest over has_hello own_terms own_side private agreed message_max client → Knows terms side (fed ++ more) b left now has_hello own_terms own_side private agreed message_max client
+  ended_knows fed more a b rest left over now has_hello own_terms own_side private agreed message_max client is k = record {
     same_terms = k.same_terms;
     same_side = k.same_side;
-    is = longer fed more has_hello private agreed message_max k.is;
+    is = longer fed more has_hello private agreed message_max client k.is;
     before = λ live. absurd (let wrong : true ≡ false = sym is ∙ live in cc);
     after = λ live. absurd (let wrong : true ≡ false = sym is ∙ live in cc);
   }
@@ -90,15 +91,15 @@ module _ (terms : SideTerms) (side : Side) where
   -- ---- FPDUs
 
   -- the peer's hello was accepted
-  record Settled (fed : List ℕ) (a : Awaited) (has_hello : Bool) (own_terms : SideTerms) (own_side : Side) (private : List ℕ) (agreed : Agreement) (message_max : ℕ) : Type 0 where
+  record Settled (fed : List ℕ) (a : Awaited) (has_hello : Bool) (own_terms : SideTerms) (own_side : Side) (private : List ℕ) (agreed : Agreement) (message_max client : ℕ) : Type 0 where
     awaits : a ≡ Fpdu
     has : has_hello ≡ true
     same_terms : own_terms ≡ terms
     same_side : own_side ≡ side
-    is : IsAgreed terms side fed has_hello private agreed message_max
+    is : IsAgreed terms side fed has_hello private agreed message_max client
 
   abbrev SideSettled : List ℕ → Awaited → LinkState → Type 0
-  SideSettled fed a s = Settled fed a s.has_hello s.terms s.side s.private s.agreed s.message_max
+  SideSettled fed a s = Settled fed a s.has_hello s.terms s.side s.private s.agreed s.message_max s.client
 
   settled_knows : (fed : List ℕ) (link : LinkSide) → SideSettled fed link.awaited link.state → LinkKnows fed link
   settled_knows fed link k = record {
@@ -132,10 +133,10 @@ module _ (terms : SideTerms) (side : Side) where
   -- ---- The peer's hello
 
   ended_frames : (fed more : List ℕ) (a b : Awaited) (rest left : List ℕ) (frames : List (List ℕ)) (s : LinkState) → has_ended s ≡ true → SideKnows fed a rest s → LinkKnows (fed ++ more) (feeding_after_frames has_ended with_frame frames left b s)
-  ended_frames fed more a b rest left [] s is k = ended_knows fed more a b rest _ (has_ended s) (has_ended s) s.has_hello s.terms s.side s.private s.agreed s.message_max is k
+  ended_frames fed more a b rest left [] s is k = ended_knows fed more a b rest _ (has_ended s) (has_ended s) s.has_hello s.terms s.side s.private s.agreed s.message_max s.client is k
   ended_frames fed more a b rest left (frame ∷ frames) s is k =
       subst (λ (w : Bool). LinkKnows (fed ++ more) (cond w (feeding_in has_ended with_frame b [] s) (feeding_after_frames has_ended with_frame frames left Fpdu (with_frame s b frame))))
-      (sym is) (ended_knows fed more a b rest _ (has_ended s) (has_ended s) s.has_hello s.terms s.side s.private s.agreed s.message_max is k)
+      (sym is) (ended_knows fed more a b rest _ (has_ended s) (has_ended s) s.has_hello s.terms s.side s.private s.agreed s.message_max s.client is k)
 
   limits : (own peer_private : List ℕ) (of : Side) → IsSendLimit (side_agreement of own peer_private).up × IsSendLimit (side_agreement of own peer_private).down
   limits own peer_private Initiator = agreements_bounded own peer_private
@@ -147,7 +148,7 @@ module _ (terms : SideTerms) (side : Side) where
   hello_knows fed more a rest left frame frames s (Err reason) read whole front k =
       ended_frames fed more a Fpdu rest left frames _ refl (ended_knows_now k)
     where
-      ended_knows_now : SideKnows fed a rest s → Knows terms side fed a rest true s.has_hello s.terms s.side s.private s.agreed s.message_max
+      ended_knows_now : SideKnows fed a rest s → Knows terms side fed a rest true s.has_hello s.terms s.side s.private s.agreed s.message_max s.client
       ended_knows_now k = record {
         same_terms = k.same_terms;
         same_side = k.same_side;
@@ -167,7 +168,7 @@ module _ (terms : SideTerms) (side : Side) where
       said : hello_of (peer side) (take (frame_len (HelloFrom (peer side)) (fed ++ more)) (fed ++ more)) ≡ Ok hello
       said = ap (hello_of (peer side)) (sym front) ∙ read
 
-      now : Settled (fed ++ more) Fpdu true s.terms s.side own (side_agreement s.side own hello.private) (received_max s.side (side_agreement s.side own hello.private))
+      now : Settled (fed ++ more) Fpdu true s.terms s.side own (side_agreement s.side own hello.private) (received_max s.side (side_agreement s.side own hello.private)) (client_heard s.terms s.side hello.private)
       now = record {
         awaits = refl;
         has = refl;
@@ -175,7 +176,8 @@ module _ (terms : SideTerms) (side : Side) where
         same_side = k.same_side;
         is = record {
           before = λ none. absurd (let wrong : true ≡ false = none in cc);
-          after = λ some. (hello, (whole, said), (λ i. own_private (k.same_terms i) (k.same_side i) hello.private), (λ i. side_agreement (k.same_side i) own hello.private));
+          unheard = λ none. absurd (let wrong : true ≡ false = none in cc);
+          after = λ some. (hello, (whole, said), (λ i. own_private (k.same_terms i) (k.same_side i) hello.private), (λ i. side_agreement (k.same_side i) own hello.private), (λ i. client_heard (k.same_terms i) (k.same_side i) hello.private));
           received = λ i. received_max (k.same_side i) (side_agreement s.side own hello.private);
           fits = subst (λ (t : SideTerms). received_max s.side (side_agreement s.side own hello.private) ≤ receive_length_for t) k.same_terms (agreed_fits s.terms s.side hello.private);
           up = (limits own hello.private s.side).0;
@@ -202,7 +204,7 @@ module _ (terms : SideTerms) (side : Side) where
       by false w = subst (λ (x : Split). LinkKnows (fed ++ piece) (after x)) (sym (split_partial (HelloFrom (peer side)) (fed ++ piece) w)) (record {
         same_terms = k.same_terms;
         same_side = k.same_side;
-        is = longer fed piece s.has_hello s.private s.agreed s.message_max k.is;
+        is = longer fed piece s.has_hello s.private s.agreed s.message_max s.client k.is;
         before = λ live none. (refl, ap (λ (b : Bool). cond b [] (fed ++ piece)) live, w);
         after = λ live some. absurd (let wrong : true ≡ false = sym some ∙ none in cc);
       })
@@ -223,7 +225,7 @@ module _ (terms : SideTerms) (side : Side) where
       by true e has h = ended_frames fed piece link.awaited link.awaited link.rest (split link.awaited (link.rest ++ piece)).rest (split link.awaited (link.rest ++ piece)).frames link.state e k
       by false e true h =
           settled_knows (fed ++ piece) (after link.awaited link.rest) (frames_keep (SideSettled (fed ++ piece)) (frame_settled (fed ++ piece)) (split link.awaited (link.rest ++ piece)).frames (split link.awaited (link.rest ++ piece)).rest link.awaited link.state (has_ended link.state) refl
-          (record { awaits = k.after e h; has = h; same_terms = k.same_terms; same_side = k.same_side; is = longer fed piece link.state.has_hello link.state.private link.state.agreed link.state.message_max k.is }))
+          (record { awaits = k.after e h; has = h; same_terms = k.same_terms; same_side = k.same_side; is = longer fed piece link.state.has_hello link.state.private link.state.agreed link.state.message_max link.state.client k.is }))
       by false e false h =
           let b = k.before e h in
           subst (λ (a : Awaited). LinkKnows (fed ++ piece) (after a link.rest)) (sym b.0)
@@ -239,10 +241,10 @@ module _ (terms : SideTerms) (side : Side) where
       by : (over : Bool) → has_ended link.state ≡ over → (has : Bool) → link.state.has_hello ≡ has → LinkKnows (fed ++ taken) (feeding_after_step has_ended with_frame link piece)
       by true e has h =
           subst (λ (x : LinkSide). LinkKnows (fed ++ taken) x) (sym (feeding_after_step-ended has_ended with_frame link piece e))
-          (ended_knows fed taken link.awaited link.awaited link.rest [] (has_ended link.state) (has_ended link.state) link.state.has_hello link.state.terms link.state.side link.state.private link.state.agreed link.state.message_max e k)
+          (ended_knows fed taken link.awaited link.awaited link.rest [] (has_ended link.state) (has_ended link.state) link.state.has_hello link.state.terms link.state.side link.state.private link.state.agreed link.state.message_max link.state.client e k)
       by false e true h =
           settled_knows (fed ++ taken) (feeding_after_step has_ended with_frame link piece) (step_by_lem (SideSettled (fed ++ taken)) (frame_settled (fed ++ taken)) link piece (has_ended link.state) (is_whole link.awaited (link.rest ++ piece)) refl refl
-          (record { awaits = k.after e h; has = h; same_terms = k.same_terms; same_side = k.same_side; is = longer fed taken link.state.has_hello link.state.private link.state.agreed link.state.message_max k.is }))
+          (record { awaits = k.after e h; has = h; same_terms = k.same_terms; same_side = k.same_side; is = longer fed taken link.state.has_hello link.state.private link.state.agreed link.state.message_max link.state.client k.is }))
       by false e false h =
           let b = k.before e h in
           let partial = partial_from link.awaited link.rest ((λ i. is_whole (b.0 i) (b.1 i)) ∙ b.2) in
@@ -257,8 +259,8 @@ module _ (terms : SideTerms) (side : Side) where
   -- it ends, or had ended before
   stop_knows : (fed : List ℕ) (link : LinkSide) (b : Bool) (end : End) → has_ended link.state ≡ b → (q : SendQueue) → LinkKnows fed link →
       LinkKnows (fed ++ []) (ended_link (cond b link.state (record link.state { ended = Some end; send_queue = q })) link)
-  stop_knows fed link true end is q k = ended_knows fed [] link.awaited link.awaited link.rest [] (has_ended link.state) (has_ended link.state) link.state.has_hello link.state.terms link.state.side link.state.private link.state.agreed link.state.message_max is k
-  stop_knows fed link false end is q k = ended_knows fed [] link.awaited link.awaited link.rest [] (has_ended link.state) true link.state.has_hello link.state.terms link.state.side link.state.private link.state.agreed link.state.message_max refl k
+  stop_knows fed link true end is q k = ended_knows fed [] link.awaited link.awaited link.rest [] (has_ended link.state) (has_ended link.state) link.state.has_hello link.state.terms link.state.side link.state.private link.state.agreed link.state.message_max link.state.client is k
+  stop_knows fed link false end is q k = ended_knows fed [] link.awaited link.awaited link.rest [] (has_ended link.state) true link.state.has_hello link.state.terms link.state.side link.state.private link.state.agreed link.state.message_max link.state.client refl k
 
   -- what it queues changes nothing of it
   queued_knows : (fed : List ℕ) (link : LinkSide) (b : Bool) (q : SendQueue) (reads : List ExpectedResponse) → LinkKnows fed link →
@@ -297,6 +299,7 @@ module _ (terms : SideTerms) (side : Side) where
     same_side = refl;
     is = record {
       before = λ none. refl;
+      unheard = λ none. refl;
       after = λ some. absurd (let wrong : true ≡ false = sym some in cc);
       received = one_unit side;
       fits = omega arith;

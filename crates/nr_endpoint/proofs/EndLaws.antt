@@ -229,7 +229,8 @@ no_frame_stops (HelloFrom side) reason (low, high) (inr (inr (inr (inl is)))) = 
 no_frame_stops (HelloFrom side) reason (low, high) (inr (inr (inr (inr (inl is))))) = omega (arith, high, is)
 no_frame_stops (HelloFrom side) reason (low, high) (inr (inr (inr (inr (inr (inl is)))))) = omega (arith, high, is)
 no_frame_stops (HelloFrom side) reason (low, high) (inr (inr (inr (inr (inr (inr (inl is))))))) = omega (arith, high, is)
-no_frame_stops (HelloFrom side) reason (low, high) (inr (inr (inr (inr (inr (inr (inr is))))))) = omega (arith, high, is)
+no_frame_stops (HelloFrom side) reason (low, high) (inr (inr (inr (inr (inr (inr (inr (inl is)))))))) = omega (arith, high, is)
+no_frame_stops (HelloFrom side) reason (low, high) (inr (inr (inr (inr (inr (inr (inr (inr is)))))))) = omega (arith, high, is)
 no_frame_stops Fpdu reason (inl (low, high)) (inl is) = omega (arith, high, is)
 no_frame_stops Fpdu reason (inl (low, high)) (inr (inl is)) = omega (arith, high, is)
 no_frame_stops Fpdu reason (inl (low, high)) (inr (inr (inl is))) = omega (arith, high, is)
@@ -237,7 +238,8 @@ no_frame_stops Fpdu reason (inl (low, high)) (inr (inr (inr (inl is)))) = omega 
 no_frame_stops Fpdu reason (inl (low, high)) (inr (inr (inr (inr (inl is))))) = omega (arith, high, is)
 no_frame_stops Fpdu reason (inl (low, high)) (inr (inr (inr (inr (inr (inl is)))))) = omega (arith, high, is)
 no_frame_stops Fpdu reason (inl (low, high)) (inr (inr (inr (inr (inr (inr (inl is))))))) = omega (arith, high, is)
-no_frame_stops Fpdu reason (inl (low, high)) (inr (inr (inr (inr (inr (inr (inr is))))))) = omega (arith, high, is)
+no_frame_stops Fpdu reason (inl (low, high)) (inr (inr (inr (inr (inr (inr (inr (inl is)))))))) = omega (arith, high, is)
+no_frame_stops Fpdu reason (inl (low, high)) (inr (inr (inr (inr (inr (inr (inr (inr is)))))))) = omega (arith, high, is)
 no_frame_stops Fpdu reason (inr long) (inl is) = omega (arith, long, is)
 no_frame_stops Fpdu reason (inr long) (inr (inl is)) = omega (arith, long, is)
 no_frame_stops Fpdu reason (inr long) (inr (inr (inl is))) = omega (arith, long, is)
@@ -245,7 +247,8 @@ no_frame_stops Fpdu reason (inr long) (inr (inr (inr (inl is)))) = omega (arith,
 no_frame_stops Fpdu reason (inr long) (inr (inr (inr (inr (inl is))))) = omega (arith, long, is)
 no_frame_stops Fpdu reason (inr long) (inr (inr (inr (inr (inr (inl is)))))) = omega (arith, long, is)
 no_frame_stops Fpdu reason (inr long) (inr (inr (inr (inr (inr (inr (inl is))))))) = omega (arith, long, is)
-no_frame_stops Fpdu reason (inr long) (inr (inr (inr (inr (inr (inr (inr is))))))) = omega (arith, long, is)
+no_frame_stops Fpdu reason (inr long) (inr (inr (inr (inr (inr (inr (inr (inl is)))))))) = omega (arith, long, is)
+no_frame_stops Fpdu reason (inr long) (inr (inr (inr (inr (inr (inr (inr (inr is)))))))) = omega (arith, long, is)
 
 -- ---- What makes an End
 

@@ -303,7 +303,8 @@ stop_rejects Responder at reason (inr (inr (inr (inl is)))) = other_reason reaso
 stop_rejects Responder at reason (inr (inr (inr (inr (inl is))))) = other_reason reason (omega (arith, is))
 stop_rejects Responder at reason (inr (inr (inr (inr (inr (inl is)))))) = other_reason reason (omega (arith, is))
 stop_rejects Responder at reason (inr (inr (inr (inr (inr (inr (inl is))))))) = other_reason reason (omega (arith, is))
-stop_rejects Responder at reason (inr (inr (inr (inr (inr (inr (inr is))))))) = other_reason reason (omega (arith, is))
+stop_rejects Responder at reason (inr (inr (inr (inr (inr (inr (inr (inl is)))))))) = other_reason reason (omega (arith, is))
+stop_rejects Responder at reason (inr (inr (inr (inr (inr (inr (inr (inr is)))))))) = other_reason reason (omega (arith, is))
 
 stop_output : (out : List ℕ) (items : List OutputItem) (a : Awaited) (s : LinkState) (end : End) → rejection s.side end ≡ [] → has_ended s ≡ false → OutputIs out items a s →
     OutputIs out (items ++ LastItem end ∷ []) a (record s { ended = Some end; send_queue = with_end s.side end s.send_queue })

@@ -7,7 +7,7 @@ use Rattle.nr_wire.specs.Hello.{Hello, hello_of, peer}
 use Rattle.nr_link.specs.declared.agreement.SideTerms.{SideTerms}
 use Rattle.nr_link.specs.declared.agreement.Agreement.{Agreement}
 use Rattle.nr_link.specs.Agreement.{default_agreement, IsSendLimit}
-use Rattle.nr_endpoint.specs.Hellos.{own_private, side_agreement, received_max, receive_length_for}
+use Rattle.nr_endpoint.specs.Hellos.{own_private, side_agreement, received_max, first_client, client_heard, receive_length_for}
 use Rattle.nr_endpoint.specs.LinkState.{initial_link}
 use Rattle.nr_endpoint.specs.Calls.{Call, after_calls}
 use Rattle.nr_endpoint.specs.Laws.{bytes_fed}
@@ -16,17 +16,20 @@ use Rattle.nr_endpoint.specs.Laws.{bytes_fed}
 abbrev pub BeginsWith : Side → List ℕ → Hello → Type 0
 BeginsWith side bytes hello = (is_whole (HelloFrom side) bytes ≡ true) × (hello_of side (take (frame_len (HelloFrom side) bytes) bytes) ≡ Ok hello)
 
--- by the hello with which the bytes of its peer begin, a side with these terms has this private data, and has agreed on this
-abbrev pub HasAgreed : SideTerms → Side → (fed private : List ℕ) → Agreement → Type 0
-HasAgreed terms side fed private agreed =
+-- by the hello with which the bytes of its peer begin, a side with these terms has this private data, has agreed on this, and knows this number of
+-- the link's client
+abbrev pub HasAgreed : SideTerms → Side → (fed private : List ℕ) → Agreement → (client : ℕ) → Type 0
+HasAgreed terms side fed private agreed client =
     (hello : Hello) × BeginsWith (peer side) fed hello × (private ≡ own_private terms side hello.private) × (agreed ≡ side_agreement side private hello.private)
+    × (client ≡ client_heard terms side hello.private)
 
 -- Until the peer's hello was accepted one unit is agreed in each direction; afterwards what the own hello and the peer's say, with which the
 -- bytes that were fed begin. The limit of a message of the peer is what is agreed for its direction, and fits each receive. In each direction
--- it is from one unit to UNITS_MAX of them.
-pub record IsAgreed (terms : SideTerms) (side : Side) (fed : List ℕ) (has_hello : Bool) (private : List ℕ) (agreed : Agreement) (message_max : ℕ) : Type 0 where
+-- it is from one unit to UNITS_MAX of them. The number of the link's client is an initiator's own, and a responder's by the initiator's hello.
+pub record IsAgreed (terms : SideTerms) (side : Side) (fed : List ℕ) (has_hello : Bool) (private : List ℕ) (agreed : Agreement) (message_max client : ℕ) : Type 0 where
   pub before : has_hello ≡ false → agreed ≡ default_agreement
-  pub after : has_hello ≡ true → HasAgreed terms side fed private agreed
+  pub unheard : has_hello ≡ false → client ≡ first_client terms side
+  pub after : has_hello ≡ true → HasAgreed terms side fed private agreed client
   pub received : message_max ≡ received_max side agreed
   pub fits : message_max ≤ receive_length_for terms
   pub up : IsSendLimit agreed.up
@@ -37,4 +40,4 @@ abbrev pub AgreesByHellos : Type 0
 AgreesByHellos = (side : Side) (receives first_stag : ℕ) (terms : SideTerms) (calls : List Call) →
     let start = initial_link side receives first_stag terms in
     let s = (after_calls start calls).state in
-    IsAgreed terms side (bytes_fed start calls) s.has_hello s.private s.agreed s.message_max
+    IsAgreed terms side (bytes_fed start calls) s.has_hello s.private s.agreed s.message_max s.client

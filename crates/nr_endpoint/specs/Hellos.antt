@@ -5,7 +5,7 @@ use Rattle.nr_wire.specs.declared.hello.Side.{Side}
 use Rattle.nr_wire.specs.declared.hello.Side.TheVariants.{Initiator, Responder}
 use Rattle.nr_link.specs.declared.agreement.SideTerms.{SideTerms}
 use Rattle.nr_link.specs.declared.agreement.Agreement.{Agreement}
-use Rattle.nr_link.specs.Agreement.{initiator_private, responder_private, agreement}
+use Rattle.nr_link.specs.Agreement.{initiator_private, responder_private, agreement, client_number}
 use Rattle.nr_link.specs.Limits.{send_unit}
 
 -- the private data of a side's hello, by that of its peer's, to which a responder answers
@@ -32,6 +32,15 @@ received_max Responder agreed = agreed.up
 abbrev pub takes_invalidate : Side → Agreement → Bool
 takes_invalidate Initiator agreed = agreed.invalidates
 takes_invalidate Responder agreed = false
+
+-- The number of the link's client: an initiator's own; a responder's by the initiator's hello, and 0 before it was accepted.
+abbrev pub first_client : SideTerms → Side → ℕ
+first_client terms Initiator = terms.number
+first_client terms Responder = 0
+
+abbrev pub client_heard : SideTerms → Side → (peer_private : List ℕ) → ℕ
+client_heard terms Initiator peer_private = terms.number
+client_heard terms Responder peer_private = client_number peer_private
 
 -- the length of each receive in bytes: of the units of the side's terms, from 1 to UNITS_MAX
 abbrev pub receive_length_for : SideTerms → ℕ

@@ -21,7 +21,7 @@ use Rattle.nr_link.specs.SegmentFaults.{ExpectedResponse, Readiness, segment_rea
 use Rattle.nr_link.specs.Ending.{access_of, end_of_fault, frame_segment_with}
 use Rattle.nr_endpoint.specs.SendQueue.{SendQueue, with_hello, with_response, with_end}
 use Rattle.nr_endpoint.specs.ReceiveQueue.{with_segment, with_read_done}
-use Rattle.nr_endpoint.specs.Hellos.{own_private, side_agreement, received_max, takes_invalidate}
+use Rattle.nr_endpoint.specs.Hellos.{own_private, side_agreement, received_max, client_heard, takes_invalidate}
 use Rattle.nr_endpoint.specs.LinkState.{LinkState}
 
 -- ---- What ends the side
@@ -110,7 +110,7 @@ abbrev pub reply_hello : Side → (private : List ℕ) → List ℕ
 reply_hello Initiator private = []
 reply_hello Responder private = hello_with Responder private
 
--- the peer's hello was accepted: what both said is what is agreed
+-- the peer's hello was accepted: what both said is what is agreed, and the initiator's says the number of the link's client
 abbrev pub with_agreement : (own peer_private : List ℕ) → LinkState → LinkState
 with_agreement own peer_private s = record s {
   has_hello = true;
@@ -118,6 +118,7 @@ with_agreement own peer_private s = record s {
   private = own;
   agreed = side_agreement s.side own peer_private;
   message_max = received_max s.side (side_agreement s.side own peer_private);
+  client = client_heard s.terms s.side peer_private;
 }
 
 unfoldable pub with_peer_hello : Frame → Result Hello ℕ → LinkState → LinkState

@@ -11,7 +11,7 @@ use Rattle.nr_link.specs.Agreement.{default_agreement}
 use Rattle.nr_link.specs.Limits.{send_unit}
 use Rattle.nr_link.specs.SegmentFaults.{ExpectedResponse}
 use Rattle.nr_regions.specs.RegisteredMemory.{RegisteredMemory, initial_memory}
-use Rattle.nr_endpoint.specs.Hellos.{first_private, receive_length_for}
+use Rattle.nr_endpoint.specs.Hellos.{first_private, first_client, receive_length_for}
 use Rattle.nr_endpoint.specs.SendQueue.{SendQueue, initial_queue}
 use Rattle.nr_endpoint.specs.ReceiveQueue.{ReceiveQueue, initial_receives}
 
@@ -19,7 +19,7 @@ use Rattle.nr_endpoint.specs.ReceiveQueue.{ReceiveQueue, initial_receives}
 -- it, in bytes. Why the side ended, once it has. What came, and what has to be written. The Read Requests that are open, the oldest first,
 -- each with the offset in its own region at which its response continues, and how many bytes are left. The regions. What its hello says: the
 -- terms with which it was opened, and the private data that it has said. What is agreed with the peer, and the maximum length of
--- a message of the peer in bytes.
+-- a message of the peer in bytes. The number of the link's client, or 0 if it has none or wasn't heard of yet.
 pub record LinkState : Type 0 where
   pub side : Side
   pub has_hello : Bool
@@ -34,6 +34,7 @@ pub record LinkState : Type 0 where
   pub private : List ℕ
   pub agreed : Agreement
   pub message_max : ℕ
+  pub client : ℕ
 
 abbrev pub has_ended : LinkState → Bool
 has_ended s = is_some s.ended
@@ -55,6 +56,7 @@ initial_state side receives first_stag terms = record {
   private = first_private terms side;
   agreed = default_agreement;
   message_max = send_unit;
+  client = first_client terms side;
 }
 
 -- a side between two pieces of the peer's stream: the kind of the frame that comes next, and the bytes of it so far

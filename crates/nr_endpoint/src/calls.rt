@@ -26,7 +26,7 @@ ghost use Rattle.nr_link.specs.SegmentFaults.{is_begun};
 use crate::endpoint::Endpoint;
 use crate::event::Event;
 use crate::fault::{DrainFault, ReadRefused};
-use nr_link::End;
+use nr_link::{End, SideTerms};
 use nr_outside::Sink;
 use nr_regions::{Denied, Regions, Registration, Right, Why};
 use nr_xdr::{Memory, Octets};
@@ -362,6 +362,21 @@ impl Endpoint {
         ensures { result ≡ self.now.link.state.has_hello }
     {
         self.link.has_hello
+    }
+
+    /// The terms with which the side was opened. Takes no memory.
+    pub fn terms(&self) -> SideTerms
+        ensures { result ≡ self.now.link.state.terms }
+    {
+        self.link.terms
+    }
+
+    /// The number of the link's client, or 0 if it has none: an initiator's own, and a responder's by the initiator's hello, 0 before that was
+    /// accepted. Takes no memory.
+    pub fn client(&self) -> u64
+        ensures { result ≡ self.now.link.state.client }
+    {
+        self.link.client
     }
 
     /// The length of each receive in bytes: of the units of the side's terms. It is fixed when the side is opened, and a message of the peer

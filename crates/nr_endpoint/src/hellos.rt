@@ -3,11 +3,11 @@
 ghost use Rattle.std.specs.Prelude.{◌≡◌, ◌≤◌};
 ghost use Rattle.arrayvec.specs.ArrayVec.{array_vec_len};
 ghost use Rattle.nr_wire.specs.Constants.{NUMBERED_TERMS_LEN};
-ghost use Rattle.nr_endpoint.specs.Hellos.{own_private, first_private, side_agreement, received_max, receive_length_for, takes_invalidate};
+ghost use Rattle.nr_endpoint.specs.Hellos.{own_private, first_private, side_agreement, received_max, first_client, client_heard, receive_length_for, takes_invalidate};
 
 use crate::constants::SEND_UNIT;
 use arrayvec::ArrayVec;
-use nr_link::{Agreement, SideTerms};
+use nr_link::{Agreement, SideTerms, client_number};
 use nr_wire::Side;
 use nr_wire::constants::{NUMBERED_TERMS_LEN, UNITS_MAX};
 
@@ -53,6 +53,26 @@ pub fn received_max(side: Side, agreed: Agreement) -> u32
     match side {
         Side::Initiator => agreed.down,
         Side::Responder => agreed.up,
+    }
+}
+
+/// The number of the link's client as a side is opened: an initiator's own. A responder hasn't heard of one, which is 0.
+pub fn first_client(terms: SideTerms, side: Side) -> u64
+    ensures { result ≡ first_client terms side }
+{
+    match side {
+        Side::Initiator => terms.number,
+        Side::Responder => 0,
+    }
+}
+
+/// The number of the link's client by the peer's private data: an initiator's own, or what the initiator says.
+pub fn client_heard(terms: SideTerms, side: Side, peer_private: &[u8]) -> u64
+    ensures { result ≡ client_heard terms side peer_private.now }
+{
+    match side {
+        Side::Initiator => terms.number,
+        Side::Responder => client_number(peer_private),
     }
 }
 

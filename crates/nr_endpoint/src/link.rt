@@ -16,8 +16,8 @@ ghost use Rattle.nr_endpoint.specs.Hellos.{own_private};
 
 use crate::frames::{hello_in_frame, segment_in_frame};
 use crate::hellos::{
-    Private, first_private, own_private, receive_length, received_max, side_agreement,
-    takes_invalidate,
+    Private, client_heard, first_client, first_private, own_private, receive_length, received_max,
+    side_agreement, takes_invalidate,
 };
 use crate::reads::Reads;
 use crate::receive_queue::ReceiveQueue;
@@ -46,6 +46,8 @@ pub struct LinkSide {
     pub(crate) private: Private,
     pub(crate) agreed: Agreement,
     pub(crate) message_max: u64,
+    // The number of the link's client, or 0.
+    pub(crate) client: u64,
 }
 
 impl Model for LinkSide {
@@ -60,7 +62,7 @@ impl Model for LinkSide {
     ghost use Rattle.nr_endpoint.specs.Views.{expected};
     ghost use Rattle.nr_endpoint.specs.Counted.{IsCounted};
 
-    ghost view = { λ l. record { state = record { side = l.side; has_hello = l.has_hello; last = l.last; place = l.place; ended = l.ended; receive_queue = l.receive_queue; reads = map expected l.reads.items; memory = l.regions.memory; send_queue = l.send_queue; terms = l.terms; private = l.private.items; agreed = l.agreed; message_max = l.message_max }; room = l.regions.room; outside = l.regions.outside } };
+    ghost view = { λ l. record { state = record { side = l.side; has_hello = l.has_hello; last = l.last; place = l.place; ended = l.ended; receive_queue = l.receive_queue; reads = map expected l.reads.items; memory = l.regions.memory; send_queue = l.send_queue; terms = l.terms; private = l.private.items; agreed = l.agreed; message_max = l.message_max; client = l.client }; room = l.regions.room; outside = l.regions.outside } };
 
     ghost invariant = { λ l. IsCounted l.terms l.has_hello l.receive_queue l.place l.message_max };
 }
@@ -95,6 +97,7 @@ impl LinkSide {
             private,
             agreed: Agreement::default_agreement(),
             message_max: u64::from(SEND_UNIT),
+            client: first_client(terms, side),
         })
     }
 
@@ -174,6 +177,7 @@ impl LinkSide {
         self.send_queue.queue_hello(self.side, own.as_slice())?;
         self.agreed = side_agreement(self.side, own.as_slice(), peer_private);
         self.message_max = u64::from(received_max(self.side, self.agreed));
+        self.client = client_heard(self.terms, self.side, peer_private);
         self.private = own;
         self.has_hello = true;
         self.last = self.place;

@@ -24,4 +24,4 @@ pub stop_29 : IsStopReason 29
 stop_29 = inr (inr (inr (inr (inr (inr (inl refl))))))
 
 pub stop_30 : IsStopReason 30
-stop_30 = inr (inr (inr (inr (inr (inr (inr refl))))))
+stop_30 = inr (inr (inr (inr (inr (inr (inr (inl refl)))))))

@@ -1,14 +1,13 @@
 //! Pieces of the client's stream, fed frame by frame.
 
-ghost use Rattle.std.specs.Prelude.{◌≡◌, ℕ, ◌+◌, ◌*◌, ◌≤◌, ◌^◌, false, None, Some, [], length, IfErr, OnOk, OnErr};
+ghost use Rattle.std.specs.Prelude.{◌≡◌, ℕ, ◌+◌, ◌*◌, ◌≤◌, ◌^◌, false, None, Some, [], length, IfErr, OnOk};
 ghost use Rattle.nr_endpoint.specs.FedBytes.{fed_bytes};
 ghost use Rattle.nr_responder.specs.ResponderState.{end_of};
 ghost use Rattle.nr_links.specs.Limits.{piece_max};
 ghost use Rattle.nr_turnstile.specs.Passes.{Rests};
 ghost use Rattle.nr_plain.specs.History.{pass_view};
 ghost use Rattle.nr_host.specs.Ending.{FailedAt, SinkCount, SourceCount};
-ghost use Rattle.nr_host.specs.Steps.{EndsAt, EndsWith, FaultsAt, FaultsFrom, FeedEnds, FeedsTo, GoesOn, GoesQuietly, RunsOut, sink_state};
-ghost use Rattle.nr_host.specs.declared.conn_end.ConnEnd.TheVariants as ends;
+ghost use Rattle.nr_host.specs.Steps.{EndsAt, EndsWith, FaultsAt, FaultsFrom, FeedEnds, FeedsTo, GoesOn, GoesQuietly, Leaves, sink_state};
 
 use crate::conn_end::ConnEnd;
 use crate::draining::drain;
@@ -19,11 +18,10 @@ use nr_outside::Sink;
 use nr_plain::Server;
 use nr_responder::Responder;
 use nr_turnstile::{Machine, Pass, Turnstile};
-use nr_xdr::Memory;
 use std::alloc::Global;
 use std::sync::Wait;
 
-/// Executes all calls that are ready, and queues their answers.
+/// Executes all calls that are ready, and queues their answers. `Err`: memory ran out, or the responder has ended for a call that is old.
 fn execute_ready<C: Clock, R: Wait>(
     rt: &R,
     alloc: Global,
@@ -31,26 +29,26 @@ fn execute_ready<C: Clock, R: Wait>(
     shared: &Turnstile<Server>,
     pass: &mut Pass<Server>,
     clock: &mut C,
-) -> Result<(), Memory>
+) -> Result<(), End>
     requires live { end_of responder.old.side ≡ None }
     requires rests { Rests shared.now pass.old }
     ensures rests { Rests shared.now pass.new }
     ensures live { OnOk result (end_of responder.new.side ≡ None) }
     ensures idle { OnOk result (responder.new.side.ready ≡ []) }
-    ensures fed { OnOk result (fed_bytes responder.new.side.link ≡ fed_bytes responder.old.side.link) }
+    ensures fed { OnOk result (fed_bytes responder.new.side.link ≤ fed_bytes responder.old.side.link) }
     ensures ok { OnOk result (GoesOn (C.gave clock.old) (C.gave clock.new) (pass_view pass.old) (pass_view pass.new) responder.old.side responder.new.side) }
-    ensures err { OnErr result (RunsOut (C.gave clock.old) (C.gave clock.new) (pass_view pass.old) (pass_view pass.new) responder.old.side) }
+    ensures err { IfErr result (λ end. Leaves end (C.gave clock.old) (C.gave clock.new) (pass_view pass.old) (pass_view pass.new) responder.old.side responder.new.side) }
 {
     while let Some(call) = responder.next_ready() {
         match execute_one(rt, alloc, responder, call, shared, pass, clock) {
             Ok(()) => {}
-            Err(memory) => return Err(memory),
+            Err(end) => return Err(end),
         }
     }
     Ok(())
 }
 
-/// Executes all calls that are ready, and writes what is due, or drops it once a write has failed.
+/// Executes all calls that are ready, and writes what is due, or drops it once a write has failed. `Err`: the connection ends.
 fn answer_all<O: Sink, C: Clock, R: Wait>(
     rt: &R,
     alloc: Global,
@@ -60,22 +58,25 @@ fn answer_all<O: Sink, C: Clock, R: Wait>(
     clock: &mut C,
     sink: &mut O,
     failed: &mut bool,
-) -> Result<(), Memory>
+) -> Result<(), ConnEnd>
     requires live { end_of responder.old.side ≡ None }
     requires rests { Rests shared.now pass.old }
     ensures rests { Rests shared.now pass.new }
     ensures live { OnOk result (end_of responder.new.side ≡ None) }
-    ensures fed { OnOk result (fed_bytes responder.new.side.link ≡ fed_bytes responder.old.side.link) }
+    ensures fed { OnOk result (fed_bytes responder.new.side.link ≤ fed_bytes responder.old.side.link) }
     ensures ok { OnOk result (GoesQuietly (sink_state (O.taken sink.old) (O.faults sink.old) failed.old) (sink_state (O.taken sink.new) (O.faults sink.new) failed.new)
         (C.gave clock.old) (C.gave clock.new) (pass_view pass.old) (pass_view pass.new) responder.old.side responder.new.side) }
-    ensures err { OnErr result (EndsWith ends.Memory (sink_state (O.taken sink.old) (O.faults sink.old) failed.old) (sink_state (O.taken sink.new) (O.faults sink.new) failed.new)
+    ensures err { IfErr result (λ end. EndsWith end (sink_state (O.taken sink.old) (O.faults sink.old) failed.old) (sink_state (O.taken sink.new) (O.faults sink.new) failed.new)
         (C.gave clock.old) (C.gave clock.new) (pass_view pass.old) (pass_view pass.new) responder.old.side) }
+    ensures failed { IfErr result (λ end. FailedAt end failed.new) }
+    ensures source { IfErr result (λ end. (count : ℕ) → SourceCount end count count) }
     ensures counted { FaultsFrom failed.old failed.new (O.faults sink.old) (O.faults sink.new) }
     ensures never_falls { O.faults sink.old ≤ O.faults sink.new }
 {
     match execute_ready(rt, alloc, responder, shared, pass, clock) {
         Ok(()) => {}
-        Err(memory) => return Err(memory),
+        Err(End::Memory) => return Err(ConnEnd::Memory),
+        Err(end) => return Err(stopped(responder, sink, failed, end)),
     }
     drain(responder, sink, failed);
     Ok(())
@@ -143,7 +144,7 @@ pub(crate) fn feed_all<O: Sink, C: Clock, R: Wait>(
         let (_, rest) = left.split_at(n);
         match answer_all(rt, alloc, responder, shared, pass, clock, sink, failed) {
             Ok(()) => {}
-            Err(_) => return Err(ConnEnd::Memory),
+            Err(end) => return Err(end),
         }
         left = rest;
     }

@@ -23,6 +23,7 @@ use Rattle.nr_reduce.specs.Events.RunEvent.{CallExecuted}
 use Rattle.nr_reduce.specs.EndRules.{EndState, end_state_after}
 use Rattle.nr_reduce.specs.Client.{client_rules, initial_client}
 use Rattle.nr_reduce.specs.History.{CompletedCall}
+use Rattle.nr_reduce.specs.KeepsCalls.{KeepsCalls}
 use Rattle.nr_reduce.specs.Matched.{MatchedMark, IsPrefixOf}
 use Rattle.nr_reduce.specs.NumberedJournal.{Standing, standing_for, tagged_journal, number_heard, entries_alone, call_of_entry, IsExecutedBy, NumberedMark, JournaledByNumber}
 use Rattle.nr_reduce.specs.NumberedJournal.Standing.{Old, Kept, New}
@@ -32,7 +33,7 @@ use Rattle.nr_reduce.proofs.Calls.{executed_head}
 use Rattle.nr_reduce.proofs.Steps.{AtEachMark_first}
 use Rattle.nr_laws.specs.MarkAt.{MarkAt}
 use Rattle.nr_laws.specs.MatchedSoFar.{MatchedSoFar}
-use Rattle.nr_laws.specs.OnceEach.{BegunLink, GoesOn, IsEarlier, MatchedWithEarlier, OpenedWithEarlier, OneClientEach, KeepsCalls, HasEntry, IsAskedFor, CompletedChangesHaveEntries}
+use Rattle.nr_laws.specs.OnceEach.{BegunLink, GoesOn, IsEarlier, MatchedWithEarlier, OpenedWithEarlier, OneClientEach, HasEntry, IsAskedFor, CompletedChangesHaveEntries}
 use Rattle.nr_laws.specs.Payloads.{HasPlan, form_conveyed}
 use Rattle.nr_laws.specs.PlainLinks.{server_with}
 use Rattle.nr_laws.specs.Typed.{TypedMark, IsTyped}

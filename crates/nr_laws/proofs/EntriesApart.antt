@@ -9,9 +9,10 @@ use Rattle.nr_reduce.specs.declared.mark.Mark.{Mark}
 use Rattle.nr_reduce.specs.declared.mark.Mark.TheVariants as marks
 use Rattle.nr_reduce.specs.declared.mark.TaggedEntry.{TaggedEntry}
 use Rattle.nr_reduce.specs.Limits.{window}
+use Rattle.nr_reduce.specs.KeepsCalls.{AddsOneAtMost}
 use Rattle.nr_reduce.specs.NumberedJournal.{Standing, standing, standing_for, top_of, place_from, place_of_entry, kept_or_new, tagged, added_by, tagged_by, tagged_from, tagged_journal}
 use Rattle.nr_reduce.specs.NumberedJournal.Standing.{Old, Kept, New}
-use Rattle.nr_laws.specs.OnceEach.{AddsOneAtMost, NoEntryTwice}
+use Rattle.nr_laws.specs.OnceEach.{NoEntryTwice}
 use Rattle.nr_laws.specs.PlainLinks.{server_with}
 use Rattle.nr_laws.proofs.Basics.{each_append}
 

@@ -8,9 +8,9 @@ use Rattle.nr_reduce.specs.declared.mark.Mark.{Mark}
 use Rattle.nr_reduce.specs.declared.mark.Mark.TheVariants as marks
 use Rattle.nr_reduce.specs.declared.mark.TaggedEntry.{TaggedEntry}
 use Rattle.nr_reduce.specs.Limits.{window}
+use Rattle.nr_reduce.specs.KeepsCalls.{AddsOneAtMost}
 use Rattle.nr_reduce.specs.NumberedJournal.{Standing, standing, standing_for, top_of, place_from, place_of_entry, kept_or_new, tagged, added_by, tagged_by, tagged_from}
 use Rattle.nr_reduce.specs.NumberedJournal.Standing.{Old, Kept, New}
-use Rattle.nr_laws.specs.OnceEach.{AddsOneAtMost}
 use Rattle.nr_laws.specs.PlainLinks.{server_with}
 
 -- ---- Elements of two lists

@@ -9,10 +9,10 @@ use Rattle.nr_reduce.specs.declared.mark.Entry.{Entry}
 use Rattle.nr_reduce.specs.declared.mark.Mark.{Mark}
 use Rattle.nr_reduce.specs.declared.mark.Mark.TheVariants as marks
 use Rattle.nr_reduce.specs.declared.mark.TaggedEntry.{TaggedEntry}
+use Rattle.nr_reduce.specs.KeepsCalls.{AddsOneAtMost, KeepsCalls}
 use Rattle.nr_reduce.specs.NumberedJournal.{Standing, standing, standing_for, tagged, tagged_by, added_by, tagged_journal, entries_alone, call_of_entry, IsExecutedBy, NumberedMark}
 use Rattle.nr_reduce.specs.NumberedJournal.Standing.{Kept, New}
 use Rattle.nr_reduce.specs.AtEachMark.{AtEachMark}
-use Rattle.nr_laws.specs.OnceEach.{AddsOneAtMost, KeepsCalls}
 use Rattle.nr_laws.specs.PlainLinks.{server_with}
 use Rattle.nr_laws.proofs.Basics.{some_is_lem}
 use Rattle.nr_laws.proofs.JournalPlaces.{same_front, journal_from, journal_parts, journal_more, AddedBy, added_by_mark, kept_entry}

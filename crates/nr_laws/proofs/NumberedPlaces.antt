@@ -14,6 +14,7 @@ use Rattle.nr_reduce.specs.declared.mark.Mark.TheVariants as marks
 use Rattle.nr_reduce.specs.declared.mark.TaggedEntry.{TaggedEntry}
 use Rattle.nr_reduce.specs.ClientState.{call_payload}
 use Rattle.nr_reduce.specs.Journal.{AtPlace}
+use Rattle.nr_reduce.specs.KeepsCalls.{KeepsCalls}
 use Rattle.nr_reduce.specs.Matched.{IsPrefixOf}
 use Rattle.nr_reduce.specs.NumberedJournal.{Standing, standing_for, tagged, tagged_by, added_by, tagged_journal, number_heard, entries_alone, IsExecutedBy, NumberedMark, JournaledByNumber}
 use Rattle.nr_reduce.specs.NumberedJournal.Standing.{Old, Kept, New}
@@ -22,7 +23,7 @@ use Rattle.nr_reduce.specs.Served.{ServedMark, IsExecuted}
 use Rattle.nr_reduce.proofs.Calls.{executed_head}
 use Rattle.nr_laws.specs.MarkAt.{MarkAt}
 use Rattle.nr_laws.specs.MatchedSoFar.{MatchedSoFar}
-use Rattle.nr_laws.specs.OnceEach.{BegunLink, IsEarlier, MatchedWithEarlier, OpenedWithEarlier, OneClientEach, ClientIsMatched, KeepsCalls, NumberedLinksAreAtPlaces}
+use Rattle.nr_laws.specs.OnceEach.{BegunLink, IsEarlier, MatchedWithEarlier, OpenedWithEarlier, OneClientEach, ClientIsMatched, NumberedLinksAreAtPlaces}
 use Rattle.nr_laws.specs.Payloads.{HasPlan, form_conveyed}
 use Rattle.nr_laws.specs.PlainLinks.{server_with, AtPlaceOnMark}
 use Rattle.nr_laws.specs.Typed.{TypedMark, IsTyped}

@@ -15,11 +15,12 @@ use Rattle.nr_reduce.specs.AtEachMark.{AtEachMark}
 use Rattle.nr_reduce.specs.Events.{RunEvent, events}
 use Rattle.nr_reduce.specs.Events.RunEvent.{CallSubmitted, CallExecuted}
 use Rattle.nr_reduce.specs.History.{bytes_received}
+use Rattle.nr_reduce.specs.KeepsCalls.{AddsOneAtMost}
 use Rattle.nr_reduce.specs.NumberedJournal.{Standing, standing_for, tagged_journal, number_heard, IsExecutedBy, NumberedMark}
 use Rattle.nr_reduce.specs.NumberedJournal.Standing.{Old, Kept, New}
 use Rattle.nr_laws.specs.MarkAt.{MarkAt}
 use Rattle.nr_laws.specs.MatchedSoFar.{MatchedSoFar}
-use Rattle.nr_laws.specs.OnceEach.{BegunLink, GoesOn, IsEarlier, MatchedWithEarlier, OpenedWithEarlier, OneClientEach, OneLinkBefore, AddsOneAtMost, PlacesFollowByNumber}
+use Rattle.nr_laws.specs.OnceEach.{BegunLink, GoesOn, IsEarlier, MatchedWithEarlier, OpenedWithEarlier, OneClientEach, OneLinkBefore, PlacesFollowByNumber}
 use Rattle.nr_laws.specs.PlainLinks.{server_with}
 use Rattle.nr_laws.specs.Typed.{IsTyped}
 use Rattle.nr_laws.proofs.EarlierLinks.{InFirst, AfterFirst, mark_in_first, event_at_mark, submit_event, execute_event, none_is, submitted_in_time, LinkKeeps, xid_below, each_earlier, LeftBy, left_by}

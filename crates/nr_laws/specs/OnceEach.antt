@@ -1,9 +1,7 @@
 -- Each change once: over any number of links of a numbered client, whatever was dropped and begun again, its calls take effect at most once, and
 -- exactly once if they complete with a reply that adds an entry.
-use Rattle.std.specs.Prelude.{◌≡◌, ◌≢◌, ℕ, ◌^◌, ◌<◌, ◌≤◌, List, [], ◌∷◌, ◌++◌, length, slice_get, Option, Some, ◌⊎◌}
-use Rattle.nr_xdr.specs.Item.{IsBytes}
+use Rattle.std.specs.Prelude.{◌≡◌, ◌≢◌, ℕ, ◌^◌, ◌<◌, ◌≤◌, List, [], ◌∷◌, ◌++◌, slice_get, Option, Some, ◌⊎◌}
 use Rattle.nr_outside.specs.declared.moment.Moment.{Moment}
-use Rattle.nr_rpc.specs.Reading.{call_of, xid_of_call}
 use Rattle.nr_wire.specs.declared.hello.Side.TheVariants.{Initiator, Responder}
 use Rattle.nr_reduce.specs.declared.call.Call.{Call}
 use Rattle.nr_reduce.specs.declared.call.Form.{Form}
@@ -17,9 +15,10 @@ use Rattle.nr_reduce.specs.declared.mark.Mark.TheVariants as marks
 use Rattle.nr_reduce.specs.PlainJournal.{PlainServer}
 use Rattle.nr_reduce.specs.ClientState.{call_payload}
 use Rattle.nr_reduce.specs.Events.{events}
+use Rattle.nr_reduce.specs.KeepsCalls.{AddsOneAtMost, KeepsCalls}
 use Rattle.nr_reduce.specs.Opening.{IsOpened}
 use Rattle.nr_reduce.specs.declared.mark.TaggedEntry.{TaggedEntry}
-use Rattle.nr_reduce.specs.NumberedJournal.{tagged_journal, number_heard, entries_alone, call_of_entry, JournaledByNumber, IsReplyOf}
+use Rattle.nr_reduce.specs.NumberedJournal.{tagged_journal, number_heard, entries_alone, JournaledByNumber, IsReplyOf}
 use Rattle.nr_reduce.specs.Reopening.{IsReopened}
 use Rattle.nr_laws.specs.MarkAt.{MarkAt}
 use Rattle.nr_laws.specs.MatchedSoFar.{MatchedSoFar}
@@ -76,21 +75,6 @@ OneClientEach opened run = (link other : ℕ) → number_heard run link ≢ 0 �
 -- a link goes on from one link only
 abbrev pub OneLinkBefore : (ℕ → LinkParameters) → List Mark → Type 0
 OneLinkBefore opened run = (old other next again : BegunLink) → IsNextLink opened run old next → IsNextLink opened run other again → next.link ≡ again.link → old.link ≡ other.link
-
--- ---- The entries of a plain server
-
--- what a call adds is one entry or none
-abbrev pub AddsOneAtMost : (Moment → List ℕ → List ℕ → List Entry) → Type 0
-AddsOneAtMost adds = (moment : Moment) (payload reply : List ℕ) → length (adds moment payload reply) < 2
-
--- Whether a call adds an entry doesn't depend on its moment. The entry keeps that moment, and so much of the call that the call which is made of it
--- has the same reply. A call that is executed is always of bytes.
-pub record KeepsCalls (reply_to : List Entry → Moment → List ℕ → Option (List ℕ)) (adds : Moment → List ℕ → List ℕ → List Entry) : Type 0 where
-  pub one : AddsOneAtMost adds
-  pub alike : (m n : Moment) (payload reply : List ℕ) → adds m payload reply ≢ [] → adds n payload reply ≢ []
-  pub moment : (m : Moment) (payload reply : List ℕ) (e : Entry) → adds m payload reply ≡ e ∷ [] → e.moment ≡ m
-  pub own : (J : List Entry) (m : Moment) (payload reply : List ℕ) (xid : ℕ) (e : Entry) → IsBytes payload → reply_to J m payload ≡ Some reply → adds m payload reply ≡ e ∷ [] →
-      xid_of_call (call_of payload) ≡ Some xid → reply_to J m (call_of_entry xid e) ≡ Some reply
 
 -- ---- The theorem
 

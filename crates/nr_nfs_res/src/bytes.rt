@@ -178,9 +178,9 @@ fn read_failed<'a>(
     Ok((StatusUnion::Failed { status, part }, reader))
 }
 
-/// The results at the reader's place, and the reader after them.
+/// The results at the reader's place, and the reader after them, as by `ReadRes::read_from`. The data are not copied.
 #[tactic(auto, unfolding(nr_nfs_base::specs::StatusUnion::status_union_codec))]
-fn read_res_from<'a>(
+pub fn read_read_res_from<'a>(
     alloc: Global,
     reader: Reader<'a>,
 ) -> Result<(ReadResRef<'a>, Reader<'a>), ValueFault>
@@ -197,7 +197,7 @@ fn read_res_from<'a>(
 pub fn read_read_res<'a>(alloc: Global, bytes: &'a [u8]) -> Result<ReadResRef<'a>, ValueFault>
     ensures { Answers result (read_all read_res_codec bytes.now) }
 {
-    let (results, reader) = read_res_from(alloc, Reader::new(bytes))?;
+    let (results, reader) = read_read_res_from(alloc, Reader::new(bytes))?;
     if reader.rest().is_empty() {
         Ok(results)
     } else {

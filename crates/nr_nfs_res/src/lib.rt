@@ -23,7 +23,7 @@ mod remove;
 pub use attributes::{AccessOk, AccessRes, GetattrRes, SetattrRes};
 pub use bytes::{
     CommitOk, CommitRes, ReadOk, ReadOkRef, ReadRes, ReadResRef, WriteOk, WriteRes, read_read_res,
-    write_read_res,
+    read_read_res_from, write_read_res,
 };
 pub use create::{CreateOk, CreateRes, MkdirRes, MknodRes, SymlinkRes};
 pub use file_system::{FsinfoOk, FsinfoRes, FsstatOk, FsstatRes, PathconfOk, PathconfRes};

@@ -1,22 +1,22 @@
--- A pass that sees the history again, and a call that is executed then.
+-- A pass that sees the history again.
 use Rattle.std.proofs.Common.{◌≡◌, ℕ, suc, ◌+◌, ◌<◌, ◌^◌, Bool, true, false, List, [], ◌∷◌, ◌++◌, length, map, Option, None, Some, arith, refl, sym, ap, subst, ◌∙◌, append_assoc, append-nil}
 use Rattle.std.specs.Prelude.{◌==◌, if◌then◌else◌}
 use Rattle.std.proofs.lemmas.List.{length-map, map-append}
+use Rattle.std.proofs.lemmas.List.Elements.{All-nil}
 use Rattle.std.proofs.lemmas.Option.{none-some, same_Some}
-use Rattle.nr_xdr.specs.Item.{IsBytes}
-use Rattle.nr_outside.specs.declared.moment.Moment.{Moment}
 use Rattle.nr_reduce.specs.declared.mark.Entry.{Entry}
-use Rattle.nr_plain.specs.Added.{entries_of_call}
 use Rattle.nr_plain.specs.Setup.{Setup}
-use Rattle.nr_plain.specs.Stands.{PlainServerState, RepresentsJournal, ExecutesCall}
-use Rattle.nr_turnstile.specs.Rule.{Begins, Earlier, opening_view, places, places_from}
+use Rattle.nr_plain.specs.Stands.{PlainServerState, RepresentsJournal}
+use Rattle.nr_plain.specs.Numbered.{HasCall, RepresentsTagged}
+use Rattle.nr_plain.specs.Turns.{StandsAfter, StandsFor}
+use Rattle.nr_turnstile.specs.Rule.{Begins, Earlier, opening_view, places}
 use Rattle.nr_turnstile.specs.declared.plays.View.{View}
 use Rattle.nr_plain.specs.declared.history_entry.HistoryEntry.{HistoryEntry}
 use Rattle.nr_plain.specs.declared.history_entry.HistoryEntry.TheVariants.{Opened, Added}
 use Rattle.nr_reduce.specs.declared.mark.TaggedEntry.{TaggedEntry}
 use Rattle.nr_reduce.specs.NumberedJournal.{tagged, entries_alone}
-use Rattle.nr_plain.specs.History.{Opening, setup_in, additions, history, IsHistory, StandsFor, closes_none, AreOfCalls, AddsOne, AddsNone, xid_in, entries_added, first_added, entry_to_append, PassView, OnlyOthersAdded, ExecutesAt}
-use Rattle.nr_plain.proofs.OfCalls.{both_of_calls, later_of_calls, of_call}
+use Rattle.nr_plain.specs.History.{Opening, setup_in, additions, history, IsHistory, closes_none, AreOfCalls, PassView, OnlyOthersAdded}
+use Rattle.nr_plain.proofs.OfCalls.{later_of_calls}
 
 -- ===== histories and their entries
 
@@ -86,37 +86,47 @@ begins_on xs ys zs (m, e) (n, f) = (m ++ n, f ∙ ap (λ (l : List HistoryEntry)
 -- ===== a turn
 
 -- what a pass finds when it gets the turn
-pub record Found (first : Opening) (J : List Entry) (seen : List HistoryEntry) (kept : PlainServerState) : Type 0 where
-  pub others : List Entry
-  pub is : IsHistory first (J ++ others) seen
-  pub stands : RepresentsJournal (setup_in first) (J ++ others) kept
-  pub of_calls : AreOfCalls (setup_in first) J others
+pub record Found (first : Opening) (T : List TaggedEntry) (seen : List HistoryEntry) (kept : PlainServerState) (stood : StandsFor kept seen) : Type 0 where
+  pub others : List TaggedEntry
+  pub first_is : stood.0 ≡ first
+  pub entries_are : stood.1.0 ≡ T ++ others
+  pub is : seen ≡ history first (T ++ others)
+  pub stands : StandsAfter first (T ++ others) kept
+  pub of_calls : AreOfCalls (setup_in first) (entries_alone T) (entries_alone others)
 
-pub found : (first : Opening) (J : List Entry) (seen seen' : List HistoryEntry) (kept : PlainServerState) → IsHistory first J seen → Begins seen seen' → StandsFor kept seen' → Found first J seen' kept
-found first J seen seen' kept i (more, begins) (g, (K, (i', stands, calls))) =
-    let e : history g i'.entries ≡ history first i.entries ++ more = sym i'.is ∙ begins ∙ ap (λ (l : List HistoryEntry). l ++ more) i.is in
-    let same : g ≡ first = same_opening first g i.entries i'.entries more e in
-    let all : i'.entries ≡ i.entries ++ all_tagged_in more = later first g i.entries i'.entries more e in
-    let others : List Entry = entries_alone (all_tagged_in more) in
-    let journal : K ≡ J ++ others =
-    sym i'.journal ∙ ap entries_alone all ∙ map-append (λ (t : TaggedEntry). t.entry) i.entries (all_tagged_in more) ∙ ap (λ (l : List Entry). l ++ others) i.journal in
+pub alone_append : (T U : List TaggedEntry) → entries_alone (T ++ U) ≡ entries_alone T ++ entries_alone U
+alone_append T U = map-append (λ (t : TaggedEntry). t.entry) T U
+
+pub found : (first : Opening) (T : List TaggedEntry) (seen seen' : List HistoryEntry) (kept : PlainServerState) → seen ≡ history first T → Begins seen seen' → (stood : StandsFor kept seen') → Found first T seen' kept stood
+found first T seen seen' kept i (more, begins) (g, (U, (i', stands))) =
+    let e : history g U ≡ history first T ++ more = sym i' ∙ begins ∙ ap (λ (l : List HistoryEntry). l ++ more) i in
+    let same : g ≡ first = same_opening first g T U more e in
+    let all : U ≡ T ++ all_tagged_in more = later first g T U more e in
+    let others : List TaggedEntry = all_tagged_in more in
+    let after : StandsAfter first (T ++ others) kept =
+    subst (λ (l : List TaggedEntry). StandsAfter first l kept) all (subst (λ (f : Opening). StandsAfter f U kept) same stands) in
     record {
       others = others;
-      is = record { entries = i'.entries; is = i'.is ∙ ap (λ (f : Opening). history f i'.entries) same; journal = i'.journal ∙ journal };
-      stands = subst (λ (l : List Entry). RepresentsJournal (setup_in first) l kept) journal
-          (subst (λ (f : Opening). RepresentsJournal (setup_in f) K kept) same stands);
-      of_calls = later_of_calls (setup_in first) [] J others
-          (subst (λ (l : List Entry). AreOfCalls (setup_in first) [] l) journal (subst (λ (f : Opening). AreOfCalls (setup_in f) [] K) same calls));
+      first_is = same;
+      entries_are = all;
+      is = i' ∙ (λ j. history (same j) (all j));
+      stands = after;
+      of_calls = later_of_calls (setup_in first) [] (entries_alone T) (entries_alone others)
+          (subst (λ (l : List Entry). AreOfCalls (setup_in first) [] l) (alone_append T others) after.of_calls);
     }
 
 pub others_added : (before at after : PassView) (kept : PlainServerState) → Begins before.seen at.seen → at.mine ≡ before.mine → StandsFor kept at.seen → after.seen ≡ at.seen → after.mine ≡ at.mine → OnlyOthersAdded before after
 others_added before at after kept begins own stands same same_own first J i =
-    let f = found first J before.seen at.seen kept i begins stands in
+    let f = found first i.entries before.seen at.seen kept i.is begins stands in
     record {
-      others = f.others;
+      others = entries_alone f.others;
       begins = (begins.0, same ∙ begins.1);
-      seen = subst (λ (h : List HistoryEntry). IsHistory first (J ++ f.others) h) (sym same) f.is;
-      of_calls = f.of_calls;
+      seen = record {
+        entries = i.entries ++ f.others;
+        is = same ∙ f.is;
+        journal = alone_append i.entries f.others ∙ ap (λ (l : List Entry). l ++ entries_alone f.others) i.journal;
+      };
+      of_calls = subst (λ (l : List Entry). AreOfCalls (setup_in first) l (entries_alone f.others)) i.journal f.of_calls;
       mine_is = same_own ∙ own;
     }
 
@@ -130,116 +140,50 @@ none_added view first J i = record {
   mine_is = refl;
 }
 
--- the entry that is appended is the one that the call adds
-appended : (client : ℕ) (m : Moment) (payload reply : List ℕ) → AddsOne m payload reply → entry_to_append client m payload reply ∷ [] ≡ additions (entries_added client m payload reply)
-appended client m payload reply (entry, one) =
-    ap (λ (es : List Entry). first_added (map (tagged client (xid_in payload)) es) ∷ []) one ∙ sym (ap (λ (es : List Entry). additions (map (tagged client (xid_in payload)) es)) one)
-
-module _ (before at after : PassView) (kept kept' : PlainServerState) (client : ℕ) (m : Moment) (payload reply : List ℕ) (place : ℕ) (begins : Begins before.seen at.seen) (own : at.mine ≡ before.mine) (stands : StandsFor kept at.seen)
-    (bytes : IsBytes payload) (executes : (s : Setup) (J : List Entry) → RepresentsJournal s J kept → ExecutesCall s J m payload reply place kept') where
-  pub executes_none : AddsNone m payload reply → after.seen ≡ at.seen → after.mine ≡ at.mine
-      → (first : Opening) (J : List Entry) → IsHistory first J before.seen → ExecutesAt first J before after client m payload reply place
-  executes_none none same same_own first J i =
-      let f = found first J before.seen at.seen kept i begins stands in
-      let x = executes (setup_in first) (J ++ f.others) f.stands in
-      record {
-        others = f.others;
-        found = at.seen;
-        begins = begins;
-        found_is = f.is;
-        place_is = x.place_is;
-        replied = x.replied;
-        seen = same ∙ sym (append-nil at.seen) ∙ ap (λ (es : List Entry). at.seen ++ additions (map (tagged client (xid_in payload)) es)) (sym none);
-        of_calls = both_of_calls (setup_in first) J f.others (entries_of_call m payload reply) f.of_calls
-            (of_call (setup_in first) (J ++ f.others) m payload reply place bytes x.place_is x.replied);
-        mine_is = same_own ∙ own ∙ sym (append-nil before.mine) ∙ ap (λ (es : List Entry). before.mine ++ places_from (suc place) (length es)) (sym none);
-      }
-
-  pub executes_one : AddsOne m payload reply → after.seen ≡ at.seen ++ entry_to_append client m payload reply ∷ [] → after.mine ≡ at.mine ++ length at.seen ∷ []
-      → (first : Opening) (J : List Entry) → IsHistory first J before.seen → ExecutesAt first J before after client m payload reply place
-  executes_one (entry, one) more more_own first J i =
-      let f = found first J before.seen at.seen kept i begins stands in
-      let x = executes (setup_in first) (J ++ f.others) f.stands in
-      let long : length at.seen ≡ suc place = history_length first (J ++ f.others) at.seen f.is ∙ ap suc (sym x.place_is) in
-      record {
-        others = f.others;
-        found = at.seen;
-        begins = begins;
-        found_is = f.is;
-        place_is = x.place_is;
-        replied = x.replied;
-        seen = more ∙ ap (λ (l : List HistoryEntry). at.seen ++ l) (appended client m payload reply (entry, one));
-        of_calls = both_of_calls (setup_in first) J f.others (entries_of_call m payload reply) f.of_calls
-            (of_call (setup_in first) (J ++ f.others) m payload reply place bytes x.place_is x.replied);
-        mine_is = more_own ∙ ap (λ (l : List ℕ). l ++ length at.seen ∷ []) own ∙ ap (λ (n : ℕ). before.mine ++ n ∷ []) long
-            ∙ ap (λ (es : List Entry). before.mine ++ places_from (suc place) (length es)) (sym one);
-      }
-
 -- ===== lengths
 
+pub stood_length : (kept : PlainServerState) (h : List HistoryEntry) → (stood : StandsFor kept h) → length h ≡ suc (length stood.1.0)
+stood_length kept h (first, (T, (is, stands))) = ap length is ∙ ap suc (length-map T (λ (t : TaggedEntry). Added t))
+
 pub entries_are : (kept : PlainServerState) (h : List HistoryEntry) (len n : ℕ) → ((s : Setup) (J : List Entry) → RepresentsJournal s J kept → len ≡ length J) → n ≡ len + 1 → StandsFor kept h → n ≡ length h
-entries_are kept h len n is more (first, (J, (i, stands, calls))) =
-    let long = history_length first J h i in let short = is (setup_in first) J stands in omega (arith, more, long, short)
+entries_are kept h len n is more (first, (T, (i, stands))) =
+    let long = stood_length kept h (first, (T, (i, stands))) in
+    let short = is (setup_in first) (entries_alone T) stands.represents.journal in
+    let same = length-map T (λ (t : TaggedEntry). t.entry) in omega (arith, more, long, short, same)
 
 pub fits : (kept : PlainServerState) (h : List HistoryEntry) (len : ℕ) → ((s : Setup) (J : List Entry) → RepresentsJournal s J kept → len ≡ length J) → StandsFor kept h → length h < 2 ^ 63 → len + 1 < 2 ^ 63
-fits kept h len is (first, (J, (i, stands, calls))) room =
-    let long = history_length first J h i in let short = is (setup_in first) J stands in omega (arith, room, long, short)
+fits kept h len is stood room = let all = entries_are kept h len (len + 1) is refl stood in omega (arith, room, all)
 
 -- after a call there is room for one entry more
-pub room_for_one : (kept kept' : PlainServerState) (h : List HistoryEntry) (m : Moment) (payload reply : List ℕ) (place : ℕ) → StandsFor kept h
-    → ((s : Setup) (J : List Entry) → RepresentsJournal s J kept → ExecutesCall s J m payload reply place kept') → place < 2 ^ 60 → length h + 1 < 2 ^ 63
-room_for_one kept kept' h m payload reply place (first, (J, (i, stands, calls))) executes less =
-    let long = history_length first J h i in let at = (executes (setup_in first) J stands).place_is in omega (arith, less, long, at)
+pub room_for_one : (kept : PlainServerState) (h : List HistoryEntry) → StandsFor kept h → ((s : Setup) (T : List TaggedEntry) → RepresentsTagged s T kept → length T < 2 ^ 60) → length h + 1 < 2 ^ 63
+room_for_one kept h (first, (T, (i, stands))) few =
+    let long = stood_length kept h (first, (T, (i, stands))) in let less = few (setup_in first) T stands.represents in omega (arith, less, long)
 
--- ===== what a server stands for after a call, as a history
-
-pub stands_none : (kept kept' : PlainServerState) (h : List HistoryEntry) (m : Moment) (payload reply : List ℕ) (place : ℕ) → StandsFor kept h
-    → ((s : Setup) (J : List Entry) → RepresentsJournal s J kept → ExecutesCall s J m payload reply place kept') → AddsNone m payload reply → StandsFor kept' h
-stands_none kept kept' h m payload reply place (first, (J, (i, stands, calls))) executes none = (
-  first,
-  (
-    J,
-    (i, subst (λ (l : List Entry). RepresentsJournal (setup_in first) l kept') (ap (λ (es : List Entry). J ++ es) none ∙ append-nil J) (executes (setup_in first) J stands).stands, calls),
-  ),
-)
-
-pub stands_one : (kept kept' : PlainServerState) (h h' : List HistoryEntry) (client : ℕ) (m : Moment) (payload reply : List ℕ) (place : ℕ) → StandsFor kept h
-    → IsBytes payload → ((s : Setup) (J : List Entry) → RepresentsJournal s J kept → ExecutesCall s J m payload reply place kept') → AddsOne m payload reply
-    → h' ≡ h ++ entry_to_append client m payload reply ∷ [] → StandsFor kept' h'
-stands_one kept kept' h h' client m payload reply place (first, (J, (i, stands, calls))) bytes executes one more =
-    let x = executes (setup_in first) J stands in
-    let es : List Entry = entries_of_call m payload reply in (
-      first,
-      (
-        J ++ es,
-        (
-          subst (λ (l : List HistoryEntry). IsHistory first (J ++ es) l) (sym (more ∙ ap (λ (l : List HistoryEntry). h ++ l) (appended client m payload reply one)))
-              (history_grows first J h client (xid_in payload) es i),
-          x.stands,
-          both_of_calls (setup_in first) [] J es calls (of_call (setup_in first) J m payload reply place bytes x.place_is x.replied),
-        ),
-      ),
-    )
-
-pub some_journal : (kept : PlainServerState) (h : List HistoryEntry) → StandsFor kept h → (s : Setup) × ((J : List Entry) × RepresentsJournal s J kept)
-some_journal kept h (first, (J, (i, stands, calls))) = (setup_in first, (J, stands))
+pub some_entries : (kept : PlainServerState) (h : List HistoryEntry) → StandsFor kept h → (s : Setup) × ((T : List TaggedEntry) × RepresentsTagged s T kept)
+some_entries kept h (first, (T, (i, stands))) = (setup_in first, (T, stands.represents))
 
 -- ===== a server that was just opened
 
-pub opened_stands : (kept : PlainServerState) (first : Opening) (h : List HistoryEntry) → first.value ≡ kept → h ≡ history first [] → (s : Setup) × RepresentsJournal s [] kept → StandsFor kept h
+pub opened_stands : (kept : PlainServerState) (first : Opening) (h : List HistoryEntry) → first.value ≡ kept → h ≡ history first [] → (s : Setup) × RepresentsTagged s [] kept → StandsFor kept h
 opened_stands kept first h is h_is (s, stands) = (
   first,
   (
     [],
     (
-      record { entries = []; is = h_is; journal = refl },
+      h_is,
       record {
-        tree = ap (λ (k : PlainServerState). k.tree) (sym is);
-        cost = stands.cost;
-        count = stands.count;
-        parameters = ap (λ (k : PlainServerState). k.parameters) (sym is);
+        represents = record {
+          journal = record {
+            tree = ap (λ (k : PlainServerState). k.tree) (sym is);
+            cost = stands.journal.cost;
+            count = stands.journal.count;
+            parameters = ap (λ (k : PlainServerState). k.parameters) (sym is);
+          };
+          remembers = stands.remembers;
+        };
+        of_calls = tt;
+        have_calls = All-nil HasCall;
       },
-      tt,
     ),
   ),
 )

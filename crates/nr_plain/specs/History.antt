@@ -11,7 +11,7 @@ use Rattle.nr_reduce.specs.declared.mark.Entry.{Entry}
 use Rattle.nr_plain.specs.Added.{entries_of_call}
 use Rattle.nr_plain.specs.Replies.{plain_reply}
 use Rattle.nr_plain.specs.Setup.{Setup}
-use Rattle.nr_plain.specs.Stands.{PlainServerState, RepresentsJournal}
+use Rattle.nr_plain.specs.Stands.{PlainServerState}
 use Rattle.nr_turnstile.specs.Rule.{Begins, places_from}
 use Rattle.nr_turnstile.specs.Passes.{seen_by, mine_of}
 use Rattle.nr_turnstile.specs.declared.turnstile.Pass.{Pass}
@@ -59,10 +59,6 @@ pub record IsOfCall (s : Setup) (J : List Entry) (e : Entry) : Type 0 where
 abbrev pub AreOfCalls : Setup → (J more : List Entry) → Type 0
 AreOfCalls s J [] = ⊤
 AreOfCalls s J (e ∷ more) = IsOfCall s J e × AreOfCalls s (J ++ e ∷ []) more
-
--- A server stands for the history of a server with its setup and its journal, each entry of which is that of a call.
-abbrev pub StandsFor : PlainServerState → List HistoryEntry → Type 0
-StandsFor kept h = (first : Opening) × ((J : List Entry) × (IsHistory first J h × RepresentsJournal (setup_in first) J kept × AreOfCalls (setup_in first) [] J))
 
 -- no entry closes a place
 abbrev pub closes_none : HistoryEntry → Option ℕ

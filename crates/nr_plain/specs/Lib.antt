@@ -10,3 +10,4 @@ pub mod ReplyLaws
 pub mod private
 pub mod History
 pub mod Numbered
+pub mod Turns

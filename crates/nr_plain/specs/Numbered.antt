@@ -2,6 +2,8 @@
 -- effect once (own; RFC 1813 section 4.5 says why a server needs it).
 use Rattle.std.specs.Prelude.{◌≡◌, ◌≢◌, ⊤, ℕ, ◌+◌, ◌<◌, Bool, false, not, ◌&&◌, ◌==◌, if◌then◌else◌, List, [], ◌∷◌, ◌++◌, length, Option, None, Some, Result, Ok, Err, IsOk, All}
 use Rattle.nr_outside.specs.declared.moment.Moment.{Moment}
+use Rattle.nr_xdr.specs.Item.{IsBytes}
+use Rattle.nr_rpc.specs.Call.{CallFits, CanWriteCall}
 use Rattle.nr_rpc.specs.Reading.{call_of}
 use Rattle.nr_rpc.specs.declared.head.CallHead.{CallHead}
 use Rattle.nr_rpc.specs.declared.head.CallHead.TheVariants as calls
@@ -15,9 +17,11 @@ use Rattle.nr_plain.specs.Setup.{Parameters, Setup, State}
 use Rattle.nr_plain.specs.Programs.{only_reads}
 use Rattle.nr_plain.specs.Journal.{first_state, next_state, nfs_procedure_of}
 use Rattle.nr_plain.specs.Replies.{Answer, call_by_cred, cred_refusal, program_call, plain_reply}
+use Rattle.nr_plain.specs.ReplyLaws.{plain_server}
 use Rattle.nr_plain.specs.Stands.{PlainServerState, RepresentsJournal}
 use Rattle.nr_plain.specs.History.{AddsOne, entries_added, xid_in}
-use Rattle.nr_reduce.specs.NumberedJournal.{entries_alone}
+use Rattle.nr_reduce.specs.NumberedJournal.{Standing, IsReplyOf, entries_alone, standing_for}
+use Rattle.nr_reduce.specs.NumberedJournal.Standing.{Old, Kept, New}
 use Rattle.nr_reduce.specs.declared.mark.TaggedEntry.{TaggedEntry}
 use Rattle.nr_plain.specs.declared.fault.Fault.{Fault}
 use Rattle.nr_plain.specs.declared.fault.Fault.TheVariants as faults
@@ -43,6 +47,31 @@ kept_replies s T = kept_from s.parameters (first_state s) 0 T
 -- What a call is by a journal: kept, old or new. One of a client without a number is new.
 abbrev pub finding : Setup → List TaggedEntry → (client xid : ℕ) → Finding
 finding s T client xid = if client == 0 then NewCall else found_for (kept_replies s T) client xid
+
+-- ---- The call of an entry
+
+-- the head of the call that is made of an entry
+abbrev pub head_of_entry : (xid : ℕ) → Entry → CallHead
+head_of_entry xid e = calls.Version2 xid nfs_program nfs_version e.proc e.cred 0
+
+-- The call can be encoded: its numbers are words, and its credential is within its limits (RFC 5531 section 9).
+abbrev pub HasCall : TaggedEntry → Type 0
+HasCall t = CanWriteCall (head_of_entry t.xid t.entry) × CallFits (head_of_entry t.xid t.entry)
+
+-- So it is of each entry that a call adds whose payload is bytes.
+abbrev pub EntriesHaveCalls : Type 0
+EntriesHaveCalls = (client : ℕ) (m : Moment) (payload reply : List ℕ) → IsBytes payload → All HasCall (entries_added client m payload reply)
+
+-- ---- What a call is, as a run says it
+
+-- A call is found to be what it is by the entries of a run. If it is kept, the place is the same, and the reply is the one that its entry has in a run.
+abbrev pub FoundAs : Setup → List TaggedEntry → Standing → Finding → Type 0
+FoundAs s T (Old top) found = found ≡ OldCall top
+FoundAs s T (Kept place) found = (reply : List ℕ) × (found ≡ KeptCall place reply) × (All HasCall T → (m : Moment) × IsReplyOf (plain_server s) T place m reply)
+FoundAs s T New found = found ≡ NewCall
+
+abbrev pub FindingIsStanding : Type 0
+FindingIsStanding = (s : Setup) (T : List TaggedEntry) (client xid : ℕ) → FoundAs s T (standing_for T client xid) (finding s T client xid)
 
 -- ---- What a server makes of it
 

@@ -4,6 +4,7 @@ use Rattle.nr_xdr.specs.Item.{IsBytes}
 use Rattle.nr_header.specs.WithinLimits.{ListsWithin}
 use Rattle.nr_header.specs.declared.header.ChunkLists.{ChunkLists}
 use Rattle.nr_rpc.specs.Reading.{call_of, reply_of, target_of, xid_of_call}
+use Rattle.nr_reduce.specs.KeepsCalls.{KeepsCalls}
 use Rattle.nr_reduce.specs.KeepsReplyLimits.{xid_of_reply, KeepsReplyLimits}
 use Rattle.nr_reduce.specs.PlainJournal.{PlainServer}
 use Rattle.nr_outside.specs.declared.moment.Moment.{Moment}
@@ -70,3 +71,7 @@ plain_server s = record { Replies = λ J m payload reply. plain_reply s J (lengt
 -- It keeps what a run asks of a plain server, if the first tree is sane.
 abbrev pub ServerIsPlain : Type 0
 ServerIsPlain = (s : Setup) → IsSane s.tree → KeepsReplyLimits (plain_server s)
+
+-- It keeps so much of a call that adds an entry that the call which is made of the entry has the same reply.
+abbrev pub ServerKeepsCalls : Type 0
+ServerKeepsCalls = (s : Setup) → KeepsCalls (λ J m payload. plain_reply s J (length J) m payload) entries_of_call

@@ -1,6 +1,6 @@
 //! Laws of replies: whose they are, and how long they may be.
 
-ghost use Rattle.nr_plain.specs.ReplyLaws.{RepliesBeginWithTheXid, PlacedRepliesBeginWithTheXid, CallsAloneHaveReplies, RepliesAreWithinTheirLimit, ChangesAreShort, ChangesFitEveryOffer, PlacedChangesFitEveryOffer, AutoOffersHoldTheirReplies, ServerIsPlain};
+ghost use Rattle.nr_plain.specs.ReplyLaws.{RepliesBeginWithTheXid, PlacedRepliesBeginWithTheXid, CallsAloneHaveReplies, RepliesAreWithinTheirLimit, ChangesAreShort, ChangesFitEveryOffer, PlacedChangesFitEveryOffer, AutoOffersHoldTheirReplies, ServerIsPlain, ServerKeepsCalls};
 
 /// A reply begins with a reply head whose xid is that of its call (RFC 5531 section 9), and there is one if and only if
 /// the payload begins with a call head.
@@ -33,4 +33,9 @@ pub fn auto_offers_hold_their_replies()
 /// A server that was opened with a sane tree keeps all that a run asks of a plain server.
 pub fn server_is_plain()
     ensures { ServerIsPlain }
+{}
+
+/// The call that is made of an entry has the reply of the call that added it.
+pub fn server_keeps_calls()
+    ensures { ServerKeepsCalls }
 {}

@@ -7,7 +7,7 @@ ghost use Rattle.nr_rpc.specs.Reading.{call_of, head_xid};
 ghost use Rattle.nr_plain.specs.Setup.{Setup};
 ghost use Rattle.nr_plain.specs.History.{xid_in};
 ghost use Rattle.nr_rpc.specs.declared.head.CallHead.{CallHead};
-ghost use Rattle.nr_plain.specs.Numbered.{AnswersFor, ChangesOnce, FirstRepliesAreKept, IsNumberedCause, IsSameButRoom, LeavesServer, RepresentsTagged, is_changing, may_change, may_change_by};
+ghost use Rattle.nr_plain.specs.Numbered.{AnswersFor, ChangesOnce, EntriesHaveCalls, FindingIsStanding, FirstRepliesAreKept, IsNumberedCause, IsSameButRoom, LeavesServer, RepresentsTagged, is_changing, may_change, may_change_by};
 ghost use Rattle.nr_plain.specs.Journal.{nfs_procedure_of};
 ghost use Rattle.nr_plain.specs.ReplySizes.{any_reply_max};
 ghost use Rattle.nr_plain.specs.Stands.{IsCause};
@@ -176,4 +176,11 @@ pub fn changes_once()
 /// A kept call gets the place and the reply that its change got.
 pub fn first_replies_are_kept()
     ensures { FirstRepliesAreKept }
+{}
+
+/// What a call is found to be is what it is by the entries of a run, and the reply of a kept call is the one that its
+/// entry has in a run, since the calls of all entries can be encoded.
+pub fn finding_is_standing()
+    ensures standing { FindingIsStanding }
+    ensures calls { EntriesHaveCalls }
 {}

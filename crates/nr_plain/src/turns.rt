@@ -4,7 +4,9 @@ ghost use Rattle.std.specs.Prelude.{◌≡◌, ◌+◌, ◌<◌, ◌≤◌, ◌^
 ghost use Rattle.nr_reduce.specs.declared.mark.Entry.{Entry};
 ghost use Rattle.nr_rpc.specs.Reading.{call_of};
 ghost use Rattle.nr_plain.specs.Setup.{Setup};
-ghost use Rattle.nr_plain.specs.Stands.{RepresentsJournal, IsCause};
+ghost use Rattle.nr_plain.specs.Stands.{IsCause};
+ghost use Rattle.nr_plain.specs.Numbered.{RepresentsTagged};
+ghost use Rattle.nr_plain.specs.Turns.{Answers, IsCauseFor};
 ghost use Rattle.nr_turnstile.specs.Passes.{Rests, MayStep, Steps, seen_by};
 ghost use Rattle.nr_turnstile.specs.Turns.{pass_of, Has, IsSameTurn};
 ghost use Rattle.nr_plain.specs.History.{Opening, Executes, IsOpenedBy, IsHistory, OnlyOthersAdded, closes_none, entry_to_append, history, pass_view};
@@ -19,6 +21,9 @@ use std::alloc::{AllocError, Global};
 use std::marker::{Brand, PhantomData};
 use std::snapshot::Snapshot;
 use std::sync::Wait;
+
+/// The number of a client that has none.
+const NO_CLIENT: u64 = 0;
 
 /// The history of a server that was just opened, for the proof.
 pub trait First {
@@ -67,7 +72,7 @@ impl<K: Appended> EntryName<HistoryEntry> for EntryOfCall<K> {
 ///
 /// If memory ran out. The server is dropped.
 pub fn share(alloc: Global, server: Server) -> Result<(Turnstile<Server>, Pass<Server>), AllocError>
-    requires { (s : Setup) × RepresentsJournal s [] server }
+    requires { (s : Setup) × RepresentsTagged s [] server }
     ensures { IfOk result (λ t. Rests t.0 t.1 × IsOpenedBy server (pass_view t.1)) }
 {
     let first = Snapshot::of(&server);
@@ -81,14 +86,13 @@ fn put_in<K: First>(
 ) -> Result<(Turnstile<Server>, Pass<Server>), AllocError>
     requires first { K.first ≡ history _first.now [] }
     requires is { _first.now.value ≡ server }
-    requires stands { (s : Setup) × RepresentsJournal s [] server }
+    requires stands { (s : Setup) × RepresentsTagged s [] server }
     ensures { IfOk result (λ t. Rests t.0 t.1 × IsOpenedBy server (pass_view t.1)) }
 {
     Turnstile::new::<Opened<K>>(alloc, server)
 }
 
-/// Executes a call under one turn. `client` is the number of the client that sent it, 0 if it has none: the entry of
-/// the history has it, with the call's xid. Nothing else depends on it.
+/// Executes a call of a client without a number under one turn.
 ///
 /// # Errors
 ///
@@ -99,21 +103,48 @@ pub fn execute<R: Wait>(
     alloc: Global,
     shared: &Turnstile<Server>,
     pass: &mut Pass<Server>,
+    now: Moment,
+    payload: &[u8],
+) -> Result<Reply, Fault>
+    requires { Rests shared.now pass.old }
+    ensures rests { Rests shared.now pass.new }
+    ensures executed { IfOk result (λ r. Executes (pass_view pass.old) (pass_view pass.new) 0 now payload.now r.payload r.place) }
+    ensures call { IfOk result (λ _. IsOk (call_of payload.now)) }
+    ensures cause { IfErr result (λ e. IsCause e (call_of payload.now)) }
+    ensures limit { IfOk result (λ r. length r.payload ≤ any_reply_max) }
+    ensures err { OnErr result (OnlyOthersAdded (pass_view pass.old) (pass_view pass.new)) }
+{
+    execute_for(rt, alloc, shared, pass, NO_CLIENT, now, payload)
+}
+
+/// Answers a call of the client with this number, 0 if it has none, under one turn, as [`Server::execute_for`] does. The
+/// entry of the history has the number, with the call's xid.
+///
+/// # Errors
+///
+/// [`Fault::NotCall`] only if the payload has no call head, with the offset of the first item that fails;
+/// [`Fault::Old`] only if it has one whose xid is 64 or more below the largest one of the client's changes by that turn;
+/// [`Fault::Memory`]. Nothing is added to the history.
+pub fn execute_for<R: Wait>(
+    rt: &R,
+    alloc: Global,
+    shared: &Turnstile<Server>,
+    pass: &mut Pass<Server>,
     client: u64,
     now: Moment,
     payload: &[u8],
 ) -> Result<Reply, Fault>
     requires { Rests shared.now pass.old }
     ensures rests { Rests shared.now pass.new }
-    ensures executed { IfOk result (λ r. Executes (pass_view pass.old) (pass_view pass.new) client now payload.now r.payload r.place) }
+    ensures answered { IfOk result (λ r. Answers (pass_view pass.old) (pass_view pass.new) client now payload.now r.payload r.place) }
     ensures call { IfOk result (λ _. IsOk (call_of payload.now)) }
-    ensures cause { IfErr result (λ e. IsCause e (call_of payload.now)) }
+    ensures cause { IfErr result (λ e. IsCauseFor (pass_view pass.old) (pass_view pass.new) client payload.now e) }
     ensures limit { IfOk result (λ r. length r.payload ≤ any_reply_max) }
     ensures err { OnErr result (OnlyOthersAdded (pass_view pass.old) (pass_view pass.new)) }
 {
     let mut turn = shared.take_turn(rt, pass);
     let value = turn.value();
-    let (reply, adds) = match value.execute_once(alloc, now, payload) {
+    let (reply, adds) = match value.execute_once(alloc, client, now, payload) {
         Ok(both) => both,
         Err(fault) => {
             turn.put_back();

@@ -13,9 +13,6 @@ use nr_xdr::Octets;
 use std::alloc::Global;
 use std::sync::Wait;
 
-/// The number of the client at the other end: none is told over TCP with record marks.
-const NO_CLIENT: u64 = 0;
-
 /// The shared server, with the pass and the clock of a connection.
 #[derive(Drop)]
 pub(crate) struct PlainCalls<'a, C, R> {
@@ -35,15 +32,7 @@ impl<'a, C: Clock, R: Wait> Answers for PlainCalls<'a, C, R> {
     /// Executes the call at the clock's moment, under one turn, and holds no turn then.
     fn reply(&mut self, alloc: Global, call: &[u8]) -> Result<Octets, NoReply> {
         let moment = self.clock.now();
-        match execute(
-            self.rt,
-            alloc,
-            self.shared,
-            self.pass,
-            NO_CLIENT,
-            moment,
-            call,
-        ) {
+        match execute(self.rt, alloc, self.shared, self.pass, moment, call) {
             Ok(reply) => Ok(reply.payload),
             Err(Fault::NotCall { .. }) => Err(NoReply::NotCall),
             Err(Fault::Memory) => Err(NoReply::Memory),

@@ -37,6 +37,7 @@ pub mod Asked
 pub mod OutcomesDue
 pub mod Reopening
 pub mod NumberedJournal
+pub mod KeepsCalls
 pub mod Served
 pub mod Opening
 pub mod Journal

@@ -15,7 +15,7 @@ use Rattle.nr_link.specs.declared.end.End.TheVariants as ends
 use Rattle.nr_link.specs.Frames.{Frame, is_hello}
 use Rattle.nr_link.specs.Output.{terminate_message}
 use Rattle.nr_link.specs.Ending.{frame_end_by, hello_end, final_output, rejection}
-use Rattle.nr_endpoint.specs.Hellos.{own_private, side_agreement, received_max, receive_length_for}
+use Rattle.nr_endpoint.specs.Hellos.{own_private, side_agreement, received_max, client_heard, receive_length_for}
 use Rattle.nr_endpoint.specs.LinkState.{LinkState}
 use Rattle.nr_endpoint.specs.SendQueue.{writable, with_hello as queue_hello, with_end}
 use Rattle.nr_endpoint.specs.Judging.{with_frame, with_peer_hello, with_end_of, with_agreement, after_frame, next_frame, reply_hello}
@@ -65,9 +65,9 @@ kept_as : (opened : LinkParameters) (r : RequesterState) (f : Frame) (own privat
 unfolding kept_greeted
 kept_as opened r f own private agrees = λ i. record (kept_client r) { up_max = (sym agrees i).up; down_max = (sym agrees i).down; invalidates = (sym agrees i).invalidates }
 
-link_greeted : (opened : LinkParameters) (s : LinkState) (k : ClientState) (f : Frame) (private : List ℕ) (agreed : Agreement) (most : ℕ) → most ≡ (client_agreement opened f).down → most ≤ receive_length_for opened.client → LinkKeeps opened s k → 0 < f.end → k.has_hello ≡ false →
-    LinkKeeps opened (after_frame f (record s { has_hello = true; send_queue = queue_hello [] s.send_queue; private = private; agreed = agreed; message_max = most })) (with_hello opened k f)
-link_greeted opened s k f private agreed most is le keeps some none =
+link_greeted : (opened : LinkParameters) (s : LinkState) (k : ClientState) (f : Frame) (private : List ℕ) (agreed : Agreement) (most number : ℕ) → most ≡ (client_agreement opened f).down → most ≤ receive_length_for opened.client → LinkKeeps opened s k → 0 < f.end → k.has_hello ≡ false →
+    LinkKeeps opened (after_frame f (record s { has_hello = true; send_queue = queue_hello [] s.send_queue; private = private; agreed = agreed; message_max = most; client = number })) (with_hello opened k f)
+link_greeted opened s k f private agreed most number is le keeps some none =
     let same : sends_ends k.has_hello opened k ≡ k.send_ends ++ call_ends opened k.due 1 k.outstanding =
     ap (λ (b : Bool). sends_ends b opened k) none ∙ ap (λ (xs : List ℕ). xs ++ call_ends opened k.due 1 k.outstanding) (sym (keeps.none_due none)) in
     let hello : s.send_queue.hello ≡ s.send_queue.hello ++ [] = sym (append-nil s.send_queue.hello) in
@@ -141,6 +141,7 @@ hello_taken opened r k count frame keeps lt first = by (hello_of Responder frame
         let own : List ℕ = own_private r.side.terms r.side.side hello.private in
         let agreed : Agreement = side_agreement r.side.side own hello.private in
         let most : ℕ = received_max r.side.side agreed in
+        let number : ℕ = client_heard r.side.terms r.side.side hello.private in
         let after : RequesterState = record r { side = after_frame f (with_agreement own hello.private r.side) } in
         let none : reply_hello r.side.side own ≡ [] = ap (λ (side : Side). reply_hello side own) link.side in
         let agrees : agreed ≡ client_agreement opened f = agrees_as opened r.side f hello.private link.side link.terms (said_private Responder frame hello e) in
@@ -156,8 +157,8 @@ hello_taken opened r k count frame keeps lt first = by (hello_of Responder frame
         taken_live opened r k count f after keeps (end_is (Ok hello) e)
         (subst (λ (x : EndState ClientState). ClientKeeps opened (kept_client after) x f.end) next_is greeted)
         (subst (λ (x : ClientState). LinkKeeps opened after.side x) (sym state_is)
-        (subst (λ (bytes : List ℕ). LinkKeeps opened (after_frame f (record r.side { has_hello = true; send_queue = queue_hello bytes r.side.send_queue; private = own; agreed = agreed; message_max = most })) (with_hello opened k f)) (sym none)
-        (link_greeted opened r.side k f own agreed most most_is most_fits link (omega (arith, lt)) no_hello)))
+        (subst (λ (bytes : List ℕ). LinkKeeps opened (after_frame f (record r.side { has_hello = true; send_queue = queue_hello bytes r.side.send_queue; private = own; agreed = agreed; message_max = most; client = number })) (with_hello opened k f)) (sym none)
+        (link_greeted opened r.side k f own agreed most number most_is most_fits link (omega (arith, lt)) no_hello)))
         refl refl refl
         ((λ i. (r.side.send_queue.hello ++ none i) ++ link.waiting no_hello i)
         ∙ (λ i. writable (sym (link.has_hello ∙ no_hello) i) r.side.send_queue ++ sym output_is i)) refl

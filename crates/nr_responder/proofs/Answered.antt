@@ -34,6 +34,7 @@ use Rattle.nr_responder.specs.Keeping.{IsReadyOf, HasPayload, ArePayloads, Begin
 use Rattle.nr_responder.specs.Keeping.Begins.{BeforeHello, AfterHello}
 use Rattle.nr_responder.specs.Standing.{RepresentsServer, ResponderRepresents}
 use Rattle.nr_responder.specs.declared.call.Sent.{Sent}
+use Rattle.nr_responder.specs.Heard.{Hears}
 use Rattle.nr_responder.specs.Steps.{GoesOn}
 use Rattle.nr_responder.specs.declared.call.Pending.{Pending}
 use Rattle.nr_responder.specs.Views.{call_view}
@@ -168,7 +169,7 @@ first_payload calls r ready (p ∷ payloads) h = record { first = p; is_first = 
 
 -- ---- What it keeps then
 
-not_zero : (n : ℕ) → (n ≡ 0 → ⊥) → 0 < n
+pub not_zero : (n : ℕ) → (n ≡ 0 → ⊥) → 0 < n
 not_zero zero no_zero = absurd (no_zero refl)
 not_zero (suc n) no_zero = omega arith
 
@@ -231,6 +232,7 @@ answered_goes opened end so_far v after e r sent is h next xid payload a =
           ap queue same
           ∙ answered_queue named k.messages_queued writes message v.link.state.send_queue h.link.queue.sends
           ∙ ap (λ (bytes : List ℕ). queue v ++ bytes) (sym due ∙ sym (executed_due opened k e end.ended is) ∙ sym (append-nil (output_for_in (server_rules opened) k (CallExecuted e) end.ended)));
+      heard = λ lives. subst (λ (w : ResponderSide). Hears v.link.state (CallExecuted e ∷ []) w.link.state) (sym same) (record { last = refl; client = refl });
     }
 
 -- how long a Send of a responder may be

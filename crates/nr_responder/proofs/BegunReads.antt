@@ -246,6 +246,8 @@ started_input number read chunks old new sinks later before after b = record {
   place = ap (λ (l : LinkSide). l.state.place) b.link;
   awaited = ap (λ (l : LinkSide). l.awaited) b.link;
   rest = inl (ap (λ (l : LinkSide). l.rest) b.link);
+  last = ap (λ (l : LinkSide). l.state.last) b.link;
+  client = ap (λ (l : LinkSide). l.state.client) b.link;
 }
 
 pub started_sound : (number : ℕ) (read : List ReadSegment) (chunks : List ℕ) (old new : List ReadEntry) (sinks after_sinks : List OpenSink) (before after : LinkSide) (calls later : List Pending) (one : Pending) (ready : List Ready) (used : List (List ℕ)) (a b c a2 : ℕ) →

@@ -106,7 +106,7 @@ drained_stands opened link run v n within (inl h) =
     let most : n ≤ output_len v.link.state.send_queue = omega (arith, within, may_within v.link.state.has_hello v.link.state.send_queue) in
     inl (wrote_represents opened link run v (after_drain v n) (take n (may_write v)) h (split_queue v.link.state.has_hello n v.link.state.send_queue within)
     (subst (λ (m : ℕ). KeepsEnd opened (end_state_after (server_rules opened) h.end (QueueWritten m ∷ [])) h.input (after_drain v n)) count (keeps_drained opened h.end h.input v n most h.keeps))
-    (live_silent opened h.end.state (length (take n (may_write v))) h.end.ended))
+    (live_silent opened h.end.state (length (take n (may_write v))) h.end.ended) (record { last = refl; client = refl }))
 drained_stands opened link run v n within (inr out) =
     inr (stays_out opened link run v (after_drain v n) (marks.Wrote link Responder (take n (may_write v))) out refl (record { calls = refl; ready = refl; credits = refl }) refl
     (ap (λ (bytes : List ℕ). bytes ++ queue (after_drain v n)) (own_bytes link (take n (may_write v))) ∙ split_queue v.link.state.has_hello n v.link.state.send_queue within))

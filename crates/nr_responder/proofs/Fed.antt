@@ -31,7 +31,9 @@ use Rattle.nr_responder.specs.Steps.{received_events, GoesOn, FedOn}
 use Rattle.nr_responder.specs.private.Handling.{IsServerOf, IsHandled, on_link}
 use Rattle.nr_responder.proofs.Pieces.{fed_parts, IsOneFrame, IsNoFrame, whole_piece, partial_piece}
 use Rattle.nr_responder.proofs.FrameCounts.{frame_counts}
+use Rattle.nr_responder.specs.Heard.{Hears, SameHeard}
 use Rattle.nr_responder.proofs.Frames.{behind, TakesFrame, ended_takes}
+use Rattle.nr_responder.proofs.Heard.{frame_heard, same_hears}
 use Rattle.nr_responder.proofs.Steps.{frame_takes, link_behind}
 use Rattle.nr_responder.proofs.Words.{word_is}
 
@@ -68,18 +70,21 @@ abbrev pub input_in : LinkSide → InputState
 input_in l = record { awaited = l.awaited; rest = l.rest; place = l.state.place }
 
 -- what the frames of an input bring
-no_frame_lem : (opened : LinkParameters) (end : EndState ServerState) (so_far : InputState) (v after : ResponderSide) (x : List ℕ) → IsNoFrame so_far x → KeepsEnd opened end (input_after so_far x) after → queue after ≡ queue v →
+no_frame_lem : (opened : LinkParameters) (end : EndState ServerState) (so_far : InputState) (v after : ResponderSide) (x : List ℕ) → IsNoFrame so_far x → KeepsEnd opened end (input_after so_far x) after → queue after ≡ queue v → SameHeard v.link after.link →
     GoesOn opened end so_far v (received_events so_far x) (input_after so_far x) after
-no_frame_lem opened end so_far v after x none keeps same =
+no_frame_lem opened end so_far v after x none keeps same heard =
     let events : received_events so_far x ≡ [] = ap (map FrameReceived) none.frames in
     record {
       keeps = subst (λ (es : List RunEvent). KeepsEnd opened (end_state_after (server_rules opened) end es) (input_after so_far x) after) (sym events) keeps;
       output = same ∙ sym (append-nil (queue v)) ∙ ap (λ (es : List RunEvent). queue v ++ output_for_all (server_rules opened) end es) (sym events);
+      heard = λ live. subst (λ (es : List RunEvent). Hears v.link.state es after.link.state) (sym events) (record { last = heard.last; client = heard.client });
     }
 
 one_frame_lem : (opened : LinkParameters) (end : EndState ServerState) (so_far : InputState) (v after : ResponderSide) (x frame : List ℕ) → IsOneFrame so_far x frame → end.ended ≡ None → v.link.state.place ≡ so_far.place →
-    TakesFrame opened end.state (behind so_far frame) (next_frame v.link.state frame) v after → GoesOn opened end so_far v (received_events so_far x) (input_after so_far x) after
-one_frame_lem opened end so_far v after x frame one is place takes =
+    TakesFrame opened end.state (behind so_far frame) (next_frame v.link.state frame) v after →
+    ((next_end_state (server_rules opened) (live end.state) (FrameReceived (next_frame v.link.state frame))).ended ≡ None → Hears v.link.state (FrameReceived (next_frame v.link.state frame) ∷ []) after.link.state) →
+    GoesOn opened end so_far v (received_events so_far x) (input_after so_far x) after
+one_frame_lem opened end so_far v after x frame one is place takes heard =
     let f = next_frame v.link.state frame in
     let same_end : end ≡ live end.state = λ i. record { state = end.state; ended = is i } in
     let events : received_events so_far x ≡ FrameReceived f ∷ [] =
@@ -93,6 +98,7 @@ one_frame_lem opened end so_far v after x frame one is place takes =
           subst (λ (e : EndState ServerState). KeepsEnd opened e (input_after so_far x) after) (sym state)
           (subst (λ (i : InputState). KeepsEnd opened (next_end_state (server_rules opened) (live end.state) (FrameReceived f)) i after) (sym one.after) takes.keeps);
       output = takes.output ∙ ap (λ (bytes : List ℕ). queue v ++ bytes) (sym due);
+      heard = λ lives. subst (λ (es : List RunEvent). Hears v.link.state es after.link.state) (sym events) (heard (ap (λ (e : EndState ServerState). e.ended) (sym state) ∙ lives));
     }
 
 -- a responder that has ended doesn't stand for a server that hasn't
@@ -118,8 +124,8 @@ step_next l m piece (WholeFrame frame w frame_is long is) = ap (λ (x : LinkSide
 
 -- a step that doesn't end the side
 pub step_goes : (v after : ResponderSide) (piece : List ℕ) (m : LinkSide) → end_of v ≡ None → IsPartial v.link.awaited v.link.rest → StepOf v.link piece m → m.state.ended ≡ None → v.credits.word ≡ present_word v →
-    ((k : ServerState) → IsServerOf k (on_link v m) → IsHandled k (on_link v m) after) → FedOn v (take (bytes_taken v.link.awaited v.link.rest piece) piece) after
-step_goes v after piece m live_now p step lives word handled opened end so_far keeps =
+    ((k : ServerState) → IsServerOf k (on_link v m) → IsHandled k (on_link v m) after) → SameHeard m after.link → FedOn v (take (bytes_taken v.link.awaited v.link.rest piece) piece) after
+step_goes v after piece m live_now p step lives word handled heard opened end so_far keeps =
     let x : List ℕ = take (bytes_taken v.link.awaited v.link.rest piece) piece in
     let both : (end.ended ≡ None) × Keeps opened end.state so_far v = not_ended_lem opened end so_far v live_now keeps in
     let h : Keeps opened end.state so_far v = both.1 in
@@ -154,7 +160,7 @@ step_goes v after piece m live_now p step lives word handled opened end so_far k
         let value : after ≡ on_link v (record { awaited = v.link.awaited; rest = v.link.rest ++ piece; state = v.link.state }) = unchanged ∙ ap (λ (l : LinkSide). on_link v l) link in
         no_frame_lem opened end (input_in v.link) v after part pp
         (inl (is, subst (λ (w : ResponderSide). Keeps opened end.state (input_after (input_in v.link) part) w) (sym value) (subst (λ (i : InputState). Keeps opened end.state i (on_link v (record { awaited = v.link.awaited; rest = v.link.rest ++ piece; state = v.link.state }))) (sym input) still)))
-        (ap queue value)
+        (ap queue value) (subst (λ (w : ResponderSide). SameHeard v.link w.link) (sym value) (record { last = refl; client = refl }))
     by opened end is h handled (WholeFrame frame w frame_is long link) =
         let one = whole_piece (input_in v.link) piece p w in
         let one_now : IsOneFrame (input_in v.link) (take (bytes_taken v.link.awaited v.link.rest piece) piece) frame = subst (λ (xs : List ℕ). IsOneFrame (input_in v.link) (take (bytes_taken v.link.awaited v.link.rest piece) piece) xs) (sym frame_is) one in
@@ -162,6 +168,8 @@ step_goes v after piece m live_now p step lives word handled opened end so_far k
         let handled_on : IsHandled end.state (on_link v (link_behind v.link frame)) after = subst (λ (l : LinkSide). IsHandled end.state (on_link v l) after) link handled in
         one_frame_lem opened end (input_in v.link) v after (take (bytes_taken v.link.awaited v.link.rest piece) piece) frame one_now is refl
         (frame_takes opened end.state (input_in v.link) v after frame h long lives_on handled_on)
+        (λ _. same_hears v.link.state (FrameReceived (next_frame v.link.state frame) ∷ []) m after.link heard
+        (subst (λ (l : LinkSide). Hears v.link.state (FrameReceived (next_frame v.link.state frame) ∷ []) l.state) (sym link) (frame_heard v.link frame h.begins h.link.side lives_on)))
 
 -- ---- A step that ends it
 
@@ -178,6 +186,10 @@ ended_events opened end es (Some why) is some =
     let all = ended_all_lem opened end.state why es in
     (ap (λ (e : EndState ServerState). end_state_after (server_rules opened) e es) same ∙ all.0 ∙ sym same, ap (λ (e : EndState ServerState). output_for_all (server_rules opened) e es) same ∙ all.1)
 
+pub ended_lives : (o : Option End) → o ≡ None → is_some o ≡ true → ⊥
+ended_lives None is over = absurd cc
+ended_lives (Some end) is over = absurd cc
+
 -- bytes that come after the end of a side change nothing
 pub ended_fed_lem : (v : ResponderSide) (piece : List ℕ) → is_some (end_of v) ≡ true → FedOn v piece v
 ended_fed_lem v piece over opened end so_far (inl (is, h)) =
@@ -187,7 +199,13 @@ ended_fed_lem v piece over opened end so_far (inr ended) =
     record {
       keeps = subst (λ (e : EndState ServerState). KeepsEnd opened e (input_after so_far piece) v) (sym all.0) (inr ended);
       output = sym (append-nil (queue v)) ∙ ap (λ (bytes : List ℕ). queue v ++ bytes) (sym all.1);
+      heard = λ lives. absurd (ended_lives end.ended (ap (λ (e : EndState ServerState). e.ended) (sym all.0) ∙ lives) ended.over);
     }
+
+-- a side that has ended keeps no server that hasn't
+still_over : (opened : LinkParameters) (end : EndState ServerState) (so_far : InputState) (v : ResponderSide) (why : End) → end_of v ≡ Some why → end.ended ≡ None → KeepsEnd opened end so_far v → ⊥
+still_over opened end so_far v why over lives (inl h) = ended_lives (end_of v) h.1.link.live (ap (λ (o : Option End). is_some o) over)
+still_over opened end so_far v why over lives (inr ended) = ended_lives end.ended lives ended.over
 
 pub ended_step : (v : ResponderSide) (piece : List ℕ) (m : LinkSide) (why : End) → end_of v ≡ None → IsPartial v.link.awaited v.link.rest → StepOf v.link piece m → m.state.ended ≡ Some why →
     FedOn v (take (bytes_taken v.link.awaited v.link.rest piece) piece) (on_link v m)
@@ -206,9 +224,13 @@ ended_step v piece m why live_now p step ended opened end so_far keeps =
         let one = whole_piece (input_in v.link) piece p w in
         let one_now : IsOneFrame (input_in v.link) (take (bytes_taken v.link.awaited v.link.rest piece) piece) frame = subst (λ (xs : List ℕ). IsOneFrame (input_in v.link) (take (bytes_taken v.link.awaited v.link.rest piece) piece) xs) (sym frame_is) one in
         let ended_now : (with_frame v.link.state v.link.awaited frame).ended ≡ Some why = sym (ap (λ (l : LinkSide). l.state.ended) link) ∙ ended in
+        let server_over : (e : EndState ServerState) → e.ended ≡ None → KeepsEnd opened e (behind (input_in v.link) frame) (on_link v (link_behind v.link frame)) → ⊥ =
+        λ e lives keeps. still_over opened e (behind (input_in v.link) frame) (on_link v (link_behind v.link frame)) why ended_now lives keeps in
+        let takes : TakesFrame opened end.state (behind (input_in v.link) frame) (next_frame v.link.state frame) v (on_link v (link_behind v.link frame)) =
+        ended_takes opened end.state (input_in v.link) (behind (input_in v.link) frame) v frame why h long ended_now in
         one_frame_lem opened end (input_in v.link) v (on_link v m) (take (bytes_taken v.link.awaited v.link.rest piece) piece) frame one_now is refl
         (subst (λ (l : LinkSide). TakesFrame opened end.state (behind (input_in v.link) frame) (next_frame v.link.state frame) v (on_link v l)) (sym link)
-        (ended_takes opened end.state (input_in v.link) (behind (input_in v.link) frame) v frame why h long ended_now))
+        takes) (λ lives. absurd (server_over (next_end_state (server_rules opened) (live end.state) (FrameReceived (next_frame v.link.state frame))) lives takes.keeps))
 
 -- then all of the piece is taken
 pub ended_goes : (v : ResponderSide) (piece : List ℕ) (m : LinkSide) (why : End) → end_of v ≡ None → IsPartial v.link.awaited v.link.rest → StepOf v.link piece m → m.state.ended ≡ Some why → FedOn v piece (on_link v m)
@@ -230,5 +252,5 @@ empty_fed v p opened end so_far (inl (is, h)) =
         let w : is_whole v.link.awaited (v.link.rest ++ []) ≡ false = subst (λ (xs : List ℕ). is_whole v.link.awaited xs ≡ false) (sym (append-nil v.link.rest)) (partial_not_whole v.link.awaited v.link.rest p) in
         let none : IsNoFrame i [] = subst (λ (xs : List ℕ). IsNoFrame i xs) (take-nil (bytes_taken v.link.awaited v.link.rest [])) (partial_piece i [] w) in
         let still : input_after i [] ≡ i = none.after ∙ ap (λ (xs : List ℕ). record { awaited = v.link.awaited; rest = xs; place = v.link.state.place }) (append-nil v.link.rest) in
-        no_frame_lem opened end i v v [] none (subst (λ (j : InputState). KeepsEnd opened end j v) (sym still) (inl (is, own))) refl
+        no_frame_lem opened end i v v [] none (subst (λ (j : InputState). KeepsEnd opened end j v) (sym still) (inl (is, own))) refl (record { last = refl; client = refl })
 empty_fed v p opened end so_far (inr ended) = ended_fed_lem v [] (ap (λ (o : Option End). is_some o) ended.why ∙ ended.over) opened end so_far (inr ended)

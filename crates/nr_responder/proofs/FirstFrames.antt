@@ -12,6 +12,7 @@ use Rattle.nr_endpoint.specs.SendQueue.{output_len}
 use Rattle.nr_endpoint.specs.Calls.{after_call, makes_whole, QueuesOutput}
 use Rattle.nr_endpoint.specs.Calls.Call.{FeedOne, OutOfMemory}
 use Rattle.nr_endpoint.proofs.StagedFrames.{taken_whole, whole_as_staged}
+use Rattle.nr_responder.specs.Heard.{SameHeard}
 use Rattle.nr_responder.specs.ResponderState.{ResponderSide, end_of, present_word}
 use Rattle.nr_responder.specs.Steps.{Fed}
 use Rattle.nr_responder.specs.Steps.Fed.{WentOn}
@@ -76,12 +77,12 @@ either_way (Some end) n m is = refl
 
 -- ---- What it makes of a responder
 
-pub first_done : (v after : ResponderSide) (piece : List ℕ) (m : LinkSide) → end_of v ≡ None → IsPartial v.link.awaited v.link.rest → m ≡ after_call v.link (FeedOne piece) → m.state.ended ≡ None → v.credits.word ≡ present_word v → IsTaken (on_link v m) after → Fed v (first_bytes v.link piece) after
-first_done v after piece m live p is lives word taken =
+pub first_done : (v after : ResponderSide) (piece : List ℕ) (m : LinkSide) → end_of v ≡ None → IsPartial v.link.awaited v.link.rest → m ≡ after_call v.link (FeedOne piece) → m.state.ended ≡ None → v.credits.word ≡ present_word v → IsTaken (on_link v m) after → SameHeard m after.link → Fed v (first_bytes v.link piece) after
+first_done v after piece m live p is lives word taken heard =
     let x : List ℕ = first_bytes v.link piece in
     subst (λ (bytes : List ℕ). Fed v bytes after)
     (ap (λ (n : ℕ). take n x) (either_way (end_of after) (length x) (bytes_taken v.link.awaited v.link.rest x) (taken_again v.link piece p)) ∙ take_all (length x) x (omega arith))
-    (step_done_by v after x m live p (step_cut v.link m piece p (step_of v.link m piece p live is)) lives word taken)
+    (step_done_by v after x m live p (step_cut v.link m piece p (step_of v.link m piece p live is)) lives word taken heard)
 
 feed_cut : (l : LinkSide) (piece : List ℕ) → IsPartial l.awaited l.rest → l.state.ended ≡ None → is_whole l.awaited (l.rest ++ piece) ≡ true → after_call l (FeedOne (first_bytes l piece)) ≡ after_call l (FeedOne piece)
 feed_cut l piece p live w = by (step_of l (after_call l (FeedOne (first_bytes l piece))) (first_bytes l piece) p live refl) (step_of l (after_call l (FeedOne piece)) piece p live refl)

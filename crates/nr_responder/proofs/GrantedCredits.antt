@@ -51,14 +51,14 @@ keeps_end_as opened end so_far v c same (inr ended) =
     inr (record { over = ended.over; why = ended.why; calls = ended.calls; ready = ended.ready; credits = same ∙ ended.credits; agreed = ended.agreed; sendable = ended.sendable })
 
 pub represents_as : (opened : LinkParameters) (link : ℕ) (run : List Mark) (v : ResponderSide) (c : Credits) → grant c ≡ grant v.credits → ResponderRepresents opened link run v → ResponderRepresents opened link run (with_credits c v)
-represents_as opened link run v c same (inl h) = inl (record { end = h.end; input = h.input; stands = h.stands; keeps = keeps_end_as opened h.end h.input v c same h.keeps })
+represents_as opened link run v c same (inl h) = inl (record { end = h.end; input = h.input; stands = h.stands; keeps = keeps_end_as opened h.end h.input v c same h.keeps; heard = h.heard })
 represents_as opened link run v c same (inr h) =
     inr (record { output = h.output; stopped = h.stopped; received = h.received; live = h.live; queued = h.queued; calls = h.calls; ready = h.ready; credits = same ∙ h.credits; agreed = h.agreed })
 
 fed_as : (v after : ResponderSide) (piece : List ℕ) (c : Credits) → grant c ≡ grant v.credits → FedOn (with_credits c v) piece after → FedOn v piece after
 fed_as v after piece c same fed opened end so_far keeps =
     let g = fed opened end so_far (keeps_end_as opened end so_far v c same keeps) in
-    record { keeps = g.keeps; output = g.output }
+    record { keeps = g.keeps; output = g.output; heard = g.heard }
 
 -- a piece makes of it the same
 pub taken_as : (v after : ResponderSide) (piece : List ℕ) (c : Credits) → grant c ≡ grant v.credits → Fed (with_credits c v) piece after → Fed v piece after
@@ -160,6 +160,7 @@ granted_goes : (opened : LinkParameters) (end : EndState ServerState) (so_far : 
 granted_goes opened end so_far v credits is h = record {
   keeps = subst (λ (e : EndState ServerState). KeepsEnd opened e so_far (with_granted credits v)) (sym (told_lives opened end.state credits end.ended is)) (inl (refl, granted_keeps opened end.state so_far v credits h));
   output = sym (append-nil (queue v)) ∙ ap (λ (bytes : List ℕ). queue v ++ bytes) (sym (append-nil (output_for_in (server_rules opened) end.state (ServerTold (Granted credits)) end.ended) ∙ told_silent opened end.state credits end.ended is));
+  heard = λ lives. record { last = refl; client = refl };
 }
 
 -- a side that has ended stays as it is
@@ -171,6 +172,7 @@ ended_told opened end so_far v what over (inr ended) =
     record {
       keeps = subst (λ (e : EndState ServerState). KeepsEnd opened e so_far v) (sym all.0) (inr ended);
       output = sym (append-nil (queue v)) ∙ ap (λ (bytes : List ℕ). queue v ++ bytes) (sym all.1);
+      heard = λ lives. record { last = refl; client = refl };
     }
 
 -- it stands on by the mark

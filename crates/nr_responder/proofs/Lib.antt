@@ -18,6 +18,7 @@ pub mod FrameCounts
 pub mod FrameEnds
 pub mod Frames
 pub mod Handled
+pub mod Heard
 pub mod Held
 pub mod HeldSinks
 pub mod Judged
@@ -29,6 +30,7 @@ pub mod Words
 pub mod GrantedCredits
 pub mod KeptReceives
 pub mod NextCalls
+pub mod OldCalls
 pub mod Opened
 pub mod OpenedReads
 pub mod Out

@@ -23,11 +23,13 @@ use Rattle.nr_reduce.proofs.Steps.{output_for_all_append}
 use Rattle.nr_link.specs.declared.end.End.{End}
 use Rattle.nr_link.specs.declared.end.End.TheVariants as ends
 use Rattle.nr_responder.specs.Granting.{grant_of}
+use Rattle.nr_responder.specs.Heard.{Hears, KeepsHeard, SameHeard}
 use Rattle.nr_responder.specs.ResponderState.{ResponderSide, queue, queued_bytes, end_of}
 use Rattle.nr_responder.specs.Keeping.{Keeps, KeepsEnd, KeepsAgreed}
 use Rattle.nr_responder.specs.Standing.{RepresentsServer, ResponderRunsOut, ResponderRepresents}
 use Rattle.nr_responder.specs.Steps.{received_events, GoesOn, FedOn, SameCalls, ResponderRanOutAt, Fed, KeepsOutput}
 use Rattle.nr_responder.specs.Steps.Fed.{WentOn, RanOut}
+use Rattle.nr_responder.proofs.Heard.{fed_heard, same_heard}
 use Rattle.nr_responder.proofs.Pieces.{events_parts}
 use Rattle.nr_responder.proofs.Fed.{ended_fed_lem, not_ended_lem}
 use Rattle.nr_link.specs.declared.agreement.Agreement.{Agreement}
@@ -37,8 +39,9 @@ use Rattle.nr_responder.proofs.Frames.{keeps_agreed}
 one_mark_lem : (opened : LinkParameters) (link : ℕ) (run : List Mark) (mark : Mark) (v after : ResponderSide) (fed written : List ℕ) (events : InputState → List RunEvent) →
     fed_at link Responder mark ≡ fed → written_at link Responder mark ≡ written → ((input : InputState) → input_events link Responder input mark ≡ events input) → (h : RepresentsServer opened link run v) →
     KeepsEnd opened (end_state_after (server_rules opened) h.end (events h.input)) (input_after h.input fed) after →
-    written ++ queue after ≡ queue v ++ output_for_all (server_rules opened) h.end (events h.input) → RepresentsServer opened link (run ++ mark ∷ []) after
-one_mark_lem opened link run mark v after fed written events fed_is written_is events_are h keeps output =
+    written ++ queue after ≡ queue v ++ output_for_all (server_rules opened) h.end (events h.input) →
+    ((end_state_after (server_rules opened) h.end (events h.input)).ended ≡ None → KeepsHeard link (run ++ mark ∷ []) after.link.state) → RepresentsServer opened link (run ++ mark ∷ []) after
+one_mark_lem opened link run mark v after fed written events fed_is written_is events_are h keeps output heard =
     let due : written_at link Responder mark ++ queue after ≡ queue v ++ output_for_all (server_rules opened) h.end (input_events link Responder h.input mark) =
     ap (λ (bytes : List ℕ). bytes ++ queue after) written_is ∙ output ∙ ap (λ (es : List RunEvent). queue v ++ output_for_all (server_rules opened) h.end es) (sym (events_are h.input)) in
     let state : end_state_after (server_rules opened) h.end (input_events link Responder h.input mark) ≡ end_state_after (server_rules opened) h.end (events h.input) = ap (end_state_after (server_rules opened) h.end) (events_are h.input) in
@@ -50,7 +53,13 @@ one_mark_lem opened link run mark v after fed written events fed_is written_is e
           subst (λ (e : EndState ServerState). ServerRepresents opened link e (input_after h.input fed) (queue after) (run ++ mark ∷ [])) state
           (server_stands opened link h.end h.input (input_after h.input fed) (queue v) (queue after) run mark h.stands due (λ _. sym input));
       keeps = keeps;
+      heard = heard;
     }
+
+-- a mark at which nothing is fed leaves what it knows of the frames
+quiet_heard : (opened : LinkParameters) (link : ℕ) (run : List Mark) (mark : Mark) (v after : ResponderSide) (es : List RunEvent) → fed_at link Responder mark ≡ [] → (h : RepresentsServer opened link run v) → SameHeard v.link after.link →
+    (end_state_after (server_rules opened) h.end es).ended ≡ None → KeepsHeard link (run ++ mark ∷ []) after.link.state
+quiet_heard opened link run mark v after es fed h same lives = same_heard link run mark v.link.state after.link.state fed same.last same.client (h.heard (live_before (server_rules opened) h.end es lives))
 
 -- no bytes leave the input of a side that hasn't ended as it was
 nothing_fed : (opened : LinkParameters) (link : ℕ) (run : List Mark) (v : ResponderSide) (h : RepresentsServer opened link run v) → h.end.ended ≡ None → input_after h.input [] ≡ h.input
@@ -73,6 +82,7 @@ pub no_event_represents : (opened : LinkParameters) (link : ℕ) (run : List Mar
     ((input : InputState) → input_events link Responder input mark ≡ []) → RepresentsServer opened link run v → RepresentsServer opened link (run ++ mark ∷ []) v
 no_event_represents opened link run v mark fed written events h =
     one_mark_lem opened link run mark v v [] [] (λ (input : InputState). []) fed written events h (same_kept opened link run v v h.end h (λ live. live) h.keeps) (sym (append-nil (queue v)))
+    (quiet_heard opened link run mark v v [] fed h (record { last = refl; client = refl }))
 
 own : (link : ℕ) (b : Bool) (es : List RunEvent) → if_own (eqb link link && true) es ≡ es
 own link b es = ap (λ (c : Bool). if_own (c && true) es) (itself link)
@@ -84,8 +94,15 @@ own_bytes link bytes = ap (λ (c : Bool). cond (c && true) bytes []) (itself lin
 pub fed_represents : (opened : LinkParameters) (link : ℕ) (run : List Mark) (v after : ResponderSide) (piece : List ℕ) → FedOn v piece after → RepresentsServer opened link run v → RepresentsServer opened link (run ++ marks.Fed link Responder piece ∷ []) after
 fed_represents opened link run v after piece fed h =
     let goes : GoesOn opened h.end h.input v (received_events h.input piece) (input_after h.input piece) after = fed opened h.end h.input h.keeps in
+    let stream : List ℕ = bytes_received link Responder run in
+    let heard : (end_state_after (server_rules opened) h.end (received_events h.input piece)).ended ≡ None → KeepsHeard link (run ++ marks.Fed link Responder piece ∷ []) after.link.state =
+    λ lives.
+    let live : h.end.ended ≡ None = live_before (server_rules opened) h.end (received_events h.input piece) lives in
+    let received : h.input ≡ input_of Initiator stream = h.stands.received (ap (λ (e : EndState ServerState). e.ended) (sym h.stands.keeps) ∙ live) in
+    fed_heard link run (marks.Fed link Responder piece) piece v.link.state after.link.state (own_bytes link piece) (h.heard live)
+    (subst (λ (i : InputState). Hears v.link.state (received_events i piece) after.link.state) received (goes.heard lives)) in
     one_mark_lem opened link run (marks.Fed link Responder piece) v after piece [] (λ (input : InputState). received_events input piece)
-    (own_bytes link piece) refl (λ (input : InputState). own link true (received_events input piece)) h goes.keeps goes.output
+    (own_bytes link piece) refl (λ (input : InputState). own link true (received_events input piece)) h goes.keeps goes.output heard
 
 -- a call was executed, at any moment and place
 pub executed_stands : (opened : LinkParameters) (link : ℕ) (run : List Mark) (v after : ResponderSide) (xid : ℕ) (moment : Moment) (payload : List ℕ) (place : ℕ) (reply : List ℕ) → (h : RepresentsServer opened link run v) →
@@ -96,6 +113,7 @@ executed_stands opened link run v after xid moment payload place reply h goes =
     one_mark_lem opened link run (marks.Execute link xid moment payload place reply) v after [] [] (λ (input : InputState). CallExecuted e ∷ []) refl refl (λ (input : InputState). own link true (CallExecuted e ∷ [])) h
     (same_kept opened link run v after (end_state_after (server_rules opened) h.end (CallExecuted e ∷ [])) h (live_before (server_rules opened) h.end (CallExecuted e ∷ [])) goes.keeps)
     goes.output
+    (λ lives. quiet_heard opened link run (marks.Execute link xid moment payload place reply) v after (CallExecuted e ∷ []) refl h (record { last = (goes.heard lives).last; client = (goes.heard lives).client }) lives)
 
 -- it was told something
 pub told_represents : (opened : LinkParameters) (link : ℕ) (run : List Mark) (v after : ResponderSide) (what : Told) → (h : RepresentsServer opened link run v) → GoesOn opened h.end h.input v (ServerTold what ∷ []) h.input after →
@@ -104,16 +122,18 @@ told_represents opened link run v after what h goes =
     one_mark_lem opened link run (marks.Told link what) v after [] [] (λ (input : InputState). ServerTold what ∷ []) refl refl (λ (input : InputState). own link true (ServerTold what ∷ [])) h
     (same_kept opened link run v after (end_state_after (server_rules opened) h.end (ServerTold what ∷ [])) h (live_before (server_rules opened) h.end (ServerTold what ∷ [])) goes.keeps)
     goes.output
+    (λ lives. quiet_heard opened link run (marks.Told link what) v after (ServerTold what ∷ []) refl h (record { last = (goes.heard lives).last; client = (goes.heard lives).client }) lives)
 
 -- its queue was written from the front
 pub wrote_represents : (opened : LinkParameters) (link : ℕ) (run : List Mark) (v after : ResponderSide) (written : List ℕ) → (h : RepresentsServer opened link run v) → written ++ queue after ≡ queue v →
-    KeepsEnd opened (end_state_after (server_rules opened) h.end (QueueWritten (length written) ∷ [])) h.input after → output_for_all (server_rules opened) h.end (QueueWritten (length written) ∷ []) ≡ [] →
+    KeepsEnd opened (end_state_after (server_rules opened) h.end (QueueWritten (length written) ∷ [])) h.input after → output_for_all (server_rules opened) h.end (QueueWritten (length written) ∷ []) ≡ [] → SameHeard v.link after.link →
     RepresentsServer opened link (run ++ marks.Wrote link Responder written ∷ []) after
-wrote_represents opened link run v after written h left keeps silent =
+wrote_represents opened link run v after written h left keeps silent heard =
     let es : List RunEvent = QueueWritten (length written) ∷ [] in
     one_mark_lem opened link run (marks.Wrote link Responder written) v after [] written (λ (input : InputState). es) refl (own_bytes link written) (λ (input : InputState). own link true es) h
     (same_kept opened link run v after (end_state_after (server_rules opened) h.end es) h (live_before (server_rules opened) h.end es) keeps)
     (left ∙ sym (append-nil (queue v)) ∙ sym (ap (λ (bytes : List ℕ). queue v ++ bytes) silent))
+    (quiet_heard opened link run (marks.Wrote link Responder written) v after es refl h heard)
 
 -- ---- A side that has ended, or runs out of memory
 

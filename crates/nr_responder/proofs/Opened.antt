@@ -25,6 +25,7 @@ use Rattle.nr_responder.specs.Keeping.{IsServer, LinkKeeps, Keeps}
 use Rattle.nr_responder.specs.Keeping.Begins.{BeforeHello}
 use Rattle.nr_responder.specs.Standing.{RepresentsServer, ResponderRepresents}
 use Rattle.nr_responder.proofs.Ends.{ends_none}
+use Rattle.nr_responder.proofs.Heard.{first_heard}
 
 abbrev pub opened_state : Credits → LinkSide → ResponderSide
 opened_state credits link = record { link = link; calls = []; ready = []; credits = credits; fetching = nothing_fetched }
@@ -106,6 +107,10 @@ queue_first : (opened : LinkParameters) → queue (opened_state (credits_of open
 unfolding initial_link
 queue_first opened = refl
 
+link_heard : (opened : LinkParameters) → ((initial_link Responder opened.receives 1 opened.server).state.last ≡ 0) × ((initial_link Responder opened.receives 1 opened.server).state.client ≡ 0)
+unfolding initial_link
+link_heard opened = (refl, refl)
+
 pub opened_stands_lem : (opened : LinkParameters) (link : ℕ) (credits low : ℕ) (terms : SideTerms) (l : LinkSide) → ServerOpened opened credits low terms → l ≡ initial_link Responder credits 1 terms → ResponderRepresents opened link [] (opened_state (opened_credits credits low) l)
 opened_stands_lem opened link credits low terms l same is =
     let first : RepresentsServer opened link [] (opened_state (credits_of opened) (initial_link Responder opened.receives 1 opened.server)) = record {
@@ -113,6 +118,7 @@ opened_stands_lem opened link credits low terms l same is =
       input = initial_input Initiator;
       stands = subst (λ (bytes : List ℕ). ServerRepresents opened link (initial_server opened) (initial_input Initiator) bytes []) (sym (queue_first opened)) (server_begins_lem opened link);
       keeps = inl (refl, keeps_first opened);
+      heard = λ live. first_heard link (initial_link Responder opened.receives 1 opened.server).state (link_heard opened).0 (link_heard opened).1;
     } in
     let own : credits_of opened ≡ opened_credits credits low = λ i. record { receives = same.1 i; granted = same.0 i; low = same.3 i; word = same.0 i } in
     subst (λ (x : LinkSide). ResponderRepresents opened link [] (opened_state (opened_credits credits low) x)) (sym is)

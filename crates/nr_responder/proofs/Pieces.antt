@@ -18,7 +18,10 @@ use Rattle.nr_reduce.specs.Events.RunEvent.{FrameReceived}
 use Rattle.nr_reduce.specs.EndRules.{EndState, end_state_after, output_for_all}
 use Rattle.nr_reduce.specs.ServerState.{ServerState}
 use Rattle.nr_reduce.specs.Server.{server_rules}
+use Rattle.nr_reduce.proofs.Standing.{live_before}
 use Rattle.nr_reduce.proofs.Steps.{end_state_after_append, output_for_all_append}
+use Rattle.nr_endpoint.specs.LinkState.{LinkState}
+use Rattle.nr_responder.specs.Heard.{client_after, client_after_all, last_after, last_after_all, Hears}
 use Rattle.nr_responder.specs.ResponderState.{ResponderSide, queue, end_of}
 use Rattle.nr_responder.specs.Keeping.{KeepsEnd}
 use Rattle.nr_link.specs.declared.end.End.TheVariants as ends
@@ -55,6 +58,24 @@ frames_parts input x y =
 pub events_parts : (input : InputState) (x y : List ℕ) → received_events input (x ++ y) ≡ received_events input x ++ received_events (input_after input x) y
 events_parts input x y = ap (map FrameReceived) (frames_parts input x y) ∙ map-append FrameReceived (input_frames input x) (input_frames (input_after input x) y)
 
+-- ---- What a side knows of the frames, after events in two parts
+
+pub last_parts : (n : ℕ) (es fs : List RunEvent) → last_after_all n (es ++ fs) ≡ last_after_all (last_after_all n es) fs
+last_parts n [] fs = refl
+last_parts n (e ∷ es) fs = last_parts (last_after n e) es fs
+
+pub client_parts : (n : ℕ) (es fs : List RunEvent) → client_after_all n (es ++ fs) ≡ client_after_all (client_after_all n es) fs
+client_parts n [] fs = refl
+client_parts n (e ∷ es) fs = client_parts (client_after n e) es fs
+
+pub hears_parts : (a b c : LinkState) (es fs : List RunEvent) → Hears a es b → Hears b fs c → Hears a (es ++ fs) c
+hears_parts a b c es fs first second = record {
+  last = second.last ∙ ap (λ (n : ℕ). last_after_all n fs) first.last ∙ sym (last_parts a.last es fs);
+  client = second.client ∙ ap (λ (n : ℕ). client_after_all n fs) first.client ∙ sym (client_parts a.client es fs);
+}
+
+-- ---- A piece in two parts
+
 -- what goes on for two parts goes on for both joined
 pub fed_parts : (a b c : ResponderSide) (x y : List ℕ) → FedOn a x b → FedOn b y c → FedOn a (x ++ y) c
 fed_parts a b c x y first second opened end input keeps =
@@ -66,6 +87,8 @@ fed_parts a b c x y first second opened end input keeps =
     let all : received_events input (x ++ y) ≡ es ++ fs = events_parts input x y in
     let state : end_state_after (server_rules opened) end (received_events input (x ++ y)) ≡ end_state_after (server_rules opened) between fs =
     ap (end_state_after (server_rules opened) end) all ∙ end_state_after_append (server_rules opened) end es fs in
+    let heard : (end_state_after (server_rules opened) between fs).ended ≡ None → Hears a.link.state (es ++ fs) c.link.state =
+    λ live. hears_parts a.link.state b.link.state c.link.state es fs (one.heard (live_before (server_rules opened) between fs live)) (two.heard live) in
     record {
       keeps =
           subst (λ (e : EndState ServerState). KeepsEnd opened e (input_after input (x ++ y)) c) (sym state)
@@ -76,6 +99,7 @@ fed_parts a b c x y first second opened end input keeps =
           ∙ append_assoc (queue a) (output_for_all (server_rules opened) end es) (output_for_all (server_rules opened) between fs)
           ∙ ap (λ (bytes : List ℕ). queue a ++ bytes) (sym (output_for_all_append (server_rules opened) end es fs))
           ∙ ap (λ (events : List RunEvent). queue a ++ output_for_all (server_rules opened) end events) (sym all);
+      heard = λ live. subst (λ (events : List RunEvent). Hears a.link.state events c.link.state) (sym all) (heard (ap (λ (e : EndState ServerState). e.ended) (sym state) ∙ live));
     }
 
 -- ---- A piece of one frame, or of none

@@ -25,6 +25,10 @@ lent_left l m n is = ap (λ (x : LinkSide). x.state.receive_queue.lent) is
 
 -- ---- The input stays, or is dropped
 
+if_heard : (b : Bool) (s t : LinkState) → t.last ≡ s.last → t.client ≡ s.client → ((cond b s t).last ≡ s.last) × ((cond b s t).client ≡ s.client)
+if_heard true s t last client = (refl, refl)
+if_heard false s t last client = (last, client)
+
 if_input : (b : Bool) (s t : LinkState) → t.receive_queue ≡ s.receive_queue → t.place ≡ s.place → t.send_queue.send_ends ≡ s.send_queue.send_ends → t.memory ≡ s.memory → ((cond b s t).receive_queue ≡ s.receive_queue) × (((cond b s t).place ≡ s.place) × (((cond b s t).send_queue.send_ends ≡ s.send_queue.send_ends) × ((cond b s t).memory ≡ s.memory)))
 if_input true s t queue place ends memory = (refl, (refl, (refl, refl)))
 if_input false s t queue place ends memory = (queue, (place, (ends, memory)))
@@ -39,8 +43,16 @@ pub stopped_as : (l m : LinkSide) (reason : ℕ) → m ≡ after_call l (Stop re
 unfolding after_call with_end
 stopped_as l m reason is =
     let both = if_input (has_ended l.state) l.state (with_end_of (ends.Bad l.state.last reason) l.state) refl refl refl refl in
+    let heard = if_heard (has_ended l.state) l.state (with_end_of (ends.Bad l.state.last reason) l.state) refl refl in
     record {
-      input = record { queue = ap (λ (x : LinkSide). x.state.receive_queue) is ∙ both.0; place = ap (λ (x : LinkSide). x.state.place) is ∙ both.1.0; awaited = ap (λ (x : LinkSide). x.awaited) is; rest = inr (ap (λ (x : LinkSide). x.rest) is) };
+      input = record {
+        queue = ap (λ (x : LinkSide). x.state.receive_queue) is ∙ both.0;
+        place = ap (λ (x : LinkSide). x.state.place) is ∙ both.1.0;
+        awaited = ap (λ (x : LinkSide). x.awaited) is;
+        rest = inr (ap (λ (x : LinkSide). x.rest) is);
+        last = ap (λ (x : LinkSide). x.state.last) is ∙ heard.0;
+        client = ap (λ (x : LinkSide). x.state.client) is ∙ heard.1;
+      };
       ends_are = ap (λ (x : LinkSide). x.state.send_queue.send_ends) is ∙ both.1.1.0;
       memory = ap (λ (x : LinkSide). x.state.memory) is ∙ both.1.1.1;
     }
@@ -49,8 +61,16 @@ pub memory_as : (l m : LinkSide) → m ≡ after_call l OutOfMemory → StaysAs 
 unfolding after_call
 memory_as l m is =
     let both = if_input (has_ended l.state) l.state (record l.state { ended = Some ends.Memory }) refl refl refl refl in
+    let heard = if_heard (has_ended l.state) l.state (record l.state { ended = Some ends.Memory }) refl refl in
     record {
-      input = record { queue = ap (λ (x : LinkSide). x.state.receive_queue) is ∙ both.0; place = ap (λ (x : LinkSide). x.state.place) is ∙ both.1.0; awaited = ap (λ (x : LinkSide). x.awaited) is; rest = inr (ap (λ (x : LinkSide). x.rest) is) };
+      input = record {
+        queue = ap (λ (x : LinkSide). x.state.receive_queue) is ∙ both.0;
+        place = ap (λ (x : LinkSide). x.state.place) is ∙ both.1.0;
+        awaited = ap (λ (x : LinkSide). x.awaited) is;
+        rest = inr (ap (λ (x : LinkSide). x.rest) is);
+        last = ap (λ (x : LinkSide). x.state.last) is ∙ heard.0;
+        client = ap (λ (x : LinkSide). x.state.client) is ∙ heard.1;
+      };
       ends_are = ap (λ (x : LinkSide). x.state.send_queue.send_ends) is ∙ both.1.1.0;
       memory = ap (λ (x : LinkSide). x.state.memory) is ∙ both.1.1.1;
     }
@@ -94,7 +114,14 @@ sent_link l m message live is =
 pub sent_input : (l m : LinkSide) (message : List ℕ) → l.state.ended ≡ None → m ≡ after_call l (Send message) → SameInput l m
 sent_input l m message live is =
     let now = sent_link l m message live is in
-    record { queue = ap (λ (x : LinkSide). x.state.receive_queue) now; place = ap (λ (x : LinkSide). x.state.place) now; awaited = ap (λ (x : LinkSide). x.awaited) now; rest = inl (ap (λ (x : LinkSide). x.rest) now) }
+    record {
+      queue = ap (λ (x : LinkSide). x.state.receive_queue) now;
+      place = ap (λ (x : LinkSide). x.state.place) now;
+      awaited = ap (λ (x : LinkSide). x.awaited) now;
+      rest = inl (ap (λ (x : LinkSide). x.rest) now);
+      last = ap (λ (x : LinkSide). x.state.last) now;
+      client = ap (λ (x : LinkSide). x.state.client) now;
+    }
 
 pub sent_memory : {E : Type 0} (made : Result (List ℕ) E) (l m : LinkSide) → l.state.ended ≡ None → IfOk made (λ x. m ≡ after_call l (Send x)) × IsOk made → m.state.memory ≡ l.state.memory
 sent_memory (Ok x) l m live sent = ap (λ (y : LinkSide). y.state.memory) (sent_link l m x live sent.0)
@@ -110,6 +137,8 @@ pub record ToldLink (l m : LinkSide) : Type 0 where
   pub memory : m.state.memory ≡ l.state.memory
   pub awaited : m.awaited ≡ l.awaited
   pub rest : m.rest ≡ l.rest
+  pub last : m.state.last ≡ l.state.last
+  pub client : m.state.client ≡ l.state.client
 
 pub told_link_lem : (l m : LinkSide) → m ≡ after_call l NextEvent → ToldLink l m
 unfolding after_call
@@ -121,6 +150,8 @@ told_link_lem l m is = record {
   memory = ap (λ (x : LinkSide). x.state.memory) is;
   awaited = ap (λ (x : LinkSide). x.awaited) is;
   rest = ap (λ (x : LinkSide). x.rest) is;
+  last = ap (λ (x : LinkSide). x.state.last) is;
+  client = ap (λ (x : LinkSide). x.state.client) is;
 }
 
 -- an error message was queued, or memory ran out

@@ -89,6 +89,7 @@ send_framed s bytes received free lent deliveries = record {
   private = s.private;
   agreed = s.agreed;
   message_max = s.message_max;
+  client = s.client;
 }
 
 pub part_framed : (s : LinkState) (bytes : List ℕ) (w queue msn offset : ℕ) (payload : List ℕ) →

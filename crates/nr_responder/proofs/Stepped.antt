@@ -23,6 +23,7 @@ use Rattle.nr_endpoint.specs.Calls.{after_call, makes_whole, QueuesOutput}
 use Rattle.nr_endpoint.specs.Calls.Call.{FeedOne, NextEvent, OutOfMemory}
 use Rattle.nr_reduce.specs.declared.mark.LinkParameters.{LinkParameters}
 use Rattle.nr_reduce.specs.ServerState.{PendingRead, ServerState}
+use Rattle.nr_responder.specs.Heard.{SameHeard}
 use Rattle.nr_responder.specs.ResponderState.{ResponderSide, end_of, present_word}
 use Rattle.nr_responder.specs.Keeping.{Begins, Keeps}
 use Rattle.nr_responder.specs.Keeping.Begins.{BeforeHello, AfterHello}
@@ -175,15 +176,15 @@ not_read sends reads none (inl never) = absurd cc
 not_read sends reads none (inr (inl one)) = (let e : ReadDone ∷ [] ≡ MessageReceived (sends + 1) None one.0 ∷ [] = one.1 in cc)
 not_read sends reads none (inr (inr done)) = done.1 none
 
-pub step_done_by : (v after : ResponderSide) (piece : List ℕ) (m : LinkSide) → end_of v ≡ None → IsPartial v.link.awaited v.link.rest → StepOf v.link piece m → m.state.ended ≡ None → v.credits.word ≡ present_word v → IsTaken (on_link v m) after →
+pub step_done_by : (v after : ResponderSide) (piece : List ℕ) (m : LinkSide) → end_of v ≡ None → IsPartial v.link.awaited v.link.rest → StepOf v.link piece m → m.state.ended ≡ None → v.credits.word ≡ present_word v → IsTaken (on_link v m) after → SameHeard m after.link →
     Fed v (take (taken_at (end_of after) (length piece) (bytes_taken v.link.awaited v.link.rest piece)) piece) after
-step_done_by v after piece m live p step lives word taken = by m.state.receive_queue.deliveries refl
+step_done_by v after piece m live p step lives word taken heard = by m.state.receive_queue.deliveries refl
   where
     n : ℕ
     n = bytes_taken v.link.awaited v.link.rest piece
 
     goes : ((k : ServerState) → IsServerOf k (on_link v m) → IsHandled k (on_link v m) after) → FedOn v (take n piece) after
-    goes handled = step_goes v after piece m live p step lives word handled
+    goes handled = step_goes v after piece m live p step lives word handled heard
 
     never : (deliveries : List DeliveredEvent) → m.state.receive_queue.deliveries ≡ deliveries → ((sends : ℕ) → FewDeliveries sends v.fetching.reads deliveries → ⊥) → FedOn v (take n piece) after
     never deliveries found wrong opened end so_far keeps =
@@ -242,6 +243,6 @@ step_done_by v after piece m live p step lives word taken = by m.state.receive_q
     by (ReadDone ∷ []) found = read found v.fetching.reads refl
     by (ReadDone ∷ (x ∷ rest)) found = went_on v after piece n (end_of after) refl (never (ReadDone ∷ (x ∷ rest)) found (λ sends. not_more sends v.fetching.reads x rest))
 
-pub step_done : (v after : ResponderSide) (piece : List ℕ) (m : LinkSide) → end_of v ≡ None → IsPartial v.link.awaited v.link.rest → m ≡ after_call v.link (FeedOne piece) → m.state.ended ≡ None → v.credits.word ≡ present_word v → IsTaken (on_link v m) after →
+pub step_done : (v after : ResponderSide) (piece : List ℕ) (m : LinkSide) → end_of v ≡ None → IsPartial v.link.awaited v.link.rest → m ≡ after_call v.link (FeedOne piece) → m.state.ended ≡ None → v.credits.word ≡ present_word v → IsTaken (on_link v m) after → SameHeard m after.link →
     Fed v (take (taken_at (end_of after) (length piece) (bytes_taken v.link.awaited v.link.rest piece)) piece) after
-step_done v after piece m live p is lives word taken = step_done_by v after piece m live p (step_of v.link m piece p live is) lives word taken
+step_done v after piece m live p is lives word taken heard = step_done_by v after piece m live p (step_of v.link m piece p live is) lives word taken heard

@@ -1,6 +1,7 @@
 pub mod Answering
 pub mod Codes
 pub mod Draining
+pub mod Heard
 pub mod Keeping
 pub mod Laws
 pub mod Fetching

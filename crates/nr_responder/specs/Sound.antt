@@ -84,6 +84,8 @@ pub record SameInput (l m : LinkSide) : Type 0 where
   pub place : m.state.place ≡ l.state.place
   pub awaited : m.awaited ≡ l.awaited
   pub rest : (m.rest ≡ l.rest) ⊎ (m.rest ≡ [])
+  pub last : m.state.last ≡ l.state.last
+  pub client : m.state.client ≡ l.state.client
 
 -- A receive is lent for each call that is pending, for each Send that hasn't left, and for n more; there is room for a call and for
 -- a buffer of each receive; and each receive has the same number of bytes, those of one unit to UNITS_MAX of them.

@@ -12,15 +12,18 @@ use Rattle.nr_reduce.specs.ServerState.{ServerState}
 use Rattle.nr_reduce.specs.Standing.{ServerRepresents, ServerRunsOut}
 use Rattle.nr_responder.specs.ResponderState.{ResponderSide, queue, end_of}
 use Rattle.nr_responder.specs.Granting.{grant, grant_of}
+use Rattle.nr_responder.specs.Heard.{KeepsHeard}
 use Rattle.nr_responder.specs.HeldBytes.{KeptFits}
 use Rattle.nr_responder.specs.Keeping.{KeepsAgreed, KeepsEnd}
 
--- Its state is that of the server after these marks, and its queue is the output that is due by them and isn't written.
+-- Its state is that of the server after these marks, and its queue is the output that is due by them and isn't written. Until it has ended, it
+-- knows where the last frame began and the number of its client.
 pub record RepresentsServer (opened : LinkParameters) (link : ℕ) (run : List Mark) (v : ResponderSide) : Type 0 where
   pub end : EndState ServerState
   pub input : InputState
   pub stands : ServerRepresents opened link end input (queue v) run
   pub keeps : KeepsEnd opened end input v
+  pub heard : end.ended ≡ None → KeepsHeard link run v.link.state
 
 -- Or it ran out of memory while it was fed: what it wrote and its queue are the first bytes of what is due by these marks. When it
 -- stopped, after the marks `stopped`, of which a prefix of what it received was fed to it, the server hadn't ended. All that these marks

@@ -20,15 +20,18 @@ use Rattle.nr_reduce.specs.Server.{server_rules}
 use Rattle.nr_responder.specs.ResponderState.{ResponderSide, queue, end_of}
 use Rattle.nr_responder.specs.Fetching.{HasBytes}
 use Rattle.nr_responder.specs.Granting.{grant}
+use Rattle.nr_responder.specs.Heard.{Hears}
 use Rattle.nr_responder.specs.Keeping.{KeepsEnd}
 
 abbrev pub received_events : InputState → List ℕ → List RunEvent
 received_events input piece = map FrameReceived (input_frames input piece)
 
--- it keeps the server after these events, and has queued what is due for them
+-- It keeps the server after these events, and has queued what is due for them. Unless they end it, it knows where the last frame among them
+-- began, and the number in a hello among them.
 pub record GoesOn (opened : LinkParameters) (end : EndState ServerState) (input : InputState) (before : ResponderSide) (events : List RunEvent) (later : InputState) (after : ResponderSide) : Type 0 where
   pub keeps : KeepsEnd opened (end_state_after (server_rules opened) end events) later after
   pub output : queue after ≡ queue before ++ output_for_all (server_rules opened) end events
+  pub heard : (end_state_after (server_rules opened) end events).ended ≡ None → Hears before.link.state events after.link.state
 
 -- For every server of a run that it keeps, it keeps that server after the frames that the piece completes, and has queued what is due
 -- for them.

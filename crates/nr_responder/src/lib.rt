@@ -26,6 +26,7 @@ mod heads;
 mod judging;
 mod laws;
 mod messages;
+mod old_calls;
 mod opening;
 mod payloads;
 mod placing;

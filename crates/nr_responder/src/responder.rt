@@ -3,7 +3,7 @@
 ghost use Rattle.std.specs.Prelude.{◌≡◌, ◌≢◌, ℕ, ◌+◌, ◌*◌, ◌<◌, ◌≤◌, ◌^◌, List, [], ◌∷◌, ◌++◌, length, take, None, Some, Ok, Err, IfOk, OnOk, IfErr, IfSome, is_some, MatchOption, MatchResult, true, nat_lt, OnErr, ◌⊎◌};
 ghost use Rattle.std.specs.Result.{result_err};
 ghost use Rattle.nr_outside.specs.Faults.{Rises};
-ghost use Rattle.nr_wire.specs.declared.hello.Side.TheVariants.{Responder as ResponderSide};
+ghost use Rattle.nr_wire.specs.declared.hello.Side.TheVariants.{Initiator, Responder as ResponderSide};
 ghost use Rattle.nr_wire.specs.Constants.{FPDU_MAX};
 ghost use Rattle.nr_wire.specs.Feeding.{bytes_taken};
 ghost use Rattle.nr_wire.specs.Stream.{bytes_needed};
@@ -13,15 +13,19 @@ ghost use Rattle.nr_reduce.specs.Opening.{ServerOpened};
 ghost use Rattle.nr_reduce.specs.declared.mark.LinkParameters.{LinkParameters};
 ghost use Rattle.nr_reduce.specs.declared.mark.Mark.{Mark};
 ghost use Rattle.nr_reduce.specs.declared.mark.Mark.TheVariants as marks;
-ghost use Rattle.nr_reduce.specs.declared.mark.Told.TheVariants.{Granted};
+ghost use Rattle.nr_reduce.specs.declared.mark.Told.TheVariants.{Granted, Old};
 ghost use Rattle.nr_outside.specs.declared.moment.Moment.{Moment};
-ghost use Rattle.nr_reduce.specs.Served.{next_call, IsExecuted};
+ghost use Rattle.nr_reduce.specs.History.{bytes_received};
+ghost use Rattle.nr_reduce.specs.NumberedJournal.{number_heard};
+ghost use Rattle.nr_reduce.specs.Served.{last_frame_at, next_call, IsExecuted};
 ghost use Rattle.nr_responder.specs.Answering.{Answers};
 ghost use Rattle.nr_responder.specs.Draining.{Drains};
 ghost use Rattle.nr_link.specs.declared.end.End.TheVariants as ends;
 ghost use Rattle.nr_header.specs.Constants.{PAYLOAD_MAX};
 ghost use Rattle.nr_link.specs.Agreement.{default_terms, terms_with, IsSendLimit};
 ghost use Rattle.nr_link.specs.Limits.{open_reads_max};
+ghost use Rattle.nr_link.specs.Frames.{frames_of};
+ghost use Rattle.nr_link.specs.Reasons.{REASON_OLD};
 ghost use Rattle.nr_link.specs.SegmentFaults.{is_begun};
 ghost use Rattle.nr_regions.specs.RegisteredMemory.{bytes_held};
 ghost use Rattle.nr_reduce.specs.Plans.{one_if};
@@ -273,6 +277,35 @@ impl Responder {
             ResponderRepresents opened link (run ++ marks.Told link (Granted credits) ∷ []) self.new.side }
     {
         self.end.set_credits(credits)
+    }
+
+    /// The number of the link's client, by its hello: 0 until that was accepted, and if it says none (the number is own). Takes no memory.
+    pub fn client(&self) -> u64
+        ensures exact { result ≡ self.now.side.link.state.client }
+        ensures of_run { end_of self.now.side ≡ None → (opened : LinkParameters) (link : ℕ) (run : List Mark) → ResponderRepresents opened link run self.now.side → result ≡ number_heard run link }
+        // A call is ready only after the client's hello was received.
+        ensures heard { end_of self.now.side ≡ None → self.now.side.ready ≢ [] → (opened : LinkParameters) (link : ℕ) (run : List Mark) → ResponderRepresents opened link run self.now.side →
+            frames_of Initiator (bytes_received link ResponderSide run) ≢ [] }
+    {
+        self.end.client()
+    }
+
+    /// Ends the side for reason 28, since the next call is old when its turn to be executed comes: its client has a number, and has had a later call
+    /// executed that many calls ago that its reply may not be kept. It ends at the last complete frame of the client's stream, and a
+    /// Terminate with the reason is queued; or `End::Memory`: memory ran out for that. Answers which. The call is neither executed nor answered.
+    pub fn stop(&mut self, reason: u32) -> End
+        requires live { end_of self.old.side ≡ None }
+        requires next { self.old.side.ready ≢ [] }
+        requires reason { reason ≡ REASON_OLD }
+        ensures ended { end_of self.new.side ≡ Some result }
+        ensures end { result ≢ ends.Memory → result ≡ ends.Bad self.old.side.link.state.last reason }
+        ensures last { (opened : LinkParameters) (link : ℕ) (run : List Mark) → ResponderRepresents opened link run self.old.side → self.old.side.link.state.last ≡ last_frame_at link run }
+        ensures stands { (opened : LinkParameters) (link : ℕ) (run : List Mark) (xid : ℕ) → ResponderRepresents opened link run self.old.side →
+            ResponderRepresents opened link (run ++ marks.Told link (Old xid (last_frame_at link run)) ∷ []) self.new.side }
+        ensures within { fed_bytes self.new.side.link ≤ fed_bytes self.old.side.link }
+        ensures staging { self.new.staging ≡ self.old.staging }
+    {
+        self.end.stop(reason)
     }
 
     /// How many calls are pending: their Send is complete, and they aren't answered. Once the side has ended, how many were so as it ended.

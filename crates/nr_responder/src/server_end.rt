@@ -25,6 +25,7 @@ ghost use Rattle.nr_reduce.specs.Served.{next_call, IsExecuted};
 ghost use Rattle.nr_responder.specs.Answering.{Answers};
 ghost use Rattle.nr_responder.specs.Draining.{Drains};
 ghost use Rattle.nr_responder.specs.private.Handling.{out, IsTaken, ReadsXid};
+ghost use Rattle.nr_responder.specs.Heard.{SameHeard};
 ghost use Rattle.nr_responder.specs.ResponderState.{end_of, opened_side, posted_times, present_word, may_write, KeepsStaging};
 ghost use Rattle.nr_responder.specs.Sound.{state_of, with_staging, payloads_of, IsNext, ServerEndInvariant, WindowsAreRead, WindowsInvariant};
 ghost use Rattle.nr_responder.specs.HeldBytes.{KeptFits, sent_reply_max};
@@ -365,6 +366,7 @@ impl ServerEnd {
         ensures sound { ServerEndInvariant self.new }
         ensures fed { fed_bytes self.new.endpoint.link ≤ fed_bytes self.old.endpoint.link }
         ensures rest { (self.new.endpoint.link.rest ≡ self.old.endpoint.link.rest) ⊎ (self.new.endpoint.link.rest ≡ []) }
+        ensures heard { SameHeard self.old.endpoint.link self.new.endpoint.link }
         ensures staging { self.new.endpoint.staging ≡ self.old.endpoint.staging }
     {
         match self.endpoint.next_event() {

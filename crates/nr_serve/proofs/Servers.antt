@@ -30,7 +30,7 @@ shares settings gave gave' kept view opens (first, is, empty) = record {
   opens = record {
     moment = opens.moment;
     gave = opens.gave;
-    setup = ap (λ (k : PlainServerState). record { tree = k.tree; parameters = k.parameters }) is ∙ same opens.stands.tree opens.stands.parameters;
+    setup = ap (λ (k : PlainServerState). record { tree = k.tree; parameters = k.parameters }) is ∙ same opens.stands.journal.tree opens.stands.journal.parameters;
   };
   empty = record { entries = []; is = ap (λ (v : PassView). v.seen) empty; journal = refl };
   own = ap (λ (v : PassView). v.mine) empty;

@@ -14,7 +14,8 @@ use Rattle.nr_outside.specs.declared.whole.ReadEnd.TheVariants as ends
 use Rattle.nr_links.specs.Asked.{Asks}
 use Rattle.nr_links.specs.Moments.{Gives}
 use Rattle.nr_plain.specs.History.{IsHistory, Opening, PassView}
-use Rattle.nr_plain.specs.Stands.{PlainServerState, RepresentsJournal}
+use Rattle.nr_plain.specs.Numbered.{RepresentsTagged}
+use Rattle.nr_plain.specs.Stands.{PlainServerState}
 use Rattle.nr_host.specs.Serving as host
 use Rattle.nr_accept.specs.declared.fault.ServeFault.{ServeFault}
 use Rattle.nr_accept.specs.declared.fault.ServeFault.TheVariants as serve_faults
@@ -113,7 +114,7 @@ stop_of_serve serve_faults.Memory = stops.Memory
 pub record OpensServer (settings : Settings Text) (before after : Option (List Moment)) (kept : PlainServerState) : Type 0 where
   pub moment : Moment
   pub gave : Gives before after moment
-  pub stands : RepresentsJournal (setup_of settings moment) [] kept
+  pub stands : RepresentsTagged (setup_of settings moment) [] kept
 
 -- it stands behind a turnstile, and this is what the first pass knows
 pub record OpensShared (settings : Settings Text) (before after : Option (List Moment)) (view : PassView) : Type 0 where

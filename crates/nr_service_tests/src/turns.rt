@@ -7,7 +7,7 @@ ghost use Rattle.nr_turnstile.specs.Passes.{Rests};
 use crate::compare::same;
 use nr_nfs_base::Verifier;
 use nr_outside::Moment;
-use nr_plain::{Server, execute, share};
+use nr_plain::{Server, execute, execute_for, share};
 use nr_tree::Tree;
 use nr_turnstile::{Machine, Pass, Turnstile};
 use nr_xdr::Octets;
@@ -61,13 +61,14 @@ fn drill(rt: &impl Abort, alloc: Global) -> (Turnstile<Server>, Pass<Server>)
     share(alloc, server).expect(rt, "memory")
 }
 
-/// Executes a call by a pass, and compares its place and how its reply ends.
+/// Answers a call of a client, whose number may be 0, by a pass, and compares its place and how its reply ends.
 fn same_reply<R: Abort + Wait>(
     rt: &R,
     alloc: Global,
     row: usize,
     shared: &Turnstile<Server>,
     pass: &mut Pass<Server>,
+    client: u64,
     call: &[u32],
     place: u64,
     ending: &[u32],
@@ -77,7 +78,12 @@ fn same_reply<R: Abort + Wait>(
 {
     let payload = bytes(rt, alloc, call);
     let ending = bytes(rt, alloc, ending);
-    let Ok(reply) = execute(rt, alloc, shared, pass, 0, NOW, payload.as_slice()) else {
+    let answer = if client == 0 {
+        execute(rt, alloc, shared, pass, NOW, payload.as_slice())
+    } else {
+        execute_for(rt, alloc, shared, pass, client, NOW, payload.as_slice())
+    };
+    let Ok(reply) = answer else {
         panic!(rt; "row {row}: not executed")
     };
     same(rt, row, reply.place, place);
@@ -95,11 +101,24 @@ fn one_pass_writes_and_another_reads(rt: HostRuntime) {
     let alloc = rt.alloc();
     let (shared, mut first) = drill(&rt, alloc);
     let mut second = shared.split(&mut first);
-    same_reply(&rt, alloc, 0, &shared, &mut first, &READ, 0, &BEFORE);
-    same_reply(&rt, alloc, 1, &shared, &mut first, &WRITE, 0, &[]);
-    same_reply(&rt, alloc, 2, &shared, &mut second, &READ, 1, &ENDING);
+    same_reply(&rt, alloc, 0, &shared, &mut first, 0, &READ, 0, &BEFORE);
+    same_reply(&rt, alloc, 1, &shared, &mut first, 0, &WRITE, 0, &[]);
+    same_reply(&rt, alloc, 2, &shared, &mut second, 0, &READ, 1, &ENDING);
     shared.join(&mut second, first);
-    same_reply(&rt, alloc, 3, &shared, &mut second, &READ, 1, &ENDING);
+    same_reply(&rt, alloc, 3, &shared, &mut second, 0, &READ, 1, &ENDING);
+}
+
+/// The call of a client with a number, sent again to another pass, has the place of its entry. Without a number it is
+/// executed again.
+#[test]
+fn a_change_is_kept_for_each_pass(rt: HostRuntime) {
+    let alloc = rt.alloc();
+    let (shared, mut first) = drill(&rt, alloc);
+    let mut second = shared.split(&mut first);
+    same_reply(&rt, alloc, 0, &shared, &mut first, 5, &WRITE, 0, &[]);
+    same_reply(&rt, alloc, 1, &shared, &mut second, 5, &WRITE, 0, &[]);
+    same_reply(&rt, alloc, 2, &shared, &mut second, 0, &WRITE, 1, &[]);
+    same_reply(&rt, alloc, 3, &shared, &mut first, 5, &WRITE, 0, &[]);
 }
 
 #[test]

@@ -1,5 +1,7 @@
 -- A file that is being read by jobs, by what a caller has seen of the history.
-use Rattle.std.specs.Prelude.{◌≡◌, ⊤, ℕ, ◌+◌, ◌⊎◌, ◌<◌, All, List, [], ◌∷◌, Option, None, Some, Result}
+use Rattle.std.specs.Prelude.{◌≡◌, ⊤, ℕ, suc, ◌+◌, ◌⊎◌, ◌<◌, ◌≤◌, All, List, [], ◌∷◌, Option, None, Some, Result}
+use mathlib.Core.Option.{some}
+use lib.ListN.{get_elem?}
 use Rattle.std.specs.Io.KnownBytes.{Appends}
 use Rattle.nr_reduce.specs.declared.call.Call.{Call}
 use Rattle.nr_reduce.specs.declared.call.Form.{Form}
@@ -7,14 +9,17 @@ use Rattle.nr_reduce.specs.declared.call.Form.TheVariants as forms
 use Rattle.nr_reduce.specs.declared.call.Outcome.{Outcome}
 use Rattle.nr_turnstile.specs.declared.turnstile.Pass.{Pass}
 use Rattle.nr_turnstile.specs.Passes.{mine_of, seen_by}
-use Rattle.nr_turnstile.specs.Rule.{Begins, IsIn}
+use Rattle.nr_turnstile.specs.Rule.{Begins, IsIn, IsOpen}
 use Rattle.nr_shared.specs.declared.call_end.CallEnd.{CallEnd as SharedEnd}
 use Rattle.nr_shared.specs.declared.entry.Entry.{Entry}
+use Rattle.nr_shared.specs.declared.entry.Entry.TheVariants as entries
 use Rattle.nr_shared.specs.declared.requester_with_sink.RequesterWithSink.{RequesterWithSink}
 use Rattle.nr_shared.specs.declared.shared.SharedRequester.{SharedRequester}
+use Rattle.nr_shared.specs.Histories.{closes_of}
 use Rattle.nr_shared.specs.Sharing.{SharedRests}
 use Rattle.nr_client.specs.declared.client_end.ClientEnd.{ClientEnd}
 use Rattle.nr_client.specs.declared.client_end.ClientEnd.TheVariants as client
+use Rattle.nr_client.specs.declared.fetching.AskedPiece.{AskedPiece}
 use Rattle.nr_client.specs.declared.jobs.PieceRead.{PieceRead}
 use Rattle.nr_client.specs.declared.jobs.ReadJob.{ReadJob}
 use Rattle.nr_client.specs.Jobs.{AreExchanges, IsExchange, IsPiece, LacksAnswer, ReadsByJobs}
@@ -43,6 +48,20 @@ IsFetched uid gid file size at (Some outcome) seen mine = IsExchange seen mine (
 abbrev pub AreFetched : (uid gid : ℕ) → (file : List ℕ) → (size : ℕ) → (seen : List Entry) → (mine : List ℕ) → List PieceRead → Type 0
 AreFetched uid gid file size seen mine pieces =
     All (λ (piece : PieceRead). IsExchange seen mine (read_call uid gid file piece.at (piece_left size piece.at)) piece.outcome) pieces
+
+-- The READ of what is left of a piece was submitted, at a place that is the caller's own, and open.
+pub record IsAskedAt {O C : Type 0} (uid gid : ℕ) (file : List ℕ) (size : ℕ) (p : Pass (RequesterWithSink O C) Entry) (k : ℕ) (asked : AskedPiece) : Type 0 where
+  pub stands : get_elem? (seen_by p) k ≡ some (entries.Submit (read_call uid gid file asked.at (piece_left size asked.at)) forms.Auto asked.ticket)
+  pub opened : IsOpen closes_of (seen_by p) (mine_of p) k
+
+-- such are the READs of these pieces, at places from this one on, each after those before it
+abbrev pub AreAskedFrom : {O C : Type 0} → (uid gid : ℕ) → (file : List ℕ) → (size : ℕ) → Pass (RequesterWithSink O C) Entry → ℕ → List AskedPiece → Type 0
+AreAskedFrom uid gid file size p from [] = ⊤
+AreAskedFrom uid gid file size p from (asked ∷ more) =
+    (k : ℕ) × ((from ≤ k) × (IsAskedAt uid gid file size p k asked × AreAskedFrom uid gid file size p (suc k) more))
+
+abbrev pub AreAsked : {O C : Type 0} → (uid gid : ℕ) → (file : List ℕ) → (size : ℕ) → Pass (RequesterWithSink O C) Entry → List AskedPiece → Type 0
+AreAsked uid gid file size p asked = AreAskedFrom uid gid file size p 0 asked
 
 -- GETATTR with this outcome told the size, and these bytes came and were written
 pub record ReadByJobs {O C : Type 0} (uid gid : ℕ) (file : List ℕ) (first : Outcome) (size at : ℕ) (p : Pass (RequesterWithSink O C) Entry)

@@ -1,5 +1,5 @@
 -- For the code: a call that was executed by the state alone, and what the cache has of a call.
-use Rattle.std.specs.Prelude.{◌≡◌, ◌≤◌, ⊤, ℕ, List, ◌++◌, length, Option, None, Some}
+use Rattle.std.specs.Prelude.{◌≡◌, ◌≤◌, ⊤, ℕ, List, [], ◌∷◌, ◌++◌, length, Option, None, Some}
 use Rattle.nr_outside.specs.declared.moment.Moment.{Moment}
 use Rattle.nr_cache.specs.Entries.{Finding}
 use Rattle.nr_cache.specs.Entries.Finding.{KeptCall, OldCall, NewCall}
@@ -44,3 +44,7 @@ abbrev pub IsRefusedBy : Fault → Finding → Type 0
 IsRefusedBy (faults.NotCall at) found = ⊥
 IsRefusedBy faults.Memory found = ⊤
 IsRefusedBy (faults.Old top) found = found ≡ OldCall top
+
+-- one entry
+abbrev pub IsOne : List TaggedEntry → Type 0
+IsOne T = (t : TaggedEntry) × (T ≡ t ∷ [])

@@ -5,3 +5,6 @@ returns-in-TooLarge c = rw c.in-TooLarge.is (rw (c.from.ensures) at c.push_words
 
 pub returns-in-Spent : goal.returns-in-Spent
 returns-in-Spent c = rw c.in-Spent.is (rw (c.from-in-Spent.ensures) at c.push_words-in-Spent.ensures)
+
+pub returns-in-Window : goal.returns-in-Window
+returns-in-Window c = rw c.in-Window.is (rw (c.from-in-Window.ensures) at c.push_words-in-Window.ensures)

@@ -1,12 +1,21 @@
 use Rattle.nr_plain.specs.History.{pass_view}
 use Rattle.nr_host.specs.Steps.{sink_state}
-use Rattle.nr_host.proofs.Drains.{out_ends, quietly}
+use Rattle.nr_host.proofs.Drains.{ends_after, goes_on_left, has_ended_left, out_ends, quietly}
 use Rattle.nr_host.proofs.feeding.answer_all.Goals as goal
+
+pub returns-in-Err-Memory-clause-err : goal.returns-in-Err-Memory-clause-err
+returns-in-Err-Memory-clause-err g c =
+    out_ends (sink_state (g.O.Sink.taken c.args.sink.now) (g.O.Sink.faults c.args.sink.now) c.args.failed.now) (g.C.Clock.gave c.args.clock.now) (g.C.Clock.gave c.execute_ready.new.clock)
+    (pass_view c.args.pass.now) (pass_view c.execute_ready.new.pass) c.args.responder.now.side c.in-Err-Memory.ensures.err
 
 pub returns-in-Err-clause-err : goal.returns-in-Err-clause-err
 returns-in-Err-clause-err g c =
-    out_ends (sink_state (g.O.Sink.taken c.args.sink.now) (g.O.Sink.faults c.args.sink.now) c.args.failed.now) (g.C.Clock.gave c.args.clock.now) (g.C.Clock.gave c.execute_ready.new.clock)
-    (pass_view c.args.pass.now) (pass_view c.execute_ready.new.pass) c.args.responder.now.side c.in-Err.ensures.err
+    ends_after c.stopped.result (sink_state (g.O.Sink.taken c.args.sink.now) (g.O.Sink.faults c.args.sink.now) c.args.failed.now) (sink_state (g.O.Sink.taken c.stopped.new.sink) (g.O.Sink.faults c.stopped.new.sink) c.stopped.new.failed)
+    (g.C.Clock.gave c.args.clock.now) (g.C.Clock.gave c.execute_ready.new.clock) (pass_view c.args.pass.now) (pass_view c.execute_ready.new.pass)
+    c.args.responder.now.side c.execute_ready.new.responder.side (goes_on_left c.in-Err.end _ _ _ _ _ _ c.in-Err.not-Memory c.in-Err.ensures.err) c.stopped.ensures.ends
+
+pub stopped-requires : goal.stopped-requires
+stopped-requires g c = has_ended_left c.in-Err.end _ _ _ _ _ _ c.in-Err.not-Memory c.in-Err.ensures.err
 
 pub returns-clause-ok : goal.returns-clause-ok
 returns-clause-ok g c =

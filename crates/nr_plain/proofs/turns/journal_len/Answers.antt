@@ -2,7 +2,8 @@ use Rattle.std.proofs.Common.{ap, sym, subst, ◌∙◌, ◌+◌, length, refl, 
 use Rattle.nr_turnstile.proofs.Held.{same_value, written}
 use Rattle.nr_turnstile.specs.Passes.{seen_by}
 use Rattle.nr_turnstile.specs.declared.turnstile.Pass.{Pass}
-use Rattle.nr_plain.specs.History.{OnlyOthersAdded, StandsFor, pass_view}
+use Rattle.nr_plain.specs.History.{OnlyOthersAdded, pass_view}
+use Rattle.nr_plain.specs.Turns.{StandsFor}
 use Rattle.nr_plain.specs.declared.history_entry.HistoryEntry.{HistoryEntry}
 use Rattle.nr_plain.proofs.Histories.{entries_are, history_length, others_added}
 use Rattle.nr_plain.specs.Stands.{PlainServerState}

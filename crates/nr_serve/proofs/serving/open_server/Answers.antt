@@ -1,6 +1,6 @@
 use Rattle.std.proofs.Common.{[], subst, ◌∙◌}
 use Rattle.nr_plain.specs.Setup.{Setup}
-use Rattle.nr_plain.specs.Stands.{RepresentsJournal}
+use Rattle.nr_plain.specs.Numbered.{RepresentsTagged}
 use Rattle.nr_serve.proofs.serving.open_server.Goals as goal
 
 pub returns-clause-opens : goal.returns-clause-opens
@@ -11,6 +11,6 @@ returns-clause-opens g c =
     record {
       moment = c.now-moment.result;
       gave = c.now-moment.ensures.gave;
-      stands = subst (λ (s : Setup). RepresentsJournal s [] c.open.result)
-          (λ i. record { tree = tree i; parameters = record { capacity = c.args.config.now.capacity; verifier = record { number = number i }; export = export i } }) c.open.ensures.journal;
+      stands = subst (λ (s : Setup). RepresentsTagged s [] c.open.result)
+          (λ i. record { tree = tree i; parameters = record { capacity = c.args.config.now.capacity; verifier = record { number = number i }; export = export i } }) c.open.ensures.numbered;
     }

@@ -93,3 +93,13 @@ pub returns-in-Some-ReadDone-clause-rest : goal.returns-in-Some-ReadDone-clause-
 returns-in-Some-ReadDone-clause-rest c =
     let t = told_link_lem c.args.self.now.endpoint.link c.next_event.new.self.link c.in-Some-ReadDone.ensures.state in
     rest_or_none c.args.self.now.endpoint.link.rest c.next_event.new.self.link.rest c.read_done.new.self.endpoint.link.rest t.rest c.read_done.ensures.input.rest
+
+pub returns-in-Some-Message-clause-heard : goal.returns-in-Some-Message-clause-heard
+returns-in-Some-Message-clause-heard c =
+    let t = told_link_lem c.args.self.now.endpoint.link c.next_event.new.self.link c.in-Some-Message.ensures.state in
+    record { last = c.message.ensures.input.last ∙ t.last; client = c.message.ensures.input.client ∙ t.client }
+
+pub returns-in-Some-ReadDone-clause-heard : goal.returns-in-Some-ReadDone-clause-heard
+returns-in-Some-ReadDone-clause-heard c =
+    let t = told_link_lem c.args.self.now.endpoint.link c.next_event.new.self.link c.in-Some-ReadDone.ensures.state in
+    record { last = c.read_done.ensures.input.last ∙ t.last; client = c.read_done.ensures.input.client ∙ t.client }

@@ -47,7 +47,7 @@ returns-in-Ok-clause-some c = λ some.
 pub returns-in-Ok-clause-goes : goal.returns-in-Ok-clause-goes
 returns-in-Ok-clause-goes c =
     subst (λ (n : ℕ). Fed (state_of c.args.self.now) (take n c.args.piece.now) (state_of c.take_event.new.self)) (sym (c.taken_at.ensures ∙ (λ i. taken_at (c.end.ensures i) (length c.args.piece.now) (c.in-Ok.ensures.taken i))))
-    (step_done (state_of c.args.self.now) (state_of c.take_event.new.self) c.args.piece.now c.feed_one.new.self.link c.requires.live c.facts.ensures.partial (c.in-Ok.ensures.state (λ e. absurd cc)) (sym c.in-Ok.ensures.ended) c.requires.word c.take_event.ensures.taken)
+    (step_done (state_of c.args.self.now) (state_of c.take_event.new.self) c.args.piece.now c.feed_one.new.self.link c.requires.live c.facts.ensures.partial (c.in-Ok.ensures.state (λ e. absurd cc)) (sym c.in-Ok.ensures.ended) c.requires.word c.take_event.ensures.taken c.take_event.ensures.heard)
 
 pub returns-in-Ok-clause-within : goal.returns-in-Ok-clause-within
 returns-in-Ok-clause-within c =
@@ -97,7 +97,7 @@ returns-in-Err-clause-rest c = inr refl
 
 pub returns-in-Ok-clause-first : goal.returns-in-Ok-clause-first
 returns-in-Ok-clause-first c =
-    first_done (state_of c.args.self.now) (state_of c.take_event.new.self) c.args.piece.now c.feed_one.new.self.link c.requires.live c.facts.ensures.partial (c.in-Ok.ensures.state (λ e. absurd cc)) (sym c.in-Ok.ensures.ended) c.requires.word c.take_event.ensures.taken
+    first_done (state_of c.args.self.now) (state_of c.take_event.new.self) c.args.piece.now c.feed_one.new.self.link c.requires.live c.facts.ensures.partial (c.in-Ok.ensures.state (λ e. absurd cc)) (sym c.in-Ok.ensures.ended) c.requires.word c.take_event.ensures.taken c.take_event.ensures.heard
 
 pub returns-in-Err-clause-first : goal.returns-in-Err-clause-first
 returns-in-Err-clause-first c =
