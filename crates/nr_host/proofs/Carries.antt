@@ -12,22 +12,20 @@ use Rattle.nr_link.specs.Agreement.{terms_with}
 use Rattle.nr_reduce.specs.declared.mark.Mark.{Mark}
 use Rattle.nr_reduce.specs.declared.mark.LinkParameters.{LinkParameters}
 use Rattle.nr_reduce.specs.History.{bytes_received, bytes_sent}
-use Rattle.nr_reduce.specs.NumberedJournal.{number_heard}
 use Rattle.nr_responder.specs.ResponderState.{ResponderSide, end_of, opened_side, queue}
 use Rattle.nr_responder.specs.Standing.{ResponderRepresents}
-use Rattle.nr_plain.specs.History.{PassView}
+use Rattle.nr_plain.specs.History.{Answered, PassView, Over}
+use Rattle.nr_plain.proofs.PassCalls.{over_none}
 use Rattle.nr_host.specs.declared.connection_limits.ConnectionLimits.{ConnectionLimits}
 use Rattle.nr_host.specs.declared.conn_end.ConnEnd.{ConnEnd}
 use Rattle.nr_host.specs.declared.conn_end.ConnEnd.TheVariants as ends
-use Rattle.nr_host.specs.Connections.{Outside, Runs, SinkState, GivesAll, answers_of, refusals_of, IsOpenedWith}
-use Rattle.nr_host.specs.Turns.{answered_in, refused_in}
+use Rattle.nr_host.specs.Connections.{Outside, Runs, SinkState, GivesAll, answers_of, moments, IsOpenedWith}
 use Rattle.nr_links.specs.Limits.{read_max}
 use Rattle.nr_host.specs.Ending.{AheadAt, FailedAt, HasRead, IsCause, MoreAt, ReadAt}
 use Rattle.nr_host.specs.Steps.{AllQuiet, CarriesTo, EndsIdle, FeedEnds, FeedsTo, IsLive, IsServed, outside, sink_state}
 use Rattle.nr_host.proofs.Idle.{facts}
 use Rattle.nr_host.proofs.Marks.{read_more}
 use Rattle.nr_host.proofs.Quiet.{quiet}
-use Rattle.nr_host.proofs.Turning.{taken_none}
 
 module _ (limits : ConnectionLimits) (before : Outside) (left given left' given' : Option (List ℕ)) (sink : SinkState) (gave : Option (List Moment)) (view : PassView) (v : ResponderSide) (read : ℕ)
     (piece : List ℕ) (carries : CarriesTo limits before (outside left given sink gave view) v read) (hands : HandsOut left given left' given' piece) where
@@ -123,7 +121,8 @@ write_failed limits before now v read carries most failed =
 
 -- ---- Before the first read
 
-gives_none : (gave : Option (List Moment)) → GivesAll gave gave []
+gives_none : (gave : Option (List Moment)) → GivesAll gave gave (moments [] ++ [])
+unfolding moments
 gives_none None = tt
 gives_none (Some given) = (given, refl, sym (append-nil given))
 
@@ -135,13 +134,9 @@ sent_none : (link : ℕ) → bytes_sent link Responder [] ≡ []
 unfolding bytes_sent
 sent_none link = refl
 
-answers_none : answered_in [] ≡ answers_of []
-unfolding answered_in answers_of
+answers_none : answers_of [] ≡ []
+unfolding answers_of
 answers_none = refl
-
-refusals_none : refused_in [] ≡ refusals_of []
-unfolding refused_in refusals_of
-refusals_none = refl
 
 -- a connection at its first byte
 abbrev pub first_outside : (left given taken : Option (List ℕ)) (faults : ℕ) (gave : Option (List Moment)) (view : PassView) → Outside
@@ -160,11 +155,7 @@ module _ (left given taken : Option (List ℕ)) (faults : ℕ) (gave : Option (L
     quiet = λ opened granted. tt;
     writes = λ opened granted. tt;
     frames = λ opened granted. tt;
-    turns = [];
-    answered = answers_none;
-    refused = refusals_none;
-    over = taken_none (number_heard [] link) view;
-    greeted = λ some. absurd (some refl);
+    over = subst (λ (calls : List Answered). Over view calls view) (sym answers_none) (over_none view);
     gave = gives_none gave;
     count = ap (λ (bytes : List ℕ). length bytes + 0) (received_none link);
   }

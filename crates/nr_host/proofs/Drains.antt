@@ -15,10 +15,9 @@ use Rattle.nr_plain.specs.History.{PassView}
 use Rattle.nr_link.specs.declared.end.End.{End}
 use Rattle.nr_link.specs.declared.end.End.TheVariants as link_ends
 use Rattle.nr_host.specs.declared.connection_limits.ConnectionLimits.{ConnectionLimits}
-use Rattle.nr_host.specs.declared.conn_end.ConnEnd.{ConnEnd}
 use Rattle.nr_host.specs.declared.conn_end.ConnEnd.TheVariants as ends
 use Rattle.nr_host.specs.Connections.{Outside, Runs, SinkState, IsOpenedWith}
-use Rattle.nr_host.specs.Steps.{IsLive, AllQuiet, EndsAt, EndsWith, FaultsFrom, GoesOn, GoesQuietly, HasExecuted, Leaves, RunsOut, WritesAll, outside, sink_state}
+use Rattle.nr_host.specs.Steps.{IsLive, AllQuiet, EndsAt, EndsWith, FaultsFrom, GoesOn, GoesQuietly, HasExecuted, RunsOut, WritesAll, outside, sink_state}
 use Rattle.nr_host.proofs.Marks.{fed, wrote}
 use Rattle.nr_host.proofs.Sinks.{TakesMore, takes_all, takes_first, takes_none}
 use Rattle.nr_host.proofs.Quiet.{drained_due, drained_none, ended_quiet, ended_server, has_memory, none_waits, quiet}
@@ -102,30 +101,6 @@ pub out_ends : (sink : SinkState) (gave gave' : Option (List Moment)) (view view
 out_ends sink gave gave' view view' v out limits read link before left given ahead run most live =
     let (run', more, few, runs) = out limits read link before left given sink ahead run live in
     record { run = run'; ahead = ahead; more = more; runs = runs; ahead_is = tt; more_is = few; read_is = most.1; failed_is = tt; cause = λ opened granted. tt }
-
--- a side that has ended for a call that is old
-pub has_ended_left : (end : End) (gave gave' : Option (List Moment)) (view view' : PassView) (v v' : ResponderSide) → (end ≡ link_ends.Memory → ⊥) → Leaves end gave gave' view view' v v' → end_of v' ≡ Some end
-has_ended_left link_ends.Memory gave gave' view view' v v' other left = absurd (other refl)
-has_ended_left (link_ends.Bad at reason) gave gave' view view' v v' other left = left.0
-has_ended_left (link_ends.Denied stag offset why) gave gave' view view' v v' other left = left.0
-has_ended_left (link_ends.NoBuffer msn) gave gave' view view' v v' other left = left.0
-has_ended_left (link_ends.Terminated reason) gave gave' view view' v v' other left = left.0
-
-pub goes_on_left : (end : End) (gave gave' : Option (List Moment)) (view view' : PassView) (v v' : ResponderSide) → (end ≡ link_ends.Memory → ⊥) → Leaves end gave gave' view view' v v' → GoesOn gave gave' view view' v v'
-goes_on_left link_ends.Memory gave gave' view view' v v' other left = absurd (other refl)
-goes_on_left (link_ends.Bad at reason) gave gave' view view' v v' other left = left.1
-goes_on_left (link_ends.Denied stag offset why) gave gave' view view' v v' other left = left.1
-goes_on_left (link_ends.NoBuffer msn) gave gave' view view' v v' other left = left.1
-goes_on_left (link_ends.Terminated reason) gave gave' view view' v v' other left = left.1
-
-pub out_left : (end : End) (gave gave' : Option (List Moment)) (view view' : PassView) (v v' : ResponderSide) → end ≡ link_ends.Memory → Leaves end gave gave' view view' v v' → RunsOut gave gave' view view' v
-out_left end gave gave' view view' v v' is left = subst (λ (e : End). Leaves e gave gave' view view' v v') is left
-
-pub ends_after : (end : ConnEnd) (sink sink' : SinkState) (gave gave' : Option (List Moment)) (view view' : PassView) (v v' : ResponderSide)
-    → GoesOn gave gave' view view' v v' → EndsAt end sink sink' v' → EndsWith end sink sink' gave gave' view view' v
-ends_after end sink sink' gave gave' view view' v v' goes at limits read link before left given ahead run most live =
-    let (run', live') = goes limits read link before left given sink ahead run live in
-    at limits read link before left given gave' view' ahead run' most live'
 
 -- a side that ran out of memory writes nothing more
 pub stop_memory : (sink : SinkState) (v : ResponderSide) → EndsAt ends.Memory sink sink v

@@ -11,10 +11,10 @@ use Rattle.nr_endpoint.specs.LinkState.{initial_link}
 use Rattle.nr_wire.specs.declared.hello.Side.TheVariants.{Responder}
 use Rattle.nr_responder.specs.ResponderState.{end_of, opened_side}
 use Rattle.nr_responder.proofs.Opened.{opened_lives, opened_stands_lem}
-use Rattle.nr_plain.specs.History.{PassView}
+use Rattle.nr_plain.specs.History.{Answered, Over, PassView}
 use Rattle.nr_record_host.specs.RecordRuns.{Around, IsRecordsServed, around}
 use Rattle.nr_record_host.specs.declared.record_end.RecordEnd.{RecordEnd}
-use Rattle.nr_host.specs.Connections.{Outside, SinkState}
+use Rattle.nr_host.specs.Connections.{Outside, SinkState, answers_of}
 use Rattle.nr_host.specs.Ending.{Ended}
 use Rattle.nr_host.specs.LinkServing.{IsHeld, IsKindFor, IsKindOf, IsLinkServed, ServesByByte, ServesLinkBy}
 use Rattle.nr_host.specs.Steps.{CarriesTo, IsServed, outside, sink_state, with_failed}
@@ -26,7 +26,6 @@ use Rattle.nr_host.specs.declared.link_end.LinkEnd.TheVariants as link_ends
 use Rattle.nr_host.proofs.Carries.{first_outside, nothing_read, opened, read_ends, read_fails}
 use Rattle.nr_link.specs.Agreement.{terms_with}
 use Rattle.nr_host.proofs.Idle.{ends_closed}
-use Rattle.nr_host.proofs.Turning.{GrowsByCalls, grown_by_calls, grown_by_turns}
 
 -- ---- bytes that are kept
 
@@ -177,11 +176,7 @@ module _ (left given left' given' : Option (List ℕ)) (sink : SinkState) (gave 
       quiet = e.runs.quiet;
       writes = e.runs.writes;
       frames = e.runs.frames;
-      turns = e.runs.turns;
-      answered = e.runs.answered;
-      refused = e.runs.refused;
       over = e.runs.over;
-      greeted = e.runs.greeted;
       gave = e.runs.gave;
       count = e.runs.count;
     };
@@ -243,11 +238,12 @@ kind_is byte held left inner after end is kept kind = by_left left inner (subst 
 
 -- ---- what its pass did
 
-pub grown_link : (limits : ConnectionLimits) (records : Bool) (before after : Outside) (end : LinkEnd) → IsLinkServed limits records before after end → GrowsByCalls before.view after.view
-grown_link limits false before after (link_ends.Rdma end) s = let (read, (failed, e)) = s 0 in grown_by_turns before.view after.view _ e.runs.turns e.runs.over
-grown_link limits false before after (link_ends.Record end) s = absurd s
-grown_link limits true before after (link_ends.Rdma end) s = let (read, (failed, e)) = s.serves 0 in grown_by_turns before.view after.view _ e.runs.turns e.runs.over
-grown_link limits true before after (link_ends.Record end) s = grown_by_calls before.view after.view s.serves.exchanges s.serves.serves.over
+pub over_link : (limits : ConnectionLimits) (records : Bool) (before after : Outside) (end : LinkEnd) → IsLinkServed limits records before after end
+    → (calls : List Answered) × Over before.view calls after.view
+over_link limits false before after (link_ends.Rdma end) s = let (read, (failed, e)) = s 0 in (answers_of e.run, e.runs.over)
+over_link limits false before after (link_ends.Record end) s = absurd s
+over_link limits true before after (link_ends.Rdma end) s = let (read, (failed, e)) = s.serves 0 in (answers_of e.run, e.runs.over)
+over_link limits true before after (link_ends.Record end) s = (s.serves.exchanges, s.serves.serves.over)
 
 -- ---- the same, seen from outside
 

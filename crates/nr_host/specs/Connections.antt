@@ -1,27 +1,24 @@
 -- What one connection of a server did: its marks, and what they say of the link, of the journal and of the clock.
-use Rattle.std.specs.Prelude.{◌≡◌, ◌≢◌, ⊤, ℕ, ◌+◌, ◌⊎◌, Bool, true, false, List, [], ◌∷◌, ◌++◌, length, map, Option, None, Some, is_some}
+use Rattle.std.specs.Prelude.{◌≡◌, ⊤, ℕ, ◌+◌, ◌⊎◌, Bool, true, false, List, [], ◌∷◌, ◌++◌, length, Option, None, Some, is_some}
 use Rattle.std.specs.List.{flat_map}
 use Rattle.std.specs.Io.KnownBytes.{Appends}
 use Rattle.nr_outside.specs.Content.{HandsOut}
 use Rattle.nr_outside.specs.Faults.{Rises}
 use Rattle.nr_outside.specs.declared.moment.Moment.{Moment}
 use Rattle.nr_wire.specs.declared.hello.Side.TheVariants.{Initiator, Responder}
-use Rattle.nr_link.specs.Frames.{frames_completed, frames_of}
+use Rattle.nr_link.specs.Frames.{frames_completed}
 use Rattle.nr_link.specs.Input.{input_of}
 use Rattle.nr_link.specs.Agreement.{terms_with}
 use Rattle.nr_reduce.specs.Opening.{ServerOpened}
 use Rattle.nr_reduce.specs.declared.mark.Mark.{Mark}
 use Rattle.nr_reduce.specs.declared.mark.Mark.TheVariants as marks
-use Rattle.nr_reduce.specs.declared.mark.Told.TheVariants.{Old}
 use Rattle.nr_reduce.specs.declared.mark.LinkParameters.{LinkParameters}
 use Rattle.nr_reduce.specs.AtEachMark.{AtEachMark}
 use Rattle.nr_reduce.specs.History.{bytes_sent, bytes_received}
 use Rattle.nr_reduce.specs.Matched.{IsPrefixOf}
 use Rattle.nr_reduce.specs.Run.{HasWritten, server}
 use Rattle.nr_reduce.specs.Served.{ServedSoFar, next_call}
-use Rattle.nr_reduce.specs.NumberedJournal.{number_heard}
-use Rattle.nr_plain.specs.History.{Answered, PassView}
-use Rattle.nr_host.specs.Turns.{Taken, Turn, answered_in, given_for, refused_in}
+use Rattle.nr_plain.specs.History.{Answered, PassView, Over}
 use Rattle.nr_host.specs.declared.connection_limits.ConnectionLimits.{ConnectionLimits}
 
 -- a link's server was opened with these limits
@@ -41,7 +38,6 @@ abbrev pub IsOwn : ℕ → Mark → Type 0
 IsOwn link (marks.Fed l Responder bytes) = l ≡ link
 IsOwn link (marks.Wrote l Responder bytes) = l ≡ link
 IsOwn link (marks.Execute l xid moment payload place reply) = l ≡ link
-IsOwn link (marks.Told l (Old xid at)) = l ≡ link
 IsOwn link mark = ⊥
 
 -- the calls that were answered, in order
@@ -51,14 +47,6 @@ answer_of mark = []
 
 unfoldable pub answers_of : List Mark → List Answered
 answers_of run = flat_map answer_of run
-
--- the xids of the calls that were refused since they are old, in order
-abbrev pub refusal_of : Mark → List ℕ
-refusal_of (marks.Told l (Old xid at)) = xid ∷ []
-refusal_of mark = []
-
-unfoldable pub refusals_of : List Mark → List ℕ
-refusals_of run = flat_map refusal_of run
 
 -- all output that is due is written, and every call that became complete is executed
 pub record IsQuiet (opened : LinkParameters) (link : ℕ) (run : List Mark) : Type 0 where
@@ -117,9 +105,8 @@ pub record Outside : Type 0 where
   pub gave : Option (List Moment)
   pub view : PassView
 
--- The connection made these marks, after it had read the bytes that they fed and `ahead`, in all `read`. It took these turns for the client whose
--- number its hello says, each for a call that was answered or refused, in the order of the marks, and none before the hello was received. The
--- clock had given the moments of these turns and `more`.
+-- The connection made these marks, after it had read the bytes that they fed and `ahead`, in all `read`, and the clock
+-- had given the moments of its calls and `more`.
 pub record Runs (limits : ConnectionLimits) (read link : ℕ) (before after : Outside) (ahead : List ℕ) (more : List Moment) (run : List Mark) : Type 0 where
   pub own : AtEachMark (λ earlier mark. IsOwn link mark) [] run
   pub handed : HandsOut before.left before.given after.left after.given (bytes_received link Responder run ++ ahead)
@@ -128,10 +115,6 @@ pub record Runs (limits : ConnectionLimits) (read link : ℕ) (before after : Ou
   pub quiet : (opened : LinkParameters) → IsOpenedWith limits opened → AtEachMark (QuietMark opened link) [] run
   pub writes : (opened : LinkParameters) → IsOpenedWith limits opened → AtEachMark (WriteMark opened link) [] run
   pub frames : (opened : LinkParameters) → IsOpenedWith limits opened → AtEachMark (FrameMark opened link) [] run
-  pub turns : List Turn
-  pub answered : answered_in turns ≡ answers_of run
-  pub refused : refused_in turns ≡ refusals_of run
-  pub over : Taken (number_heard run link) before.view turns after.view
-  pub greeted : turns ≢ [] → frames_of Initiator (bytes_received link Responder run) ≢ []
-  pub gave : GivesAll before.gave after.gave (map given_for turns ++ more)
+  pub over : Over before.view (answers_of run) after.view
+  pub gave : GivesAll before.gave after.gave (moments run ++ more)
   pub count : length (bytes_received link Responder run) + length ahead ≡ read

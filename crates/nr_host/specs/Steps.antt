@@ -54,11 +54,6 @@ RunsOut gave gave' view view' v =
     IsLive limits read link before (outside left given sink gave view) ahead run v →
     (run' : List Mark) × (more : List Moment) × (length more ≤ 1) × Runs limits read link before (outside left given sink gave' view') ahead more run'
 
--- Memory ran out in it; or the responder has ended for a call that is old, and what was told of that is one mark more.
-abbrev pub Leaves : End → (gave gave' : Option (List Moment)) (view view' : PassView) (v v' : ResponderSide) → Type 0
-Leaves link_ends.Memory gave gave' view view' v v' = RunsOut gave gave' view view' v
-Leaves end gave gave' view view' v v' = (end_of v' ≡ Some end) × GoesOn gave gave' view view' v v'
-
 -- no call waits to be executed: none is ready, or the side ended, and not for memory
 abbrev pub HasExecuted : ResponderSide → Type 0
 HasExecuted v = ((end_of v ≡ None) × (v.ready ≡ [])) ⊎ ((end : End) × ((end_of v ≡ Some end) × (end ≡ link_ends.Memory → ⊥)))

@@ -1,20 +1,19 @@
 //! Calls that are ready, executed and answered.
 
-ghost use Rattle.std.specs.Prelude.{◌≡◌, ◌≤◌, None, OnOk, IfErr, drop};
+ghost use Rattle.std.specs.Prelude.{◌≡◌, None, OnOk, OnErr, drop};
 ghost use Rattle.nr_endpoint.specs.FedBytes.{fed_bytes};
 ghost use Rattle.nr_responder.specs.ResponderState.{end_of};
 ghost use Rattle.nr_responder.specs.Sound.{IsNext};
 ghost use Rattle.nr_turnstile.specs.Passes.{Rests};
 ghost use Rattle.nr_plain.specs.History.{pass_view};
-ghost use Rattle.nr_host.specs.Steps.{GoesOn, Leaves};
+ghost use Rattle.nr_host.specs.Steps.{GoesOn, RunsOut};
 
-use nr_link::End;
-use nr_link::constants::REASON_OLD;
 use nr_links::Clock;
 use nr_outside::raise_trim_threshold;
-use nr_plain::{Fault, Server, execute_for};
+use nr_plain::{Server, execute};
 use nr_responder::{CallId, Responder};
 use nr_turnstile::{Machine, Pass, Turnstile};
+use nr_xdr::Memory;
 use std::alloc::Global;
 use std::sync::Wait;
 
@@ -28,8 +27,7 @@ fn grow_heap(alloc: Global, call_len: usize) {
     }
 }
 
-/// Executes the next call at the clock's moment, under one turn, and queues its answer. A call of a client with a number that was executed
-/// before, and is kept, gets the reply that it had then. `Err`: memory ran out, or the call is old, and the responder has ended for that.
+/// Executes the next call at the clock's moment, under one turn, and queues its answer.
 pub(crate) fn execute_one<C: Clock, R: Wait>(
     rt: &R,
     alloc: Global,
@@ -38,28 +36,25 @@ pub(crate) fn execute_one<C: Clock, R: Wait>(
     shared: &Turnstile<Server>,
     pass: &mut Pass<Server>,
     clock: &mut C,
-) -> Result<(), End>
+) -> Result<(), Memory>
     requires live { end_of responder.old.side ≡ None }
     requires rests { Rests shared.now pass.old }
     requires next { IsNext responder.old.side call }
     ensures rests { Rests shared.now pass.new }
     ensures live { OnOk result (end_of responder.new.side ≡ None) }
     ensures fewer { OnOk result (responder.new.side.ready ≡ drop 1 responder.old.side.ready) }
-    ensures fed { fed_bytes responder.new.side.link ≤ fed_bytes responder.old.side.link }
+    ensures fed { fed_bytes responder.new.side.link ≡ fed_bytes responder.old.side.link }
     ensures ok { OnOk result (GoesOn (C.gave clock.old) (C.gave clock.new) (pass_view pass.old) (pass_view pass.new) responder.old.side responder.new.side) }
-    ensures err { IfErr result (λ end. Leaves end (C.gave clock.old) (C.gave clock.new) (pass_view pass.old) (pass_view pass.new) responder.old.side responder.new.side) }
+    ensures err { OnErr result (RunsOut (C.gave clock.old) (C.gave clock.new) (pass_view pass.old) (pass_view pass.new) responder.old.side) }
 {
     let moment = clock.now();
-    let client = responder.client();
     let payload = responder.payload(&call);
     grow_heap(alloc, payload.len());
-    let reply = match execute_for(rt, alloc, shared, pass, client, moment, payload) {
-        Ok(reply) => reply,
-        Err(Fault::Old { .. }) => return Err(responder.stop(REASON_OLD)),
-        Err(_) => return Err(End::Memory),
+    let Ok(reply) = execute(rt, alloc, shared, pass, moment, payload) else {
+        return Err(Memory);
     };
     match responder.answer(call, reply.payload.as_slice()) {
         Ok(_) => Ok(()),
-        Err(_) => Err(End::Memory),
+        Err(_) => Err(Memory),
     }
 }

@@ -1,13 +1,14 @@
 //! Pieces of the client's stream, fed frame by frame.
 
-ghost use Rattle.std.specs.Prelude.{◌≡◌, ℕ, ◌+◌, ◌*◌, ◌≤◌, ◌^◌, false, None, Some, [], length, IfErr, OnOk};
+ghost use Rattle.std.specs.Prelude.{◌≡◌, ℕ, ◌+◌, ◌*◌, ◌≤◌, ◌^◌, false, None, Some, [], length, IfErr, OnOk, OnErr};
 ghost use Rattle.nr_endpoint.specs.FedBytes.{fed_bytes};
 ghost use Rattle.nr_responder.specs.ResponderState.{end_of};
 ghost use Rattle.nr_links.specs.Limits.{piece_max};
 ghost use Rattle.nr_turnstile.specs.Passes.{Rests};
 ghost use Rattle.nr_plain.specs.History.{pass_view};
 ghost use Rattle.nr_host.specs.Ending.{FailedAt, SinkCount, SourceCount};
-ghost use Rattle.nr_host.specs.Steps.{EndsAt, EndsWith, FaultsAt, FaultsFrom, FeedEnds, FeedsTo, GoesOn, GoesQuietly, Leaves, sink_state};
+ghost use Rattle.nr_host.specs.Steps.{EndsAt, EndsWith, FaultsAt, FaultsFrom, FeedEnds, FeedsTo, GoesOn, GoesQuietly, RunsOut, sink_state};
+ghost use Rattle.nr_host.specs.declared.conn_end.ConnEnd.TheVariants as ends;
 
 use crate::conn_end::ConnEnd;
 use crate::draining::drain;
@@ -18,10 +19,11 @@ use nr_outside::Sink;
 use nr_plain::Server;
 use nr_responder::Responder;
 use nr_turnstile::{Machine, Pass, Turnstile};
+use nr_xdr::Memory;
 use std::alloc::Global;
 use std::sync::Wait;
 
-/// Executes all calls that are ready, and queues their answers. `Err`: memory ran out, or the responder has ended for a call that is old.
+/// Executes all calls that are ready, and queues their answers.
 fn execute_ready<C: Clock, R: Wait>(
     rt: &R,
     alloc: Global,
@@ -29,26 +31,26 @@ fn execute_ready<C: Clock, R: Wait>(
     shared: &Turnstile<Server>,
     pass: &mut Pass<Server>,
     clock: &mut C,
-) -> Result<(), End>
+) -> Result<(), Memory>
     requires live { end_of responder.old.side ≡ None }
     requires rests { Rests shared.now pass.old }
     ensures rests { Rests shared.now pass.new }
     ensures live { OnOk result (end_of responder.new.side ≡ None) }
     ensures idle { OnOk result (responder.new.side.ready ≡ []) }
-    ensures fed { OnOk result (fed_bytes responder.new.side.link ≤ fed_bytes responder.old.side.link) }
+    ensures fed { OnOk result (fed_bytes responder.new.side.link ≡ fed_bytes responder.old.side.link) }
     ensures ok { OnOk result (GoesOn (C.gave clock.old) (C.gave clock.new) (pass_view pass.old) (pass_view pass.new) responder.old.side responder.new.side) }
-    ensures err { IfErr result (λ end. Leaves end (C.gave clock.old) (C.gave clock.new) (pass_view pass.old) (pass_view pass.new) responder.old.side responder.new.side) }
+    ensures err { OnErr result (RunsOut (C.gave clock.old) (C.gave clock.new) (pass_view pass.old) (pass_view pass.new) responder.old.side) }
 {
     while let Some(call) = responder.next_ready() {
         match execute_one(rt, alloc, responder, call, shared, pass, clock) {
             Ok(()) => {}
-            Err(end) => return Err(end),
+            Err(memory) => return Err(memory),
         }
     }
     Ok(())
 }
 
-/// Executes all calls that are ready, and writes what is due, or drops it once a write has failed. `Err`: the connection ends.
+/// Executes all calls that are ready, and writes what is due, or drops it once a write has failed.
 fn answer_all<O: Sink, C: Clock, R: Wait>(
     rt: &R,
     alloc: Global,
@@ -58,31 +60,25 @@ fn answer_all<O: Sink, C: Clock, R: Wait>(
     clock: &mut C,
     sink: &mut O,
     failed: &mut bool,
-) -> Result<(), ConnEnd>
+) -> Result<(), Memory>
     requires live { end_of responder.old.side ≡ None }
     requires rests { Rests shared.now pass.old }
     ensures rests { Rests shared.now pass.new }
     ensures live { OnOk result (end_of responder.new.side ≡ None) }
-    ensures fed { OnOk result (fed_bytes responder.new.side.link ≤ fed_bytes responder.old.side.link) }
+    ensures fed { OnOk result (fed_bytes responder.new.side.link ≡ fed_bytes responder.old.side.link) }
     ensures ok { OnOk result (GoesQuietly (sink_state (O.taken sink.old) (O.faults sink.old) failed.old) (sink_state (O.taken sink.new) (O.faults sink.new) failed.new)
         (C.gave clock.old) (C.gave clock.new) (pass_view pass.old) (pass_view pass.new) responder.old.side responder.new.side) }
-    ensures err { IfErr result (λ end. EndsWith end (sink_state (O.taken sink.old) (O.faults sink.old) failed.old) (sink_state (O.taken sink.new) (O.faults sink.new) failed.new)
+    ensures err { OnErr result (EndsWith ends.Memory (sink_state (O.taken sink.old) (O.faults sink.old) failed.old) (sink_state (O.taken sink.new) (O.faults sink.new) failed.new)
         (C.gave clock.old) (C.gave clock.new) (pass_view pass.old) (pass_view pass.new) responder.old.side) }
-    ensures failed { IfErr result (λ end. FailedAt end failed.new) }
-    ensures source { IfErr result (λ end. (count : ℕ) → SourceCount end count count) }
     ensures counted { FaultsFrom failed.old failed.new (O.faults sink.old) (O.faults sink.new) }
     ensures never_falls { O.faults sink.old ≤ O.faults sink.new }
 {
     match execute_ready(rt, alloc, responder, shared, pass, clock) {
-        Ok(()) => {
-            drain(responder, sink, failed);
-            Ok(())
-        }
-        Err(end) => match end {
-            End::Memory => Err(ConnEnd::Memory),
-            _ => Err(stopped(responder, sink, failed, end)),
-        },
+        Ok(()) => {}
+        Err(memory) => return Err(memory),
     }
+    drain(responder, sink, failed);
+    Ok(())
 }
 
 /// The end of a connection whose responder ended so. What is still due, a Terminate, is written, or dropped once a
@@ -147,7 +143,7 @@ pub(crate) fn feed_all<O: Sink, C: Clock, R: Wait>(
         let (_, rest) = left.split_at(n);
         match answer_all(rt, alloc, responder, shared, pass, clock, sink, failed) {
             Ok(()) => {}
-            Err(end) => return Err(end),
+            Err(_) => return Err(ConnEnd::Memory),
         }
         left = rest;
     }

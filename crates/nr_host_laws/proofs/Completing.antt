@@ -1,6 +1,5 @@
 -- How a connection ends whose client sends a complete stream.
 use Rattle.std.proofs.Common.{◌≡◌, ℕ, ◌<◌, ◌⊎◌, inl, inr, Bool, false, List, [], ◌∷◌, ◌++◌, length, Option, Some, None, refl, arith, subst, sym, ap, ◌∙◌, append_assoc, append-nil}
-use Rattle.std.specs.Prelude.{map}
 use Rattle.std.proofs.lemmas.List.{length-append}
 use Rattle.std.proofs.lemmas.Option.{none-some}
 use Rattle.std.specs.Io.KnownBytes.{Appends, Consumes, IsAtEnd}
@@ -19,8 +18,7 @@ use Rattle.nr_host_laws.proofs.Lawful.{keep_the_law, with_limits}
 use Rattle.nr_reduce.specs.Served.{Served}
 use Rattle.nr_plain.specs.History.{IsHistory, Opening, setup_in}
 use Rattle.nr_links.specs.Limits.{read_max}
-use Rattle.nr_host.specs.Connections.{Outside, Runs, TakesUntil, GivesAll, IsOpenedWith}
-use Rattle.nr_host.specs.Turns.{given_for}
+use Rattle.nr_host.specs.Connections.{Outside, Runs, TakesUntil, GivesAll, moments, IsOpenedWith}
 use Rattle.nr_host.specs.Ending.{Ended, IsCause, IsIdle, SinkCount, SourceCount, begun_bytes, open_calls}
 use Rattle.nr_host.specs.Steps.{IsServed, sink_state, with_failed}
 use Rattle.nr_host.specs.declared.connection_limits.ConnectionLimits.{ConnectionLimits}
@@ -77,14 +75,8 @@ module _ (limits : ConnectionLimits) (before after : Outside) (first : Opening) 
     quiet = r.quiet opened same;
     writes = r.writes opened same;
     frames = r.frames opened same;
-    entries = stands.entries;
-    journal = stands.journal;
-    more = (r.over first stands.entries stands.is).more;
-    turns = r.turns;
-    answers = r.answered;
-    refusals = r.refused;
-    mine = (r.over first stands.entries stands.is).mine;
-    turned = (r.over first stands.entries stands.is).turned;
+    more = (r.over first J stands).more;
+    plain = (r.over first J stands).placed;
   }
 
   -- a connection that read all of it, and is idle, has closed
@@ -103,14 +95,9 @@ module _ (limits : ConnectionLimits) (before after : Outside) (first : Opening) 
         given = subst (λ (l : List ℕ). Appends before.given after.given l)
             (ap (λ (l : List ℕ). bytes_received link Responder run ++ l) none ∙ append-nil (bytes_received link Responder run) ∙ all.0) r.handed.to_given;
         taken = (subst (λ (f : Bool). TakesUntil f before.sink (sink_state after.sink.taken after.sink.faults f) (bytes_sent link Responder run)) fine r.taken).1;
-        turns = r.turns;
-        answers = r.answered;
-        refusals = r.refused;
         gave = subst (λ (l : List Moment). GivesAll before.gave after.gave l)
-            (ap (λ (l : List Moment). map given_for r.turns ++ l) no_more ∙ append-nil (map given_for r.turns)) r.gave;
-        entries = stands.entries;
-        journal = stands.journal;
-        over = r.over first stands.entries stands.is;
+            (ap (λ (l : List Moment). moments run ++ l) no_more ∙ append-nil (moments run)) r.gave;
+        over = r.over first J stands;
         made = made_by read link failed ahead more run r;
         served = served;
         idle = λ opened same. (idle opened same).0;

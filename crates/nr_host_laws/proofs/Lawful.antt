@@ -16,10 +16,8 @@ use Rattle.nr_reduce.specs.Run.{server}
 use Rattle.nr_reduce.specs.Served.{Served, ServedMark, next_call}
 use Rattle.nr_reduce.specs.ServerState.{ServerState}
 use Rattle.nr_reduce.proofs.SoFarLaws.{AtEachMark_each, served_mark}
-use Rattle.nr_link.specs.Frames.{frames_of}
-use Rattle.nr_reduce.specs.NumberedJournal.{number_heard, number_in_frames}
-use Rattle.nr_host.specs.Turns.{Taken}
-use Rattle.nr_host.specs.Connections.{FrameMark, IsOwn, IsQuiet, Outside, QuietMark, Runs, Takes, WriteMark, IsOpenedWith}
+use Rattle.nr_plain.specs.History.{Answered, Over}
+use Rattle.nr_host.specs.Connections.{FrameMark, GivesAll, IsOwn, IsQuiet, Outside, QuietMark, Runs, Takes, WriteMark, IsOpenedWith}
 use Rattle.nr_host.specs.Ending.{IsCause, IsIdle, begun_bytes, open_calls}
 use Rattle.nr_host.specs.Steps.{with_failed}
 use Rattle.nr_host.specs.declared.connection_limits.ConnectionLimits.{ConnectionLimits}
@@ -84,15 +82,11 @@ module _ (limits : ConnectionLimits) (read link : ℕ) (before now : Outside) (a
       (both (ServedMark IsPrefixOf opened link) (λ b m. QuietMark opened link b m × (WriteMark opened link b m × FrameMark opened link b m)) [] run (r.served opened is)
       (both (QuietMark opened link) (λ b m. WriteMark opened link b m × FrameMark opened link b m) [] run (r.quiet opened is)
       (both (WriteMark opened link) (FrameMark opened link) [] run (r.writes opened is) (r.frames opened is)))) in
-      let first : IsSame opened link [] [] = record { state = refl; due = refl; sent = refl; received = refl; answers = refl; refusals = refl } in
+      let first : IsSame opened link [] [] = record { state = refl; due = refl; sent = refl; received = refl; answers = refl; times = refl } in
       merged opened link [] [] [] run each (all opened is) (inl (first, refl))
 
   same_run : IsSame (with_limits limits) link run (merge link [] run)
   same_run = (as_whole (with_limits limits) (refl, refl, refl, refl)).1
-
-  same_number : number_heard (merge link [] run) link ≡ number_heard run link
-  unfolding number_heard
-  same_number = ap (λ (bytes : List ℕ). number_in_frames (frames_of Initiator bytes)) same_run.received
 
   pub merged_runs : Runs limits read link before now ahead more (merge link [] run)
   merged_runs = record {
@@ -103,12 +97,8 @@ module _ (limits : ConnectionLimits) (read link : ℕ) (before now : Outside) (a
     quiet = λ opened is. AtEachMark_each (KeepsTo IsAll opened link) (QuietMark opened link) [] (merge link [] run) (λ b m h. h.1.1.0) (as_whole opened is).0;
     writes = λ opened is. AtEachMark_each (KeepsTo IsAll opened link) (WriteMark opened link) [] (merge link [] run) (λ b m h. h.1.1.1.0) (as_whole opened is).0;
     frames = λ opened is. AtEachMark_each (KeepsTo IsAll opened link) (FrameMark opened link) [] (merge link [] run) (λ b m h. h.1.1.1.1) (as_whole opened is).0;
-    turns = r.turns;
-    answered = r.answered ∙ sym same_run.answers;
-    refused = r.refused ∙ sym same_run.refusals;
-    over = subst (λ (n : ℕ). Taken n before.view r.turns now.view) (sym same_number) r.over;
-    greeted = λ some none. r.greeted some (ap (frames_of Initiator) (sym same_run.received) ∙ none);
-    gave = r.gave;
+    over = subst (λ (calls : List Answered). Over before.view calls now.view) (sym same_run.answers) r.over;
+    gave = subst (λ (l : List Moment). GivesAll before.gave now.gave (l ++ more)) (sym same_run.times) r.gave;
     count = ap (λ (l : List ℕ). length l + length ahead) same_run.received ∙ r.count;
   }
 

@@ -1,7 +1,7 @@
 -- The marks of a connection over a source of bytes are of their types.
 use Rattle.std.proofs.Common.{◌≡◌, ℕ, zero, suc, ◌+◌, Bool, true, false, cond, not, ◌&&◌, eqb, List, [], ◌∷◌, ◌++◌, length, take, Option, None, Some, refl, sym, ap, ◌∙◌, subst}
 use Rattle.std.specs.List.{AllByRecursion, flat_map}
-use Rattle.std.proofs.lemmas.List.{take-map}
+use Rattle.std.specs.Option.{option_map}
 use Rattle.std.specs.Io.KnownBytes.{Consumes}
 use Rattle.nr_xdr.specs.Item.{IsBytes}
 use Rattle.nr_xdr.proofs.Chains.{IsBytes_left, IsBytes_right}
@@ -20,23 +20,17 @@ use Rattle.nr_reduce.specs.declared.mark.Entry.{Entry}
 use Rattle.nr_reduce.specs.declared.mark.LinkParameters.{LinkParameters}
 use Rattle.nr_reduce.specs.declared.mark.Mark.{Mark}
 use Rattle.nr_reduce.specs.declared.mark.Mark.TheVariants as marks
-use Rattle.nr_reduce.specs.declared.mark.TaggedEntry.{TaggedEntry}
-use Rattle.nr_reduce.specs.declared.mark.Told.TheVariants.{Granted, Old}
-use Rattle.nr_reduce.specs.NumberedJournal.{Standing, entries_alone, number_heard, standing_for, IsExecutedBy}
-use Rattle.nr_reduce.specs.NumberedJournal.Standing as standings
 use Rattle.nr_reduce.proofs.Standing.{AtEachMark_more, itself}
 use Rattle.nr_laws.specs.Typed.{IsTyped, TypedMark}
 use Rattle.nr_laws.proofs.Basics.{each_append}
-use Rattle.nr_plain.specs.History.{Answered, AreOfCalls, Opening, entries_in, setup_in, xid_in}
-use Rattle.nr_plain.specs.ReplyLaws.{plain_server}
+use Rattle.nr_plain.specs.History.{AllPlaced, Answered, AreOfCalls, Opening, entries_in, setup_in}
+use Rattle.nr_plain.specs.Journal.{state_of}
+use Rattle.nr_plain.specs.Replies.{Answer, plain_answer, plain_reply}
 use Rattle.nr_plain.specs.Setup.{Setup}
 use Rattle.nr_byte_laws.specs.InBytes.{EntriesInBytes, EntryInBytes, IsInBytes}
 use Rattle.nr_byte_laws.proofs.ByteServers.{ready_bytes}
 use Rattle.nr_byte_laws.proofs.PlainBytes.{entries_bytes, plain_reply_bytes}
 use Rattle.nr_host.specs.Connections.{IsOwn, Outside, answer_of, answers_of, IsOpenedWith}
-use Rattle.nr_host.specs.Turns.{AreTurns, Turn, added_at, answered_at, answered_in}
-use Rattle.nr_host.specs.Turns.Turn.{Answers, Refuses}
-use Rattle.nr_host.proofs.Turning.{alone_more}
 use Rattle.nr_host.specs.declared.connection_limits.ConnectionLimits.{ConnectionLimits}
 use Rattle.nr_host_laws.specs.OwnMarks.{is_own, other_marks, own_marks}
 use Rattle.nr_host_laws.specs.Streams.{ServesStream}
@@ -70,37 +64,16 @@ of_calls_bytes s J (e ∷ more) (one, rest) =
 pub all_bytes : (s : Setup) (J more : List Entry) → EntriesInBytes J → AreOfCalls s J more → EntriesInBytes (J ++ more)
 all_bytes s J more entries calls = each_append EntryInBytes J more entries (of_calls_bytes s J more calls)
 
--- ---- The replies of turns
+take_twice : {X : Type 0} (n : ℕ) (xs : List X) → take n (take n xs) ≡ take n xs
+take_twice zero xs = refl
+take_twice (suc n) [] = refl
+take_twice (suc n) (x ∷ xs) = ap (λ l. x ∷ l) (take_twice n xs)
 
-left_bytes : (J K : List Entry) → EntriesInBytes (J ++ K) → EntriesInBytes J
-left_bytes [] K h = tt
-left_bytes (e ∷ J) K h = (h.0, left_bytes J K h.1)
-
--- a reply by the entries that the journal had then, whether the call is new or kept
-reply_by : (s : Setup) (U : List TaggedEntry) (o : Standing) (moment : Moment) (payload : List ℕ) (place : ℕ) (reply : List ℕ) → IsInBytes s.tree → EntriesInBytes (entries_alone U) → IsExecutedBy (plain_server s) U o moment payload place reply → IsBytes reply
-reply_by s U (standings.Old top) moment payload place reply tree entries is = absurd is
-reply_by s U standings.New moment payload place reply tree entries is = plain_reply_bytes s (entries_alone U) (length (entries_alone U)) moment payload reply tree entries is.1
-reply_by s U (standings.Kept at) moment payload place reply tree entries is =
-    let r = is.1 in
-    let all : entries_alone U ≡ entries_alone r.earlier ++ entries_alone (r.own ∷ r.later) = ap entries_alone r.is_cut ∙ alone_more r.earlier (r.own ∷ r.later) in
-    plain_reply_bytes s (entries_alone r.earlier) (length (entries_alone r.earlier)) moment _ reply tree (left_bytes (entries_alone r.earlier) (entries_alone (r.own ∷ r.later)) (subst EntriesInBytes all entries)) r.replied
-
-abbrev pub RepliesInBytes : List Answered → Type 0
-RepliesInBytes calls = AllByRecursion (λ (a : Answered). IsBytes a.reply) calls
-
-turn_replies : (s : Setup) (client : ℕ) (T : List TaggedEntry) (n : ℕ) (turns : List Turn) (mine : List ℕ) → IsInBytes s.tree → EntriesInBytes (entries_alone T) → AreTurns s client T n turns mine → RepliesInBytes (flat_map answered_at turns)
-turn_replies s client T n [] mine tree entries h = tt
-turn_replies s client T n (Answers given a ∷ turns) mine tree entries (k, (from, (is, (later, (mine_is, rest))))) =
-    let until : EntriesInBytes (entries_alone (take k T)) = subst EntriesInBytes (take-map (λ (t : TaggedEntry). t.entry) k T) (front_bytes k (entries_alone T) entries) in (
-      reply_by s (take k T) (standing_for (take k T) client (xid_in a.payload)) a.moment a.payload a.place a.reply tree until is.executed,
-      turn_replies s client T (k + length (added_at client (take k T) given a)) turns later tree entries rest,
-    )
-turn_replies s client T n (Refuses given xid ∷ turns) mine tree entries (k, (from, (old, rest))) = turn_replies s client T k turns mine tree entries rest
-
-pub replies_of : (s : Setup) (client : ℕ) (T : List TaggedEntry) (n : ℕ) (turns : List Turn) (mine : List ℕ) (run : List Mark) → answered_in turns ≡ answers_of run → IsInBytes s.tree → EntriesInBytes (entries_alone T) → AreTurns s client T n turns mine
-    → RepliesInBytes (flat_map answer_of run)
-unfolding answered_in answers_of
-replies_of s client T n turns mine run same tree entries h = subst RepliesInBytes same (turn_replies s client T n turns mine tree entries h)
+-- a reply by what stands before its place
+reply_at : (s : Setup) (J : List Entry) (place : ℕ) (moment : Moment) (payload reply : List ℕ) → IsInBytes s.tree → EntriesInBytes (take place J) → plain_reply s J place moment payload ≡ Some reply → IsBytes reply
+reply_at s J place moment payload reply tree until is =
+    plain_reply_bytes s (take place J) place moment payload reply tree until
+    (ap (λ (K : List Entry). option_map (λ (a : Answer). a.reply) (plain_answer s.parameters (state_of s K) moment payload)) (take_twice place J) ∙ is)
 
 -- ---- A run of a server's side
 
@@ -108,70 +81,66 @@ own_bytes : (link l : ℕ) (bytes : List ℕ) → l ≡ link → fed_at link Res
 own_bytes link l bytes same = ap (λ (b : Bool). cond (b && true) bytes []) (ap (λ (m : ℕ). eqb m link) same ∙ itself link)
 
 -- what is known of the marks made so far, and of those that follow
-record Goes (opened : LinkParameters) (link : ℕ) (front run : List Mark) : Type 0 where
+record Goes (s : Setup) (J : List Entry) (opened : LinkParameters) (link : ℕ) (front run : List Mark) (n : ℕ) : Type 0 where
   typed : IsTyped front
   own : AtEachMark (λ earlier mark. IsOwn link mark) front run
   served : AtEachMark (ServedMark IsPrefixOf opened link) front run
   fed : IsBytes (flat_map (fed_at link Responder) run)
-  replies : RepliesInBytes (flat_map answer_of run)
+  entries : EntriesInBytes J
+  placed : AllPlaced s J n (flat_map answer_of run)
 
 abbrev Typed : (front run : List Mark) → Type 0
 Typed front run = AtEachMark TypedMark front run × EntriesInBytes (flat_map entries_in (flat_map answer_of run))
 
-typed_from : (opened : LinkParameters) (link : ℕ) (front run : List Mark) → Goes opened link front run → Typed front run
-typed_from opened link front [] g = (tt, tt)
-typed_from opened link front (marks.Fed l Responder bytes ∷ run) g =
+typed_from : (s : Setup) (J : List Entry) (opened : LinkParameters) (link : ℕ) → IsInBytes s.tree → (front run : List Mark) (n : ℕ) → Goes s J opened link front run n → Typed front run
+typed_from s J opened link tree front [] n g = (tt, tt)
+typed_from s J opened link tree front (marks.Fed l Responder bytes ∷ run) n g =
     let here : IsBytes bytes = subst IsBytes (own_bytes link l bytes g.own.0) (IsBytes_left (fed_at link Responder (marks.Fed l Responder bytes)) (flat_map (fed_at link Responder) run) g.fed) in
-    let rest = typed_from opened link (front ++ marks.Fed l Responder bytes ∷ []) run (record {
+    let rest = typed_from s J opened link tree (front ++ marks.Fed l Responder bytes ∷ []) run n (record {
       typed = AtEachMark_more TypedMark [] front (marks.Fed l Responder bytes) g.typed here;
       own = g.own.1;
       served = g.served.1;
       fed = IsBytes_right (fed_at link Responder (marks.Fed l Responder bytes)) (flat_map (fed_at link Responder) run) g.fed;
-      replies = g.replies;
+      entries = g.entries;
+      placed = g.placed;
     }) in
     ((here, rest.0), rest.1)
-typed_from opened link front (marks.Wrote l Responder bytes ∷ run) g =
-    let rest = typed_from opened link (front ++ marks.Wrote l Responder bytes ∷ []) run (record {
+typed_from s J opened link tree front (marks.Wrote l Responder bytes ∷ run) n g =
+    let rest = typed_from s J opened link tree (front ++ marks.Wrote l Responder bytes ∷ []) run n (record {
       typed = AtEachMark_more TypedMark [] front (marks.Wrote l Responder bytes) g.typed tt;
       own = g.own.1;
       served = g.served.1;
       fed = g.fed;
-      replies = g.replies;
+      entries = g.entries;
+      placed = g.placed;
     }) in
     ((tt, rest.0), rest.1)
-typed_from opened link front (marks.Execute l xid moment payload place reply ∷ run) g =
+typed_from s J opened link tree front (marks.Execute l xid moment payload place reply ∷ run) n g =
     let mark = marks.Execute l xid moment payload place reply in
     let call : Answered = record { moment = moment; payload = payload; place = place; reply = reply } in
     let executed = g.served.0 g.own.0 in
     let bytes : IsBytes payload = subst IsBytes (sym executed.conveyed) (next_bytes opened link front executed.call g.typed executed.is_next) in
-    let here : IsBytes reply = g.replies.0 in
+    let until : EntriesInBytes (take place J) = front_bytes place J g.entries in
+    let here : IsBytes reply = reply_at s J place moment payload reply tree until g.placed.1.0 in
     let added : EntriesInBytes (entries_in call) = entries_bytes moment payload reply bytes in
-    let rest = typed_from opened link (front ++ mark ∷ []) run (record {
+    let rest = typed_from s J opened link tree (front ++ mark ∷ []) run (place + length (entries_in call)) (record {
       typed = AtEachMark_more TypedMark [] front mark g.typed here;
       own = g.own.1;
       served = g.served.1;
       fed = g.fed;
-      replies = g.replies.1;
+      entries = g.entries;
+      placed = g.placed.1.1.1;
     }) in
     ((here, rest.0), each_append EntryInBytes (entries_in call) (flat_map entries_in (flat_map answer_of run)) added rest.1)
-typed_from opened link front (marks.Told l (Old xid at) ∷ run) g =
-    let rest = typed_from opened link (front ++ marks.Told l (Old xid at) ∷ []) run (record {
-      typed = AtEachMark_more TypedMark [] front (marks.Told l (Old xid at)) g.typed tt;
-      own = g.own.1;
-      served = g.served.1;
-      fed = g.fed;
-      replies = g.replies;
-    }) in
-    ((tt, rest.0), rest.1)
-typed_from opened link front (marks.Fed l Initiator bytes ∷ run) g = absurd g.own.0
-typed_from opened link front (marks.Wrote l Initiator bytes ∷ run) g = absurd g.own.0
-typed_from opened link front (marks.Submit l call form answer ∷ run) g = absurd g.own.0
-typed_from opened link front (marks.Done l xid outcome ∷ run) g = absurd g.own.0
-typed_from opened link front (marks.Lost l xid ∷ run) g = absurd g.own.0
-typed_from opened link front (marks.Forget l xid ∷ run) g = absurd g.own.0
-typed_from opened link front (marks.Revoke l xid bytes ∷ run) g = absurd g.own.0
-typed_from opened link front (marks.Drop l ∷ run) g = absurd g.own.0
-typed_from opened link front (marks.Told l (Granted credits) ∷ run) g = absurd g.own.0
+typed_from s J opened link tree front (marks.Fed l Initiator bytes ∷ run) n g = absurd g.own.0
+typed_from s J opened link tree front (marks.Wrote l Initiator bytes ∷ run) n g = absurd g.own.0
+typed_from s J opened link tree front (marks.Submit l call form answer ∷ run) n g = absurd g.own.0
+typed_from s J opened link tree front (marks.Done l xid outcome ∷ run) n g = absurd g.own.0
+typed_from s J opened link tree front (marks.Lost l xid ∷ run) n g = absurd g.own.0
+typed_from s J opened link tree front (marks.Forget l xid ∷ run) n g = absurd g.own.0
+typed_from s J opened link tree front (marks.Revoke l xid bytes ∷ run) n g = absurd g.own.0
+typed_from s J opened link tree front (marks.Drop l ∷ run) n g = absurd g.own.0
+typed_from s J opened link tree front (marks.Told l what ∷ run) n g = absurd g.own.0
 
 -- ---- A connection
 
@@ -182,21 +151,18 @@ given_bytes left (Some rest) bytes takes h = IsBytes_left bytes rest (subst IsBy
 pub connections_are_typed_lem : ConnectionsAreTyped
 unfolding bytes_received answers_of
 connections_are_typed_lem limits read link before after end first J left ended is =
-    let T : List TaggedEntry = is.history.entries in
-    let over = ended.runs.over first T is.history.is in
-    let entries : EntriesInBytes (entries_alone (T ++ over.more)) =
-    subst EntriesInBytes (sym (alone_more T over.more))
-    (all_bytes (setup_in first) (entries_alone T) (entries_alone over.more) (subst EntriesInBytes (sym is.history.journal) is.entries) over.of_calls) in
+    let over = ended.runs.over first J is.history in
     let opened : LinkParameters = record { first_xid = 1; first_stag = 1; wished = 1; granted = limits.credits; low = limits.low; receives = limits.credits; client = default_terms; server = terms_with limits.units limits.invalidates; resumed = []; agreed = None } in
     let all : IsBytes (flat_map (fed_at link Responder) ended.run ++ ended.ahead) =
     given_bytes left after.left (flat_map (fed_at link Responder) ended.run ++ ended.ahead)
     (subst (λ (o : Option (List ℕ)). Consumes o after.left (flat_map (fed_at link Responder) ended.run ++ ended.ahead)) is.known ended.runs.handed.from_left) is.bytes in
-    typed_from opened link [] ended.run (record {
+    typed_from (setup_in first) (J ++ over.more) opened link is.tree [] ended.run (length J) (record {
       typed = tt;
       own = ended.runs.own;
       served = ended.runs.served opened (refl, refl, refl, refl);
       fed = IsBytes_left (flat_map (fed_at link Responder) ended.run) ended.ahead all;
-      replies = replies_of (setup_in first) (number_heard ended.run link) (T ++ over.more) (length T) ended.runs.turns over.mine ended.run ended.runs.answered is.tree entries over.turned;
+      entries = all_bytes (setup_in first) J over.more is.entries over.of_calls;
+      placed = over.placed;
     })
 
 -- so is the stream of a connection that served all of it
@@ -204,17 +170,13 @@ pub stream_is_typed : (limits : ConnectionLimits) (first : Opening) (J : List En
     → IsOpenedWith limits opened → IsBytes stream → IsInBytes (setup_in first).tree → EntriesInBytes J → IsTyped served.run
 unfolding bytes_received answers_of
 stream_is_typed limits first J link before after stream served opened same bytes tree entries =
-    let T : List TaggedEntry = served.entries in
-    let over = served.over in
-    let all : EntriesInBytes (entries_alone (T ++ over.more)) =
-    subst EntriesInBytes (sym (alone_more T over.more))
-    (all_bytes (setup_in first) (entries_alone T) (entries_alone over.more) (subst EntriesInBytes (sym served.journal) entries) over.of_calls) in
-    (typed_from opened link [] served.run (record {
+    (typed_from (setup_in first) (J ++ served.over.more) opened link tree [] served.run (length J) (record {
       typed = tt;
       own = (served.made opened same).own;
       served = (served.made opened same).served;
       fed = subst IsBytes (sym served.fed) bytes;
-      replies = replies_of (setup_in first) (number_heard served.run link) (T ++ over.more) (length T) served.turns over.mine served.run served.answers tree all over.turned;
+      entries = all_bytes (setup_in first) J served.over.more entries served.over.of_calls;
+      placed = served.over.placed;
     })).0
 
 -- ---- A run of both sides

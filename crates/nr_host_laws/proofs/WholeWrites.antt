@@ -2,6 +2,7 @@
 use Rattle.std.proofs.Common.{◌≡◌, ℕ, ◌+◌, List, [], ◌∷◌, ◌++◌, length, None, refl, sym, ap, ◌∙◌, append_assoc, append-nil, eqb, true, Some, Option}
 use Rattle.std.proofs.lemmas.Bool.{eq-eqb}
 use Rattle.std.proofs.lemmas.Option.{none-some}
+use Rattle.nr_outside.specs.declared.moment.Moment.{Moment}
 use Rattle.nr_wire.specs.declared.hello.Side.TheVariants.{Initiator, Responder}
 use Rattle.nr_link.specs.declared.end.End.{End}
 use Rattle.nr_link.specs.Frames.{frames_completed}
@@ -19,7 +20,7 @@ use Rattle.nr_reduce.proofs.CountedBytes.{server_bytes_written}
 use Rattle.nr_reduce.proofs.Standing.{itself, one_more, received_one, sent_one}
 use Rattle.nr_reduce.proofs.Steps.{ended_stays, output_due_down_one, server_one}
 use Rattle.nr_plain.specs.History.{Answered}
-use Rattle.nr_host.specs.Connections.{answer_of, answers_of, refusal_of, refusals_of}
+use Rattle.nr_host.specs.Connections.{answer_of, answers_of, moment_of, moments}
 
 -- ---- The server, but for what it has written
 
@@ -67,7 +68,7 @@ pub record IsSame (opened : LinkParameters) (link : ℕ) (run run' : List Mark) 
   pub sent : bytes_sent link Responder run' ≡ bytes_sent link Responder run
   pub received : bytes_received link Responder run' ≡ bytes_received link Responder run
   pub answers : answers_of run' ≡ answers_of run
-  pub refusals : refusals_of run' ≡ refusals_of run
+  pub times : moments run' ≡ moments run
 
 pub record IsBehind (opened : LinkParameters) (link : ℕ) (run run' : List Mark) (left : List ℕ) : Type 0 where
   pub written : ℕ
@@ -77,15 +78,15 @@ pub record IsBehind (opened : LinkParameters) (link : ℕ) (run run' : List Mark
   pub sent : bytes_sent link Responder run' ++ left ≡ bytes_sent link Responder run
   pub received : bytes_received link Responder run' ≡ bytes_received link Responder run
   pub answers : answers_of run' ≡ answers_of run
-  pub refusals : refusals_of run' ≡ refusals_of run
+  pub times : moments run' ≡ moments run
 
 answers_more : (run : List Mark) (mark : Mark) → answers_of (run ++ mark ∷ []) ≡ answers_of run ++ answer_of mark
 unfolding answers_of
 answers_more run mark = one_more answer_of run mark
 
-refusals_more : (run : List Mark) (mark : Mark) → refusals_of (run ++ mark ∷ []) ≡ refusals_of run ++ refusal_of mark
-unfolding refusals_of
-refusals_more run mark = one_more refusal_of run mark
+moments_more : (run : List Mark) (mark : Mark) → moments (run ++ mark ∷ []) ≡ moments run ++ moment_of mark
+unfolding moments
+moments_more run mark = one_more moment_of run mark
 
 module _ (opened : LinkParameters) (link : ℕ) where
   -- a run that goes on with some marks, of which the server's state stays
@@ -107,7 +108,7 @@ module _ (opened : LinkParameters) (link : ℕ) where
     sent = append-nil (bytes_sent link Responder run') ∙ h.sent;
     received = h.received;
     answers = h.answers;
-    refusals = h.refusals;
+    times = h.times;
   }
 
   pub same_more : (run run' : List Mark) (mark : Mark) → IsSame opened link run run' → IsSame opened link (run ++ mark ∷ []) (run' ++ mark ∷ [])
@@ -121,7 +122,7 @@ module _ (opened : LinkParameters) (link : ℕ) where
     sent = sent_one link Responder run' mark ∙ ap (λ (l : List ℕ). l ++ written_at link Responder mark) h.sent ∙ sym (sent_one link Responder run mark);
     received = received_one link Responder run' mark ∙ ap (λ (l : List ℕ). l ++ fed_at link Responder mark) h.received ∙ sym (received_one link Responder run mark);
     answers = answers_more run' mark ∙ ap (λ (l : List Answered). l ++ answer_of mark) h.answers ∙ sym (answers_more run mark);
-    refusals = refusals_more run' mark ∙ ap (λ (l : List ℕ). l ++ refusal_of mark) h.refusals ∙ sym (refusals_more run mark);
+    times = moments_more run' mark ∙ ap (λ (l : List Moment). l ++ moment_of mark) h.times ∙ sym (moments_more run mark);
   }
 
   pub wrote_more : (run run' : List Mark) (left bytes : List ℕ) (l : ℕ) → l ≡ link → IsBehind opened link run run' left
@@ -146,7 +147,7 @@ module _ (opened : LinkParameters) (link : ℕ) where
         sent = sym (append_assoc (bytes_sent link Responder run') left bytes) ∙ ap (λ (xs : List ℕ). xs ++ bytes) h.sent ∙ sym sent;
         received = h.received ∙ sym (received_one link Responder run (marks.Wrote l Responder bytes) ∙ append-nil (bytes_received link Responder run));
         answers = h.answers ∙ sym (answers_more run (marks.Wrote l Responder bytes) ∙ append-nil (answers_of run));
-        refusals = h.refusals ∙ sym (refusals_more run (marks.Wrote l Responder bytes) ∙ append-nil (refusals_of run));
+        times = h.times ∙ sym (moments_more run (marks.Wrote l Responder bytes) ∙ append-nil (moments run));
       }
 
       its : events_at link Responder run (marks.Wrote l Responder bytes) ≡ QueueWritten (length bytes) ∷ []
@@ -188,7 +189,7 @@ module _ (opened : LinkParameters) (link : ℕ) where
         sent = sent ∙ h.sent;
         received = received_one link Responder run' (marks.Wrote link Responder left) ∙ append-nil (bytes_received link Responder run') ∙ h.received;
         answers = answers_more run' (marks.Wrote link Responder left) ∙ append-nil (answers_of run') ∙ h.answers;
-        refusals = refusals_more run' (marks.Wrote link Responder left) ∙ append-nil (refusals_of run') ∙ h.refusals;
+        times = moments_more run' (marks.Wrote link Responder left) ∙ append-nil (moments run') ∙ h.times;
       }
 
       by : (x : Option End) → (server opened link run).ended ≡ x → IsSame opened link run (run' ++ marks.Wrote link Responder left ∷ [])

@@ -1,6 +1,6 @@
 -- Laws of connections: those over a complete stream are served to their end; all but those that run out of memory keep
 -- the law of a link's server.
-use Rattle.std.specs.Prelude.{◌≡◌, ◌≢◌, ℕ, ◌⊎◌, List, [], length, Bool, Option, Some}
+use Rattle.std.specs.Prelude.{◌≡◌, ℕ, ◌⊎◌, List, [], length, Bool, Option, Some}
 use Rattle.nr_xdr.specs.Item.{IsBytes}
 use Rattle.nr_outside.specs.Faults.{Rises}
 use Rattle.nr_outside.specs.declared.moment.Moment.{Moment}
@@ -8,7 +8,7 @@ use Rattle.nr_link.specs.declared.end.End.{End}
 use Rattle.nr_reduce.specs.declared.mark.Mark.{Mark}
 use Rattle.nr_reduce.specs.KeepsReplyLimits.{KeepsReplyLimits}
 use Rattle.nr_reduce.specs.Opening.{IsOpened}
-use Rattle.nr_laws.specs.EndCauses.{HasNoOldCall, KeepLaws, AgreesAgain}
+use Rattle.nr_laws.specs.EndCauses.{KeepLaws, AgreesAgain}
 use Rattle.nr_laws.specs.PlainLinks.{HasPlainReplies, server_with}
 use Rattle.nr_laws.specs.Stays.{AreConveyedOrRefused, HasNoRevoke}
 use Rattle.nr_wire.specs.declared.hello.Side.TheVariants.{Initiator, Responder}
@@ -76,12 +76,12 @@ SendsAreAnswered =
 -- No marks of a connection that ends with `Protocol` are those of the server's side of a run that meets the premises
 -- under which a matched link never ends: those of `MatchedLinksStayOpen` of nr_laws, on the server's replies too. That
 -- the connection's own marks are of their types follows from what it read: a source of known bytes, over a server with
--- a tree in bytes, and entries in bytes; it is asked of the other marks alone. If the client has a number, none of its calls is old.
+-- a tree in bytes, and entries in bytes; it is asked of the other marks alone. None of its marks says that a call is old.
 abbrev pub MatchedConnectionsStay : Type 0
 MatchedConnectionsStay =
     (limits : ConnectionLimits) (before after : Outside) (why : End) (link read : ℕ) (failed : Bool)
     (ended : Ended limits read link before (with_failed failed after) (ends.Protocol why))
     (first : Opening) (J : List Entry) (left : List ℕ) (reply_to : List Entry → Moment → List ℕ → Option (List ℕ)) (adds : Moment → List ℕ → List ℕ → List Entry) (opened : LinkParameters) (run : List Mark) →
     IsOpenedWith limits opened → own_marks link run ≡ ended.run → IsOverBytes first J left before → IsTyped (other_marks link run) →
-    IsOpened opened → AgreesAgain opened → KeepLaws opened link run → (opened.client.number ≢ 0 → HasNoOldCall link run) → HasNoRevoke link run → AreConveyedOrRefused opened link run →
+    IsOpened opened → AgreesAgain opened → KeepLaws opened link run → HasNoRevoke link run → AreConveyedOrRefused opened link run →
     KeepsReplyLimits (server_with reply_to adds) → HasPlainReplies (server_with reply_to adds) link run → ⊥

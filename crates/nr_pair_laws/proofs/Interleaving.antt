@@ -9,7 +9,6 @@ use Rattle.nr_wire.specs.declared.hello.Side.{Side}
 use Rattle.nr_wire.specs.declared.hello.Side.TheVariants.{Initiator, Responder}
 use Rattle.nr_reduce.specs.declared.mark.Mark.{Mark}
 use Rattle.nr_reduce.specs.declared.mark.Mark.TheVariants as marks
-use Rattle.nr_reduce.specs.declared.mark.Told.TheVariants.{Granted, Old}
 use Rattle.nr_reduce.specs.AtEachMark.{AtEachMark}
 use Rattle.nr_wire.specs.Hello.{peer}
 use Rattle.nr_reduce.specs.History.{bytes_received, bytes_sent, fed_at, same_side, written_at}
@@ -238,8 +237,7 @@ servers link (marks.Lost l xid) is = absurd is
 servers link (marks.Forget l xid) is = absurd is
 servers link (marks.Revoke l xid bytes) is = absurd is
 servers link (marks.Drop l) is = absurd is
-servers link (marks.Told l (Old xid at)) is = record { only = tt; is = here link l is; not_client = refl }
-servers link (marks.Told l (Granted credits)) is = absurd is
+servers link (marks.Told l what) is = absurd is
 
 all_clients : (link : ℕ) (run : List Mark) → AllByRecursion (λ mark. is_client_mark link mark ≡ true) run → AllByRecursion (IsClients link) run
 all_clients link [] own = tt

@@ -20,7 +20,6 @@ use Rattle.nr_reduce.specs.declared.mark.Mark.TheVariants as marks
 use Rattle.nr_reduce.specs.Asked.{AskedMark, AskedSoFar, IsAll}
 use Rattle.nr_reduce.specs.AtEachMark.{AtEachMark}
 use Rattle.nr_reduce.specs.Matched.{IsPrefixOf, MatchedMark}
-use Rattle.nr_reduce.specs.NumberedJournal.{number_heard}
 use Rattle.nr_reduce.specs.Served.{Served, ServedMark}
 use Rattle.nr_reduce.proofs.SoFarLaws.{AtEachMark_each, served_mark}
 use Rattle.nr_reduce.proofs.Standing.{itself}
@@ -28,11 +27,13 @@ use Rattle.nr_reduce.proofs.Steps.{AtEachMark_first}
 use Rattle.nr_laws.specs.MatchedSoFar.{MatchedSoFar}
 use Rattle.nr_laws.specs.PlainLinks.{AtPlacesOn, HasPlainReplies, PlainReplyMark}
 use Rattle.nr_laws.specs.Typed.{IsTyped, TypedMark}
+use Rattle.nr_laws.proofs.PlacedLinks.{placed_links_have_plain_replies}
 use Rattle.nr_turnstile.specs.Rule.{Begins, Earlier}
 use Rattle.nr_shared.specs.declared.entry.Entry.{Entry as SharedEntry}
 use Rattle.nr_shared.specs.declared.entry.Entry.TheVariants as entries
 use Rattle.nr_shared.specs.Histories.{closes_of, mark_at, run_of}
 use Rattle.nr_tree.specs.Sane.{IsSane}
+use Rattle.nr_plain.specs.Added.{entries_of_call}
 use Rattle.nr_plain.specs.History.{AllPlaced, Answered as AnsweredCall, setup_in}
 use Rattle.nr_plain.specs.ReplyLaws.{plain_server}
 use Rattle.nr_plain.specs.Setup.{Setup}
@@ -50,6 +51,7 @@ use Rattle.nr_commands.specs.ByJobs.GetsByJobs.{Found, NotFound, NotOpened}
 use Rattle.nr_commands.specs.Commands.{Finds}
 use Rattle.nr_commands.specs.Sessions.{SessionAt, sink_of, source_of}
 use Rattle.nr_host.specs.Connections.{answers_of}
+use Rattle.nr_host_laws.specs.OwnMarks.{own_marks}
 use Rattle.nr_service_laws.specs.ClientMarks.{AreMarksOf, without_bytes}
 use Rattle.nr_service_laws.specs.Exchanges.{Exchange, asked_exchanges, followed_exchanges, tells_finds, tells_mounts}
 use Rattle.nr_service_laws.specs.Exchanges.Exchange.{Answered}
@@ -69,33 +71,14 @@ use Rattle.nr_pair_laws.proofs.Getting.{AnsweredAfter, followed, judged, mounted
 use Rattle.nr_pair_laws.proofs.JobMarks.{job_asked_in_both, kept_at, two_at}
 use Rattle.nr_pair_laws.proofs.JobOrder.{begins_after, begins_before, begins_run, begins_upto, bound_begins, kept_upto, marks_rise, upto}
 use Rattle.nr_pair_laws.proofs.LongerJournals.{answered_in_all}
-use Rattle.nr_pair_laws.proofs.Pairs.{both_placed, none_heard}
-use Rattle.nr_pair_laws.proofs.PlacedCalls.{bound, calls_more, placed_first, placed_in_first, served_calls}
+use Rattle.nr_pair_laws.proofs.Pairs.{placed_of, plain_replies}
+use Rattle.nr_pair_laws.proofs.PlacedCalls.{bound, calls_more, each_placed, placed_first, placed_in_first, served_calls}
 use Rattle.nr_pair_laws.proofs.PutThenGet.{get_gives, others_keep}
-use Rattle.nr_pair_laws.proofs.ServerSide.{served_in_both}
+use Rattle.nr_pair_laws.proofs.ServerSide.{placed_in_both, served_in_both}
 
 -- ---- Both sides
 
 -- what is known of both sides of such a list, whatever the types of the marks
-pub record JobFar (opened : LinkParameters) (link : ℕ) (both : List Mark) : Type 0 where
-  pub served : AtEachMark (ServedMark IsAll opened link) [] both
-  pub far : MatchedSoFar opened link both
-
-pub job_far : (opened : LinkParameters) (link : ℕ) (run own both : List Mark) → AllByRecursion (IsJobMark link) run → AskedSoFar opened link run → AreSidesOf link run own both → Served opened link own → JobFar opened link both
-job_far opened link run own both marks asked sides law =
-    let served : AtEachMark (ServedMark IsAll opened link) [] both =
-    served_in_both IsAll opened link both (subst (λ (r : List Mark). AtEachMark (ServedMark IsAll opened link) [] r) (sym sides.server_side) law.each) in
-    let back = sym sides.client_side in
-    record {
-      served = served;
-      far = record {
-        asked = job_asked_in_both IsPrefixOf opened link both (subst (λ (r : List Mark). AllByRecursion (IsJobMark link) r) back marks) (subst (λ (r : List Mark). AskedSoFar opened link r) back asked);
-        served = AtEachMark_each (ServedMark IsAll opened link) (ServedMark IsPrefixOf opened link) [] both (served_mark opened link) served;
-        matched = sides.matched;
-      };
-    }
-
--- and at what places its calls are
 pub record JobSides (s : Setup) (J : List Entry) (n : ℕ) (opened : LinkParameters) (link : ℕ) (both : List Mark) : Type 0 where
   pub placed : AllPlaced s J n (served_calls link both)
   pub at_places : AtPlacesOn (plain_server s) J link both
@@ -103,12 +86,25 @@ pub record JobSides (s : Setup) (J : List Entry) (n : ℕ) (opened : LinkParamet
   pub served : AtEachMark (ServedMark IsAll opened link) [] both
   pub far : MatchedSoFar opened link both
 
-job_sides : (s : Setup) (J : List Entry) (n : ℕ) (opened : LinkParameters) (link : ℕ) (run own both : List Mark) → AllByRecursion (IsJobMark link) run → AskedSoFar opened link run
+pub job_sides : (s : Setup) (J : List Entry) (n : ℕ) (opened : LinkParameters) (link : ℕ) (run own both : List Mark) → AllByRecursion (IsJobMark link) run → AskedSoFar opened link run
     → AreSidesOf link run own both → Served opened link own → AllPlaced s J n (answers_of own) → JobSides s J n opened link both
 job_sides s J n opened link run own both marks asked sides law placed =
-    let f = job_far opened link run own both marks asked sides law in
-    let p = both_placed s J n link own both sides.server_side placed in
-    record { placed = p.placed; at_places = p.at_places; plain = p.plain; served = f.served; far = f.far }
+    let served : AtEachMark (ServedMark IsAll opened link) [] both =
+    served_in_both IsAll opened link both (subst (λ (r : List Mark). AtEachMark (ServedMark IsAll opened link) [] r) (sym sides.server_side) law.each) in
+    let places = placed_of s J n link own both sides.server_side placed in
+    let at_places : AtPlacesOn (plain_server s) J link both = placed_in_both (plain_server s) J link both (each_placed s J link n [] (own_marks link both) places) in
+    let back = sym sides.client_side in
+    record {
+      placed = places;
+      at_places = at_places;
+      plain = placed_links_have_plain_replies (plain_replies s) entries_of_call J link both at_places;
+      served = served;
+      far = record {
+        asked = job_asked_in_both IsPrefixOf opened link both (subst (λ (r : List Mark). AllByRecursion (IsJobMark link) r) back marks) (subst (λ (r : List Mark). AskedSoFar opened link r) back asked);
+        served = AtEachMark_each (ServedMark IsAll opened link) (ServedMark IsPrefixOf opened link) [] both (served_mark opened link) served;
+        matched = sides.matched;
+      };
+    }
 
 -- ---- Each call
 
@@ -277,31 +273,20 @@ job_served setup sane J more opened link own law placed s source sink log log' r
 pub jobs_are_served_lem : JobsAreServed
 jobs_are_served_lem limits first J opened link outside outside' end connection get before after out out' result (NotOpened why is fails same) sane = tt
 jobs_are_served_lem limits first J opened link outside outside' end connection get before after out out' result (NotFound dialed s s' why opens finds is same closes) sane = λ ran both sides typed.
-    let f = job_far opened link ran.run connection.ended.run both ran.own ran.asked sides connection.served in
-    let none = none_heard opened link connection.ended.run both sides.server_side typed f.far ran.unnumbered in (
-      none,
-      job_served (setup_in first) sane J (connection.over none).more opened link connection.ended.run connection.served (connection.over none).placed s (source_of s') (sink_of s') dialed.ended after.ended result
-          (tells_finds get.uid get.gid get.export get.path s s' (Err why) finds).made [] ran none_earlier both sides typed,
-    )
+    job_served (setup_in first) sane J connection.over.more opened link connection.ended.run connection.served connection.over.placed s (source_of s') (sink_of s') dialed.ended after.ended result
+    (tells_finds get.uid get.gid get.export get.path s s' (Err why) finds).made [] ran none_earlier both sides typed
 jobs_are_served_lem limits first J opened link outside outside' end connection get before after out out' result (Found dialed s s' file opens finds hangs) sane = by hangs.reads
   where
     served : (made : List Exchange) (history : List SharedEntry) (ran : IsJobsRun opened link s hangs.source hangs.sink dialed.ended after.ended result made history) → Earlier closes_of history → (both : List Mark)
-        → AreSidesOf link ran.run connection.ended.run both → IsTyped both
-        → (none : number_heard connection.ended.run link ≡ 0) × IsServedJobs (setup_in first) J (connection.over none).more opened link ran.run both made history
-    served made history ran earlier both sides typed =
-        let f = job_far opened link ran.run connection.ended.run both ran.own ran.asked sides connection.served in
-        let none = none_heard opened link connection.ended.run both sides.server_side typed f.far ran.unnumbered in (
-          none,
-          job_served (setup_in first) sane J (connection.over none).more opened link connection.ended.run connection.served (connection.over none).placed s hangs.source hangs.sink dialed.ended after.ended result
-              made history ran earlier both sides typed,
-        )
+        → AreSidesOf link ran.run connection.ended.run both → IsTyped both → IsServedJobs (setup_in first) J connection.over.more opened link ran.run both made history
+    served = job_served (setup_in first) sane J connection.over.more opened link connection.ended.run connection.served connection.over.placed s hangs.source hangs.sink dialed.ended after.ended result
 
     found : List Exchange
     found = (tells_finds get.uid get.gid get.export get.path s s' (Ok file) finds).made
 
     by : (reads : ReadsFileByJobs get.uid get.gid file (link_of s') hangs.source hangs.sink out.taken out'.taken result)
         → SaysOfFile (λ source sink made history. (ran : IsJobsRun opened link s source sink dialed.ended after.ended result made history) → (both : List Mark) → AreSidesOf link ran.run connection.ended.run both →
-        IsTyped both → (none : number_heard connection.ended.run link ≡ 0) × IsServedJobs (setup_in first) J (connection.over none).more opened link ran.run both made history) (tells_finds get.uid get.gid get.export get.path s s' (Ok file) finds).made
+        IsTyped both → IsServedJobs (setup_in first) J connection.over.more opened link ran.run both made history) (tells_finds get.uid get.gid get.export get.path s s' (Ok file) finds).made
         get.uid get.gid file s' hangs.source hangs.sink out.taken out'.taken result reads
     by (NoAttributes mid why gets is same none) = λ ran both sides typed.
         served (found ++ (asked_exchanges getattr_result (getattr_call get.uid get.gid file) (bytes_at (link_of s')) (bytes_at mid) (link_of s').requester mid.requester (Err why) gets.asks).made) [] ran none_earlier both sides typed

@@ -178,7 +178,6 @@ jobs_run opened link addr units invalidates uid gid export path file before dial
     record {
       run = run_of alone laws.fed link history;
       first_link = session.wished.1.1;
-      unnumbered = ap (λ (t : SideTerms). t.number) session.wished.1.0;
       own = marks_of_run alone laws.fed link history (job_marks link alone done.extends.own)
           (history_marks laws.fed link (FileReads uid gid file attributes.size) (λ call form allowed. allowed.1) history back.allowed);
       asked = laws.asked;
@@ -217,14 +216,13 @@ alone_fed opened link h ahead run result (inl (live, fed)) other = fed
 alone_fed opened link h ahead run result (inr (is, out)) other = absurd (other is)
 
 alone_run : (opened : LinkParameters) (link : ℕ) (addr : List ℕ) (terms : SideTerms) (before dialed after : DialerAt) (s : SessionAt) (opens : Opens addr terms before dialed s) (source : SourceAt) (sink : SinkAt) (read : ℕ) (h : RequesterSide)
-    (result : Result (Unit {0}) ClientEnd) (exchanges : Exchanges) → IsFirstLink opened → opened.client.number ≡ 0 → Does result opened link [] s.bytes (link_bytes source.left source.given sink.taken read) h exchanges → HangsUp opens.number source sink dialed after
+    (result : Result (Unit {0}) ClientEnd) (exchanges : Exchanges) → IsFirstLink opened → Does result opened link [] s.bytes (link_bytes source.left source.given sink.taken read) h exchanges → HangsUp opens.number source sink dialed after
     → IsJobsRun opened link s source sink dialed.ended after.ended result exchanges.made []
-alone_run opened link addr terms before dialed after s opens source sink read h result exchanges first none done hangs =
+alone_run opened link addr terms before dialed after s opens source sink read h result exchanges first done hangs =
     let laws = alone_asked opened link h done.ahead done.more result done.stands in
     record {
       run = done.more;
       first_link = first;
-      unnumbered = none;
       own = job_marks link done.more done.extends.own;
       asked = laws.0;
       granted = laws.1;
@@ -250,7 +248,7 @@ not_found_run opened link addr units invalidates uid gid export path before dial
     let exchanges = tells_finds uid gid export path s s' (Err end) finds in
     let has = does_as {A = List ℕ} {B = Unit {0}} (Err end) result s.bytes s'.bytes s.requester s'.requester exchanges (λ e ended. same_end {A = List ℕ} result end e is ended) (has_finds uid gid export path s s' (Err end) finds) in
     let done = has opened link [] session.fine (sessions_begin_lem addr (terms_with units invalidates) before dialed s opened link opens session.first_xid session.first_stag session.wished) in
-    alone_run opened link addr (terms_with units invalidates) before dialed after s opens (source_of s') (sink_of s') s'.bytes.read s'.requester result exchanges session.wished.1.1 (ap (λ (t : SideTerms). t.number) session.wished.1.0) done closes
+    alone_run opened link addr (terms_with units invalidates) before dialed after s opens (source_of s') (sink_of s') s'.bytes.read s'.requester result exchanges session.wished.1.1 done closes
 
 -- the session of a link
 abbrev pub session_of : LinkAt → SessionAt
@@ -271,7 +269,7 @@ no_size_run opened link addr units invalidates uid gid export path file before d
     (has_request getattr_result call s' (session_of mid) (Err end) (gets.asks, (gets.source_count, gets.sink_count))) in
     let has = does_both {A = List ℕ} {B = Unit {0}} file result s.bytes s'.bytes (bytes_at mid) s.requester s'.requester mid.requester found asked (has_finds uid gid export path s s' (Ok file) finds) second in
     let done = has opened link [] session.fine (sessions_begin_lem addr (terms_with units invalidates) before dialed s opened link opens session.first_xid session.first_stag session.wished) in
-    alone_run opened link addr (terms_with units invalidates) before dialed after s opens mid.source mid.sink mid.read mid.requester result (and_then found asked) session.wished.1.1 (ap (λ (t : SideTerms). t.number) session.wished.1.0) done hangs
+    alone_run opened link addr (terms_with units invalidates) before dialed after s opens mid.source mid.sink mid.read mid.requester result (and_then found asked) session.wished.1.1 done hangs
 
 pub jobs_have_a_run_lem : JobsHaveARun
 jobs_have_a_run_lem get before after out out' result (NotOpened end is fails same) opened link session = tt

@@ -1,5 +1,5 @@
 -- The marks of a `get` by several jobs and of a connection on one link are of their types.
-use Rattle.std.proofs.Common.{◌≡◌, ℕ, suc, not, List, [], ◌∷◌, ◌++◌, Option, Result, Ok, Err, refl, sym, ap, subst, ◌∙◌}
+use Rattle.std.proofs.Common.{◌≡◌, ℕ, suc, not, List, [], ◌∷◌, ◌++◌, length, Option, Result, Ok, Err, refl, sym, ap, subst, ◌∙◌}
 use Rattle.std.specs.List.{AllByRecursion, filter, flat_map}
 use Rattle.std.proofs.lemmas.List.Elements.{filter-append}
 use Rattle.nr_xdr.specs.Item.{IsBytes}
@@ -7,6 +7,7 @@ use Rattle.nr_outside.specs.Streams.{SinkAt, SourceAt}
 use Rattle.nr_links.specs.Links.{LinkLog}
 use Rattle.nr_nfs_base.specs.declared.attributes.Attributes.{Attributes}
 use Rattle.nr_reduce.specs.declared.call.Call.{Call}
+use Rattle.nr_reduce.specs.declared.mark.Entry.{Entry}
 use Rattle.nr_reduce.specs.declared.mark.Mark.{Mark}
 use Rattle.nr_reduce.specs.declared.mark.LinkParameters.{LinkParameters}
 use Rattle.nr_reduce.specs.Served.{Served}
@@ -14,7 +15,9 @@ use Rattle.nr_laws.specs.Typed.{IsTyped}
 use Rattle.nr_shared.specs.declared.entry.Entry.{Entry as SharedEntry}
 use Rattle.nr_shared.specs.declared.entry.Entry.TheVariants as entries
 use Rattle.nr_shared.specs.Histories.{Allows, AreAllowed, mark_at}
-use Rattle.nr_plain.specs.History.{setup_in}
+use Rattle.nr_plain.specs.History.{AllPlaced, setup_in}
+use Rattle.nr_plain.specs.Setup.{Setup}
+use Rattle.nr_byte_laws.specs.InBytes.{EntriesInBytes, IsInBytes}
 use Rattle.nr_byte_laws.proofs.ByteClients.{none_again}
 use Rattle.nr_client.specs.declared.client_end.ClientEnd.{ClientEnd}
 use Rattle.nr_client.specs.Jobs.{FileReads, ReadsFileByJobs, bytes_at}
@@ -24,9 +27,8 @@ use Rattle.nr_client.specs.Requests.{getattr_call, getattr_result}
 use Rattle.nr_commands.specs.ByJobs.{link_of}
 use Rattle.nr_commands.specs.ByJobs.GetsByJobs.{Found, NotFound, NotOpened}
 use Rattle.nr_commands.specs.Sessions.{SessionAt, sink_of, source_of}
-use Rattle.nr_host.specs.Connections.{answer_of}
-use Rattle.nr_host_laws.specs.OwnMarks.{own_marks}
-use Rattle.nr_host_laws.proofs.TypedMarks.{RepliesInBytes, of_calls_bytes}
+use Rattle.nr_host.specs.Connections.{answers_of}
+use Rattle.nr_host_laws.proofs.TypedMarks.{all_bytes, of_calls_bytes}
 use Rattle.nr_service_laws.specs.ClientMarks.{AreMarksOf, moves_bytes, without_bytes}
 use Rattle.nr_service_laws.specs.Exchanges.{Exchange, asked_exchanges, tells_finds}
 use Rattle.nr_service_laws.specs.Exchanges.Exchange.{Answered, Forgotten, GivenUp, HandedOver, Submitted}
@@ -39,9 +41,8 @@ use Rattle.nr_pair_laws.specs.JobPairs.{JobsAreTyped}
 use Rattle.nr_pair_laws.specs.JobRuns.{IsJobMark, IsJobsRun, SaysOfFile}
 use Rattle.nr_pair_laws.specs.Pairs.{AreSidesOf}
 use Rattle.nr_pair_laws.proofs.AnsweredCalls.{exchanged_in, is_exchanged}
-use Rattle.nr_pair_laws.proofs.JobAnswers.{job_far, run_first}
+use Rattle.nr_pair_laws.proofs.JobAnswers.{job_sides, run_first}
 use Rattle.nr_pair_laws.proofs.JobRuns.{session_of}
-use Rattle.nr_pair_laws.proofs.Pairs.{connection_replies}
 use Rattle.nr_pair_laws.proofs.TypedPairs.{typed_by}
 
 -- exchanges of calls of bytes, and then marks whose calls are of bytes if the outcomes of those are
@@ -75,18 +76,18 @@ module _ (uid gid : ℕ) (file : List ℕ) (size n link : ℕ) (words : AreWords
   all_entries (e ∷ history) allowed = one_entry e (flat_map (mark_at n link) history) (allowed 0 e refl) (all_entries history (λ k x at. allowed (suc k) x at))
 
 -- a run of a `get` by jobs whose calls are of bytes, and that of a connection
-job_typed : (opened : LinkParameters) (link : ℕ) (own : List Mark) → Served opened link own
+job_typed : (setup : Setup) (journal : List Entry) (n : ℕ) (opened : LinkParameters) (link : ℕ) (own : List Mark) → Served opened link own → AllPlaced setup journal n (answers_of own) → IsInBytes setup.tree → EntriesInBytes journal
     → (s : SessionAt) (source : SourceAt) (sink : SinkAt) (log log' : Option LinkLog) (result : Result (Unit {0}) ClientEnd) (made : List Exchange) (history : List SharedEntry)
     (ran : IsJobsRun opened link s source sink log log' result made history) → CallsAreBytes made → (AreBytes made → (k : ℕ) → MarksOfBytes (without_bytes (flat_map (mark_at k link) history)))
-    → (both : List Mark) → AreSidesOf link ran.run own both → RepliesInBytes (flat_map answer_of (own_marks link both)) → IsTyped both
-job_typed opened link own law s source sink log log' result made history ran calls reads both sides replies =
-    let b = job_far opened link ran.run own both ran.own ran.asked sides law in
+    → (both : List Mark) → AreSidesOf link ran.run own both → IsTyped both
+job_typed setup journal n opened link own law placed tree entries s source sink log log' result made history ran calls reads both sides =
+    let b = job_sides setup journal n opened link ran.run own both ran.own ran.asked sides law placed in
     let later = flat_map (mark_at ran.fed link) history in
     let marks = exchanged_then link made (without_bytes ran.alone) (without_bytes later) ran.marks_are calls (λ all. reads all ran.fed) in
     let parts : client_marks link both ≡ ran.alone ++ later = sides.client_side ∙ ran.run_is ∙ run_first ran.alone ran.fed link history in
     let kept : filter (is_exchanged link) both ≡ without_bytes ran.alone ++ without_bytes later =
     sym (exchanged_in link both) ∙ ap (λ (r : List Mark). without_bytes r) parts ∙ filter-append (λ (m : Mark). not (moves_bytes m)) ran.alone later in
-    typed_by opened link both (none_again opened ran.first_link.resumed) b.far replies
+    typed_by setup journal opened link both (none_again opened ran.first_link.resumed) tree entries b.far b.at_places
     (subst (λ (r : List Mark). AllByRecursion (IsJobMark link) r) (sym sides.client_side) ran.own) (subst (λ (r : List Mark). MarksOfBytes r) (sym kept) marks) sides.no_others
 
 pub jobs_are_typed_lem : JobsAreTyped
@@ -94,8 +95,9 @@ jobs_are_typed_lem limits first J opened link outside outside' end connection ge
 jobs_are_typed_lem limits first J opened link outside outside' end connection get before after out out' result (NotFound dialed s s' why opens finds is same closes) of tree entries = λ ran both sides.
     let made = (tells_finds get.uid get.gid get.export get.path s s' (Err why) finds).made in
     let finding = finds_bytes get.uid get.gid get.export get.path (of.uid, of.gid) of.export of.path s s' (Err why) finds in
-    job_typed opened link connection.ended.run connection.served s (source_of s') (sink_of s') dialed.ended after.ended result
-    made [] ran finding.0 (λ all k. tt) both sides (connection_replies limits first J opened link outside outside' end connection both sides.server_side tree (of_calls_bytes (setup_in first) [] J entries))
+    let journal = all_bytes (setup_in first) J connection.over.more (of_calls_bytes (setup_in first) [] J entries) connection.over.of_calls in
+    job_typed (setup_in first) (J ++ connection.over.more) (length J) opened link connection.ended.run connection.served connection.over.placed tree journal s (source_of s') (sink_of s') dialed.ended after.ended result
+    made [] ran finding.0 (λ all k. tt) both sides
 jobs_are_typed_lem limits first J opened link outside outside' end connection get before after out out' result (Found dialed s s' file opens finds hangs) of tree entries = by hangs.reads
   where
     found : List Exchange
@@ -106,9 +108,8 @@ jobs_are_typed_lem limits first J opened link outside outside' end connection ge
 
     typed : (made : List Exchange) (history : List SharedEntry) (ran : IsJobsRun opened link s hangs.source hangs.sink dialed.ended after.ended result made history) → CallsAreBytes made
         → (AreBytes made → (k : ℕ) → MarksOfBytes (without_bytes (flat_map (mark_at k link) history))) → (both : List Mark) → AreSidesOf link ran.run connection.ended.run both → IsTyped both
-    typed made history ran calls reads both sides =
-        job_typed opened link connection.ended.run connection.served s hangs.source hangs.sink dialed.ended after.ended result made history ran calls reads both sides
-        (connection_replies limits first J opened link outside outside' end connection both sides.server_side tree (of_calls_bytes (setup_in first) [] J entries))
+    typed = job_typed (setup_in first) (J ++ connection.over.more) (length J) opened link connection.ended.run connection.served connection.over.placed tree
+        (all_bytes (setup_in first) J connection.over.more (of_calls_bytes (setup_in first) [] J entries) connection.over.of_calls) s hangs.source hangs.sink dialed.ended after.ended result
 
     finding : CallsAreBytes found × (AreBytes found → IsBytes file)
     finding = let is = finds_bytes get.uid get.gid get.export get.path (of.uid, of.gid) of.export of.path s s' (Ok file) finds in (is.0, λ all. is.1 all file refl)

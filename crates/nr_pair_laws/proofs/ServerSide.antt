@@ -47,7 +47,7 @@ last_same : (link : ℕ) (both : List Mark) → last_frame_at link both ≡ last
 unfolding last_frame_at
 last_same link both = ap (λ (bytes : List ℕ). last_at (frames_of Initiator bytes)) (received_same link both)
 
-pub heard_same : (link : ℕ) (both : List Mark) → number_heard both link ≡ number_heard (own_marks link both) link
+heard_same : (link : ℕ) (both : List Mark) → number_heard both link ≡ number_heard (own_marks link both) link
 unfolding number_heard
 heard_same link both = ap (λ (bytes : List ℕ). number_in_frames (frames_of Initiator bytes)) (received_same link both)
 

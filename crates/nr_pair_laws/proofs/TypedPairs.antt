@@ -1,6 +1,6 @@
 -- The marks of a command and of a connection on one link are of their types: what each side is fed the other has sent, and so it is bytes.
-use Rattle.std.proofs.Common.{◌≡◌, ℕ, Bool, true, false, cond, ◌&&◌, ◌||◌, eqb, List, [], ◌∷◌, ◌++◌, refl, sym, ap, subst, ◌∙◌, append_assoc, append-nil, eqb-true}
-use Rattle.std.specs.List.{AllByRecursion, filter, flat_map}
+use Rattle.std.proofs.Common.{◌≡◌, ℕ, zero, suc, Bool, true, false, cond, ◌&&◌, ◌||◌, eqb, List, [], ◌∷◌, ◌++◌, length, take, refl, sym, ap, subst, ◌∙◌, append_assoc, append-nil, eqb-true}
+use Rattle.std.specs.List.{AllByRecursion, filter}
 use Rattle.std.proofs.lemmas.List.Elements.{All-contains, All-from_recursion, filter-append}
 use Rattle.nr_xdr.specs.Item.{IsBytes}
 use Rattle.nr_xdr.proofs.Chains.{IsBytes_left, IsBytes_right}
@@ -9,6 +9,7 @@ use Rattle.nr_reduce.specs.declared.call.Call.{Call}
 use Rattle.nr_reduce.specs.declared.call.Form.{Form}
 use Rattle.nr_reduce.specs.declared.call.Form.TheVariants as forms
 use Rattle.nr_reduce.specs.declared.call.Submission.TheVariants as submissions
+use Rattle.nr_reduce.specs.declared.mark.Entry.{Entry}
 use Rattle.nr_reduce.specs.declared.mark.LinkParameters.{LinkParameters}
 use Rattle.nr_reduce.specs.declared.mark.Mark.{Mark}
 use Rattle.nr_reduce.specs.declared.mark.Mark.TheVariants as marks
@@ -20,17 +21,18 @@ use Rattle.nr_reduce.specs.Run.{client, output_due}
 use Rattle.nr_reduce.specs.Served.{ServedMark}
 use Rattle.nr_reduce.proofs.Standing.{AtEachMark_more, itself}
 use Rattle.nr_laws.specs.MatchedSoFar.{MatchedSoFar}
+use Rattle.nr_laws.specs.PlainLinks.{AtPlaceOnMark, AtPlacesOn}
 use Rattle.nr_reduce.specs.Plans.{HasWordPosition}
 use Rattle.nr_laws.specs.Typed.{IsTyped, TypedMark}
 use Rattle.nr_laws.proofs.OnceByXid.{at_mark, before_mark}
 use Rattle.nr_laws.proofs.SentBytes.{client_sends_what_is_due, server_sends_what_is_due}
-use Rattle.nr_plain.specs.History.{Answered}
+use Rattle.nr_plain.specs.ReplyLaws.{plain_server}
+use Rattle.nr_plain.specs.Setup.{Setup}
 use Rattle.nr_byte_laws.specs.DueBytes.{AreInBytes, CompletedInBytes, OutcomeIsBytes}
+use Rattle.nr_byte_laws.specs.InBytes.{EntriesInBytes, IsInBytes}
 use Rattle.nr_byte_laws.proofs.ByteClients.{client_due, outcome_bytes}
 use Rattle.nr_byte_laws.proofs.ByteServers.{server_due}
-use Rattle.nr_host.specs.Connections.{answer_of}
-use Rattle.nr_host_laws.specs.OwnMarks.{is_own, own_marks}
-use Rattle.nr_host_laws.proofs.TypedMarks.{RepliesInBytes}
+use Rattle.nr_byte_laws.proofs.PlainBytes.{plain_reply_bytes}
 use Rattle.nr_service_laws.specs.ClientMarks.{AreMarksOf, IsOwn}
 use Rattle.nr_service_laws.specs.Exchanges.{Exchange}
 use Rattle.nr_service_laws.specs.ServedCommands.{client_marks, is_client_mark}
@@ -90,41 +92,6 @@ outcomes_more (marks.Revoke l xid bytes ∷ front) m h o = outcomes_more front m
 outcomes_more (marks.Drop l ∷ front) m h o = outcomes_more front m h o
 outcomes_more (marks.Told l what ∷ front) m h o = outcomes_more front m h o
 
--- ---- The replies of the server
-
-abbrev ReplyIsBytesOn : ℕ → List Mark → Mark → Type 0
-ReplyIsBytesOn link before (marks.Execute l xid moment payload place reply) = l ≡ link → IsBytes reply
-ReplyIsBytesOn link before mark = Unit {0}
-
--- a mark that answers no call stands beside the others
-others_reply : (m : Mark) → answer_of m ≡ [] → (b : Bool) (own : List Mark) → RepliesInBytes (flat_map answer_of (cond b (m ∷ own) own)) → RepliesInBytes (flat_map answer_of own)
-others_reply m none true own h = subst (λ (calls : List Answered). RepliesInBytes (calls ++ flat_map answer_of own)) none h
-others_reply m none false own h = h
-
-replies_on : (link : ℕ) (front run : List Mark) → RepliesInBytes (flat_map answer_of (own_marks link run)) → AtEachMark (ReplyIsBytesOn link) front run
-replies_on link front [] h = tt
-replies_on link front (marks.Execute l xid moment payload place reply ∷ run) h = by (eqb l link) refl h
-  where
-    m : Mark
-    m = marks.Execute l xid moment payload place reply
-
-    by : (b : Bool) → eqb l link ≡ b → RepliesInBytes (flat_map answer_of (cond b (m ∷ own_marks link run) (own_marks link run))) → AtEachMark (ReplyIsBytesOn link) front (m ∷ run)
-    by true is h = (λ same. h.0, replies_on link (front ++ m ∷ []) run h.1)
-    by false is h = (λ same. absurd (let two : true ≡ false = sym (itself link) ∙ ap (λ (k : ℕ). eqb k link) (sym same) ∙ is in cc), replies_on link (front ++ m ∷ []) run h)
-replies_on link front (marks.Submit l call form answer ∷ run) h = (tt, replies_on link (front ++ marks.Submit l call form answer ∷ []) run h)
-replies_on link front (marks.Fed l Responder bytes ∷ run) h =
-    (tt, replies_on link (front ++ marks.Fed l Responder bytes ∷ []) run (others_reply (marks.Fed l Responder bytes) refl (is_own link (marks.Fed l Responder bytes)) (own_marks link run) h))
-replies_on link front (marks.Fed l Initiator bytes ∷ run) h = (tt, replies_on link (front ++ marks.Fed l Initiator bytes ∷ []) run h)
-replies_on link front (marks.Wrote l Responder bytes ∷ run) h =
-    (tt, replies_on link (front ++ marks.Wrote l Responder bytes ∷ []) run (others_reply (marks.Wrote l Responder bytes) refl (is_own link (marks.Wrote l Responder bytes)) (own_marks link run) h))
-replies_on link front (marks.Wrote l Initiator bytes ∷ run) h = (tt, replies_on link (front ++ marks.Wrote l Initiator bytes ∷ []) run h)
-replies_on link front (marks.Done l xid outcome ∷ run) h = (tt, replies_on link (front ++ marks.Done l xid outcome ∷ []) run h)
-replies_on link front (marks.Lost l xid ∷ run) h = (tt, replies_on link (front ++ marks.Lost l xid ∷ []) run h)
-replies_on link front (marks.Forget l xid ∷ run) h = (tt, replies_on link (front ++ marks.Forget l xid ∷ []) run h)
-replies_on link front (marks.Revoke l xid bytes ∷ run) h = (tt, replies_on link (front ++ marks.Revoke l xid bytes ∷ []) run h)
-replies_on link front (marks.Drop l ∷ run) h = (tt, replies_on link (front ++ marks.Drop l ∷ []) run h)
-replies_on link front (marks.Told l what ∷ run) h = (tt, replies_on link (front ++ marks.Told l what ∷ []) run (others_reply (marks.Told l what) refl (is_own link (marks.Told l what)) (own_marks link run) h))
-
 -- ---- The marks of both sides
 
 -- a mark of a side is of its link
@@ -135,8 +102,8 @@ one_link link l of never is = by (eqb l link) refl is
     by true same is = eqb-true l link same
     by false same is = absurd (let wrong : false ≡ true = sym never ∙ is in cc)
 
-module _ (opened : LinkParameters) (link : ℕ) (again : AreInBytes Initiator opened) (both : List Mark) (far : MatchedSoFar opened link both)
-    (replies : AtEachMark (ReplyIsBytesOn link) [] both) (submits : AllByRecursion (IsJobMark link) (client_marks link both)) (calls : MarksOfBytes (filter (is_exchanged link) both)) where
+module _ (s : Setup) (J : List Entry) (opened : LinkParameters) (link : ℕ) (again : AreInBytes Initiator opened) (tree : IsInBytes s.tree) (entries : EntriesInBytes J) (both : List Mark) (far : MatchedSoFar opened link both)
+    (placed : AtPlacesOn (plain_server s) J link both) (submits : AllByRecursion (IsJobMark link) (client_marks link both)) (calls : MarksOfBytes (filter (is_exchanged link) both)) where
   module _ (front rest : List Mark) (m : Mark) (is : both ≡ front ++ m ∷ rest) (typed : IsTyped front) where
     up_is_bytes : IsBytes (bytes_sent link Initiator front)
     up_is_bytes =
@@ -159,8 +126,15 @@ module _ (opened : LinkParameters) (link : ℕ) (again : AreInBytes Initiator op
     own_here : is_client_mark link m ≡ true → IsJobMark link m
     own_here = at_mark (λ earlier k. is_client_mark link k ≡ true → IsJobMark link k) both front m rest is (client_each (IsJobMark link) link [] both submits)
 
+  first_entries : (n : ℕ) (K : List Entry) → EntriesInBytes K → EntriesInBytes (take n K)
+  first_entries zero K h = tt
+  first_entries (suc n) [] h = tt
+  first_entries (suc n) (e ∷ K) h = (h.0, first_entries n K h.1)
+
   executed_bytes : (front rest : List Mark) (l xid : ℕ) (moment : _) (payload : List ℕ) (place : ℕ) (reply : List ℕ) → both ≡ front ++ marks.Execute l xid moment payload place reply ∷ rest → l ≡ link → IsBytes reply
-  executed_bytes front rest l xid moment payload place reply is same = at_mark (ReplyIsBytesOn link) both front (marks.Execute l xid moment payload place reply) rest is replies same
+  executed_bytes front rest l xid moment payload place reply is same =
+      let at = at_mark (AtPlaceOnMark (plain_server s) J link) both front (marks.Execute l xid moment payload place reply) rest is placed same in
+      plain_reply_bytes s (take place J) (length (take place J)) moment payload reply tree (first_entries place J entries) at.replied
 
   -- the calls that follow these marks
   calls_here : (front rest : List Mark) → both ≡ front ++ rest → OutcomesOfBytes (filter (is_exchanged link) front) → MarksOfBytes (filter (is_exchanged link) rest)
@@ -241,12 +215,12 @@ module _ (opened : LinkParameters) (link : ℕ) (again : AreInBytes Initiator op
 -- ---- A pair
 
 -- a list with both sides is of its types, if the calls that its client submits are
-pub typed_by : (opened : LinkParameters) (link : ℕ) (both : List Mark) → AreInBytes Initiator opened → MatchedSoFar opened link both → RepliesInBytes (flat_map answer_of (own_marks link both))
-    → AllByRecursion (IsJobMark link) (client_marks link both) → MarksOfBytes (filter (is_exchanged link) both) → AllByRecursion (IsOfSide link) both → IsTyped both
-typed_by opened link both again far replies submits calls sides = typed_from opened link again both far (replies_on link [] both replies) submits calls [] both refl tt tt sides
+pub typed_by : (s : Setup) (J : List Entry) (opened : LinkParameters) (link : ℕ) (both : List Mark) → AreInBytes Initiator opened → IsInBytes s.tree → EntriesInBytes J → MatchedSoFar opened link both
+    → AtPlacesOn (plain_server s) J link both → AllByRecursion (IsJobMark link) (client_marks link both) → MarksOfBytes (filter (is_exchanged link) both) → AllByRecursion (IsOfSide link) both → IsTyped both
+typed_by s J opened link both again tree entries far placed submits calls sides = typed_from s J opened link again tree entries both far placed submits calls [] both refl tt tt sides
 
-pub pair_is_typed : (opened : LinkParameters) (link : ℕ) (both : List Mark) (made : List Exchange) → AreInBytes Initiator opened → MatchedSoFar opened link both → RepliesInBytes (flat_map answer_of (own_marks link both))
-    → AllByRecursion (IsOwn link) (client_marks link both) → AreMarksOf link made (filter (is_exchanged link) both) → CallsAreBytes made
+pub pair_is_typed : (s : Setup) (J : List Entry) (opened : LinkParameters) (link : ℕ) (both : List Mark) (made : List Exchange) → AreInBytes Initiator opened → IsInBytes s.tree → EntriesInBytes J → MatchedSoFar opened link both
+    → AtPlacesOn (plain_server s) J link both → AllByRecursion (IsOwn link) (client_marks link both) → AreMarksOf link made (filter (is_exchanged link) both) → CallsAreBytes made
     → AllByRecursion (IsOfSide link) both → IsTyped both
-pair_is_typed opened link both made again far replies own are calls sides =
-    typed_by opened link both again far replies (job_marks link (client_marks link both) own) (exchanged link made (filter (is_exchanged link) both) are calls) sides
+pair_is_typed s J opened link both made again tree entries far placed own are calls sides =
+    typed_by s J opened link both again tree entries far placed (job_marks link (client_marks link both) own) (exchanged link made (filter (is_exchanged link) both) are calls) sides

@@ -7,7 +7,6 @@ use Rattle.nr_reduce.specs.declared.call.Outcome.{Outcome}
 use Rattle.nr_reduce.specs.declared.mark.Entry.{Entry}
 use Rattle.nr_reduce.specs.declared.mark.LinkParameters.{LinkParameters}
 use Rattle.nr_reduce.specs.declared.mark.Mark.{Mark}
-use Rattle.nr_reduce.specs.NumberedJournal.{number_heard}
 use Rattle.nr_laws.specs.MatchedSoFar.{MatchedSoFar}
 use Rattle.nr_laws.specs.PlainLinks.{AtPlacesOn}
 use Rattle.nr_laws.specs.Typed.{IsTyped}
@@ -67,16 +66,16 @@ SaysOfJobPair limits first J opened link outside outside' end connection Says ge
     SaysOfJobs get before after out out' result (λ dialed s source sink made history.
     (ran : IsJobsRun opened link s source sink dialed.ended after.ended result made history) → (both : List Mark) → AreSidesOf link ran.run connection.ended.run both → Says ran.run both made history) gets
 
--- Of such a pair, whose marks are of their types (`IsTyped`), over a server with a sane first tree, the server heard no
--- number, and each outcome of the `get` is the plain server's reply to just its call, at a place of the journal that the
--- connection's pass has seen at its end, not below the length of that which the pass had seen when the connection began.
+-- Of such a pair, whose marks are of their types (`IsTyped`), over a server with a sane first tree, each outcome of the
+-- `get` is the plain server's reply to just its call, at a place of the journal that the connection's pass has seen at its
+-- end, not below the length of that which the pass had seen when the connection began.
 abbrev pub JobsAreServed : Type 0
 JobsAreServed =
     (limits : ConnectionLimits) (first : Opening) (J : List Entry) (opened : LinkParameters) (link : ℕ) (outside outside' : Outside) (end : ConnEnd) (connection : IsConnectionRun limits first J opened link outside outside' end)
     (get : GetByJobs Text) (before after : DialerAt) (out out' : SinkAt) (result : Result (Unit {0}) ClientEnd) (gets : GetsByJobs get before after out out' result) →
     IsSane (setup_in first).tree →
     SaysOfJobPair limits first J opened link outside outside' end connection
-    (λ run both made history. IsTyped both → (none : number_heard connection.ended.run link ≡ 0) × IsServedJobs (setup_in first) J (connection.over none).more opened link run both made history) get before after out out' result gets
+    (λ run both made history. IsTyped both → IsServedJobs (setup_in first) J connection.over.more opened link run both made history) get before after out out' result gets
 
 -- The marks are of their types if what the `get` names are bytes, the first tree holds bytes, and each entry of the
 -- journal is that of a call.

@@ -55,9 +55,8 @@ IsJobMark link mark = ⊥
 pub record IsJobsRun (opened : LinkParameters) (link : ℕ) (s : SessionAt) (source : SourceAt) (sink : SinkAt) (log log' : Option LinkLog)
     (result : Result (Unit {0}) ClientEnd) (made : List Exchange) (history : List Entry) : Type 0 where
   pub run : List Mark
-  -- its link was not reopened, and its client has no number
+  -- its link was not reopened
   pub first_link : IsFirstLink opened
-  pub unnumbered : opened.client.number ≡ 0
   -- It is a run of the client's side alone. The client keeps its law and the last grant.
   pub own : AllByRecursion (IsJobMark link) run
   pub asked : AskedSoFar opened link run

@@ -13,7 +13,6 @@ use Rattle.nr_reduce.specs.declared.mark.Mark.{Mark}
 use Rattle.nr_reduce.specs.ClientState.{call_payload}
 use Rattle.nr_reduce.specs.Journal.{AtPlace}
 use Rattle.nr_reduce.specs.Matched.{Matched}
-use Rattle.nr_reduce.specs.NumberedJournal.{number_heard}
 use Rattle.nr_reduce.specs.Served.{Served}
 use Rattle.nr_laws.specs.PlainLinks.{AtPlacesOn}
 use Rattle.nr_laws.specs.Typed.{IsTyped}
@@ -60,15 +59,14 @@ pub record AreSidesOf (link : ℕ) (client_run server_run both : List Mark) : Ty
   pub matched : Matched link both
 
 -- One run of a link has all that a connection did. Its server was opened so, and its pass had seen this journal when the
--- connection began. Each Wrote writes all output that is due. If the hello that it heard says no number, each call was answered at
--- its place in a journal that goes on from J with the entries of this connection and of others.
+-- connection began. Each Wrote writes all output that is due. Each call was answered at its place in a journal that goes on from J
+-- with the entries of this connection and of others.
 pub record IsConnectionRun (limits : ConnectionLimits) (first : Opening) (J : List Entry) (opened : LinkParameters) (link : ℕ) (before after : Outside) (end : ConnEnd) : Type 0 where
   pub read : ℕ
   pub failed : Bool
   pub ended : Ended limits read link before (with_failed failed after) end
   pub served : Served opened link ended.run
-  pub history : IsHistory first J before.view.seen
-  pub over : number_heard ended.run link ≡ 0 → OverHistory first J before.view (answers_of ended.run) after.view
+  pub over : OverHistory first J before.view (answers_of ended.run) after.view
 
 -- A connection that ends otherwise than out of memory has such a run.
 abbrev pub ConnectionsHaveARun : Type 0
@@ -141,14 +139,14 @@ SaysOfPair limits first J opened link outside outside' end connection Says c bef
     Says ran.run both (tells_text c.uid c.gid c.export c.action input input' out prints.written s s' prints.text prints.made).made
 
 -- A command and a connection that are the sides of a list of marks of their types (`IsTyped`), over a server with a sane
--- first tree. The server heard no number in the command's hello.
+-- first tree.
 abbrev pub PairsAreServed : Type 0
 PairsAreServed =
     (limits : ConnectionLimits) (first : Opening) (J : List Entry) (opened : LinkParameters) (link : ℕ) (outside outside' : Outside) (end : ConnEnd) (connection : IsConnectionRun limits first J opened link outside outside' end)
     (c : Client Text) (before after : DialerAt) (input input' : SourceAt) (out out' : SinkAt) (result : Result (Unit {0}) ClientEnd) (runs : Runs c before after input input' out out' result) →
     IsSession opened (terms_of c) → IsOpenedWith limits opened → IsSane (setup_in first).tree →
     SaysOfPair limits first J opened link outside outside' end connection
-    (λ run both made. IsTyped both → (none : number_heard connection.ended.run link ≡ 0) × IsServedPair (setup_in first) J (connection.over none).more opened link run made result end both) c before after input input' out out' result runs
+    (λ run both made. IsTyped both → IsServedPair (setup_in first) J connection.over.more opened link run made result end both) c before after input input' out out' result runs
 
 -- The marks are of their types if what the command names are bytes, with what a `put` reads, the first tree holds bytes,
 -- and each entry of the journal is that of a call. Nothing is asked of the bytes of the link: what a side is fed the

@@ -9,7 +9,7 @@ use Rattle.nr_host.specs.declared.connection_limits.ConnectionLimits.{Connection
 use Rattle.nr_host.specs.declared.link_end.LinkEnd.{LinkEnd}
 use Rattle.nr_host.specs.Serving.{Between, ServesAll, split_off}
 use Rattle.nr_host.specs.Steps.{outside, sink_state}
-use Rattle.nr_host.proofs.FirstByte.{grown_link}
+use Rattle.nr_host.proofs.FirstByte.{over_link}
 
 -- a history of a server that was opened so, with a journal of entries of calls
 abbrev pub IsOfServer : Opening → List Entry → List HistoryEntry → Type 0
@@ -28,7 +28,7 @@ journal_after limits records first J before after [] none stood calls = (J, (sub
 journal_after limits records first J before after (None ∷ links) (mid, (one, rest)) stood calls =
     journal_after limits records first J mid after links rest (subst (λ (v : PassView). IsHistory first J v.seen) (sym one.view) stood) calls
 journal_after limits records first J before after (Some end ∷ links) (mid, (one, rest)) stood calls =
-    let all = grown_link limits records (outside one.opened.left one.opened.given (sink_state one.opened.taken 0 false) one.served.gave (split_off before.view))
+    let (answers, all) = over_link limits records (outside one.opened.left one.opened.given (sink_state one.opened.taken 0 false) one.served.gave (split_off before.view))
     (outside one.closed.left one.closed.given (sink_state one.closed.taken one.sink_faults false) one.served.gave' one.served.own) end one.served.served in
     let over = all first J stood in
     let more = both_of_calls (setup_in first) [] J over.more calls over.of_calls in

@@ -1,24 +1,15 @@
 use Rattle.nr_plain.specs.History.{pass_view}
 use Rattle.nr_host.specs.Steps.{sink_state}
-use Rattle.nr_host.proofs.Drains.{ends_after, goes_on_left, has_ended_left, out_ends, out_left, quietly}
+use Rattle.nr_host.proofs.Drains.{out_ends, quietly}
 use Rattle.nr_host.proofs.feeding.answer_all.Goals as goal
 
-pub returns-in-Memory-clause-err : goal.returns-in-Memory-clause-err
-returns-in-Memory-clause-err g c =
+pub returns-in-Err-clause-err : goal.returns-in-Err-clause-err
+returns-in-Err-clause-err g c =
     out_ends (sink_state (g.O.Sink.taken c.args.sink.now) (g.O.Sink.faults c.args.sink.now) c.args.failed.now) (g.C.Clock.gave c.args.clock.now) (g.C.Clock.gave c.execute_ready.new.clock)
-    (pass_view c.args.pass.now) (pass_view c.execute_ready.new.pass) c.args.responder.now.side (out_left c.in-Err.end _ _ _ _ _ _ c.in-Memory.is c.in-Err.ensures.err)
+    (pass_view c.args.pass.now) (pass_view c.execute_ready.new.pass) c.args.responder.now.side c.in-Err.ensures.err
 
-pub returns-in_default-clause-err : goal.returns-in_default-clause-err
-returns-in_default-clause-err g c =
-    ends_after c.stopped.result (sink_state (g.O.Sink.taken c.args.sink.now) (g.O.Sink.faults c.args.sink.now) c.args.failed.now) (sink_state (g.O.Sink.taken c.stopped.new.sink) (g.O.Sink.faults c.stopped.new.sink) c.stopped.new.failed)
-    (g.C.Clock.gave c.args.clock.now) (g.C.Clock.gave c.execute_ready.new.clock) (pass_view c.args.pass.now) (pass_view c.execute_ready.new.pass)
-    c.args.responder.now.side c.execute_ready.new.responder.side (goes_on_left c.in-Err.end _ _ _ _ _ _ c.in_default.not-Memory c.in-Err.ensures.err) c.stopped.ensures.ends
-
-pub stopped-requires : goal.stopped-requires
-stopped-requires g c = has_ended_left c.in-Err.end _ _ _ _ _ _ c.in_default.not-Memory c.in-Err.ensures.err
-
-pub returns-in-Ok-clause-ok : goal.returns-in-Ok-clause-ok
-returns-in-Ok-clause-ok g c =
+pub returns-clause-ok : goal.returns-clause-ok
+returns-clause-ok g c =
     quietly (sink_state (g.O.Sink.taken c.args.sink.now) (g.O.Sink.faults c.args.sink.now) c.args.failed.now) (sink_state (g.O.Sink.taken c.drain.new.sink) (g.O.Sink.faults c.drain.new.sink) c.drain.new.failed)
     (g.C.Clock.gave c.args.clock.now) (g.C.Clock.gave c.execute_ready.new.clock) (pass_view c.args.pass.now) (pass_view c.execute_ready.new.pass)
     c.args.responder.now.side c.execute_ready.new.responder.side c.drain.new.responder.side

@@ -5,6 +5,7 @@ use Rattle.nr_host.specs.Steps.{FeedsTo, sink_state}
 use Rattle.nr_host.proofs.Feeds.{answers_end, feed_ends, feeds_on}
 use Rattle.nr_host.proofs.Sinks.{count_at, faults_on}
 use Rattle.nr_host.proofs.Taken.{nothing, shorter, takes_some, takes_within}
+use Rattle.nr_host.specs.declared.conn_end.ConnEnd.TheVariants as ends
 use Rattle.nr_host.proofs.feeding.feed_all.Goals as goal
 
 pub returns-in-Err-clause-err : goal.returns-in-Err-clause-err
@@ -39,7 +40,7 @@ returns-in-Err-answer_all-clause-err g c =
     answers_end c.args.piece.now c.loop-left.left.now (sink_state (g.O.Sink.taken c.args.sink.now) (g.O.Sink.faults c.args.sink.now) false) (sink_state (g.O.Sink.taken c.loop-left.sink) (g.O.Sink.faults c.loop-left.sink) c.loop-left.failed)
     (g.C.Clock.gave c.args.clock.now) (g.C.Clock.gave c.loop-left.clock) (pass_view c.args.pass.now) (pass_view c.loop-left.pass) c.args.responder.now.side c.loop-left.responder.side
     feeds on c.in-Ok.n c.in-Ok.ensures.taken
-    c.split_at.result.1.now c.in-Err-answer_all.end (sink_state (g.O.Sink.taken c.answer_all.new.sink) (g.O.Sink.faults c.answer_all.new.sink) c.answer_all.new.failed) (g.C.Clock.gave c.answer_all.new.clock) (pass_view c.answer_all.new.pass) c.feed_one.new.self.side
+    c.split_at.result.1.now ends.Memory (sink_state (g.O.Sink.taken c.answer_all.new.sink) (g.O.Sink.faults c.answer_all.new.sink) c.answer_all.new.failed) (g.C.Clock.gave c.answer_all.new.clock) (pass_view c.answer_all.new.pass) c.feed_one.new.self.side
     c.in-Ok.ensures.stands c.split_at.ensures.back c.in-Err-answer_all.ensures.err
 
 pub returns-in-Err-answer_all-clause-counted : goal.returns-in-Err-answer_all-clause-counted
@@ -51,9 +52,7 @@ pub returns-in-Err-answer_all-clause-count : goal.returns-in-Err-answer_all-clau
 returns-in-Err-answer_all-clause-count g c =
     let (rests, on, short, room, most, counted, feeds) = c.loop-left.invariant in
     let never = c.answer_all.ensures.never_falls in
-    count_at c.in-Err-answer_all.end c.answer_all.new.failed (g.O.Sink.faults c.args.sink.now) (g.O.Sink.faults c.answer_all.new.sink) c.in-Err-answer_all.ensures.failed
-    (faults_on c.loop-left.failed c.answer_all.new.failed (g.O.Sink.faults c.args.sink.now) (g.O.Sink.faults c.loop-left.sink) (g.O.Sink.faults c.answer_all.new.sink) counted c.answer_all.ensures.counted)
-    (omega (arith, most, never))
+    omega (arith, most, never)
 
 pub loop-left-smaller : goal.loop-left-smaller
 loop-left-smaller g c =
