@@ -11,15 +11,8 @@ import struct
 import sys
 import tempfile
 
-from check_serve import ROOT, connect, free_port, serve, words
+from check_serve import CONFIG, ROOT, connect, free_port, serve, words
 
-CONFIG = '''listen = "127.0.0.1:%d"
-export = "/"
-credits = 16
-capacity = 1000000
-connections = %d
-write_verifier = "0000000000000001"
-'''
 REQUEST, REPLY = b'MPA ID Req Frame', b'MPA ID Rep Frame'
 SEND, TERMINATE = 0x43, 0x47
 # procedures of RFC 1813, and what they answer
