@@ -18,6 +18,7 @@ from typing import Any
 from antt import ROOT
 from check_definitions import NAMES, RUNS, Names, Recorded, bytes_of, opening_of, recorded, weight
 from ends import Ends
+from laws_of_links import LAWS as LINK_LAWS, ROLES as LINK_ROLES, USES as LINK_USES, Links
 from values import NONE, CannotEvaluate, Value, call, deeply
 
 HERE = os.path.dirname(os.path.abspath(__file__))
@@ -131,7 +132,6 @@ LAWS = (
     'once: Sends',
     'once: calls',
     'once: xids',
-    'places',
     'executed_payloads',
     'replies_handed_over',
     'replies_are_plain',
@@ -180,19 +180,17 @@ LAWS = (
     'segments_keep_the_rules: server',
     'matched_links_stay: stays',
     'matched_links_stay: clients',
-    'once_each: entries',
-    'once_each: completed',
-)
+) + LINK_LAWS
 CALL_REASONS, REPLY_REASONS = (18,), (18, 19)
 
 
 class Roles(Names):
     def __init__(self, root: str, spec: Recorded) -> None:
         super().__init__(root, spec)
-        for u in USES:
+        for u in USES + LINK_USES:
             self.project.use(self.module, u)
         self.role: dict[str, Value] = {}
-        for k, text in ROLES.items():
+        for k, text in (ROLES | LINK_ROLES).items():
             self.role[k] = self.project.expression(self.module, text)
 
     def ask(self, role: str, *args: Value) -> Value:
@@ -417,6 +415,10 @@ class Link:
         run = list(self.marks)
         out, grant = (call(self.names.run[k], self.opened, self.number, run) for k in ('out', 'grant'))
         self.note('grant', out < grant, () if self.matched else ('not matched',))
+        answer = self.names.ask('submit_answer', self.opened, self.number, run, c, form)
+        again = self.names.ask('to_resend', self.ends['client'])[:1]
+        resent = [w['xid'] for w in again] == [x]
+        self.note('grant: accepts', answer.n == 'Accepted' and answer.a[0] == x or resent, ('resent',) if resent else ())
         plan = self.names.ask('plan', state, x, c, form).a[0]
         message = self.names.ask('message', self.opened, state, x, plan)
         self.submits[x] = {'payload': self.names.ask('payload', x, c), 'form': m['form'], 'made': form, 'plan': plan,
@@ -611,52 +613,10 @@ def check(run: Recorded) -> list[Finding]:
                 link.mark(m)
         for link in links:
             link.finish()
-        places(run, {link.number: link for link in links}, found)
-        once_each(run, {link.number: link for link in links}, found)
+        Links(run, {link.number: link for link in links}, found).ask()
         return found
     result: list[Finding] = deeply(body)
     return result
-
-
-def places(run: Recorded, links: dict[int, Link], found: list[Finding]) -> None:
-    """A call that is submitted after the outcome of another has a place that isn't smaller, unless it is sent again or was kept."""
-    place: dict[tuple[int, int], int] = {}
-    for m in run['marks']:
-        if m['mark'] == 'Execute' and not m.get('kept'):
-            place[(m['link'], m['xid'])] = m['place']
-    seen: list[int] = []
-    for i, m in enumerate(run['marks']):
-        if not links[m['link']].matched:
-            continue
-        if m['mark'] == 'Done' and (m['link'], m['xid']) in place:
-            seen.append(place[(m['link'], m['xid'])])
-        if m['mark'] == 'Submit' and m['answer']['kind'] == 'Accepted' and seen and not m.get('resent'):
-            p = place.get((m['link'], m['answer']['xid']))
-            if p is not None:
-                found.append(('places', p >= max(seen), links[m['link']].kind(m['answer']['xid']), run['name'], i + 1))
-
-
-def once_each(run: Recorded, links: dict[int, Link], found: list[Finding]) -> None:
-    """No two entries are of one call of a client with a number, and a change that completed on matched links has its entry."""
-    entries = [(e['client'], e['xid']) for e in run.get('journal', ()) if e['client']]
-    before = {o['link']: o.get('after') for o in run['opened']}
-    if entries:
-        kinds = ('links after it',) if any(before.values()) else ()
-        found.append(('once_each: entries', len(set(entries)) == len(entries), kinds, run['name'], len(run['marks'])))
-
-    def matched(link: int | None) -> bool:
-        return link is None or links[link].matched and matched(before[link])
-
-    for i, m in enumerate(run['marks']):
-        link = links[m['link']]
-        client = link.opened['client']['number']
-        if m['mark'] != 'Done' or m['outcome']['kind'] != 'Reply' or client == 0 or not matched(m['link']):
-            continue
-        submitted = link.submits[m['xid']]
-        payload = link.names.ask('conveyed', submitted['made'], submitted['payload'])
-        if payload.n == 'Some' and link.names.ask('adds', {'seconds': 0, 'nanos': 0}, payload.a[0], bytes_of(m['outcome']['payload'])):
-            kinds = ('links before it',) if before[m['link']] else ()
-            found.append(('once_each: completed', (client, m['xid']) in entries, kinds, run['name'], i + 1))
 
 
 def print_counts(seen: dict[str, dict[str, tuple[int, str]]]) -> None:

@@ -90,7 +90,7 @@ form_bytes payload forms.Chunk up down h = reduced_bytes payload _ h (h, no_byte
 form_bytes payload forms.Long up down h = (no_bytes_lem, h)
 form_bytes payload (forms.Given offer) up down h = given_bytes payload offer.read_at offer.read _ h (h, no_bytes_lem)
 
-abbrev PlansBytes : Result Plan TooLarge → Type 0
+abbrev pub PlansBytes : Result Plan TooLarge → Type 0
 PlansBytes (Ok p) = PlanOfBytes p
 PlansBytes (Err large) = Unit {0}
 
@@ -108,7 +108,7 @@ given_within_lem forms.Chunk answer h = h
 given_within_lem forms.Long answer h = h
 given_within_lem (forms.Given offer) answer h = within_bytes (given_total offer) _ answer h
 
-plan_bytes : (payload : List ℕ) (form : Form) (up down : ℕ) → IsBytes payload → PlansBytes (plan_of payload form up down)
+pub plan_bytes : (payload : List ℕ) (form : Form) (up down : ℕ) → IsBytes payload → PlansBytes (plan_of payload form up down)
 unfolding plan_of
 plan_bytes payload form up down h =
     within_bytes (length payload) _ _ (given_within_lem form _ (within_bytes (plan_size (plan_in_form payload form up down)) up (Ok (plan_in_form payload form up down)) (form_bytes payload form up down h)))

@@ -4,6 +4,7 @@ pub mod CallBytes
 pub mod PayloadBytes
 pub mod ByteClients
 pub mod ByteServers
+pub mod PlannedBytes
 pub mod TreeBytes
 pub mod ResultBytes
 pub mod PlainBytes

@@ -141,7 +141,7 @@ either false false c d e f p q r h = or_right_lem d (e || f) (or_right_lem e f (
 differ : (n xid : ℕ) → eqb n xid ≡ true → (other : ℕ) → eqb xid other ≡ false → eqb n other ≡ false
 differ n xid e other not_other = ap (λ (x : ℕ). eqb x other) (eqb-true n xid e) ∙ not_other
 
-others_stay : (xid x : ℕ) (os : List OutstandingCall) → eqb x xid ≡ false → is_outstanding os x ≡ true → is_outstanding (filter (λ (o : OutstandingCall). not (eqb o.xid xid)) os) x ≡ true
+pub others_stay : (xid x : ℕ) (os : List OutstandingCall) → eqb x xid ≡ false → is_outstanding os x ≡ true → is_outstanding (filter (λ (o : OutstandingCall). not (eqb o.xid xid)) os) x ≡ true
 others_stay xid x [] ne e = e
 others_stay xid x (o ∷ os) ne e = by (eqb o.xid x) (eqb o.xid xid) refl refl e (others_stay xid x os ne)
   where
@@ -216,7 +216,7 @@ frame_accounts opened gone xids k f e h = by (is_hello f) refl
 
 -- ---- Other events
 
-any_map : (f : OutstandingCall → OutstandingCall) (os : List OutstandingCall) (x : ℕ) → ((o : OutstandingCall) → (f o).xid ≡ o.xid) → is_outstanding (map f os) x ≡ is_outstanding os x
+pub any_map : (f : OutstandingCall → OutstandingCall) (os : List OutstandingCall) (x : ℕ) → ((o : OutstandingCall) → (f o).xid ≡ o.xid) → is_outstanding (map f os) x ≡ is_outstanding os x
 any_map f [] x same = refl
 any_map f (o ∷ os) x same = λ i. eqb (same o i) x || any_map f os x same i
 

@@ -26,7 +26,7 @@ use Rattle.nr_laws.proofs.KeptAtServer.{kept_at_server}
 use Rattle.nr_laws.proofs.RefusedMessages.{refused_not_executed}
 use Rattle.nr_laws.proofs.ChunkCauses.{ExecuteNotHeld, one_execute, chunk_caused}
 
-some_of : (o : Option Answer) → o ≢ None → (a : Answer) × (o ≡ Some a)
+pub some_of : (o : Option Answer) → o ≢ None → (a : Answer) × (o ≡ Some a)
 some_of None h = absurd (h refl)
 some_of (Some a) h = (a, refl)
 

@@ -214,7 +214,7 @@ quiet_mark opened link before mark none each pre o post e =
     ap (λ (es : List RunEvent). asked opened es) (events_one link Initiator before mark) ∙ asked_quiet opened (events link Initiator before) (events_at link Initiator before mark) none in
     submitted_later opened link before mark (length pre) o (each pre o post (sym same ∙ e))
 
-none_if : (b : Bool) (e : RunEvent) → accepted_in (e ∷ []) ≡ [] → accepted_in (if_own b (e ∷ [])) ≡ []
+pub none_if : (b : Bool) (e : RunEvent) → accepted_in (e ∷ []) ≡ [] → accepted_in (if_own b (e ∷ [])) ≡ []
 none_if true e h = h
 none_if false e h = refl
 
@@ -222,7 +222,7 @@ none_frames : (fs : List Frame) → accepted_in (map FrameReceived fs) ≡ []
 none_frames [] = refl
 none_frames (f ∷ fs) = none_frames fs
 
-none_fed : (b : Bool) (fs : List Frame) → accepted_in (if_own b (map FrameReceived fs)) ≡ []
+pub none_fed : (b : Bool) (fs : List Frame) → accepted_in (if_own b (map FrameReceived fs)) ≡ []
 none_fed true fs = none_frames fs
 none_fed false fs = refl
 

@@ -33,12 +33,13 @@ use Rattle.nr_reduce.proofs.Calls.{executed_head}
 use Rattle.nr_reduce.proofs.Steps.{AtEachMark_first}
 use Rattle.nr_laws.specs.MarkAt.{MarkAt}
 use Rattle.nr_laws.specs.MatchedSoFar.{MatchedSoFar}
-use Rattle.nr_laws.specs.OnceEach.{BegunLink, GoesOn, IsEarlier, MatchedWithEarlier, OpenedWithEarlier, OneClientEach, HasEntry, IsAskedFor, CompletedChangesHaveEntries}
+use Rattle.nr_laws.specs.OnceEach.{BegunLink, GoesOn, IsEarlier, MatchedWithEarlier, OpenedWithEarlier, OneClientEach, HasEntry, IsAskedFor, CompletedChangesHaveEntries, ChangesTakeEffectOnce}
 use Rattle.nr_laws.specs.Payloads.{HasPlan, form_conveyed}
 use Rattle.nr_laws.specs.PlainLinks.{server_with}
 use Rattle.nr_laws.specs.Typed.{TypedMark, IsTyped}
 use Rattle.nr_laws.proofs.Basics.{some_is_lem}
 use Rattle.nr_laws.proofs.EarlierLinks.{InFirst, AfterFirst, mark_in_first, event_at_mark, execute_event, none_is, SameCall, LeftBy, left_by}
+use Rattle.nr_laws.proofs.EntriesApart.{no_entry_twice}
 use Rattle.nr_laws.proofs.ExecutedPayloads.{executes_have_plans}
 use Rattle.nr_laws.proofs.Following.{events_more, not_after_outcome}
 use Rattle.nr_laws.proofs.JournalPlaces.{get_left, get_last, journal_from, journal_parts, journal_more}
@@ -323,3 +324,13 @@ completed_changes_have_entries reply_to adds opened link T run before xid call f
     let heard : number_heard run link ≡ (opened link).client.number = replied_number (opened link) link run before xid reply typed (matched link (record { began = []; links = []; goes_on = refl })) fits done in
     subst (λ (number : ℕ). HasEntry (server_with reply_to adds) T number xid payload reply) heard
     (completed_has reply_to adds opened link T run typed journaled keeps clients opens matched (λ e. numbered (sym heard ∙ e)) before xid call form moment payload reply asked done conveyed some)
+
+-- ---- Each change once
+
+pub changes_take_effect_once : ChangesTakeEffectOnce
+changes_take_effect_once reply_to adds opened T run typed journaled keeps clients = record {
+  once = λ place other t u here there.
+      no_entry_twice reply_to adds (number_heard run) run keeps.one place other t u (ap (λ (U : List TaggedEntry). slice_get U place) journaled.is ∙ here) (ap (λ (U : List TaggedEntry). slice_get U other) journaled.is ∙ there);
+  completed = λ link before xid call form moment payload reply opens matched some fits asked done conveyed more.
+      completed_changes_have_entries reply_to adds opened link T run before xid call form moment payload reply typed journaled keeps clients opens matched some fits asked done conveyed more;
+}

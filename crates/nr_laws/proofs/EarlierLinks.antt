@@ -114,7 +114,7 @@ pub record LinkKeeps (opened : ℕ → LinkParameters) (run : List Mark) (link :
   pub opens : IsOpened (opened link.link)
   pub asked : AskedSoFar (opened link.link) link.link run
 
-next_opening : (opened : ℕ → LinkParameters) (run : List Mark) (old link : BegunLink) → IsNextLink opened run old link
+pub next_opening : (opened : ℕ → LinkParameters) (run : List Mark) (old link : BegunLink) → IsNextLink opened run old link
     → ((opened link.link).first_xid ≡ (client (opened old.link) old.link link.began).state.next_xid) × ((opened link.link).resumed ≡ calls_kept (opened old.link) old.link link.began)
 unfolding reopened
 next_opening opened run old link n = (ap (λ (o : LinkParameters). o.first_xid) n.reopened.next, ap (λ (o : LinkParameters). o.resumed) n.reopened.next)

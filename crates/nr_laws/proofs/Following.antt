@@ -25,6 +25,7 @@ use Rattle.nr_reduce.proofs.Steps.{events_one}
 use Rattle.nr_laws.specs.Typed.{TypedMark, IsTyped}
 use Rattle.nr_laws.specs.Places.{PlacesFollow}
 use Rattle.nr_laws.proofs.HeaderXid.{answer_xid, chunk_error_xid}
+use Rattle.nr_laws.proofs.Outputs.{Output}
 use Rattle.nr_laws.proofs.ServerAlong.{Said}
 use Rattle.nr_laws.proofs.ServerAlong.Said.{IsRefusal, IsAnswer, IsNoAnswer}
 use Rattle.nr_laws.proofs.Outcomes.{client_by, OutcomeSaid, outcome_said}
@@ -69,18 +70,15 @@ events_more link side run (mark ∷ more) =
           ∙ ap (λ (es : List RunEvent). es ++ next.0) (events_one link side run mark) ∙ append_assoc (events link side run) one next.0,
     )
 
--- A call whose outcome was received isn't executed after that.
-pub not_after_outcome : (opened : LinkParameters) (link : ℕ) (run before mid rest : List Mark) (xid : ℕ) (outcome : Outcome) (moment : Moment) (payload : List ℕ) (place : ℕ) (reply : List ℕ) → IsTyped run → MatchedSoFar opened link run
-    → IsTyped before → MatchedSoFar opened link before → OutcomeSaid opened link before (record { xid = xid; outcome = outcome })
+-- A call isn't executed after the client received a message of its xid.
+pub not_after_message : (opened : LinkParameters) (link : ℕ) (run before mid rest : List Mark) (xid : ℕ) (moment : Moment) (payload : List ℕ) (place : ℕ) (reply : List ℕ) (outs : List Output) (message : List ℕ) → IsTyped run → MatchedSoFar opened link run
+    → IsTyped before → MatchedSoFar opened link before → Said opened (events link Responder before) outs message → xid ≡ word_at 0 message
     → run ≡ before ++ (mid ++ marks.Execute link xid moment payload place reply ∷ rest) → ⊥
-not_after_outcome opened link run before mid rest xid outcome moment payload place reply typed far first_typed first_far d is =
-    by d.said
+not_after_message opened link run before mid rest xid moment payload place reply outs message typed far first_typed first_far said own_xid is =
+    by said
   where
     execute : Mark
     execute = marks.Execute link xid moment payload place reply
-
-    own_xid : xid ≡ word_at 0 d.given.message
-    own_xid = verdict_xid (client_by opened d.given.earlier).state d.given.frame.end d.given.message xid (Some outcome) d.given.given
 
     whole : run ≡ (before ++ mid) ++ execute ∷ rest
     whole = is ∙ sym (append_assoc before mid (execute ∷ rest))
@@ -92,7 +90,7 @@ not_after_outcome opened link run before mid rest xid outcome moment payload pla
         whole ∙ ap (λ (b : List Mark). (b ++ mid) ++ execute ∷ rest) m.is ∙ ap (λ (b : List Mark). b ++ execute ∷ rest) (append_assoc m.earlier (execute_mark link e ∷ m.later) mid) in
         no_xid_twice opened link run m.earlier (m.later ++ mid) e.xid xid e.moment moment e.payload payload e.place place e.reply reply typed far (record { after = rest; is = all }) same
 
-    by : Said opened (events link Responder before) d.before d.given.message → ⊥
+    by : Said opened (events link Responder before) outs message → ⊥
     by (IsAnswer s) =
         let a = answered_by_lem opened link before first_typed first_far s.earlier s.call s.later s.is in
         let f = a.fits in
@@ -103,7 +101,7 @@ not_after_outcome opened link run before mid rest xid outcome moment payload pla
         let f = a.fits in
         again s.earlier s.call a (sym (chunk_error_xid s.call.xid (credit_word (server_by opened s.earlier)) (omega (arith, f))) ∙ ap (λ (x : List ℕ). word_at 0 x) (sym s.message) ∙ sym own_xid)
     by (IsRefusal s) =
-        let r = refused_submit opened link before first_typed first_far.asked first_far.matched d.given.message s in
+        let r = refused_submit opened link before first_typed first_far.asked first_far.matched message s in
         let x = executed_at_lem opened link run (before ++ mid) rest xid moment payload place reply typed far whole in
         let more = events_more link Responder before mid in
         let all : events link Responder (before ++ mid) ≡ s.earlier ++ FrameReceived s.frame ∷ (s.later ++ more.0) =
@@ -125,7 +123,15 @@ not_after_outcome opened link run before mid rest xid outcome moment payload pla
         let equal : x.executed.call.number ≡ r.index + 1 = omega (arith, m, n, sends) in
         refused_never opened link (before ++ mid) s.earlier (s.later ++ more.0) s.frame s.segment (r.index + 1) all s.behind s.is_segment r.refuses xid payload x.executed equal
 
--- So one whose outcome was handed over isn't.
+-- So one whose outcome was received isn't.
+pub not_after_outcome : (opened : LinkParameters) (link : ℕ) (run before mid rest : List Mark) (xid : ℕ) (outcome : Outcome) (moment : Moment) (payload : List ℕ) (place : ℕ) (reply : List ℕ) → IsTyped run → MatchedSoFar opened link run
+    → IsTyped before → MatchedSoFar opened link before → OutcomeSaid opened link before (record { xid = xid; outcome = outcome })
+    → run ≡ before ++ (mid ++ marks.Execute link xid moment payload place reply ∷ rest) → ⊥
+not_after_outcome opened link run before mid rest xid outcome moment payload place reply typed far first_typed first_far d is =
+    not_after_message opened link run before mid rest xid moment payload place reply d.before d.given.message typed far first_typed first_far d.said
+    (verdict_xid (client_by opened d.given.earlier).state d.given.frame.end d.given.message xid (Some outcome) d.given.given) is
+
+-- Nor is one whose outcome was handed over.
 not_after : (opened : LinkParameters) (link : ℕ) (run before mid rest : List Mark) (xid : ℕ) (outcome : Outcome) (moment : Moment) (payload : List ℕ) (place : ℕ) (reply : List ℕ) → IsTyped run → MatchedSoFar opened link run
     → run ≡ before ++ marks.Done link xid outcome ∷ (mid ++ marks.Execute link xid moment payload place reply ∷ rest) → ⊥
 not_after opened link run before mid rest xid outcome moment payload place reply typed far is =

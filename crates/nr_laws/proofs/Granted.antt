@@ -22,7 +22,7 @@ use Rattle.nr_reduce.specs.Run.{client}
 use Rattle.nr_reduce.specs.SubmitAnswer.{unless_spent, by_plan, answer_by, calls_to_resend, submit_answer, submit_answer_after, unless_dropped, calls_counted, unless_far}
 use Rattle.nr_laws.specs.Grant.{IsNextToResend, AcceptedMark, SubmitsWithinGrant}
 
-not_dropped_lem : (b : Bool) (answer : Submission) (xid : ℕ) → unless_dropped b answer ≡ submissions.Accepted xid → answer ≡ submissions.Accepted xid
+pub not_dropped_lem : (b : Bool) (answer : Submission) (xid : ℕ) → unless_dropped b answer ≡ submissions.Accepted xid → answer ≡ submissions.Accepted xid
 not_dropped_lem true answer xid e = absurd cc
 not_dropped_lem false answer xid e = e
 

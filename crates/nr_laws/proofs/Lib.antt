@@ -14,11 +14,11 @@ pub mod ReceivedMessages
 pub mod Outputs
 pub mod TaggedSegments
 pub mod OnceByXid
-mod OutstandingSubmits
-mod ResumedCalls
-mod EarlierLinks
+pub mod OutstandingSubmits
+pub mod ResumedCalls
+pub mod EarlierLinks
 mod JournalPlaces
-mod CompletedChanges
+pub mod CompletedChanges
 pub mod EntriesApart
 pub mod WaitingCalls
 pub mod ServerOutputs
@@ -74,7 +74,19 @@ pub mod NumbersHeard
 pub mod KeptEntries
 pub mod NumberedPlaces
 pub mod NoOldCalls
+pub mod StillWaiting
 pub mod ReopenedLinks
+pub mod AcceptedEvents
+pub mod RisingCalls
+pub mod OpenedAgain
+pub mod LaterOutcomes
+pub mod AnsweredXids
+pub mod FarCalls
+pub mod LinkedChains
+pub mod OldCalls
+pub mod EarlierStags
+pub mod PlacesUntilLeft
+pub mod NumberedChanges
 pub mod PlacesByNumber
 pub mod OutputFrames
 pub mod PendingFrames

@@ -70,17 +70,17 @@ untagged client xid (e ∷ es) = (let own : (tagged client xid e).entry ≡ e = 
 
 -- ---- The call that an Execute is of
 
-record ExecutedOf (link : ℕ) (run : List Mark) (xid : ℕ) (payload : List ℕ) : Type 0 where
-  call : Call
-  form : Form
-  before : List Mark
-  after : List Mark
-  is : run ≡ before ++ marks.Submit link call form (submissions.Accepted xid) ∷ after
-  conveyed : form_conveyed form (call_payload xid call) ≡ Some payload
-  bytes : IsBytes payload
-  head : xid_of_call (call_of payload) ≡ Some xid
+pub record ExecutedOf (link : ℕ) (run : List Mark) (xid : ℕ) (payload : List ℕ) : Type 0 where
+  pub call : Call
+  pub form : Form
+  pub before : List Mark
+  pub after : List Mark
+  pub is : run ≡ before ++ marks.Submit link call form (submissions.Accepted xid) ∷ after
+  pub conveyed : form_conveyed form (call_payload xid call) ≡ Some payload
+  pub bytes : IsBytes payload
+  pub head : xid_of_call (call_of payload) ≡ Some xid
 
-executed_of : (opened : LinkParameters) (link : ℕ) (run before after : List Mark) (xid : ℕ) (moment : Moment) (payload : List ℕ) (place : ℕ) (reply : List ℕ) → IsTyped run → MatchedSoFar opened link run
+pub executed_of : (opened : LinkParameters) (link : ℕ) (run before after : List Mark) (xid : ℕ) (moment : Moment) (payload : List ℕ) (place : ℕ) (reply : List ℕ) → IsTyped run → MatchedSoFar opened link run
     → run ≡ before ++ marks.Execute link xid moment payload place reply ∷ after → ExecutedOf link run xid payload
 executed_of opened link run before after xid moment payload place reply typed far is =
     let execute : Mark = marks.Execute link xid moment payload place reply in
@@ -121,15 +121,16 @@ same_earlier opened run first link e opens matched before rest call form xid is 
     e.goes_on
 
 -- so both are executed with the same payload
-same_payload : (opened : ℕ → LinkParameters) (run : List Mark) (first link xid : ℕ) (p q : List ℕ) → IsEarlier opened run first link → OpenedWithEarlier opened run link → MatchedWithEarlier opened run link
+pub same_payload : (opened : ℕ → LinkParameters) (run : List Mark) (first link xid : ℕ) (p q : List ℕ) → IsEarlier opened run first link → OpenedWithEarlier opened run link → MatchedWithEarlier opened run link
     → ExecutedOf first run xid p → ExecutedOf link run xid q → p ≡ q
 same_payload opened run first link xid p q e opens matched x y =
     let same = (same_earlier opened run first link e opens matched x.before x.after x.call x.form xid x.is).submitted y.before y.after y.call y.form y.is in
     some_is_lem p q (sym x.conveyed ∙ (λ i. form_conveyed (sym same.1 i) (call_payload xid (sym same.0 i))) ∙ y.conveyed)
 
 module _ (reply_to : List Entry → Moment → List ℕ → Option (List ℕ)) (adds : Moment → List ℕ → List ℕ → List Entry) (opened : ℕ → LinkParameters) (link : ℕ) (T : List TaggedEntry) (run : List Mark) (typed : IsTyped run)
-    (journaled : JournaledByNumber (server_with reply_to adds) (number_heard run) T run) (keeps : KeepsCalls reply_to adds) (clients : OneClientEach opened run)
-    (matched : number_heard run link ≢ 0 → ClientIsMatched opened run (number_heard run link)) where
+    (journaled : JournaledByNumber (server_with reply_to adds) (number_heard run) T run) (keeps : KeepsCalls reply_to adds) (matched : number_heard run link ≢ 0 → MatchedSoFar (opened link) link run)
+    (same_payloads : number_heard run link ≢ 0 → (before after : List Mark) (xid : ℕ) (moment : Moment) (payload : List ℕ) (place : ℕ) (reply : List ℕ) → run ≡ before ++ marks.Execute link xid moment payload place reply ∷ after
+    → HaveSamePayload (number_heard run) before (number_heard run link) xid payload) where
   abbrev plain : PlainServer
   plain = server_with reply_to adds
 
@@ -161,29 +162,13 @@ module _ (reply_to : List Entry → Moment → List ℕ → Option (List ℕ)) (
 
     -- ---- A kept call
 
-    same_payloads : number link ≢ 0 → HaveSamePayload number before (number link) xid payload
-    same_payloads some other same front mid now bytes at answer there =
-        let earliest : Mark = marks.Execute other xid now bytes at answer in
-        let in_run : run ≡ front ++ earliest ∷ (mid ++ execute ∷ after) = is ∙ ap (λ (r : List Mark). r ++ execute ∷ after) there ∙ append_assoc front (earliest ∷ mid) (execute ∷ after) in
-        let mine = matched some link refl in
-        let its = matched some other same in
-        let x = executed_of (opened other) other run front (mid ++ execute ∷ after) xid now bytes at answer typed (its.1 other (record { began = []; links = []; goes_on = refl })) in_run in
-        let y = executed_of (opened link) link run before after xid moment payload place reply typed (mine.1 link (record { began = []; links = []; goes_on = refl })) is in
-        by x y mine its (clients link other some (sym same))
-      where
-        by : ExecutedOf other run xid bytes → ExecutedOf link run xid payload → OpenedWithEarlier opened run link × MatchedWithEarlier opened run link → OpenedWithEarlier opened run other × MatchedWithEarlier opened run other
-            → IsEarlier opened run link other ⊎ IsEarlier opened run other link → bytes ≡ payload
-        by x y mine its (inl later) = sym (same_payload opened run link other xid payload bytes later its.0 its.1 y x)
-        by x y mine its (inr earlier) = same_payload opened run other link xid bytes payload earlier mine.0 mine.1 x y
-
     kept_placed : (at : ℕ) → standing_for (tagged_journal plain number before) (number link) xid ≡ Kept at → IsExecutedBy plain (tagged_journal plain number before) (Kept at) moment payload place reply → AtPlace plain (entries_alone T) moment payload place reply
     unfolding tagged_journal
     kept_placed at kept law =
         let some = kept_numbered (tagged_journal plain number before) (number link) xid at kept in
-        let mine = matched some link refl in
-        let y = executed_of (opened link) link run before after xid moment payload place reply typed (mine.1 link (record { began = []; links = []; goes_on = refl })) is in
+        let y = executed_of (opened link) link run before after xid moment payload place reply typed (matched some) is in
         let each = before_mark (NumberedMark plain number) run before execute after is journaled.each in
-        let e = kept_is reply_to adds number before keeps (number link) xid at moment payload place reply some each (same_payloads some) y.bytes y.head kept law in
+        let e = kept_is reply_to adds number before keeps (number link) xid at moment payload place reply some each (same_payloads some before after xid moment payload place reply is) y.bytes y.head kept law in
         let k = law.1 in
         let more = journal_more reply_to adds number J (execute ∷ after) in
         let journal_is : T ≡ k.earlier ++ k.own ∷ (k.later ++ more.0) =
@@ -215,6 +200,39 @@ module _ (reply_to : List Entry → Moment → List ℕ → Option (List ℕ)) (
   mark_placed before (marks.Drop l) after is = tt
   mark_placed before (marks.Told l what) after is = tt
 
+pub links_at_places : (reply_to : List Entry → Moment → List ℕ → Option (List ℕ)) (adds : Moment → List ℕ → List ℕ → List Entry) (opened : ℕ → LinkParameters) (link : ℕ) (T : List TaggedEntry) (run : List Mark) → IsTyped run
+    → JournaledByNumber (server_with reply_to adds) (number_heard run) T run → KeepsCalls reply_to adds → (number_heard run link ≢ 0 → MatchedSoFar (opened link) link run)
+    → (number_heard run link ≢ 0 → (before after : List Mark) (xid : ℕ) (moment : Moment) (payload : List ℕ) (place : ℕ) (reply : List ℕ) → run ≡ before ++ marks.Execute link xid moment payload place reply ∷ after
+    → HaveSamePayload (number_heard run) before (number_heard run link) xid payload) → AtPlacesOn (server_with reply_to adds) (entries_alone T) link run
+links_at_places reply_to adds opened link T run typed journaled keeps matched same =
+    each_is (AtPlaceOnMark (server_with reply_to adds) (entries_alone T) link) run [] (mark_placed reply_to adds opened link T run typed journaled keeps matched same)
+
+-- ---- All links of the client are matched
+
+module _ (opened : ℕ → LinkParameters) (link : ℕ) (run : List Mark) (typed : IsTyped run) (clients : OneClientEach opened run) (matched : number_heard run link ≢ 0 → ClientIsMatched opened run (number_heard run link)) where
+  itself : (other : ℕ) → IsEarlier opened run other other
+  itself other = record { began = []; links = []; goes_on = refl }
+
+  far : number_heard run link ≢ 0 → MatchedSoFar (opened link) link run
+  far some = (matched some link refl).1 link (itself link)
+
+  same_payloads : number_heard run link ≢ 0 → (before after : List Mark) (xid : ℕ) (moment : Moment) (payload : List ℕ) (place : ℕ) (reply : List ℕ) → run ≡ before ++ marks.Execute link xid moment payload place reply ∷ after
+      → HaveSamePayload (number_heard run) before (number_heard run link) xid payload
+  same_payloads some before after xid moment payload place reply is other same front mid now bytes at answer there =
+      let execute : Mark = marks.Execute link xid moment payload place reply in
+      let earliest : Mark = marks.Execute other xid now bytes at answer in
+      let in_run : run ≡ front ++ earliest ∷ (mid ++ execute ∷ after) = is ∙ ap (λ (r : List Mark). r ++ execute ∷ after) there ∙ append_assoc front (earliest ∷ mid) (execute ∷ after) in
+      let mine = matched some link refl in
+      let its = matched some other same in
+      let x = executed_of (opened other) other run front (mid ++ execute ∷ after) xid now bytes at answer typed (its.1 other (itself other)) in_run in
+      let y = executed_of (opened link) link run before after xid moment payload place reply typed (far some) is in
+      by xid bytes payload other x y mine its (clients link other some (sym same))
+    where
+      by : (n : ℕ) (bytes payload : List ℕ) (other : ℕ) → ExecutedOf other run n bytes → ExecutedOf link run n payload → OpenedWithEarlier opened run link × MatchedWithEarlier opened run link → OpenedWithEarlier opened run other × MatchedWithEarlier opened run other
+          → IsEarlier opened run link other ⊎ IsEarlier opened run other link → bytes ≡ payload
+      by n bytes payload other x y mine its (inl later) = sym (same_payload opened run link other n payload bytes later its.0 its.1 y x)
+      by n bytes payload other x y mine its (inr earlier) = same_payload opened run other link n bytes payload earlier mine.0 mine.1 x y
+
 pub numbered_links_are_at_places : NumberedLinksAreAtPlaces
 numbered_links_are_at_places reply_to adds opened link T run typed journaled keeps clients matched =
-    each_is (AtPlaceOnMark (server_with reply_to adds) (entries_alone T) link) run [] (mark_placed reply_to adds opened link T run typed journaled keeps clients matched)
+    links_at_places reply_to adds opened link T run typed journaled keeps (far opened link run typed clients matched) (same_payloads opened link run typed clients matched)

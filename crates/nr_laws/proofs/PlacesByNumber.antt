@@ -20,7 +20,7 @@ use Rattle.nr_reduce.specs.NumberedJournal.{Standing, standing_for, tagged_journ
 use Rattle.nr_reduce.specs.NumberedJournal.Standing.{Old, Kept, New}
 use Rattle.nr_laws.specs.MarkAt.{MarkAt}
 use Rattle.nr_laws.specs.MatchedSoFar.{MatchedSoFar}
-use Rattle.nr_laws.specs.OnceEach.{BegunLink, GoesOn, IsEarlier, MatchedWithEarlier, OpenedWithEarlier, OneClientEach, OneLinkBefore, PlacesFollowByNumber}
+use Rattle.nr_laws.specs.OnceEach.{BegunLink, GoesOn, IsEarlier, MatchedWithEarlier, OpenedWithEarlier, OneClientEach, IsLinkOf, PlacesFollowByNumber}
 use Rattle.nr_laws.specs.PlainLinks.{server_with}
 use Rattle.nr_laws.specs.Typed.{IsTyped}
 use Rattle.nr_laws.proofs.EarlierLinks.{InFirst, AfterFirst, mark_in_first, event_at_mark, submit_event, execute_event, none_is, submitted_in_time, LinkKeeps, xid_below, each_earlier, LeftBy, left_by}
@@ -29,6 +29,7 @@ use Rattle.nr_laws.proofs.Following.{executed_before}
 use Rattle.nr_laws.proofs.JournalPlaces.{journal_from, journal_parts, journal_more, kept_entry}
 use Rattle.nr_laws.proofs.KeptEntries.{tag_of, kept_numbered, entry_added}
 use Rattle.nr_laws.proofs.LaterMarks.{mark_later}
+use Rattle.nr_laws.proofs.LinkedChains.{IsLater, same_or_later, earlier_than}
 use Rattle.nr_laws.proofs.OnceByXid.{at_mark, one_submit}
 
 -- ---- After a mark of a link that was left
@@ -51,16 +52,16 @@ after_more front p q a = record { between = a.between ++ q; is = ap (λ (r : Lis
 
 -- ---- The Submit of an Execute
 
-record SubmittedBefore (link : ℕ) (run then : List Mark) (xid : ℕ) : Type 0 where
-  call : Call
-  form : Form
-  before : List Mark
-  mid : List Mark
-  after : List Mark
-  within : then ≡ before ++ marks.Submit link call form (submissions.Accepted xid) ∷ mid
-  is : run ≡ before ++ marks.Submit link call form (submissions.Accepted xid) ∷ after
+pub record SubmittedBefore (link : ℕ) (run then : List Mark) (xid : ℕ) : Type 0 where
+  pub call : Call
+  pub form : Form
+  pub before : List Mark
+  pub mid : List Mark
+  pub after : List Mark
+  pub within : then ≡ before ++ marks.Submit link call form (submissions.Accepted xid) ∷ mid
+  pub is : run ≡ before ++ marks.Submit link call form (submissions.Accepted xid) ∷ after
 
-submitted_before : (opened : LinkParameters) (link : ℕ) (run then after : List Mark) (xid : ℕ) (moment : Moment) (payload : List ℕ) (place : ℕ) (reply : List ℕ) → IsTyped run → MatchedSoFar opened link run
+pub submitted_before : (opened : LinkParameters) (link : ℕ) (run then after : List Mark) (xid : ℕ) (moment : Moment) (payload : List ℕ) (place : ℕ) (reply : List ℕ) → IsTyped run → MatchedSoFar opened link run
     → run ≡ then ++ marks.Execute link xid moment payload place reply ∷ after → SubmittedBefore link run then xid
 submitted_before opened link run then after xid moment payload place reply typed far is =
     let execute : Mark = marks.Execute link xid moment payload place reply in
@@ -140,24 +141,6 @@ module _ (opened : ℕ → LinkParameters) (run : List Mark) (typed : IsTyped ru
       by [] same = later_execute link far near e p q now bytes at answer (there ∙ ap (λ (l : ℕ). p ++ marks.Execute l xid now bytes at answer ∷ q) same)
       by (old ∷ links) g = later old links g
 
--- ---- Two links that one link goes on from
-
-record GoesPast (opened : ℕ → LinkParameters) (run : List Mark) (first other : ℕ) : Type 0 where
-  link : BegunLink
-  old : BegunLink
-  links : List BegunLink
-  is : link.link ≡ other
-  goes_on : GoesOn opened run first link (old ∷ links)
-  keeps : AllByRecursion (LinkKeeps opened run) (old ∷ links)
-
-compare : (opened : ℕ → LinkParameters) (run : List Mark) → OneLinkBefore opened run → (first other : ℕ) (link : BegunLink) (links : List BegunLink) → GoesOn opened run first link links → AllByRecursion (LinkKeeps opened run) links
-    → (again : BegunLink) (others : List BegunLink) → GoesOn opened run other again others → link.link ≡ again.link → IsEarlier opened run other first ⊎ GoesPast opened run first other
-compare opened run one first other link [] is keeps again others h same =
-    inl (record { began = again.began; links = others; goes_on = subst (λ (n : ℕ). GoesOn opened run other (record { link = n; began = again.began }) others) (sym same ∙ is) h })
-compare opened run one first other link (old ∷ links) g keeps again [] is same = inr (record { link = link; old = old; links = links; is = same ∙ is; goes_on = g; keeps = keeps })
-compare opened run one first other link (old ∷ links) (n, g) keeps again (older ∷ others) (m, h) same =
-    compare opened run one first other old links g keeps.1 older others h (one old older link again n m same)
-
 -- ---- Places by the lengths of journals
 
 module _ (reply_to : List Entry → Moment → List ℕ → Option (List ℕ)) (adds : Moment → List ℕ → List ℕ → List Entry) (number : ℕ → ℕ) where
@@ -185,7 +168,7 @@ module _ (reply_to : List Entry → Moment → List ℕ → Option (List ℕ)) (
 -- ---- The call that was submitted later
 
 module _ (reply_to : List Entry → Moment → List ℕ → Option (List ℕ)) (adds : Moment → List ℕ → List ℕ → List Entry) (opened : ℕ → LinkParameters) (run : List Mark) (typed : IsTyped run) (each : AtEachMark (NumberedMark (server_with reply_to adds) (number_heard run)) [] run)
-    (few : AddsOneAtMost adds) (clients : OneClientEach opened run) (one : OneLinkBefore opened run) (other executing : ℕ) (e : IsEarlier opened run other executing) (opens : OpenedWithEarlier opened run executing) (matched : MatchedWithEarlier opened run executing)
+    (few : AddsOneAtMost adds) (clients : OneClientEach opened run) (other executing : ℕ) (one : IsLinkOf opened run (number_heard run executing) other) (e : IsEarlier opened run other executing) (opens : OpenedWithEarlier opened run executing) (matched : MatchedWithEarlier opened run executing)
     (front back : List Mark) (call : Call) (form : Form) (xid : ℕ) (first : (opened other).first_xid ≤ xid) (here : run ≡ front ++ marks.Submit other call form (submissions.Accepted xid) ∷ back)
     (then after : List Mark) (moment : Moment) (payload : List ℕ) (place : ℕ) (reply : List ℕ) (is : run ≡ then ++ marks.Execute executing xid moment payload place reply ∷ after) where
   abbrev number : ℕ → ℕ
@@ -207,25 +190,36 @@ module _ (reply_to : List Entry → Moment → List ℕ → Option (List ℕ)) (
   own_after = later_execute opened run typed other front back call form xid here executing far near e then after moment payload place reply is
 
   -- an earlier link that executed it submitted it after its first Submit, too
-  earlier_after : (link : ℕ) → IsEarlier opened run link executing → (p q : List Mark) (now : Moment) (bytes : List ℕ) (at : ℕ) (answer : List ℕ) → run ≡ p ++ marks.Execute link xid now bytes at answer ∷ q → AfterFirst front p
-  earlier_after link y p q now bytes at answer there = by (compare opened run one link other last y.links y.goes_on keeps (record { link = executing; began = e.began }) e.links e.goes_on refl)
+  earlier_after : (link : ℕ) → number link ≡ number executing → IsEarlier opened run link executing → (p q : List Mark) (now : Moment) (bytes : List ℕ) (at : ℕ) (answer : List ℕ) → run ≡ p ++ marks.Execute link xid now bytes at answer ∷ q → AfterFirst front p
+  earlier_after link heard y p q now bytes at answer there = by (one link heard)
     where
-      last : BegunLink
-      last = record { link = executing; began = y.began }
+      after_first : IsEarlier opened run other link → AfterFirst front p
+      after_first between = later_execute opened run typed other front back call form xid here link far (matched link y) between p q now bytes at answer there
 
-      keeps : AllByRecursion (LinkKeeps opened run) y.links
-      keeps = each_earlier opened run link last y.links (LinkKeeps opened run) y.goes_on
-          (λ earlier part h.
-          (let there : IsEarlier opened run earlier.link executing = record { began = y.began; links = part; goes_on = h } in
-          record { opens = opens earlier.link there; asked = (matched earlier.link there).asked }))
+      -- it isn't before the link of the first Submit, where the xid is a new one
+      not_before : IsLater opened run link other → ⊥
+      not_before l = (let below = xid_below opened run link s.before s.after s.call s.form xid s.is last l.old l.links keeps l.goes_on in omega (arith, below, first))
+        where
+          s : SubmittedBefore link run p xid
+          s = submitted_before (opened link) link run p q xid now bytes at answer typed (matched link y) there
 
-      by : IsEarlier opened run other link ⊎ GoesPast opened run link other → AfterFirst front p
-      by (inl between) = later_execute opened run typed other front back call form xid here link far (matched link y) between p q now bytes at answer there
-      by (inr past) =
-          let s = submitted_before (opened link) link run p q xid now bytes at answer typed (matched link y) there in
-          let below = xid_below opened run link s.before s.after s.call s.form xid s.is past.link past.old past.links past.keeps past.goes_on in
-          let same = ap (λ (l : ℕ). (opened l).first_xid) past.is in
-          absurd (omega (arith, below, first, same))
+          last : BegunLink
+          last = record { link = other; began = l.began }
+
+          keeps : AllByRecursion (LinkKeeps opened run) (l.old ∷ l.links)
+          keeps =
+              each_earlier opened run link last (l.old ∷ l.links) (LinkKeeps opened run) l.goes_on
+              (λ earlier part h.
+              (let z : IsEarlier opened run earlier.link executing = earlier_than opened run other front back call form xid here earlier.link executing (record { began = l.began; links = part; goes_on = h }) e in
+              record { opens = opens earlier.link z; asked = (matched earlier.link z).asked }))
+
+      by_place : (other ≡ link) ⊎ IsLater opened run link other → AfterFirst front p
+      by_place (inl same) = after_first (record { began = []; links = []; goes_on = sym same })
+      by_place (inr l) = absurd (not_before l)
+
+      by : IsEarlier opened run other link ⊎ IsEarlier opened run link other → AfterFirst front p
+      by (inl between) = after_first between
+      by (inr before) = by_place (same_or_later opened run link other before)
 
   entry_after : (at : ℕ) → standing_for (tagged_journal (server_with reply_to adds) number then) (number executing) xid ≡ Kept at → length (journal_from reply_to adds number [] front) ≤ at
   unfolding tagged_journal
@@ -239,14 +233,14 @@ module _ (reply_to : List Entry → Moment → List ℕ → Option (List ℕ)) (
       let earliest : Mark = marks.Execute a.link xid a.moment a.payload a.at a.reply in
       let there : then ≡ a.before ++ earliest ∷ a.after = a.is ∙ ap (λ (x : ℕ). a.before ++ marks.Execute a.link x a.moment a.payload a.at a.reply ∷ a.after) same_xid in
       let in_run : run ≡ a.before ++ earliest ∷ (a.after ++ execute ∷ after) = is ∙ ap (λ (r : List Mark). r ++ execute ∷ after) there ∙ append_assoc a.before (earliest ∷ a.after) (execute ∷ after) in
-      let follows = by a.link a.before (a.after ++ execute ∷ after) a.moment a.payload a.at a.reply in_run (clients executing a.link some (sym same_client)) in
+      let follows = by a.link same_client a.before (a.after ++ execute ∷ after) a.moment a.payload a.at a.reply in_run (clients executing a.link some (sym same_client)) in
       let longer = rises reply_to adds number front a.before follows in
       let place_is = a.place_is in
       omega (arith, longer, place_is)
     where
-      by : (link : ℕ) (p q : List Mark) (now : Moment) (bytes : List ℕ) (at : ℕ) (answer : List ℕ) → run ≡ p ++ marks.Execute link xid now bytes at answer ∷ q → IsEarlier opened run executing link ⊎ IsEarlier opened run link executing → AfterFirst front p
-      by link p q now bytes at answer there (inl later) = beyond opened run typed other front back call form xid here executing link far near e then after moment payload place reply is later p q now bytes at answer there
-      by link p q now bytes at answer there (inr earlier) = earlier_after link earlier p q now bytes at answer there
+      by : (link : ℕ) → number link ≡ number executing → (p q : List Mark) (now : Moment) (bytes : List ℕ) (at : ℕ) (answer : List ℕ) → run ≡ p ++ marks.Execute link xid now bytes at answer ∷ q → IsEarlier opened run executing link ⊎ IsEarlier opened run link executing → AfterFirst front p
+      by link heard p q now bytes at answer there (inl later) = beyond opened run typed other front back call form xid here executing link far near e then after moment payload place reply is later p q now bytes at answer there
+      by link heard p q now bytes at answer there (inr earlier) = earlier_after link heard earlier p q now bytes at answer there
 
   place_after : length (journal_from reply_to adds number [] front) ≤ place
   unfolding tagged_journal
@@ -271,5 +265,5 @@ places_follow_by_number reply_to adds opened link other executing T run before b
     } in
     let one_place = place_within reply_to adds (number_heard run) run before_first h.after link xid moment payload place reply journaled.each h.is in
     let longer = rises reply_to adds (number_heard run) before_first front follows in
-    let two_place = place_after reply_to adds opened run typed journaled.each few clients one other executing e opens matched front submit.after call form yid first submit.is before_second g.after now bytes later answer g.is in
+    let two_place = place_after reply_to adds opened run typed journaled.each few clients other executing one e opens matched front submit.after call form yid first submit.is before_second g.after now bytes later answer g.is in
     omega (arith, one_place, longer, two_place)

@@ -5,6 +5,7 @@ use Rattle.nr_link.specs.declared.agreement.Agreement.{Agreement}
 use Rattle.nr_reduce.specs.declared.mark.LinkParameters.{LinkParameters}
 use Rattle.nr_reduce.specs.declared.mark.Mark.{Mark}
 use Rattle.nr_reduce.specs.declared.mark.ResumedCall.{ResumedCall}
+use Rattle.nr_reduce.specs.Asked.{as_accepted}
 use Rattle.nr_reduce.specs.AtEachMark.{AtEachMark}
 use Rattle.nr_reduce.specs.Client.{has_same_sizes}
 use Rattle.nr_reduce.specs.ClientState.{OutstandingCall, WaitingCall, ClientState}
@@ -22,6 +23,7 @@ use Rattle.nr_laws.proofs.AgreedSizes.{matched_agreement, matched_up, matched_do
 use Rattle.nr_laws.proofs.CompletedChanges.{far_first}
 use Rattle.nr_laws.proofs.DistinctKeys.{any_append, or_left_lem, or_right_lem}
 use Rattle.nr_laws.proofs.MatchedSizes.{client_sized, client_opening}
+use Rattle.nr_laws.proofs.StillWaiting.{is_accepted, is_waiting, waits_or_accepted}
 
 -- ---- The same lengths again
 
@@ -102,9 +104,18 @@ waits_again (w ∷ ws) xid e = by (eqb w.xid xid) e (waits_again ws xid)
     by true e later = refl
     by false e later = later e
 
+-- those that a client has are those that it was opened with, and those that it accepted
+asked_any : (rs : List ResumedCall) (accepted : List AcceptedCall) (xid : ℕ) → is_accepted (map as_accepted rs ++ accepted) xid ≡ (resumes rs xid || is_accepted accepted xid)
+asked_any [] accepted xid = refl
+asked_any (r ∷ rs) accepted xid = by (asked_any rs accepted xid) (eqb r.xid xid)
+  where
+    by : is_accepted (map as_accepted rs ++ accepted) xid ≡ (resumes rs xid || is_accepted accepted xid) → (b : Bool) → (b || is_accepted (map as_accepted rs ++ accepted) xid) ≡ ((b || resumes rs xid) || is_accepted accepted xid)
+    by later true = refl
+    by later false = later
+
 pub no_call_is_left_over : NoCallIsLeftOver
 unfolding reopened calls_kept
-no_call_is_left_over opened link run xid stays kept has = by (list_any (λ (a : AcceptedCall). eqb a.xid xid) (accepted_calls link run)) refl has
+no_call_is_left_over opened link run xid stays kept has = by_opening (resumes opened.resumed xid) refl (sym (asked_any opened.resumed (accepted_calls link run) xid) ∙ has)
   where
     k : ClientState
     k = (client opened link run).state
@@ -141,10 +152,14 @@ no_call_is_left_over opened link run xid stays kept has = by (list_any (λ (a : 
         (left_over (any_append (λ (r : ResumedCall). eqb r.xid xid) out again ∙ or_left_lem (resumes out xid) (resumes again xid) (out_again (accepted_calls link run) k.outstanding xid accepted is)))
     by_out false is e accepted = or_left_lem outcome (resumes (filter keep (out ++ again)) xid) e
 
-    by : (b : Bool) → list_any (λ (a : AcceptedCall). eqb a.xid xid) (accepted_calls link run) ≡ b → (b || list_any (λ (w : WaitingCall). eqb w.xid xid) k.waiting) ≡ true → goal
+    by : (b : Bool) → is_accepted (accepted_calls link run) xid ≡ b → (b || is_waiting k.waiting xid) ≡ true → goal
     by true is e =
         let accounted : IsAccounted (gone_in link run) k xid = each_any (IsAccounted (gone_in link run) k) (accepted_calls link run) xid (accounts opened link run stays).each is in
         by_out (is_outstanding k.outstanding xid) refl (or_false (is_outstanding k.outstanding xid) outcome (is_abandoned link xid run) kept accounted) is
     by false is e =
         or_right_lem outcome (resumes (filter keep (out ++ again)) xid)
         (left_over (any_append (λ (r : ResumedCall). eqb r.xid xid) out again ∙ or_right_lem (resumes out xid) (resumes again xid) (waits_again k.waiting xid e)))
+
+    by_opening : (b : Bool) → resumes opened.resumed xid ≡ b → (b || is_accepted (accepted_calls link run) xid) ≡ true → goal
+    by_opening true is e = by (is_accepted (accepted_calls link run) xid) refl (waits_or_accepted opened link run xid is)
+    by_opening false is e = by (is_accepted (accepted_calls link run) xid) refl (or_left_lem (is_accepted (accepted_calls link run) xid) (is_waiting k.waiting xid) e)

@@ -156,7 +156,7 @@ accepted_below opened link run before rest call form xid o asked is = by (new_or
 
 -- ---- What the next link sends again
 
-one_filter : (p : ResumedCall → Bool) (rs : List ResumedCall) (xid : ℕ) (call : Call) (form : Form) → IsOneOf (filter p rs) xid call form → IsOneOf rs xid call form
+pub one_filter : (p : ResumedCall → Bool) (rs : List ResumedCall) (xid : ℕ) (call : Call) (form : Form) → IsOneOf (filter p rs) xid call form → IsOneOf rs xid call form
 one_filter p [] xid call form one = absurd one
 one_filter p (r ∷ rs) xid call form one = by (p r) one (one_filter p rs xid call form)
   where
@@ -165,7 +165,7 @@ one_filter p (r ∷ rs) xid call form one = by (p r) one (one_filter p rs xid ca
     by true (inr one) later = inr (later one)
     by false one later = inr (later one)
 
-one_append : (rs more : List ResumedCall) (xid : ℕ) (call : Call) (form : Form) → IsOneOf (rs ++ more) xid call form → IsOneOf rs xid call form ⊎ IsOneOf more xid call form
+pub one_append : (rs more : List ResumedCall) (xid : ℕ) (call : Call) (form : Form) → IsOneOf (rs ++ more) xid call form → IsOneOf rs xid call form ⊎ IsOneOf more xid call form
 one_append [] more xid call form one = inr one
 one_append (r ∷ rs) more xid call form (inl this) = inl (inl this)
 one_append (r ∷ rs) more xid call form (inr one) = by (one_append rs more xid call form one)

@@ -1,7 +1,10 @@
 -- Each change once: over any number of links of a numbered client, whatever was dropped and begun again, its calls take effect at most once, and
 -- exactly once if they complete with a reply that adds an entry.
-use Rattle.std.specs.Prelude.{◌≡◌, ◌≢◌, ℕ, ◌^◌, ◌<◌, ◌≤◌, List, [], ◌∷◌, ◌++◌, slice_get, Option, Some, ◌⊎◌}
+use Rattle.std.specs.Prelude.{◌≡◌, ◌≢◌, ℕ, ◌^◌, ◌<◌, ◌≤◌, List, [], ◌∷◌, ◌++◌, slice_get, Option, None, Some, ◌⊎◌}
 use Rattle.nr_outside.specs.declared.moment.Moment.{Moment}
+use Rattle.nr_rpc.specs.Reading.{call_of, target_of}
+use Rattle.nr_header.specs.WithinLimits.{ListsWithin}
+use Rattle.nr_header.specs.declared.header.ChunkLists.{ChunkLists}
 use Rattle.nr_wire.specs.declared.hello.Side.TheVariants.{Initiator, Responder}
 use Rattle.nr_reduce.specs.declared.call.Call.{Call}
 use Rattle.nr_reduce.specs.declared.call.Form.{Form}
@@ -14,12 +17,20 @@ use Rattle.nr_reduce.specs.declared.mark.Mark.{Mark}
 use Rattle.nr_reduce.specs.declared.mark.Mark.TheVariants as marks
 use Rattle.nr_reduce.specs.PlainJournal.{PlainServer}
 use Rattle.nr_reduce.specs.ClientState.{call_payload}
+use Rattle.nr_reduce.specs.Asked.{AskedSoFar}
 use Rattle.nr_reduce.specs.Events.{events}
 use Rattle.nr_reduce.specs.KeepsCalls.{AddsOneAtMost, KeepsCalls}
-use Rattle.nr_reduce.specs.Opening.{IsOpened}
+use Rattle.nr_reduce.specs.KeepsReplyLimits.{KeepsReplyLimits}
+use Rattle.nr_reduce.specs.Limits.{send_unit}
+use Rattle.nr_reduce.specs.Opening.{IsOpened, IsFirstLink}
 use Rattle.nr_reduce.specs.declared.mark.TaggedEntry.{TaggedEntry}
-use Rattle.nr_reduce.specs.NumberedJournal.{tagged_journal, number_heard, entries_alone, JournaledByNumber, IsReplyOf}
+use Rattle.nr_reduce.specs.declared.mark.Told.TheVariants.{Old}
+use Rattle.nr_reduce.specs.NumberedJournal.{tagged_journal, number_heard, entries_alone, call_of_entry, JournaledByNumber, IsReplyOf}
 use Rattle.nr_reduce.specs.Reopening.{IsReopened}
+use Rattle.nr_reduce.specs.Served.{ServedSoFar}
+use Rattle.nr_reduce.specs.Server.{answer_of_target}
+use Rattle.nr_laws.specs.ChunkOutcomes.{IsAnswered}
+use Rattle.nr_laws.specs.Grant.{AcceptsByRule}
 use Rattle.nr_laws.specs.MarkAt.{MarkAt}
 use Rattle.nr_laws.specs.MatchedSoFar.{MatchedSoFar}
 use Rattle.nr_laws.specs.Payloads.{form_conveyed}
@@ -63,6 +74,10 @@ MatchedWithEarlier opened run link = (earlier : ℕ) → IsEarlier opened run ea
 abbrev pub OpenedWithEarlier : (ℕ → LinkParameters) → List Mark → ℕ → Type 0
 OpenedWithEarlier opened run link = (earlier : ℕ) → IsEarlier opened run earlier link → IsOpened (opened earlier)
 
+-- the client of each of them keeps its law so far
+abbrev pub AskedWithEarlier : (ℕ → LinkParameters) → List Mark → ℕ → Type 0
+AskedWithEarlier opened run link = (earlier : ℕ) → IsEarlier opened run earlier link → AskedSoFar (opened earlier) earlier run
+
 -- each link whose server heard this number was opened in range and is matched, and so is each that it goes on from
 abbrev pub ClientIsMatched : (ℕ → LinkParameters) → List Mark → (number : ℕ) → Type 0
 ClientIsMatched opened run number = (link : ℕ) → number_heard run link ≡ number → OpenedWithEarlier opened run link × MatchedWithEarlier opened run link
@@ -72,9 +87,30 @@ abbrev pub OneClientEach : (ℕ → LinkParameters) → List Mark → Type 0
 OneClientEach opened run = (link other : ℕ) → number_heard run link ≢ 0 → number_heard run link ≡ number_heard run other →
     IsEarlier opened run link other ⊎ IsEarlier opened run other link
 
--- a link goes on from one link only
-abbrev pub OneLinkBefore : (ℕ → LinkParameters) → List Mark → Type 0
-OneLinkBefore opened run = (old other next again : BegunLink) → IsNextLink opened run old next → IsNextLink opened run other again → next.link ≡ again.link → old.link ≡ other.link
+-- The first link of the client with this number: it was not reopened, and each link whose server heard the number goes on from it.
+pub record IsFirstOf (opened : ℕ → LinkParameters) (run : List Mark) (number first : ℕ) : Type 0 where
+  pub opening : IsFirstLink (opened first)
+  pub all : (link : ℕ) → number_heard run link ≡ number → IsEarlier opened run first link
+
+-- Its client has left a link: another one goes on from it, whose server has had an event by then.
+pub record IsLeft (opened : ℕ → LinkParameters) (run : List Mark) (link : ℕ) (before : List Mark) : Type 0 where
+  pub next : ℕ
+  pub goes_on : IsEarlier opened run link next
+  pub other : next ≢ link
+  pub begun : events next Responder before ≢ []
+
+-- its server executes no call after that
+abbrev pub ExecutesUntilLeft : (ℕ → LinkParameters) → List Mark → ℕ → Type 0
+ExecutesUntilLeft opened run link = (before : List Mark) (xid : ℕ) (moment : Moment) (payload : List ℕ) (place : ℕ) (reply : List ℕ) →
+    MarkAt run before (marks.Execute link xid moment payload place reply) → IsLeft opened run link before → ⊥
+
+-- the client of each of a link's earlier ones, and its own, accepts calls by its rule
+abbrev pub AcceptsWithEarlier : (ℕ → LinkParameters) → List Mark → ℕ → Type 0
+AcceptsWithEarlier opened run link = (earlier : ℕ) → IsEarlier opened run earlier link → AcceptsByRule (opened earlier) earlier run
+
+-- the link is one of the client's with this number: of it and each link whose server heard the number, one goes on from the other
+abbrev pub IsLinkOf : (ℕ → LinkParameters) → List Mark → (number link : ℕ) → Type 0
+IsLinkOf opened run number link = (other : ℕ) → number_heard run other ≡ number → IsEarlier opened run link other ⊎ IsEarlier opened run other link
 
 -- ---- The theorem
 
@@ -127,6 +163,14 @@ NumberedLinksAreAtPlaces = (reply_to : List Entry → Moment → List ℕ → Op
     IsTyped run → JournaledByNumber (server_with reply_to adds) (number_heard run) T run → KeepsCalls reply_to adds → OneClientEach opened run →
     (number_heard run link ≢ 0 → ClientIsMatched opened run (number_heard run link)) → AtPlacesOn (server_with reply_to adds) (entries_alone T) link run
 
+-- The same of a link that is matched with its earlier ones, whatever comes on the later ones, if its server executes no call once its client has
+-- left it.
+abbrev pub LinksAreAtPlacesUntilLeft : Type 0
+LinksAreAtPlacesUntilLeft = (reply_to : List Entry → Moment → List ℕ → Option (List ℕ)) (adds : Moment → List ℕ → List ℕ → List Entry)
+    (opened : ℕ → LinkParameters) (link : ℕ) (T : List TaggedEntry) (run : List Mark) →
+    IsTyped run → JournaledByNumber (server_with reply_to adds) (number_heard run) T run → KeepsCalls reply_to adds → OneClientEach opened run →
+    OpenedWithEarlier opened run link → MatchedWithEarlier opened run link → ExecutesUntilLeft opened run link → AtPlacesOn (server_with reply_to adds) (entries_alone T) link run
+
 -- On matched links a call is submitted for the first time after the outcome of another was handed over. If both are executed, the call on whichever
 -- later link of its client, its place isn't smaller.
 abbrev pub PlacesFollowByNumber : Type 0
@@ -134,9 +178,56 @@ PlacesFollowByNumber = (reply_to : List Entry → Moment → List ℕ → Option
     (opened : ℕ → LinkParameters) (link other executing : ℕ) (T : List TaggedEntry) (run before between before_first before_second : List Mark)
     (call : Call) (form : Form) (xid other_xid : ℕ) (outcome : Outcome)
     (moment other_moment : Moment) (payload other_payload : List ℕ) (place other_place : ℕ) (reply other_reply : List ℕ) →
-    IsTyped run → JournaledByNumber (server_with reply_to adds) (number_heard run) T run → AddsOneAtMost adds → OneClientEach opened run → OneLinkBefore opened run →
+    IsTyped run → JournaledByNumber (server_with reply_to adds) (number_heard run) T run → AddsOneAtMost adds → OneClientEach opened run → IsLinkOf opened run (number_heard run executing) other →
     MatchedSoFar (opened link) link run → IsEarlier opened run other executing → OpenedWithEarlier opened run executing → MatchedWithEarlier opened run executing →
     (opened other).first_xid ≤ other_xid →
     MarkAt run (before ++ marks.Done link xid outcome ∷ between) (marks.Submit other call form (submissions.Accepted other_xid)) →
     MarkAt run before_first (marks.Execute link xid moment payload place reply) →
     MarkAt run before_second (marks.Execute executing other_xid other_moment other_payload other_place other_reply) → place ≤ other_place
+
+-- The outcome of a call is handed over once, on one link of its client, whatever the servers send.
+abbrev pub NoOutcomeTwice : Type 0
+NoOutcomeTwice = (opened : ℕ → LinkParameters) (link other : ℕ) (run before other_before : List Mark) (xid : ℕ) (outcome other_outcome : Outcome) →
+    IsTyped run → IsEarlier opened run link other → OpenedWithEarlier opened run other → AskedWithEarlier opened run other →
+    MarkAt run before (marks.Done link xid outcome) → MarkAt run other_before (marks.Done other xid other_outcome) → (link ≡ other) × (before ≡ other_before)
+
+-- The links of one client are matched from its first one on. Then a call on a link is old only if its client has left that link. `Refused::Window` of a
+-- client keeps the xids that it has outstanding within the window of a server.
+abbrev pub NoCallIsOld : Type 0
+NoCallIsOld = (reply_to : List Entry → Moment → List ℕ → Option (List ℕ)) (adds : Moment → List ℕ → List ℕ → List Entry)
+    (opened : ℕ → LinkParameters) (first link : ℕ) (T : List TaggedEntry) (run before : List Mark) (xid at : ℕ) →
+    IsTyped run → JournaledByNumber (server_with reply_to adds) (number_heard run) T run → AddsOneAtMost adds → OneClientEach opened run →
+    IsFirstOf opened run (number_heard run link) first → OpenedWithEarlier opened run link → MatchedWithEarlier opened run link → AcceptsWithEarlier opened run link →
+    (opened link).client.number < 2 ^ 64 → MarkAt run before (marks.Told link (Old xid at)) → IsLeft opened run link before
+
+-- The reply to the call of an entry can be sent back to each call that would add an entry by it, whatever that one offers within the limits of a
+-- header: also to another call, if a client sends that under the xid of the entry.
+abbrev pub FitsChanges : PlainServer → Type 0
+FitsChanges plain = (J : List Entry) (m n o : Moment) (payload asked answer reply : List ℕ) (xid : ℕ) (e : Entry) (offer : ChunkLists) (down : ℕ) →
+    plain.adds o asked answer ≡ e ∷ [] → plain.Replies J m (call_of_entry xid e) reply → plain.adds n payload reply ≢ [] → ListsWithin offer → send_unit ≤ down →
+    answer_of_target offer down reply (target_of (call_of payload)) ≢ None
+
+-- On every link, whatever its client sends, the reply to each executed call that adds an entry goes out, also the one that such a call has kept.
+abbrev pub NumberedChangesAreAnswered : Type 0
+NumberedChangesAreAnswered = (reply_to : List Entry → Moment → List ℕ → Option (List ℕ)) (adds : Moment → List ℕ → List ℕ → List Entry)
+    (opened : LinkParameters) (link : ℕ) (T : List TaggedEntry) (run before : List Mark) (xid : ℕ) (moment : Moment) (payload : List ℕ) (place : ℕ) (reply : List ℕ) →
+    KeepsReplyLimits (server_with reply_to adds) → AddsOneAtMost adds → FitsChanges (server_with reply_to adds) → IsTyped run →
+    JournaledByNumber (server_with reply_to adds) (number_heard run) T run → ServedSoFar opened link run →
+    MarkAt run before (marks.Execute link xid moment payload place reply) → adds moment payload reply ≢ [] →
+    IsAnswered opened link before xid moment payload place reply
+
+-- What is so of the changes of the clients with numbers, over all their links: no two entries are of one call, and a reply that is handed over on
+-- matched links, and that adds an entry, has its one entry. So each change takes effect once at most, and once if its reply came.
+pub record EachChangeOnce (plain : PlainServer) (T : List TaggedEntry) (opened : ℕ → LinkParameters) (run : List Mark) : Type 0 where
+  pub once : (place other : ℕ) (t u : TaggedEntry) → slice_get T place ≡ Some t → slice_get T other ≡ Some u → t.client ≢ 0 → t.client ≡ u.client → t.xid ≡ u.xid → place ≡ other
+  pub completed : (link : ℕ) (before : List Mark) (xid : ℕ) (call : Call) (form : Form) (moment : Moment) (payload reply : List ℕ) →
+      OpenedWithEarlier opened run link → MatchedWithEarlier opened run link → (opened link).client.number ≢ 0 → (opened link).client.number < 2 ^ 64 →
+      IsAskedFor opened link run xid call form → MarkAt run before (marks.Done link xid (outcomes.Reply reply)) →
+      form_conveyed form (call_payload xid call) ≡ Some payload → plain.adds moment payload reply ≢ [] →
+      HasEntry plain T (opened link).client.number xid payload reply
+
+-- Its premises: the server keeps calls, and one number names one client.
+abbrev pub ChangesTakeEffectOnce : Type 0
+ChangesTakeEffectOnce = (reply_to : List Entry → Moment → List ℕ → Option (List ℕ)) (adds : Moment → List ℕ → List ℕ → List Entry)
+    (opened : ℕ → LinkParameters) (T : List TaggedEntry) (run : List Mark) → IsTyped run → JournaledByNumber (server_with reply_to adds) (number_heard run) T run →
+    KeepsCalls reply_to adds → OneClientEach opened run → EachChangeOnce (server_with reply_to adds) T opened run

@@ -6,8 +6,8 @@ ghost use Rattle.nr_laws.specs.Agreed.{SidesAgree, ClientGoesByAgreement, Server
 ghost use Rattle.nr_laws.specs.Bounds.{ClientOffersFewSegments, ClientOwesFewResponses, ServerReadsFew, ServerUsesItsReceives};
 ghost use Rattle.nr_laws.specs.Places.{PlacesFollow};
 ghost use Rattle.nr_laws.specs.Once.{NoSendTwice, NoCallTwice, NoXidTwice};
-ghost use Rattle.nr_laws.specs.OnceEach.{NoEntryTwice, NumbersAreHeard, CompletedChangesHaveEntries, NumberedLinksAreAtPlaces, PlacesFollowByNumber};
-ghost use Rattle.nr_laws.specs.Reopened.{ReopenedLinksAgree, NoCallIsLeftOver};
+ghost use Rattle.nr_laws.specs.OnceEach.{NoEntryTwice, NumbersAreHeard, CompletedChangesHaveEntries, NumberedLinksAreAtPlaces, LinksAreAtPlacesUntilLeft, PlacesFollowByNumber, NoOutcomeTwice, NoCallIsOld, NumberedChangesAreAnswered, ChangesTakeEffectOnce};
+ghost use Rattle.nr_laws.specs.Reopened.{ReopenedLinksAreOpened, ReopenedLinksAgree, NoCallIsLeftOver, EarlierStagsAreDead};
 ghost use Rattle.nr_laws.specs.ChunkOutcomes.{ChunkHasCause, OthersHaveNoCause, CausedCallsComplete, NoOtherVersion, OffersArePlanned, NoOwnPlanIsRefused, AutoHasReplies, ChangesAreAnswered, ChunkAddsNothing};
 
 /// No Send is executed twice, whatever a client sends, and no accepted call completes twice. On a matched link no xid is executed
@@ -28,14 +28,26 @@ pub fn once_each()
     ensures heard { NumbersAreHeard }
     ensures completed { CompletedChangesHaveEntries }
     ensures plain { NumberedLinksAreAtPlaces }
+    ensures until_left { LinksAreAtPlacesUntilLeft }
     ensures places { PlacesFollowByNumber }
+    // An outcome of a call is handed over once, on one link of its client.
+    ensures outcomes { NoOutcomeTwice }
+    // No call is old until its client leaves the link.
+    ensures old { NoCallIsOld }
+    // On every link an executed call that adds an entry is answered by its reply, new or sent again.
+    ensures answered { NumberedChangesAreAnswered }
+    // So each change takes effect once at most, and once if its reply is handed over on matched links.
+    ensures each { ChangesTakeEffectOnce }
 {}
 
-/// A client leaves its link, and the next one goes on from it: if the hellos of the old link agree on what an earlier hello did, those of the next
-/// link do; and of each call that wasn't given up an outcome came, or the next link sends it again.
+/// A client leaves its link, and the next one goes on from it. It is opened in range, as the old one was, if STags are left. If the hellos of the
+/// old link agree on what an earlier hello did, those of the next link do; and of each call that wasn't given up an outcome came, or the next link
+/// sends it again. An access by an STag of an earlier link ends the client.
 pub fn reopening()
+    ensures opened { ReopenedLinksAreOpened }
     ensures agree { ReopenedLinksAgree }
     ensures calls { NoCallIsLeftOver }
+    ensures stags { EarlierStagsAreDead }
 {}
 
 /// On matched links a call that is submitted after another's outcome was handed over has a place that isn't smaller.
