@@ -57,7 +57,7 @@ same_parameters opening l link none = ap (parameters_by l) none ∙ sym (ap (par
 pub now_is : (server : SerialServer) (opening : Opening) (clients : ℕ) (d : Drill) → opening.numbered ≡ false → d.opened ≡ (start (setting_of server opening) clients).opened →
     setting_now (setting_of server opening) d ≡ setting_of server opening
 now_is server opening clients d none is =
-    ap (λ (all : List LinkParameters). record s { opened = λ link. slice_index_or all (link - 1) (s.opened link) }) is
+    ap (λ (all : List LinkParameters). record s { opened = λ link. slice_index_or (s.opened 0 ∷ all) link (s.opened link) }) is
     ∙ (λ i. record s { opened = λ link. same link i })
   where
     s : Setting

@@ -20,7 +20,7 @@ use Rattle.nr_drill.specs.Shown.{shown, text_of, summary, sums_of}
 
 -- marks that a script makes, over a sane first tree, each of whose replies is bytes, are the run of a drill
 abbrev pub DrillsAreRuns : Type 0
-DrillsAreRuns = (tree : Tree) (script : ScriptLines) (run : List Mark) → IsSane tree → IsScript script → IsUnnumbered script → RepliedInBytes run → Follows (server_of (drill_setup tree script.opening)) script run →
+DrillsAreRuns = (tree : Tree) (script : ScriptLines) (run : List Mark) → IsSane tree → IsScript script → RepliedInBytes run → Follows (server_of (drill_setup tree script.opening)) script run →
     IsDrillRun (server_of (drill_setup tree script.opening)) script run
 
 -- two runs of a script are the same
@@ -44,7 +44,7 @@ DrillTreesAreInBytes = (tree : Tree) → IsDrill tree → IsInBytes tree
 
 -- over a tree in bytes each reply of a run is bytes
 abbrev pub PlainRunsReplyInBytes : Type 0
-PlainRunsReplyInBytes = (tree : Tree) (script : ScriptLines) (run : List Mark) → IsInBytes tree → IsScript script → IsUnnumbered script → Follows (server_of (drill_setup tree script.opening)) script run → RepliedInBytes run
+PlainRunsReplyInBytes = (tree : Tree) (script : ScriptLines) (run : List Mark) → IsInBytes tree → IsScript script → Follows (server_of (drill_setup tree script.opening)) script run → RepliedInBytes run
 
 -- Over a tree in bytes a drain ends after any of the first lines of a script, if none of these puts bytes into pipes.
 abbrev pub PlainDrainsEnd : Type 0
