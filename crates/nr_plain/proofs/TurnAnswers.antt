@@ -199,7 +199,7 @@ runs_by s T client m payload reply place before after New f all h a =
 pub answered_as_run : AnswersAreThoseOfRuns
 answered_as_run s T client now payload reply place before after all bytes x =
     let r = runs_by s T client now payload reply place before after (standing_for T client (xid_in payload)) (finding s T client (xid_in payload)) all
-        (finding_is_standing s T client (xid_in payload)) x.answer in
+    (finding_is_standing s T client (xid_in payload)) x.answer in
     record {
       moment = r.0;
       executed = r.1.0;
