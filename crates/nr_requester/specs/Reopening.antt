@@ -12,6 +12,7 @@ use Rattle.nr_reduce.specs.declared.call.Call.{Call}
 use Rattle.nr_reduce.specs.declared.call.Refused.{Refused}
 use Rattle.nr_reduce.specs.declared.call.Refused.TheVariants as refusals
 use Rattle.nr_reduce.specs.declared.mark.Mark.{Mark}
+use Rattle.nr_reduce.specs.declared.mark.Mark.TheVariants as marks
 use Rattle.nr_reduce.specs.declared.mark.LinkParameters.{LinkParameters}
 use Rattle.nr_reduce.specs.declared.outline.Plan.{Plan}
 use Rattle.nr_reduce.specs.Limits.{numbers_end}
@@ -114,6 +115,19 @@ after_reopen h staging = record {
   staging = staging;
   marks = h.marks;
 }
+
+-- the link of a mark
+abbrev pub link_of : Mark → ℕ
+link_of (marks.Submit link call form answer) = link
+link_of (marks.Wrote link side bytes) = link
+link_of (marks.Fed link side bytes) = link
+link_of (marks.Execute link xid moment payload place reply) = link
+link_of (marks.Done link xid outcome) = link
+link_of (marks.Lost link xid) = link
+link_of (marks.Forget link xid) = link
+link_of (marks.Revoke link xid bytes) = link
+link_of (marks.Drop link) = link
+link_of (marks.Told link what) = link
 
 -- these marks have none of a link
 abbrev pub HasNoMark : (link : ℕ) → List Mark → Type 0
