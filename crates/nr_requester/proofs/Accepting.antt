@@ -1,5 +1,6 @@
 -- A call is accepted: a requester stands for the marks with that Submit; and what it answers to a call is what its client answers.
-use Rattle.std.proofs.Common.{◌≡◌, ℕ, ◌+◌, ◌-◌, ◌≤◌, cond, leb, List, [], ◌∷◌, ◌++◌, length, map, Option, None, Some, Result, Ok, Err, refl, sym, ap, subst, ◌∙◌, arith, append-nil}
+use Rattle.std.proofs.Common.{◌≡◌, ℕ, ◌+◌, ◌-◌, ◌≤◌, Bool, ◌&&◌, cond, eqb, leb, ltb, List, [], ◌∷◌, ◌++◌, length, map, Option, None, Some, Result, Ok, Err, refl, sym, ap, subst, ◌∙◌, inl, inr, arith, append-nil}
+use Rattle.std.proofs.lemmas.Bool.{cases_lt, lt-ltb, le-ltb, lt-leb, le-leb}
 use Rattle.std.proofs.lemmas.List.{length-map}
 use Rattle.nr_wire.specs.declared.hello.Side.TheVariants.{Initiator, Responder}
 use Rattle.nr_link.specs.declared.end.End.{End}
@@ -37,7 +38,7 @@ use Rattle.nr_reduce.proofs.Keeping.{kept_answers, kept_counts}
 use Rattle.nr_reduce.proofs.Unresumed.{none_waits}
 use Rattle.nr_requester.specs.RequesterState.{RequesterState, RequesterSide, StoredCall, kept_call, kept_calls, queue_of, kept_client, input_kept}
 use Rattle.nr_requester.specs.Sending.{least_stored}
-use Rattle.nr_requester.specs.Standing.{LinkKeeps, KeepsClient}
+use Rattle.nr_requester.specs.Standing.{LinkKeeps, KeepsClient, waiting_message}
 use Rattle.nr_requester.specs.AfterCalls.{submitted, after_submit}
 use Rattle.nr_requester.specs.Answers.{plan_under, answer_by_plan, answer_if, answer_of}
 use Rattle.nr_requester.specs.Laws.{AnswersAsClient, AgreesAsClient, CountsAsClient, EndAsClient}
@@ -151,10 +152,19 @@ least_same : (sent : ℕ) (calls : List StoredCall) → least_stored calls ≡ l
 least_same sent [] = refl
 least_same sent (c ∷ calls) = refl
 
-answer_same : (r : RequesterState) (p : Result Plan TooLarge) → answer_by_plan r p ≡ kept_answer_by_plan (kept_client r) p
-answer_same r (Err large) = refl
-answer_same r (Ok plan) =
-    λ i. cond (leb r.grant (count i)) (submissions.Refused (refusals.NoCredit (count i) r.grant)) (unless_far_by r.side.terms.number r.next_xid (least_same r.sent r.outstanding i) answer)
+-- while no Send is held back, a credit is left if fewer calls are counted than are granted
+credit_same : (held n grant : ℕ) (some none : Submission) → held ≡ 0 → cond ((eqb held 0) && ltb n grant) some none ≡ cond (leb grant n) none some
+credit_same held n grant some none unheld =
+    ap (λ (k : ℕ). cond ((eqb k 0) && ltb n grant) some none) unheld ∙ elim (cases_lt n grant) [
+      | inl lt ↦ ap (λ (b : Bool). cond b some none) (lt-ltb n grant lt) ∙ sym (ap (λ (b : Bool). cond b none some) (lt-leb grant n lt))
+      | inr ge ↦ ap (λ (b : Bool). cond b some none) (le-ltb n grant ge) ∙ sym (ap (λ (b : Bool). cond b none some) (le-leb grant n ge))
+    ]
+
+answer_same : (r : RequesterState) (p : Result Plan TooLarge) → length r.side.send_queue.held ≡ 0 → answer_by_plan r p ≡ kept_answer_by_plan (kept_client r) p
+answer_same r (Err large) unheld = refl
+answer_same r (Ok plan) unheld =
+    credit_same (length r.side.send_queue.held) (length r.outstanding) r.grant (unless_far_by r.side.terms.number r.next_xid (least_stored r.outstanding) answer) (submissions.Refused (refusals.NoCredit (length r.outstanding) r.grant)) unheld
+    ∙ (λ i. cond (leb r.grant (count i)) (submissions.Refused (refusals.NoCredit (count i) r.grant)) (unless_far_by r.side.terms.number r.next_xid (least_same r.sent r.outstanding i) answer))
   where
     answer : Submission
     answer =
@@ -164,14 +174,19 @@ answer_same r (Ok plan) =
     count : length r.outstanding ≡ length (kept_calls r)
     count = sym (length-map r.outstanding (kept_call r.sent))
 
-answer_kept : (r : RequesterState) (call : Call) (form : Form) (x : Option End) → answer_if r call form x ≡ kept_answer_if (kept_client r) call form x
-answer_kept r call form (Some end) = refl
-answer_kept r call form None = answer_same r (plan_under r call form)
+answer_kept : (r : RequesterState) (call : Call) (form : Form) (x : Option End) → (x ≡ None → length r.side.send_queue.held ≡ 0) → answer_if r call form x ≡ kept_answer_if (kept_client r) call form x
+answer_kept r call form (Some end) unheld = refl
+answer_kept r call form None unheld = answer_same r (plan_under r call form) (unheld refl)
+
+-- on the first link no Send is held back
+none_held : (opened : LinkParameters) (link : ℕ) (h : RequesterSide) (run : List Mark) → KeepsClient opened link h run → h.state.side.ended ≡ None → length h.state.side.send_queue.held ≡ 0
+none_held opened link h run s lives =
+    ap (λ (messages : List (List ℕ)). length messages) ((s.side lives).held ∙ ap (λ (ws : List WaitingCall). map (waiting_message opened) ws) (none_waits opened link run s.first.resumed))
 
 pub answers_as_client : AnswersAsClient
 unfolding answer_of
 answers_as_client opened link h run call form s =
-    answer_kept h.state call form h.state.side.ended ∙ kept_answers opened (kept_client h.state) (client opened link run) (length (bytes_received link Initiator run)) call form s.keeps.kept.keeps
+    answer_kept h.state call form h.state.side.ended (none_held opened link h run s.keeps) ∙ kept_answers opened (kept_client h.state) (client opened link run) (length (bytes_received link Initiator run)) call form s.keeps.kept.keeps
 
 pub counts_as_client : CountsAsClient
 unfolding credits_granted

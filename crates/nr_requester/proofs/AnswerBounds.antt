@@ -72,7 +72,7 @@ rooms_bounded len sent sends next e xs ys answers h b =
       record {
         staging = w.staging;
         outside = w.outside;
-        numbers = same_rising send_of (λ x y same. ap (λ (c : OutstandingCall). c.send) same.0) sends xs ys h w.numbers;
+        numbers = same_rising send_of (λ x y same. ap (λ (c : OutstandingCall). c.send) same.0) (sends + length e.link.state.send_queue.held) xs ys h w.numbers;
         order = w.order;
         link = w.link;
         regions = λ size is. subst (λ (n : ℕ). RegionsHave size e.link.state.memory n) (same_total size xs ys h) (w.regions size is);
@@ -199,8 +199,8 @@ completed_bounded len sent sends next n room most number e e2 calls calls2 answe
     let all : RequesterBounds len e2 sends next left more = record {
       staging = ap (λ (xs : List ℕ). length xs) same ∙ w.staging;
       outside = none w.outside;
-      numbers = rising_removed send_of sends n calls w.numbers;
-      order = w.order;
+      numbers = subst (λ (x : LinkState). AreRisingBy send_of left (sends + length x.send_queue.held)) (sym state) (rising_removed send_of (sends + length s.send_queue.held) n calls w.numbers);
+      order = subst (λ (x : LinkState). sends + length x.send_queue.held ≤ next) (sym state) w.order;
       link = subst (λ (x : LinkState). LinkFits len x) (sym state) (record {
         side = w.link.side;
         receives = w.link.receives;
@@ -211,6 +211,7 @@ completed_bounded len sent sends next n room most number e e2 calls calls2 answe
         hello = w.link.hello;
         queue = w.link.queue;
         responses = w.link.responses;
+        messages = w.link.messages;
         regions = (both in_bytes bytes_count).0;
       });
       regions = λ size is. subst (λ (x : LinkState). RegionsHave size x.memory (claims_total size left)) (sym state) (subst (λ (k : ℕ). RegionsHave size memory k) (total_removed size n calls d lt) (both size is).1);

@@ -47,6 +47,7 @@ invariant_of-self-2 c =
     let same : outline_plan (c.args.head.now ++ c.as_slice.result.now) c.args.outline ≡ plan = ap (λ (args : List ℕ). outline_plan (c.args.head.now ++ args) c.args.outline) c.as_slice.ensures in
     let planned : IsPlan plan = c.requires.planned in
     let lives : c.self.inside.endpoint.link.state.ended ≡ None = ap (λ (h : RequesterSide). h.state.side.ended) c.self.view_is ∙ c.requires.live in
+    let unheld : length c.self.inside.endpoint.link.state.send_queue.held ≡ 0 = ap (λ (h : RequesterSide). length h.state.side.send_queue.held) c.self.view_is ∙ c.requires.numbers.none_held in
     let next = ap (λ (h : RequesterSide). h.state.side.memory.next) c.self.view_is in
     let fits = c.requires.numbers.stags in
     let stags : c.self.inside.endpoint.link.state.memory.next + regions_needed plan ≤ 2 ^ 32 = omega (arith, next, fits) in
@@ -62,7 +63,7 @@ invariant_of-self-2 c =
           (c.push_reserved.ensures.items ∙ ap (λ (xs : List OutstandingCall). xs ++ o ∷ []) c.make_room.ensures.outstanding) c.make_room.ensures.answered refl c.in_default.ensures.answer,
       (
         sent_within c.self.inside.endpoint c.send_with_room.new.endpoint c.self.inside.receive_length c.self.inside.sends c.self.inside.next_xid c.self.inside.next_xid c.self.inside.wished c.self.inside.outstanding.items c.push_reserved.new.self.items c.self.inside.answered.items c.make_room.new.answered.items o plan c.self.invariant.1.0
-            c.send_with_room.ensures.staging c.in-Ok.ensures.outside link_is planned lives stags claims_are lists_are c.requires.small c.in-Ok.ensures.empty offered (let len = room_is.0 in omega (arith, len)) refl
+            c.send_with_room.ensures.staging c.in-Ok.ensures.outside link_is planned lives unheld stags claims_are lists_are c.requires.small c.in-Ok.ensures.empty offered (let len = room_is.0 in omega (arith, len)) refl
             (c.push_reserved.ensures.items ∙ ap (λ (xs : List OutstandingCall). xs ++ o ∷ []) c.make_room.ensures.outstanding) c.make_room.ensures.answered,
         subst (λ (l : LinkSide). c.self.inside.sent ≤ l.state.send_queue.sends_left) (sym link_is) c.self.invariant.1.1,
       ),
