@@ -1,10 +1,12 @@
 -- Whether a new call may be submitted: what a requester says of it is said of the client of its marks; and then it is refused neither since
 -- no credit is left nor since its xid is too far above the least one.
-use Rattle.std.proofs.Common.{◌≡◌, ℕ, ◌+◌, ◌-◌, ◌<◌, Bool, true, false, cond, not, ◌&&◌, ◌||◌, ltb, leb, eqb, List, [], ◌∷◌, ◌++◌, length, map, Option, None, Some, Ok, refl, sym, ap, ◌∙◌, arith}
-use Rattle.std.proofs.lemmas.Bool.{and_parts}
+use Rattle.std.proofs.Common.{◌≡◌, ℕ, ◌+◌, ◌-◌, ◌<◌, ◌≤◌, Bool, true, false, cond, not, ◌&&◌, ◌||◌, ltb, leb, eqb, List, [], ◌∷◌, ◌++◌, length, map, Option, None, Some, Ok, refl, sym, ap, ◌∙◌, arith}
+use Rattle.std.specs.Prelude.{is_none, is_some}
+use Rattle.std.proofs.lemmas.Bool.{and_from, and_parts, lt-ltb, true≢false}
 use Rattle.nr_wire.specs.declared.hello.Side.TheVariants.{Initiator}
 use Rattle.nr_link.specs.declared.end.End.{End}
 use Rattle.nr_endpoint.specs.LinkState.{LinkState}
+use Rattle.nr_reduce.specs.declared.call.Refused.{Refused}
 use Rattle.nr_reduce.specs.declared.call.Refused.TheVariants as refusals
 use Rattle.nr_reduce.specs.declared.call.Submission.{Submission}
 use Rattle.nr_reduce.specs.declared.call.Submission.TheVariants as submissions
@@ -26,7 +28,7 @@ use Rattle.nr_reduce.proofs.Unresumed.{none_waits}
 use Rattle.nr_requester.specs.RequesterState.{RequesterState, RequesterSide, StoredCall, kept_call, kept_client}
 use Rattle.nr_requester.specs.Answers.{answer_by_plan}
 use Rattle.nr_requester.specs.MaySubmit.{is_far_from, is_far, may_submit_by, may_submit, may_be_submitted, client_may_submit}
-use Rattle.nr_requester.specs.Sending.{has_credit, least_stored}
+use Rattle.nr_requester.specs.Sending.{has_credit, least_stored, unless_refused}
 use Rattle.nr_requester.specs.Standing.{LinkKeeps, RequesterRepresents, waiting_message}
 use Rattle.nr_requester.proofs.Accepting.{counts_as_client}
 
@@ -143,3 +145,55 @@ answer_in_window r plan none may =
     let apart : (free ≡ true) × (not far ≡ true) = and_parts free (not far) parts.1 in
     (λ i. cond (apart.0 i && parts.0 i) (unless_far_by number r.next_xid least (answer_by_numbers r plan)) (submissions.Refused (refusals.NoCredit (length r.outstanding) r.grant)))
     ∙ near number r.next_xid least (answer_by_numbers r plan) apart.1
+
+-- ---- What is asked of a requester
+
+abbrev is_accepted : Submission → Bool
+is_accepted (submissions.Accepted xid) = true
+is_accepted answer = false
+
+-- why the next xid is too far above the least one, if it is
+pub far_is : (number next : ℕ) (least : Option ℕ) (why : Option Refused) → ((answer : Submission) → unless_far_by number next least answer ≡ unless_refused why answer) →
+    is_none why ≡ not (is_far number next least)
+far_is number next least why says = by_number (eqb number 0) (sym (accepted why) ∙ ap is_accepted (sym (says (submissions.Accepted next)))) where
+  accepted : (o : Option Refused) → is_accepted (unless_refused o (submissions.Accepted next)) ≡ is_none o
+  accepted None = refl
+  accepted (Some refused) = refl
+
+  from : (o : Option ℕ) → is_none why ≡ is_accepted (unless_far_from next o (submissions.Accepted next)) → is_none why ≡ not (is_far_from next o)
+  from None e = e
+  from (Some oldest) e = by (leb window (next - oldest)) e where
+    by : (b : Bool) → is_none why ≡ is_accepted (cond b (submissions.Refused (refusals.Window oldest next)) (submissions.Accepted next)) → is_none why ≡ not b
+    by true g = g
+    by false g = g
+
+  by_number : (b : Bool) → is_none why ≡ is_accepted (cond b (submissions.Accepted next) (unless_far_from next least (submissions.Accepted next))) → is_none why ≡ not (cond b false (is_far_from next least))
+  by_number true e = e
+  by_number false e = from least e
+
+-- if no call may be submitted, one is outstanding
+pub blocked_waits : (r : RequesterState) → 1 ≤ r.grant → length r.side.send_queue.held ≤ length r.outstanding → may_submit r ≡ false → 0 < length r.outstanding
+unfolding may_submit
+blocked_waits r granted held no = by r.outstanding refl where
+  none_far : (number next : ℕ) → not (is_far number next None) ≡ true
+  none_far number next = by_number (eqb number 0) where
+    by_number : (b : Bool) → not (cond b false false) ≡ true
+    by_number true = refl
+    by_number false = refl
+
+  ended_or : (ended : Option End) (free far : Bool) → free ≡ true → not far ≡ true → (is_some ended || (free && not far)) ≡ true
+  ended_or (Some end) free far is near = refl
+  ended_or None free far is near = (λ i. is i && not far) ∙ near
+
+  by : (calls : List StoredCall) → r.outstanding ≡ calls → 0 < length r.outstanding
+  by [] none =
+      let count : length r.outstanding ≡ 0 = ap (λ (calls : List StoredCall). length calls) none in
+      let unheld : length r.side.send_queue.held ≡ 0 = omega (arith, held, count) in
+      let far : Bool = is_far r.side.terms.number r.next_xid (least_stored r.outstanding) in
+      let near : not far ≡ true = ap (λ (calls : List StoredCall). not (is_far r.side.terms.number r.next_xid (least_stored calls))) none ∙ none_far r.side.terms.number r.next_xid in
+      let credit : ltb (length r.outstanding) r.grant ≡ true = lt-ltb (length r.outstanding) r.grant (omega (arith, granted, count)) in
+      let may : may_submit_by r.side.ended r.grant (length r.outstanding) (eqb (length r.side.send_queue.held) 0) far ≡ true =
+          and_from (ltb (length r.outstanding) r.grant) (is_some r.side.ended || ((eqb (length r.side.send_queue.held) 0) && not far)) credit
+          (ended_or r.side.ended (eqb (length r.side.send_queue.held) 0) far (ap (λ (n : ℕ). eqb n 0) unheld) near) in
+      absurd (true≢false (sym may ∙ no))
+  by (c ∷ calls) some = (let count = ap (λ (cs : List StoredCall). length cs) some in omega (arith, count))
