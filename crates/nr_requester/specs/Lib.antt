@@ -21,3 +21,4 @@ pub mod Fed
 pub mod Reopening
 pub mod ReopenedLinks
 pub mod Resends
+pub mod private
