@@ -170,7 +170,7 @@ drain_is_a_mark h n le fits = (
 -- what it keeps of its client, but for why it ended
 kept_out : (before after : RequesterFeeding) → before.state.side.ended ≡ None → RanOut before after → kept_client before.state ≡ record (kept_client after.state) { ended = None }
 kept_out before after lives out =
-    (λ i. record (kept_client before.state) { ended = lives i; memory = sym out.memory i; up_max = (sym out.agreed i).up; down_max = (sym out.agreed i).down; invalidates = (sym out.agreed i).invalidates; number = (sym out.terms i).number })
+    (λ i. record (kept_client before.state) { ended = lives i; memory = sym out.memory i; up_max = (sym out.agreed i).up; down_max = (sym out.agreed i).down; invalidates = (sym out.agreed i).invalidates; number = (sym out.terms i).number; agreed = sym out.earlier i })
     ∙ (λ i. record (kept_client (sym out.same i)) { ended = None; memory = after.state.side.memory })
 
 same_answers : (opened : LinkParameters) (es : List RunEvent) (due : ℕ → Bool) (asked : List AcceptedCall) (r r2 : RequesterState) → KeepsAnswers opened es due asked r → r2.answered ≡ r.answered → r2.outstanding ≡ r.outstanding → r2.next_xid ≡ r.next_xid → KeepsAnswers opened es due asked r2
@@ -292,7 +292,7 @@ forget_client : (opened : LinkParameters) (link : ℕ) (h : RequesterSide) (run 
 unfolding after_forget
 forget_client opened link h run xid s = record {
   wished = s.wished;
-  first = s.first;
+  resumes = s.resumes;
   kept = subst (λ (x : KeptClient). ClientRepresents opened link x (input_kept h) (queue_of h.state) run) (kept_after_forget h xid) s.kept;
   sent = s.sent;
   side = s.side;

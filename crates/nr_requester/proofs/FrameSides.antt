@@ -83,6 +83,7 @@ link_tagged opened s k f last opcode stag to payload keeps fine later some =
       number = keeps.number;
       waiting = λ none. not_greeted k greeted none;
       none_due = λ none. not_greeted k greeted none;
+      granted = λ none. not_greeted k greeted none;
       sends = subst (λ (xs : List ℕ). HasEnds k.written (length s.send_queue.hello) xs s.send_queue.send_ends) (sym (same k.has_hello)) keeps.sends;
       responses = keeps.responses;
       left = keeps.left;
@@ -158,6 +159,7 @@ link_untagged opened s k f last opcode w queue msn offset payload keeps later so
       number = left.last_send ∙ keeps.number ∙ ap msn_word (sym same.sends);
       waiting = λ e. not_greeted k greeted (sym same.has_hello ∙ e);
       none_due = λ e. not_greeted k greeted (sym same.has_hello ∙ e);
+      granted = λ e. not_greeted k greeted (sym same.has_hello ∙ e);
       sends = sends_are;
       responses = subst (λ (n : ℕ). HasEnds n (length (with_read_request req s.memory s.send_queue).hello) (with_request k more req).response_ends (with_read_request req s.memory s.send_queue).response_ends) (sym same.written)
           (request_ends s k f.end req keeps.responses (due ∙ queue_len) fine);
@@ -258,6 +260,7 @@ link_message opened s k f last opcode w queue msn offset payload message m keeps
       number = keeps.number;
       waiting = λ e. not_greeted k greeted e;
       none_due = λ e. not_greeted k greeted e;
+      granted = λ e. not_greeted k greeted e;
       sends = subst (λ (xs : List ℕ). HasEnds k.written (length s.send_queue.hello) xs s.send_queue.send_ends) (sym sends_same) keeps.sends;
       responses = keeps.responses;
       left = keeps.left;

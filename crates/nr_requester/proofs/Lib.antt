@@ -6,6 +6,7 @@ pub mod Marks
 pub mod CountedMarks
 pub mod AnsweredRegions
 pub mod Accepting
+pub mod MaySubmit
 pub mod Answered
 pub mod Sized
 pub mod Sent

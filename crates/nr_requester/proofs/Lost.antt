@@ -47,7 +47,7 @@ lost_client opened link h run xid end is s =
     subst (λ (x : EndState ClientState). ClientKeeps opened (kept_revoked (kept_client h.state) xid) x count) same (kept_revokes opened (kept_client h.state) e count xid s.kept.keeps) in
     record {
       wished = s.wished;
-      first = s.first;
+      resumes = s.resumes;
       kept = subst (λ (x : KeptClient). ClientRepresents opened link x (input_kept h) (queue_of h.state) run) (kept_after_revoke h xid)
           (record { keeps = keeps; received = s.kept.received; output = s.kept.output });
       sent = λ none. no_end end (sym is ∙ none);

@@ -7,6 +7,7 @@ pub mod AfterCalls
 pub mod AfterPiece
 pub mod Answers
 pub mod Sending
+pub mod MaySubmit
 pub mod HeldClaims
 pub mod Buffers
 pub mod OpenCalls
