@@ -56,6 +56,8 @@ side_next next link h o = record {
   numbered = refl;
   held = o.messages;
   greeted = refl;
+  granted = λ e. refl;
+  client_terms = refl;
 }
 
 pub next_link_begins : NextLinkBegins

@@ -34,6 +34,7 @@ mod revoking;
 mod submitting;
 mod taking;
 mod ticket;
+mod window;
 
 pub use answer::{AnsweredCall, Buffers};
 pub use dismantling::Remains;

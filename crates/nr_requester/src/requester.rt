@@ -200,6 +200,13 @@ impl Requester {
         self.endpoint.end()
     }
 
+    /// The number of the client, which its hello says; 0 if it has none. Takes no memory.
+    pub fn client(&self) -> u64
+        ensures { result ≡ self.now.state.side.terms.number }
+    {
+        self.endpoint.terms().number
+    }
+
     /// How many calls are outstanding: accepted, and no message of their xid was received.
     pub fn outstanding(&self) -> usize
         ensures { result ≡ length self.now.state.outstanding }

@@ -1,5 +1,5 @@
 -- A call that is submitted.
-use Rattle.std.specs.Prelude.{◌&&◌, ◌==◌, is_some, IfOk}
+use Rattle.std.specs.Prelude.{◌&&◌, is_some, IfOk}
 use Rattle.std.specs.List.{AllByRecursion}
 use Rattle.std.proofs.Common.{◌≡◌, ◌≢◌, ℕ, ◌+◌, ◌-◌, ◌≤◌, arith, leb, ltb, suc, Bool, true, false, cond, List, [], ◌∷◌, ◌++◌, length, filter, Option, None, Some, Result, Ok, Err, refl, ap, sym, subst, ◌∙◌, append-nil, length-append, ltb-true}
 use Rattle.nr_link.specs.declared.end.End.{End}
@@ -21,10 +21,9 @@ use Rattle.nr_reduce.specs.EndRules.{EndState, end_state_after}
 use Rattle.nr_reduce.specs.ClientState.{ClientState}
 use Rattle.nr_reduce.specs.Client.{client_rules, client_end}
 use Rattle.nr_reduce.specs.History.{AcceptedCall, bytes_received}
-use Rattle.nr_reduce.specs.Limits.{numbers_end}
-use Rattle.nr_reduce.specs.Plans.{TooLarge, regions_needed}
+use Rattle.nr_reduce.specs.Plans.{TooLarge}
 use Rattle.nr_reduce.specs.Run.{client}
-use Rattle.nr_reduce.specs.SubmitAnswer.{window, unless_far_from, unless_far_by, submit_answer, unless_dropped, submit_answer_after}
+use Rattle.nr_reduce.specs.SubmitAnswer.{submit_answer, unless_dropped, submit_answer_after}
 use Rattle.nr_reduce.proofs.Standing.{itself}
 use Rattle.nr_reduce.proofs.Steps.{client_one}
 use Rattle.nr_reduce.proofs.Unconcerned.{submit_elsewhere}
@@ -32,11 +31,11 @@ use Rattle.nr_requester.specs.RequesterState.{RequesterSide, RequesterState}
 use Rattle.nr_requester.specs.Answers.{plan_under, answer_by_plan, answer_if, answer_of}
 use Rattle.nr_requester.specs.KeptAnswers.{is_due}
 use Rattle.nr_requester.specs.OpenCalls.{open_call, OpensTicket}
-use Rattle.nr_requester.specs.Sending.{least_stored}
 use Rattle.nr_requester.specs.Standing.{RequesterRepresents}
 use Rattle.nr_requester.proofs.Accepting.{answers_as_client}
 use Rattle.nr_requester.proofs.AllMarks.{others_leave_it}
 use Rattle.nr_requester.proofs.AnswerSteps.{due_same}
+use Rattle.nr_requester.proofs.MaySubmit.{answer_cases}
 use Rattle.nr_drill.specs.Drill.{Setting, Drill, with_mark, settled, after_submit, is_sent_again}
 use Rattle.nr_drill.specs.InBytes.{RepliedInBytes}
 use Rattle.nr_drill.proofs.Carried.{same_dropped}
@@ -99,36 +98,18 @@ false_true e = absurd cc
 refused_apart : (why : Refused) (xid : ℕ) → submissions.Refused why ≢ submissions.Accepted xid
 refused_apart why xid e = false_true (ap is_accepted e)
 
-spent_answer : (b c : Bool) (y z : Refused) (next xid : ℕ) → cond b (submissions.Refused y) (cond c (submissions.Refused z) (submissions.Accepted next)) ≡ submissions.Accepted xid → xid ≡ next
-spent_answer true c y z next xid e = absurd (refused_apart y xid e)
-spent_answer false true y z next xid e = absurd (refused_apart z xid e)
-spent_answer false false y z next xid e = sym (ap accepted_xid e)
-
--- one that isn't beyond its window
-not_far : (b : Bool) (oldest next : ℕ) (answer : Submission) (xid : ℕ) → cond b (submissions.Refused (refusals.Window oldest next)) answer ≡ submissions.Accepted xid → answer ≡ submissions.Accepted xid
-not_far true oldest next answer xid e = absurd (refused_apart (refusals.Window oldest next) xid e)
-not_far false oldest next answer xid e = e
-
-within_from : (next : ℕ) (least : Option ℕ) (answer : Submission) (xid : ℕ) → unless_far_from next least answer ≡ submissions.Accepted xid → answer ≡ submissions.Accepted xid
-within_from next None answer xid e = e
-within_from next (Some oldest) answer xid e = not_far (leb window (next - oldest)) oldest next answer xid e
-
-within : (b : Bool) (next : ℕ) (least : Option ℕ) (answer : Submission) (xid : ℕ) → cond b answer (unless_far_from next least answer) ≡ submissions.Accepted xid → answer ≡ submissions.Accepted xid
-within true next least answer xid e = e
-within false next least answer xid e = within_from next least answer xid e
-
-last_answer : (a b c : Bool) (x y z : Refused) (number next : ℕ) (least : Option ℕ) (xid : ℕ) →
-    cond a (submissions.Refused x) (unless_far_by number next least (cond b (submissions.Refused y) (cond c (submissions.Refused z) (submissions.Accepted next)))) ≡ submissions.Accepted xid → xid ≡ next
-last_answer true b c x y z number next least xid e = absurd (refused_apart x xid e)
-last_answer false b c x y z number next least xid e =
-    spent_answer b c y z next xid (within (number == 0) next least (cond b (submissions.Refused y) (cond c (submissions.Refused z) (submissions.Accepted next))) xid e)
+-- an accepted call has the next xid
+abbrev AcceptsNext : ℕ → Submission → Type 0
+AcceptsNext next answer = (xid : ℕ) → answer ≡ submissions.Accepted xid → xid ≡ next
 
 next_by_plan : (r : RequesterState) (p : Result Plan TooLarge) (xid : ℕ) → answer_by_plan r p ≡ submissions.Accepted xid → xid ≡ r.next_xid
 next_by_plan r (Err large) xid e = absurd (refused_apart (refusals.TooLarge large.need large.room) xid e)
 next_by_plan r (Ok plan) xid e =
-    last_answer (leb r.grant (length r.outstanding)) (ltb (numbers_end - r.next_xid) 1) (ltb (numbers_end - r.side.memory.next) (regions_needed plan))
-    (refusals.NoCredit (length r.outstanding) r.grant) (refusals.Spent (numbers_end - r.next_xid) 1) (refusals.Spent (numbers_end - r.side.memory.next) (regions_needed plan))
-    r.side.terms.number r.next_xid (least_stored r.outstanding) xid e
+    answer_cases (AcceptsNext r.next_xid) r plan
+    (λ x f. absurd (refused_apart (refusals.NoCredit (length r.outstanding) r.grant) x f))
+    (λ oldest x f. absurd (refused_apart (refusals.Window oldest r.next_xid) x f))
+    (λ left need x f. absurd (refused_apart (refusals.Spent left need) x f))
+    (λ x f. sym (ap accepted_xid f)) xid e
 
 next_if : (r : RequesterState) (call : Call) (form : Form) (ended : Option End) (xid : ℕ) → answer_if r call form ended ≡ submissions.Accepted xid → (ended ≡ None) × (xid ≡ r.next_xid)
 next_if r call form (Some end) xid e = absurd (refused_apart (refusals.Ended end) xid e)
