@@ -63,7 +63,7 @@ may_as_client opened link h run s =
     let counted : length r.outstanding ≡ calls_counted e.state = (counts_as_client opened link h run s).0 in
     by_ended r.side.ended r.grant (length r.outstanding) r.side.terms.number r.next_xid (eqb (length r.side.send_queue.held) 0) (least_stored r.outstanding) (least_xid e.state.outstanding e.state.waiting)
     (λ none. (
-      none_held opened r.side e.state (none_waits opened link run s.keeps.first.resumed) (s.keeps.side none),
+      none_held opened r.side e.state (none_waits opened link run s.first.resumed) (s.keeps.side none),
       (let calls : CallsKeep (kept_client r).calls r.next_xid e.state = keeps.calls (sym keeps.ended ∙ none) in least_of_kept e.state e.state.sends r.sent r.outstanding e.state.outstanding e.state.waiting calls.kept),
     ))
     ∙ (λ i. may_submit_by (keeps.ended i) (keeps.grant i) (counted i) true (is_far (keeps.opening.0 i) (keeps.xid i) (least_xid e.state.outstanding e.state.waiting)))
@@ -74,7 +74,7 @@ unfolding calls_outstanding
 outstanding_as_client opened link h run s =
     let k : ClientState = (client opened link run).state in
     (counts_as_client opened link h run s).0
-    ∙ ap (λ (ws : List WaitingCall). length k.outstanding + length ws) (none_waits opened link run s.keeps.first.resumed)
+    ∙ ap (λ (ws : List WaitingCall). length k.outstanding + length ws) (none_waits opened link run s.first.resumed)
     ∙ none_more (length k.outstanding)
   where
     none_more : (n : ℕ) → n + 0 ≡ n
