@@ -108,8 +108,8 @@ pub fn lists_stay_bounded()
     ensures regions { HeldRegionsAreRegistered }
 {}
 
-/// A hello ends a side only for the reasons 1 to 4, and an initiator of a next link for 31; an FPDU only for the reasons 5 to 16 and 22, a denied access, a Send without a receive, or
-/// a Terminate. For any other reason the layer above stopped it. Once a side has ended, it queues nothing: it sends one Terminate at most
+/// A hello ends a side only for the reasons 1 to 4, and a responder's for 31, if an earlier link agreed on other lengths of Sends; an FPDU only for
+/// the reasons 5 to 16 and 22, a denied access, a Send without a receive, or a Terminate. For any other reason the layer above stopped it. Once a side has ended, it queues nothing: it sends one Terminate at most
 /// (RFC 5040 section 4.8).
 pub fn reasons_of_frames()
     ensures frames { FramesEndForThese }
