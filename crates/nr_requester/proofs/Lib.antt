@@ -70,6 +70,8 @@ pub mod NamedRegions
 pub mod DeadRegions
 pub mod CountedReleases
 pub mod Reopening
+pub mod ResumedLists
+pub mod Resuming
 pub mod ReopenedLinks
 pub mod NextLinks
 pub mod NextAnswers
