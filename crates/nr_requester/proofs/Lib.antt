@@ -72,6 +72,7 @@ pub mod CountedReleases
 pub mod Reopening
 pub mod ResumedLists
 pub mod Resuming
+pub mod Resending
 pub mod ReopenedLinks
 pub mod NextLinks
 pub mod NextAnswers
