@@ -72,7 +72,8 @@ pub mod CountedReleases
 pub mod Reopening
 pub mod ResumedLists
 pub mod Resuming
-pub mod Resending
+pub mod ResendSteps
+pub mod NextBegun
 pub mod ReopenedLinks
 pub mod NextLinks
 pub mod NextAnswers
