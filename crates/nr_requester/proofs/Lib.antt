@@ -74,6 +74,7 @@ pub mod ResumedLists
 pub mod Resuming
 pub mod ResendSteps
 pub mod NextBegun
+pub mod NextTickets
 pub mod ReopenedLinks
 pub mod NextLinks
 pub mod NextAnswers
