@@ -127,7 +127,7 @@ request_len msn sink sink_to size stag to =
       length_hyper to,
     )
 
-terminate_len : (n : ℕ) → length (terminate_message n) ≤ frame_max
+pub terminate_len : (n : ℕ) → length (terminate_message n) ≤ frame_max
 unfolding terminate_message
 terminate_len n = omega (arith, encoding_len (Untagged true OPCODE_TERMINATE 0 QUEUE_TERMINATE 1 0 (word n)), length_word n)
 
