@@ -78,3 +78,5 @@ pub mod Resent
 pub mod ResentAnswers
 pub mod ResendStands
 pub mod AllResent
+pub mod OwnSides
+pub mod KeptOn
