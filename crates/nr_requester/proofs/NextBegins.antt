@@ -30,7 +30,7 @@ use Rattle.nr_requester.specs.OpenCalls.{found_answer}
 use Rattle.nr_requester.specs.ReopenedLinks.{RequesterKeeps, next_own}
 use Rattle.nr_requester.specs.Reopening.{HasNoMark, NextBegins, after_reopen, calls_again, link_of}
 use Rattle.nr_requester.proofs.KeptOn.{others_keep_on}
-use Rattle.nr_requester.proofs.Reopening.{again_xids, all_answered, calls_go_on, earlier_stays, none_above, none_answered}
+use Rattle.nr_requester.proofs.CallsGoOn.{again_xids, all_answered, calls_go_on, earlier_stays, none_above, none_answered}
 use Rattle.nr_requester.proofs.NextLinks.{next_link_begins}
 use Rattle.nr_requester.proofs.NextAnswers.{next_answers}
 

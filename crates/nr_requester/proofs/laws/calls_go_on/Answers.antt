@@ -1,4 +1,4 @@
-use Rattle.nr_requester.proofs.Reopening.{calls_go_on}
+use Rattle.nr_requester.proofs.CallsGoOn.{calls_go_on}
 use Rattle.nr_requester.proofs.NextBegins.{next_begins}
 use Rattle.nr_requester.proofs.laws.calls_go_on.Goals as goal
 
