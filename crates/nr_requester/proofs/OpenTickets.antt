@@ -84,7 +84,7 @@ all_mapped P [] h = tt
 all_mapped P (a ∷ answers) h = (h.0, all_mapped P answers h.1)
 
 -- each has an outcome that is due
-answers_due : (calls : List AcceptedCall) (opened : LinkParameters) (link : ℕ) (h : RequesterSide) (run : List Mark) → AnswersWith calls opened link h run →
+pub answers_due : (calls : List AcceptedCall) (opened : LinkParameters) (link : ℕ) (h : RequesterSide) (run : List Mark) → AnswersWith calls opened link h run →
     AllByRecursion (λ (a : AnsweredCall). (is_due link run a.xid ≡ true) × Among (completed_of a) (client opened link run).state.outcomes) h.state.answered
 unfolding client
 answers_due calls opened link h run k =
