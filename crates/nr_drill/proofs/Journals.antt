@@ -35,10 +35,9 @@ use Rattle.nr_drill.specs.Drill.{SerialServer, Setting, Drill, Pipes, plain_of, 
 use Rattle.nr_drill.specs.Follows.{Drains, Follows, parameters_of, setting_of, opened_drill}
 use Rattle.nr_drill.specs.Lines.{IsClient, IsUnnumbered}
 use Rattle.nr_drill.proofs.FirstLinks.{opened_firsts, down_is}
-use Rattle.nr_drill.proofs.FirstLines.{both_true}
+use Rattle.nr_drill.proofs.FirstLines.{both_true, follows_made, lines_heard, opened_heard}
+use Rattle.nr_drill.proofs.Opening.{heard_by_lem, number_more}
 use Rattle.nr_drill.proofs.Followed.{Extends, work_adds, up_adds, moves_adds}
-use Rattle.nr_drill.proofs.Carried.{follows_made}
-use Rattle.nr_drill.proofs.LessScripts.{heard_by_lem, number_more, lines_heard, opened_heard}
 use Rattle.std.proofs.lemmas.Bool.{leb-true}
 use Rattle.nr_drill.specs.Unnumbered.{AreFirst, first_line, FirstMakes, FirstMakeAll, UnnumberedMark, IsPlainRun, HeardNone}
 

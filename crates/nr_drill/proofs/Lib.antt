@@ -14,7 +14,6 @@ pub mod LessUp
 pub mod LessFrames
 pub mod LessDown
 pub mod LessSteps
-pub mod LessScripts
 pub mod Journals
 pub mod KeptTypes
 pub mod ByteDrills

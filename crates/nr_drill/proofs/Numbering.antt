@@ -31,13 +31,15 @@ use Rattle.nr_drill.specs.Drill.{link_of, SerialServer, Setting, Drill, links_of
 use Rattle.nr_drill.specs.Follows.{Drains, Follows, parameters_of, setting_of, opened_drill}
 use Rattle.nr_drill.specs.private.Drafts.{AreNumbered, IsNextXid, NumberedMark}
 use Rattle.nr_drill.proofs.DraftSteps.{accepted_one, itself}
-use Rattle.nr_drill.proofs.Followed.{Adds, submit_adds, up_adds, down_adds, work_adds, forget_adds, revoke_adds, drop_adds, raw_adds, moves_adds, opening_adds, grant_adds, follows_keeps_laws}
+use Rattle.nr_drill.proofs.Followed.{Adds, submit_adds, up_adds, down_adds, work_adds, forget_adds, revoke_adds, drop_adds, raw_adds, moves_adds, opening_adds, grant_adds, KeepsAll}
 use Rattle.nr_reduce.specs.History.{is_dropped}
 use Rattle.nr_reduce.proofs.Unresumed.{none_waits}
 use Rattle.nr_reduce.specs.SubmitAnswer.{first_xid_or}
 use Rattle.nr_reduce.specs.Opening.{IsFirstLink}
 use Rattle.nr_drill.specs.Lines.{IsUnnumbered}
-use Rattle.nr_drill.proofs.Carried.{follows_made}
+use Rattle.nr_drill.specs.Headline.{IsDrillRun}
+use Rattle.nr_drill.proofs.FirstLines.{follows_first, follows_made}
+use Rattle.std.proofs.lemmas.List.FromFn.{length-map-range_with_len}
 use Rattle.nr_drill.proofs.FirstLinks.{same_parameters}
 use Rattle.nr_drill.specs.Unnumbered.{first_line, FirstMakes, FirstMakeAll}
 
@@ -281,9 +283,21 @@ module _ (o : LinkParameters) where
   unfolding client events accepted_calls
   first_count link = (let same : o.first_xid ≡ o.first_xid + 0 = omega arith in same)
 
-pub drill_numbered : (server : SerialServer) (script : ScriptLines) (run : List Mark) → IsScript script → IsUnnumbered script → Follows server script run → AreNumbered script.opening.clients run
-drill_numbered server script run is none follows =
+-- each such link keeps its laws
+pub first_laws : (server : SerialServer) (script : ScriptLines) (run : List Mark) → IsScript script → IsUnnumbered script → IsDrillRun server script run → (link : ℕ) → 1 ≤ link → link ≤ script.opening.clients →
+    KeepsAll (parameters_of script.opening link) link run
+first_laws server script run is none drill link low high =
+    let s : Setting = setting_of server script.opening in
+    let first = follows_first server script run is none drill.follows in
+    let count : length drill.follows.last.opened ≡ script.opening.clients =
+    ap (λ (os : List LinkParameters). length os) first.links ∙ length-map-range_with_len s.opened 1 script.opening.clients in
+    let laws = drill.laws link (low, omega (arith, high, count)) in
+    subst (λ (o : LinkParameters). KeepsAll o link run) (ap (λ (t : Setting). t.opened link) first.setting)
+    (record { asked = laws.asked; served = laws.served; accepts = laws.accepts })
+
+pub drill_numbered : (server : SerialServer) (script : ScriptLines) (run : List Mark) → IsScript script → IsUnnumbered script → IsDrillRun server script run → AreNumbered script.opening.clients run
+drill_numbered server script run is none drill =
     let o = parameters_of script.opening 1 in
     numbered_from o script.opening.clients [] run (record { resumed = refl; agreed = refl }) refl
-    (λ link w. subst (λ (p : LinkParameters). AtEachMark (AskedMark IsAll p link) [] run) (same_parameters script.opening link 1 none) (follows_keeps_laws server script run is none follows link w.0 w.1).asked.each)
-    (λ link w. first_count o link) (follows_within server script run is none follows)
+    (λ link w. subst (λ (p : LinkParameters). AtEachMark (AskedMark IsAll p link) [] run) (same_parameters script.opening link 1 none) (first_laws server script run is none drill link w.0 w.1).asked.each)
+    (λ link w. first_count o link) (follows_within server script run is none drill.follows)

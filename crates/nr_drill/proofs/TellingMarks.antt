@@ -41,10 +41,9 @@ use Rattle.nr_reduce.specs.AtEachMark.{AtEachMark}
 use Rattle.nr_reduce.specs.Journal.{PlacedMark, PlainMark}
 use Rattle.nr_reduce.specs.NumberedJournal.{entries_alone}
 use Rattle.nr_reduce.proofs.Steps.{AtEachMark_first}
-use Rattle.nr_drill.proofs.Followed.{follows_first}
 use Rattle.nr_drill.proofs.Journals.{follows_is_plain, journal_alone, length_alone}
 use Rattle.nr_drill.proofs.FirstLinks.{opened_firsts, own_client}
-use Rattle.nr_drill.proofs.FirstLines.{index_in}
+use Rattle.nr_drill.proofs.FirstLines.{follows_first, index_in}
 use Rattle.nr_drill.specs.Unnumbered.{AreFirst, UnnumberedMark, IsPlainRun}
 
 -- ===== logs
@@ -236,7 +235,7 @@ report_own ends report calls links server script is none drill adds are =
     (subst (λ (ls : List ℕ). AreEnds (last_setting drill.follows) ls run ends) first.last_links are) in
     let count : length ends ≡ clients = ap (λ (es : List LinkEnds). length es) here ∙ length-map-range_with_len (ends_of s run) 1 clients in
     let own_ends : AreEnds s (links_of (length ends)) run ends = subst (λ (n : ℕ). AreEnds s (links_of n) run ends) (sym count) here in
-    let numbered : AreNumbered (length ends) run = subst (λ (n : ℕ). AreNumbered n run) (sym count) (drill_numbered server script run is none drill.follows) in
+    let numbered : AreNumbered (length ends) run = subst (λ (n : ℕ). AreNumbered n run) (sym count) (drill_numbered server script run is none drill) in
     let setting : IsSetting s = record { adds = adds; firsts = opened_firsts server script.opening none; ones = λ link. refl } in
     let told : TellsMarks s (length ends) run report = tells s setting run ends own_ends report (follows_is_plain server script run is none drill.follows) numbered (calls numbered) links in
     record {
