@@ -85,7 +85,7 @@ tagged_entry client xid e = by (client == 0)
     by true = refl
     by false = refl
 
-tagged_alone : (client xid : ℕ) (es : List Entry) → entries_alone (map (tagged client xid) es) ≡ es
+pub tagged_alone : (client xid : ℕ) (es : List Entry) → entries_alone (map (tagged client xid) es) ≡ es
 tagged_alone client xid [] = refl
 tagged_alone client xid (e ∷ es) = λ i. tagged_entry client xid e i ∷ tagged_alone client xid es i
 
@@ -103,7 +103,7 @@ one_alone plain number T (marks.Revoke l xid bytes) none = refl
 one_alone plain number T (marks.Drop l) none = refl
 one_alone plain number T (marks.Told l what) none = refl
 
-both_alone : (T U : List TaggedEntry) → entries_alone (T ++ U) ≡ entries_alone T ++ entries_alone U
+pub both_alone : (T U : List TaggedEntry) → entries_alone (T ++ U) ≡ entries_alone T ++ entries_alone U
 both_alone [] U = refl
 both_alone (t ∷ T) U = ap (λ (es : List Entry). t.entry ∷ es) (both_alone T U)
 

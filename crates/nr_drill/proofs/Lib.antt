@@ -26,7 +26,9 @@ pub mod Told
 pub mod Lookups
 pub mod Executions
 pub mod Counting
+pub mod DraftTables
 pub mod DraftSteps
+pub mod CountedCalls
 pub mod Numbering
 pub mod TellingMarks
 pub mod Actions
