@@ -31,6 +31,7 @@ pub mod DraftSteps
 pub mod CountedCalls
 pub mod Numbering
 pub mod TellingMarks
+pub mod FirstRuns
 pub mod Actions
 pub mod OpenCalls
 pub mod Greeted

@@ -118,7 +118,7 @@ typed_reply before (marks.Revoke l xid bytes) h = tt
 typed_reply before (marks.Drop l) h = tt
 typed_reply before (marks.Told l what) h = tt
 
-typed_replies : (run : List Mark) → IsTyped run → RepliedInBytes run
+pub typed_replies : (run : List Mark) → IsTyped run → RepliedInBytes run
 typed_replies run h = AtEachMark_each TypedMark RepliedMark [] run typed_reply h
 
 -- ===== the clients of links
