@@ -19,10 +19,8 @@ use Rattle.nr_world.specs.private.Results.{ReportsWorld}
 use Rattle.nr_world.specs.private.Stands.{drill_setting, MakesLines, HasOpened, WorldStands}
 use Rattle.nr_world.specs.private.Within.{IsClient, IsLineWithin, AreWithin, CanMakeAll}
 use Rattle.nr_world.proofs.SameServer.{openings_clock}
-use Rattle.nr_drill.proofs.Followed.{all_fit, opened_first_links}
-use Rattle.nr_drill.proofs.FirstLines.{all_makes, all_name, both_true}
+use Rattle.nr_drill.proofs.FirstLines.{all_fit, all_makes, all_name, both_true, opened_first_links, opened_heard}
 use Rattle.nr_drill.proofs.FirstLinks.{opened_firsts}
-use Rattle.nr_drill.proofs.LessScripts.{opened_heard}
 
 client_is : (opening : Opening) (client : ℕ) → is_client opening client ≡ true → IsClient opening.clients client
 client_is opening client e =
