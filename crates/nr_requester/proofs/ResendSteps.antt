@@ -2,6 +2,7 @@
 use Rattle.std.proofs.Common.{◌≡◌, ℕ, ◌+◌, ◌<◌, ◌≤◌, max, Bool, true, false, cond, ◌&&◌, ltb, List, [], ◌∷◌, ◌++◌, length, drop, Option, None, Some, refl, sym, ap, subst, ◌∙◌, arith, length-append}
 use Rattle.std.specs.Prelude.{is_some}
 use Rattle.std.specs.List.{AllByRecursion}
+use Rattle.std.proofs.lemmas.Bool.{lt-ltb}
 use Rattle.nr_link.specs.declared.end.End.{End}
 use Rattle.nr_endpoint.specs.EndpointState.{EndpointState, cut_frame_len}
 use Rattle.nr_endpoint.specs.LinkState.{LinkState, LinkSide, has_ended}
@@ -113,6 +114,10 @@ resent_left link link2 message sent is le = subst (λ (l : LinkSide). sent ≤ l
 
 -- ---- All of them
 
+-- whether one can be, if one waits
+may_if : (messages : List (List ℕ)) (message : List ℕ) (may b : Bool) → (ltb 0 (length (message ∷ messages)) && may) ≡ b → may ≡ b
+may_if messages message may b e = (let some : ltb 0 (length (message ∷ messages)) ≡ true = lt-ltb 0 (length (message ∷ messages)) (omega arith) in ap (λ (x : Bool). x && may) (sym some) ∙ e)
+
 -- one more is sent again
 pub resends_on : (h : RequesterSide) → (ltb 0 (length h.state.side.send_queue.held) && may_resend h.state) ≡ true → with_resends (after_resend h (first_message h.state.side.send_queue.held)) ≡ with_resends h
 unfolding with_resends after_resend
@@ -126,7 +131,7 @@ resends_on h may = by h.state.side.send_queue.held refl may
     by [] is e = absurd cc
     by (message ∷ messages) is e =
         ap (λ (ms : List (List ℕ)). resent_from (drop 1 ms) (after_resend h (first_message ms))) is
-        ∙ (sym (ap (λ (b : Bool). cond b (resent_from messages (after_resend h message)) h) e) ∙ sym (ap (λ (ms : List (List ℕ)). resent_from ms h) is))
+        ∙ (sym (ap (λ (b : Bool). cond b (resent_from messages (after_resend h message)) h) (may_if messages message (may_resend h.state) true e)) ∙ sym (ap (λ (ms : List (List ℕ)). resent_from ms h) is))
 
 -- no other can be
 pub resends_none : (h : RequesterSide) → (ltb 0 (length h.state.side.send_queue.held) && may_resend h.state) ≡ false → with_resends h ≡ h
@@ -135,7 +140,7 @@ resends_none h may = by h.state.side.send_queue.held may
   where
     by : (messages : List (List ℕ)) → (ltb 0 (length messages) && may_resend h.state) ≡ false → resent_from messages h ≡ h
     by [] e = refl
-    by (message ∷ messages) e = ap (λ (b : Bool). cond b (resent_from messages (after_resend h message)) h) e
+    by (message ∷ messages) e = ap (λ (b : Bool). cond b (resent_from messages (after_resend h message)) h) (may_if messages message (may_resend h.state) false e)
 
 pub resends_over : (h : RequesterSide) → length h.state.side.send_queue.held ≡ 0 → with_resends h ≡ h
 unfolding with_resends

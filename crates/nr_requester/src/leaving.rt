@@ -126,7 +126,7 @@ fn resume_one(
         room,
     } = resume_call(alloc, endpoint, credit, receive_length, call, stored)?;
     let given = given_by(&claims);
-    let send = made.len() as u64;
+    let send = made.as_slice().len() as u64;
     made.push(OutstandingCall {
         xid: stored.xid,
         send,
@@ -199,8 +199,7 @@ fn next_link(
 {
     let first = NUMBERS_END - left.regions().stags_left();
     let receive_length = left.receive_length() as u32;
-    let mut endpoint =
-        Endpoint::open_again(alloc, 1, first, left.terms(), left.last_agreed())?;
+    let mut endpoint = Endpoint::open_again(alloc, 1, first, left.terms(), left.last_agreed())?;
     let mut made = Vec::new(alloc);
     match resume_all(
         alloc,
