@@ -214,3 +214,9 @@ fed_within h h2 h3 n le resent = (let same : fed_bytes h3 ≡ fed_bytes h2 = ap 
 
 pub fed_end : (h2 h3 : RequesterSide) → h3 ≡ with_resends h2 → h3.state.side.ended ≡ h2.state.side.ended
 fed_end h2 h3 resent = ap (λ (x : RequesterSide). x.state.side.ended) resent ∙ (resends_keep h2).ended
+
+-- a piece after which no call is sent again
+pub fed_same : (h h2 h3 : RequesterSide) (piece : List ℕ) → h2 ≡ after_fed h piece h2.staging → after_feed h piece h2.staging ≡ after_fed h piece h2.staging → h2.state.side.ended ≡ None → h3 ≡ with_resends h2 → h2 ≡ h3
+fed_same h h2 h3 piece is none lives resent =
+    let same : h3.staging ≡ h2.staging = ap (λ (x : RequesterSide). x.staging) resent ∙ (resends_keep h2).staging in
+    is ∙ sym none ∙ ap (λ (staging : List ℕ). after_feed h piece staging) (sym same) ∙ sym (fed_on h h2 h3 piece is lives resent)

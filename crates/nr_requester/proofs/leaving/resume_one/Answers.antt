@@ -20,12 +20,12 @@ returns c =
     let m = c.args.endpoint.now.link.state.memory in
     let plan : Plan = plan_again (stored_view stored) call in
     let made = c.in_ok-lists.field-0 in
-    let one : OutstandingCall = record { xid = stored.xid; send = c.len-send.result; call = None; is_forgotten = false; read_at = stored.read_at; offered = c.in_ok-lists.lists; given = c.given_by-given.result; claims = c.in_ok-lists.claims; room = c.in_ok-lists.room } in
+    let one : OutstandingCall = record { xid = stored.xid; send = length c.as_slice.result.now; call = None; is_forgotten = false; read_at = stored.read_at; offered = c.in_ok-lists.lists; given = c.given_by-given.result; claims = c.in_ok-lists.claims; room = c.in_ok-lists.room } in
     let given : given_stags c.given_by-given.result ≡ map (λ b. b.stag) (buffers m.next plan) = c.given_by-given.ensures ∙ ap (λ (x : Claims). stags_of x) c.in_ok-lists.ensures.claims ∙ stags_are_lem m plan in
     let is : MadeOne c.args.credit c.args.receive_length stored call c.args.endpoint.now c.resume_call.new.endpoint c.args.made.now.items c.push.new.self.items = record {
       one = one;
       more = c.in_ok-push.ensures.items;
-      stored = λ i. record { xid = stored.xid; send = c.len-send.ensures i; call = Some call; is_forgotten = false; read_at = sym (read_again (call_payload stored.xid call) stored.read_at stored.offered) i; offered = c.in_ok-lists.ensures.lists i; given = given i; claims = c.in_ok-lists.ensures.claims i };
+      stored = λ i. record { xid = stored.xid; send = length (c.as_slice.ensures.value i); call = Some call; is_forgotten = false; read_at = sym (read_again (call_payload stored.xid call) stored.read_at stored.offered) i; offered = c.in_ok-lists.ensures.lists i; given = given i; claims = c.in_ok-lists.ensures.claims i };
       link = c.in_ok-lists.ensures.link;
       staging = c.resume_call.ensures.staging;
       outside = c.in_ok-lists.ensures.outside;
