@@ -141,7 +141,7 @@ answer_in_window r plan none may =
     let free : Bool = eqb (length r.side.send_queue.held) 0 in
     let far : Bool = is_far number r.next_xid least in
     let parts : (ltb (length r.outstanding) r.grant ≡ true) × ((free && not far) ≡ true) =
-        and_parts (ltb (length r.outstanding) r.grant) (free && not far) (sym (ap (λ (ended : Option End). may_submit_by ended r.grant (length r.outstanding) free far) none) ∙ may) in
+    and_parts (ltb (length r.outstanding) r.grant) (free && not far) (sym (ap (λ (ended : Option End). may_submit_by ended r.grant (length r.outstanding) free far) none) ∙ may) in
     let apart : (free ≡ true) × (not far ≡ true) = and_parts free (not far) parts.1 in
     (λ i. cond (apart.0 i && parts.0 i) (unless_far_by number r.next_xid least (answer_by_numbers r plan)) (submissions.Refused (refusals.NoCredit (length r.outstanding) r.grant)))
     ∙ near number r.next_xid least (answer_by_numbers r plan) apart.1
@@ -193,7 +193,7 @@ blocked_waits r granted held no = by r.outstanding refl where
       let near : not far ≡ true = ap (λ (calls : List StoredCall). not (is_far r.side.terms.number r.next_xid (least_stored calls))) none ∙ none_far r.side.terms.number r.next_xid in
       let credit : ltb (length r.outstanding) r.grant ≡ true = lt-ltb (length r.outstanding) r.grant (omega (arith, granted, count)) in
       let may : may_submit_by r.side.ended r.grant (length r.outstanding) (eqb (length r.side.send_queue.held) 0) far ≡ true =
-          and_from (ltb (length r.outstanding) r.grant) (is_some r.side.ended || ((eqb (length r.side.send_queue.held) 0) && not far)) credit
-          (ended_or r.side.ended (eqb (length r.side.send_queue.held) 0) far (ap (λ (n : ℕ). eqb n 0) unheld) near) in
+      and_from (ltb (length r.outstanding) r.grant) (is_some r.side.ended || ((eqb (length r.side.send_queue.held) 0) && not far)) credit
+      (ended_or r.side.ended (eqb (length r.side.send_queue.held) 0) far (ap (λ (n : ℕ). eqb n 0) unheld) near) in
       absurd (true≢false (sym may ∙ no))
   by (c ∷ calls) some = (let count = ap (λ (cs : List StoredCall). length cs) some in omega (arith, count))

@@ -19,7 +19,7 @@ use Rattle.nr_requester.specs.declared.outstanding.OutstandingCall.{OutstandingC
 use Rattle.nr_requester.specs.RequesterState.{RequesterState, RequesterSide, awaited_call}
 use Rattle.nr_requester.specs.Reopening.{CallsAgain, calls_again, calls_again_from, stags_for_calls, after_reopen}
 use Rattle.nr_requester.specs.Views.{RequesterInvariant, IsAnswered, stored_view, requester_view, side_view}
-use Rattle.nr_requester.specs.HeldBytes.{AreRisingBy, CountsFit, LinkFits, RequesterBounds, IsBounded, send_of, unsent, xid_of}
+use Rattle.nr_requester.specs.HeldBytes.{AreRisingBy, CallFits, CountsFit, LinkFits, RequesterBounds, IsBounded, send_of, unsent, xid_of}
 use Rattle.nr_requester.specs.private.Resuming.{AreLeft, AreResumed, AreResuming, IsNextLink, awaited_calls, with_calls, made_again, resumed_link}
 use Rattle.nr_requester.proofs.Unsent.{all_unsent}
 use Rattle.nr_requester.proofs.Within.{opened_within}
@@ -109,6 +109,16 @@ quiet_link first terms earlier a = (refl, (refl, refl))
 no_sends : (first : ℕ) (terms : SideTerms) (earlier : Option Agreement) (a : CallsAgain) → ((resumed_link (initial_link Initiator 1 first terms earlier) a).state.send_queue.send_ends ≡ []) × ((resumed_link (initial_link Initiator 1 first terms earlier) a).state.send_queue.sends_left ≡ 0)
 unfolding initial_link
 no_sends first terms earlier a = (refl, refl)
+
+-- the calls that are outstanding when the link is left
+pub left_calls : (e : EndpointState) (len next grant room sends : ℕ) (calls slice : List OutstandingCall) (answers : List AnsweredCall) → slice ≡ calls → RequesterInvariant len e.link next grant calls answers room → RequesterBounds len e sends next calls answers → AreLeft e.link.state.receive_queue.receive_length next slice
+left_calls e len next grant room sends calls slice answers same s w =
+    let all : AreLeft e.link.state.receive_queue.receive_length next calls = record {
+      own = s.offers;
+      rising = s.rising;
+      fits = subst (λ (n : ℕ). AllByRecursion (CallFits n) calls) (sym w.link.receive_length) w.each;
+    } in
+    subst (λ (cs : List OutstandingCall). AreLeft e.link.state.receive_queue.receive_length next cs) (sym same) all
 
 still_apart : (next len i : ℕ) (e : EndpointState) (calls made : List OutstandingCall) (answers : List AnsweredCall) → AreResumed len next e calls i made → AllByRecursion (IsAnswered next calls) answers → AllByRecursion (IsAnswered next made) answers
 still_apart next len i e calls made [] r h = tt
