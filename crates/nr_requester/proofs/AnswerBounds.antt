@@ -25,6 +25,7 @@ use Rattle.nr_reduce.specs.ClientMessages.{outcome_bytes}
 use Rattle.nr_requester.specs.HeldBytes.{NothingOutside, call_bytes, stored_bytes, buffer_len, buffers_len, LinkFits, IsCount, RegionsHave, AreRisingBy, send_of, CountsFit, unsent, in_bytes, claims_size, claims_len, claims_total, CallFits, AnswerFits, AreDistinct, RequesterBounds, IsBounded, reply_room, segments_offered}
 use Rattle.nr_requester.proofs.ChangedCalls.{nth_of, not_found}
 use Rattle.nr_requester.proofs.Taken.{same_rising}
+use Rattle.nr_requester.proofs.DeadRegions.{released_next}
 use Rattle.nr_requester.proofs.RegionBounds.{Both, bytes_count, released_both}
 use Rattle.nr_requester.proofs.AnswerSteps.{all_append}
 use Rattle.nr_requester.proofs.MessageBodies.{one_held}
@@ -212,6 +213,7 @@ completed_bounded len sent sends next n room most number e e2 calls calls2 answe
         queue = w.link.queue;
         responses = w.link.responses;
         messages = w.link.messages;
+        stag = (let same = released_next s.memory (stags_of c.claims) in let some = w.link.stag in omega (arith, same, some));
         regions = (both in_bytes bytes_count).0;
       });
       regions = λ size is. subst (λ (x : LinkState). RegionsHave size x.memory (claims_total size left)) (sym state) (subst (λ (k : ℕ). RegionsHave size memory k) (total_removed size n calls d lt) (both size is).1);

@@ -90,6 +90,7 @@ dead_fits size own s len total f = (
     queue = f.0.queue;
     responses = f.0.responses;
     messages = f.0.messages;
+    stag = (let same = dead_next own s.memory in let some = f.0.stag in omega (arith, same, some));
     regions = λ stag region there. f.0.regions stag region (sym (dead_region own s.memory stag) ∙ there);
   },
   subst (λ (n : ℕ). IsTotal (region_size size) n total (dead_memory own s.memory).held) (sym (dead_next own s.memory))
@@ -151,14 +152,14 @@ module _ (len sent sends next : ℕ) (calls : List OutstandingCall) (answers : L
   pub next_bounded : e2.link ≡ after_call e.link NextEvent → IsBounded len sent sends next e2 calls answers
   unfolding after_call
   next_bounded is = to_state (after_call e.link NextEvent).state (ap (λ (l : LinkSide). l.state) is) refl (λ size counts. (
-    record { side = b.0.link.side; receives = b.0.link.receives; receive_length = b.0.link.receive_length; receive = b.0.link.receive; up = b.0.link.up; down = b.0.link.down; hello = b.0.link.hello; queue = b.0.link.queue; responses = b.0.link.responses; messages = b.0.link.messages; regions = b.0.link.regions },
+    record { side = b.0.link.side; receives = b.0.link.receives; receive_length = b.0.link.receive_length; receive = b.0.link.receive; up = b.0.link.up; down = b.0.link.down; hello = b.0.link.hello; queue = b.0.link.queue; responses = b.0.link.responses; messages = b.0.link.messages; stag = b.0.link.stag; regions = b.0.link.regions },
     b.0.regions size counts,
   )) (refl, (refl, refl))
 
   pub post_bounded : e2.link ≡ after_call e.link Post → IsBounded len sent sends next e2 calls answers
   unfolding after_call
   post_bounded is = to_state (after_call e.link Post).state (ap (λ (l : LinkSide). l.state) is) refl (λ size counts. (
-    record { side = b.0.link.side; receives = b.0.link.receives; receive_length = b.0.link.receive_length; receive = b.0.link.receive; up = b.0.link.up; down = b.0.link.down; hello = b.0.link.hello; queue = b.0.link.queue; responses = b.0.link.responses; messages = b.0.link.messages; regions = b.0.link.regions },
+    record { side = b.0.link.side; receives = b.0.link.receives; receive_length = b.0.link.receive_length; receive = b.0.link.receive; up = b.0.link.up; down = b.0.link.down; hello = b.0.link.hello; queue = b.0.link.queue; responses = b.0.link.responses; messages = b.0.link.messages; stag = b.0.link.stag; regions = b.0.link.regions },
     b.0.regions size counts,
   )) (refl, (refl, refl))
 
@@ -182,6 +183,7 @@ module _ (len sent sends next : ℕ) (calls : List OutstandingCall) (answers : L
           queue = ended_fits s.send_queue true (subst (λ (x : Bool). QueueFits x s.send_queue) (going lives) b.0.link.queue);
           responses = b.0.link.responses;
           messages = b.0.link.messages;
+          stag = b.0.link.stag;
           regions = b.0.link.regions;
         },
         b.0.regions size counts,

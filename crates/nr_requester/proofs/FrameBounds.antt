@@ -8,7 +8,7 @@ use Rattle.nr_regions.specs.declared.denied.Denied.{Denied}
 use Rattle.nr_regions.specs.declared.denied.Denied.TheVariants.{NoStag}
 use Rattle.nr_regions.specs.declared.right.Kind.{Kind}
 use Rattle.nr_regions.specs.RegisteredMemory.{Region, RegisteredMemory, Access, held_region, live_region, region_offer, denial_in, denial, bytes_in, bytes_at, bytes_after_write, after_place, after_place_in, right_for}
-use Rattle.nr_regions.proofs.Holding.{live_parts, within, get_insert_here, get_insert_other, length_bytes_after_write}
+use Rattle.nr_regions.proofs.Holding.{next_after_place, live_parts, within, get_insert_here, get_insert_other, length_bytes_after_write}
 use Rattle.nr_regions.proofs.Totals.{sound_change}
 use Rattle.nr_wire.specs.Constants.{OPCODE_READ_RESPONSE, OPCODE_READ_REQUEST}
 use Rattle.nr_wire.specs.declared.hello.Side.{Side}
@@ -65,6 +65,7 @@ end_fits size s end len total live f = (
     queue = end_within send_frames_max response_max 0 0 s.side end s.send_queue (subst (λ (b : Bool). QueueFits b s.send_queue) live f.0.queue);
     responses = f.0.responses;
     messages = f.0.messages;
+    stag = f.0.stag;
     regions = f.0.regions;
   },
   f.1,
@@ -129,6 +130,7 @@ read_fits size s last n true len total f = (
     queue = f.0.queue;
     responses = f.0.responses;
     messages = f.0.messages;
+    stag = f.0.stag;
     regions = f.0.regions;
   },
   f.1,
@@ -182,10 +184,10 @@ segment_fits size s f (Tagged last opcode stag to payload) None len total live a
     let m = placed_fits size s.memory stag to (kind_of opcode) payload total (allowed_lem s last opcode stag to payload (alive_tagged s f last opcode stag to payload at lives)) h.0.regions h.1 in
     let placed : LinkState = record s { memory = after_place s.memory stag to payload } in
     let after = read_fits size placed last (length payload) (eqb opcode OPCODE_READ_RESPONSE) len total (
-      record { side = h.0.side; receives = h.0.receives; receive_length = h.0.receive_length; receive = h.0.receive; up = h.0.up; down = h.0.down; hello = h.0.hello; queue = h.0.queue; responses = h.0.responses; messages = h.0.messages; regions = m.0 },
+      record { side = h.0.side; receives = h.0.receives; receive_length = h.0.receive_length; receive = h.0.receive; up = h.0.up; down = h.0.down; hello = h.0.hello; queue = h.0.queue; responses = h.0.responses; messages = h.0.messages; stag = (let same = next_after_place s.memory stag to payload in let some = h.0.stag in omega (arith, same, some)); regions = m.0 },
       m.1,
     ) in
-    (record { side = after.0.side; receives = after.0.receives; receive_length = after.0.receive_length; receive = after.0.receive; up = after.0.up; down = after.0.down; hello = after.0.hello; queue = after.0.queue; responses = after.0.responses; messages = after.0.messages; regions = after.0.regions }, after.1)
+    (record { side = after.0.side; receives = after.0.receives; receive_length = after.0.receive_length; receive = after.0.receive; up = after.0.up; down = after.0.down; hello = after.0.hello; queue = after.0.queue; responses = after.0.responses; messages = after.0.messages; stag = after.0.stag; regions = after.0.regions }, after.1)
 segment_fits size s f (Untagged last opcode w queue msn offset payload) None len total live at lives h =
     let left = answered_fits s f last opcode w queue msn offset payload (eqb opcode OPCODE_READ_REQUEST) refl at lives h.0.regions
     (record { hello = h.0.hello; queue = subst (λ (b : Bool). QueueFits b s.send_queue) live h.0.queue; responses = h.0.responses; messages = h.0.messages }) in (
@@ -200,6 +202,7 @@ segment_fits size s f (Untagged last opcode w queue msn offset payload) None len
         queue = subst (λ (b : Bool). QueueFits b (with_read_request (cond (eqb opcode OPCODE_READ_REQUEST) (Some (read_request_in payload)) None) s.memory s.send_queue)) (sym live) left.queue;
         responses = left.responses;
         messages = left.messages;
+        stag = h.0.stag;
         regions = h.0.regions;
       },
       h.1,
@@ -233,6 +236,7 @@ hello_fits size s f (Ok hello) len total live h = (
     queue = h.0.queue;
     responses = h.0.responses;
     messages = h.0.messages;
+    stag = h.0.stag;
     regions = h.0.regions;
   },
   h.1,

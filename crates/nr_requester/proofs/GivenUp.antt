@@ -20,6 +20,7 @@ use Rattle.nr_requester.specs.Views.{HasRoom, RequesterInvariant, IsAnswered, Ar
 use Rattle.nr_requester.specs.CountedMarks.{one_mark_more, with_releases}
 use Rattle.nr_requester.specs.HeldBytes.{NothingOutside, LinkFits, IsCount, RegionsHave, AreRisingBy, xid_of, send_of, CountsFit, in_bytes, claims_size, claims_total, CallFits, AnswerFits, RequesterBounds}
 use Rattle.nr_requester.proofs.Releases.{all_released, held_middle, stags_are_of}
+use Rattle.nr_requester.proofs.DeadRegions.{released_next}
 use Rattle.nr_requester.proofs.RegionBounds.{Both, bytes_count, released_both}
 use Rattle.nr_requester.proofs.ChangedCalls.{changed_by, LeavesOthers, found_at, none_found, one_changed, none_changed, count_stays, each_stays, nth_of, rising_stays, waiting_stays, claims_around, claims_changed, total_changed, apart_stays, others_answered}
 use Rattle.nr_requester.proofs.FoundAnswers.{all_left, distinct_left, fewer_left, none_taken}
@@ -107,6 +108,7 @@ given_up_within e e2 len sends next n calls calls2 answers d w held lt same none
         queue = w.link.queue;
         responses = w.link.responses;
         messages = w.link.messages;
+        stag = (let same = released_next s.memory (stags_of c.claims) in let some = w.link.stag in omega (arith, same, some));
         regions = (both in_bytes bytes_count).0;
       });
       regions = λ size is. subst (λ (x : LinkState). RegionsHave size x.memory (claims_total size left)) (sym state) (subst (λ (k : ℕ). RegionsHave size memory k) (sum size) (both size is).1);

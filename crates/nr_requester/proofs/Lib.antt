@@ -6,6 +6,7 @@ pub mod Marks
 pub mod CountedMarks
 pub mod AnsweredRegions
 pub mod Accepting
+pub mod HeldBack
 pub mod MaySubmit
 pub mod Answered
 pub mod Sized
@@ -16,6 +17,7 @@ pub mod OneReceive
 pub mod Faults
 pub mod FrameSides
 pub mod FrameMoves
+pub mod WaitsApart
 pub mod Frames
 pub mod Greeting
 pub mod Feeding

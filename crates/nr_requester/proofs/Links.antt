@@ -90,6 +90,7 @@ link_drained opened s k n le few keeps =
       held = keeps.held;
       greeted = keeps.greeted;
       granted = keeps.granted;
+      client_terms = keeps.client_terms;
     }
 
 -- ---- A call is accepted
@@ -196,6 +197,7 @@ module _ (opened : LinkParameters) (s : LinkState) (k : ClientState) (count : �
         held = left;
         greeted = keeps.greeted;
         granted = keeps.granted;
+        client_terms = keeps.client_terms;
       }
     where
       same : (b : Bool) → sends_ends b opened (client_state_after opened k (CallSubmitted count a)) ≡ sends_ends b opened (record k { due = k.due + length (cond k.has_hello out []); send_ends = k.send_ends ++ cond k.has_hello ((k.due + length (cond k.has_hello out [])) ∷ []) []; outstanding = k.outstanding ++ o ∷ [] })
@@ -294,6 +296,7 @@ link_revoked opened s k count xid m keeps = record {
   held = keeps.held ∙ messages_stay opened xid k.waiting;
   greeted = keeps.greeted;
   granted = keeps.granted;
+  client_terms = keeps.client_terms;
 }
   where
     same : (b : Bool) → sends_ends b opened (client_state_after opened k (MemoryRevoked count xid)) ≡ sends_ends b opened k

@@ -65,6 +65,7 @@ lost_counted h xid link run is = counted_more link run (marks.Lost link xid) h.m
 pub lost_is_a_mark : LostIsAMark
 lost_is_a_mark h xid end is lt opened link run s = record {
   keeps = others_leave_client opened link (after_revoke h xid) run (marks.Lost link xid) (lost_client opened link h run xid end is s.keeps) refl refl refl;
-  answers = given_mark revoked_if opened link h (after_revoke h xid) run (marks.Lost link xid) xid revokes (tt, tt) (lost_gives link xid) lt s.answers (lost_given h xid);
+  first = s.first;
+  answers = given_mark revoked_if [] opened link h (after_revoke h xid) run (marks.Lost link xid) xid revokes (tt, tt) (lost_gives link xid) lt s.answers (lost_given h xid);
   counted = lost_counted h xid link run s.counted;
 }

@@ -298,6 +298,7 @@ link_opened opened link staging first = record {
   held = sym (ap (λ (resumed : List ResumedCall). map (waiting_message opened) (waiting_from opened.first_stag resumed)) first.resumed);
   greeted = refl;
   granted = λ e. refl;
+  client_terms = refl;
 }
 
 -- its queue is its hello

@@ -57,6 +57,7 @@ side_next next link h o = record {
   held = o.messages;
   greeted = refl;
   granted = λ e. refl;
+  client_terms = refl;
 }
 
 pub next_link_begins : NextLinkBegins

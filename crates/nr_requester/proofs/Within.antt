@@ -47,7 +47,7 @@ use Rattle.nr_requester.proofs.OutputBounds.{send_fits, written_fits}
 use Rattle.nr_requester.proofs.PlanBounds.{plan_bounds, plan_segments, plan_writes, payload_small}
 use Rattle.nr_requester.proofs.OutsideBounds.{opened_outside, same_outside}
 use Rattle.nr_requester.proofs.RegionBounds.{Both, bytes_count, offered_both, plan_short, plan_len}
-use Rattle.nr_requester.proofs.Sent.{count_offered, registered_offered}
+use Rattle.nr_requester.proofs.Sent.{count_offered, registered_offered, registered_next}
 use Rattle.nr_requester.proofs.HeldRegions.{rising_append}
 use Rattle.nr_requester.proofs.Unsent.{counts_written, counts_sent}
 
@@ -73,10 +73,14 @@ first_regions size first_stag fits = (
 receive_small : (terms : SideTerms) → receive_length_for terms ≤ receive_max
 receive_small terms = omega (arith, min-le_right (max terms.units 1) UNITS_MAX)
 
-first_link : (size : ℕ → ℕ) (first_stag : ℕ) (terms : SideTerms) → first_stag ≤ 2 ^ 32 →
+first_next : (first_stag : ℕ) → (initial_memory first_stag).next ≡ first_stag
+unfolding initial_memory
+first_next first_stag = refl
+
+first_link : (size : ℕ → ℕ) (first_stag : ℕ) (terms : SideTerms) → 0 < first_stag → first_stag ≤ 2 ^ 32 →
     LinkFits (receive_length_for terms) (initial_link Initiator 1 first_stag terms).state × RegionsHave size (initial_link Initiator 1 first_stag terms).state.memory 0
 unfolding initial_link
-first_link size first_stag terms fits =
+first_link size first_stag terms some fits =
     let b = first_regions size first_stag fits in (
       record {
         side = refl;
@@ -89,6 +93,7 @@ first_link size first_stag terms fits =
         queue = λ n. omega arith;
         responses = omega arith;
         messages = tt;
+        stag = (let same = first_next first_stag in omega (arith, same, some));
         regions = b.0;
       },
       b.1,
@@ -103,16 +108,16 @@ unfolding initial_link
 none_held_first first_stag next terms = omega arith
 
 pub opened_within : (e : EndpointState) (len first_stag next : ℕ) (terms : SideTerms) (calls : List OutstandingCall) (answers : List AnsweredCall) → length e.staging ≡ FPDU_MAX → e.outside ≡ empty → e.link ≡ initial_link Initiator 1 first_stag terms → len ≡ receive_length_for terms →
-    first_stag < 2 ^ 32 → calls ≡ [] → answers ≡ [] → RequesterBounds len e 0 next calls answers
-opened_within e len first_stag next terms calls answers staging nothing is receives fits none empty =
+    0 < first_stag → first_stag < 2 ^ 32 → calls ≡ [] → answers ≡ [] → RequesterBounds len e 0 next calls answers
+opened_within e len first_stag next terms calls answers staging nothing is receives some fits none empty =
     let le : first_stag ≤ 2 ^ 32 = omega (arith, fits) in
     let all : RequesterBounds (receive_length_for terms) e 0 next [] [] = record {
       staging = staging;
       outside = opened_outside e first_stag terms is nothing (omega (arith, fits));
       numbers = tt;
       order = subst (λ (x : LinkSide). 0 + length x.state.send_queue.held ≤ next) (sym is) (none_held_first first_stag next terms);
-      link = subst (λ (x : LinkSide). LinkFits (receive_length_for terms) x.state) (sym is) (first_link in_bytes first_stag terms le).0;
-      regions = λ size counts. subst (λ (x : LinkSide). RegionsHave size x.state.memory 0) (sym is) (first_link size first_stag terms le).1;
+      link = subst (λ (x : LinkSide). LinkFits (receive_length_for terms) x.state) (sym is) (first_link in_bytes first_stag terms some le).0;
+      regions = λ size counts. subst (λ (x : LinkSide). RegionsHave size x.state.memory 0) (sym is) (first_link size first_stag terms some le).1;
       counts = subst (λ (x : LinkSide). CountsFit 0 x.state.send_queue []) (sym is) (first_counts first_stag terms);
       each = tt;
       kept = tt;
@@ -157,6 +162,7 @@ sent_state size counts s plan len xid credit total i lives stags l have =
         queue = subst (λ (b : Bool). QueueFits b (with_send message s.send_queue)) (sym live) (send_fits s.send_queue message small (subst (λ (b : Bool). QueueFits b s.send_queue) live l.queue));
         responses = l.responses;
         messages = l.messages;
+        stag = (let same = registered_next s.memory plan in let some = l.stag in omega (arith, same, some));
         regions = after.0;
       },
       after.1,
@@ -236,6 +242,7 @@ drained_link len s n l = record {
   queue = written_fits (has_ended s) n s.send_queue l.queue;
   responses = written_responses n s.send_queue l.responses;
   messages = written_messages n s.send_queue l.messages;
+  stag = l.stag;
   regions = l.regions;
 }
 

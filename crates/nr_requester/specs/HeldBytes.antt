@@ -189,6 +189,7 @@ pub record LinkFits (len : ℕ) (s : LinkState) : Type 0 where
   pub queue : QueueFits (has_ended s) s.send_queue
   pub responses : length s.send_queue.response_ends ≤ open_reads_max
   pub messages : AllByRecursion FitsSend s.send_queue.held
+  pub stag : 0 < s.memory.next
   pub regions : RegionsFit s.memory
 
 -- What is counted of a region goes by its length: its bytes, or one for each region.

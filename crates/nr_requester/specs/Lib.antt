@@ -22,3 +22,4 @@ pub mod Fed
 pub mod Reopening
 pub mod ReopenedLinks
 pub mod Resends
+pub mod private

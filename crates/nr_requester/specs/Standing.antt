@@ -65,6 +65,7 @@ pub record LinkKeeps (opened : LinkParameters) (s : LinkState) (k : ClientState)
   pub held : s.send_queue.held ≡ map (waiting_message opened) k.waiting
   pub greeted : k.has_hello ≡ not (s.place == 0)
   pub granted : k.has_hello ≡ false → k.grant ≡ 1
+  pub client_terms : k.terms ≡ opened.client
 
 -- A requester that hasn't run out of memory keeps the client of these marks: what that client asks for; its input is what they fed to it,
 -- until it has ended; and its queue is the output that is due by them and isn't written. Its link may be one that was reopened: then the calls

@@ -4,6 +4,8 @@ ghost use Rattle.std.specs.Prelude.{◌≡◌, ◌≢◌, ◌+◌, ◌^◌, ◌<
 ghost use Rattle.nr_rpc.specs.Credential.{CanWriteCred};
 ghost use Rattle.nr_endpoint.specs.Offering.{claims_of};
 ghost use Rattle.nr_reduce.specs.Plans.{regions_needed, lists_of, total};
+ghost use Rattle.nr_reduce.specs.PlansByLists.{plan_by_lists};
+ghost use Rattle.nr_reduce.specs.ClientState.{call_payload};
 ghost use Rattle.nr_reduce.specs.CallOutlines.{outline_plan, OutlineAnswers};
 ghost use Rattle.nr_reduce.specs.declared.call.Refused.TheVariants as refusals;
 ghost use Rattle.nr_reduce.specs.declared.call.Submission.{Submission};
@@ -241,6 +243,8 @@ impl Requester {
         requires planned { IsPlan (outline_plan (head.now ++ call.args) outline) }
         requires numbers { HasNumbers self.old.state (regions_needed (outline_plan (head.now ++ call.args) outline)) }
         requires small { call_bytes call ≤ call_max }
+        requires cred { CanWriteCred call.cred }
+        requires again { IsPlan (plan_by_lists (call_payload self.old.state.next_xid call) (outline_plan (head.now ++ call.args) outline).read_at (lists_of self.old.state.side.memory.next (outline_plan (head.now ++ call.args) outline))) }
         ensures xid { IfOk result (λ xid. xid ≡ self.old.state.next_xid) }
         ensures state { OnOk result (self.new ≡ after_submit self.old call (outline_plan (head.now ++ call.args) outline.entry)) }
         ensures returned { IfErr result (λ c. c ≡ call) }
@@ -323,6 +327,8 @@ impl Requester {
         requires live { self.old.state.side.ended ≡ None }
         requires planned { IsPlan (outline_plan (head.now ++ call.args) outline) }
         requires small { call_bytes call ≤ call_max }
+        requires cred { CanWriteCred call.cred }
+        requires again { IsPlan (plan_by_lists (call_payload self.old.state.next_xid call) (outline_plan (head.now ++ call.args) outline).read_at (lists_of self.old.state.side.memory.next (outline_plan (head.now ++ call.args) outline))) }
         ensures accepted { IfOk result (λ xid. (answer_for self.old.state (regions_needed (outline_plan (head.now ++ call.args) outline.entry)) ≡ submissions.Accepted xid) × (xid ≡ self.old.state.next_xid)) }
         ensures state { OnOk result ((self.new ≡ after_submit self.old call (outline_plan (head.now ++ call.args) outline.entry)) × (self.old.state.next_xid < 2 ^ 32)) }
         ensures refused { IfErr result (λ e. e.1 ≢ refusals.Memory → answer_for self.old.state (regions_needed (outline_plan (head.now ++ call.args) outline.entry)) ≡ submissions.Refused e.1) }
