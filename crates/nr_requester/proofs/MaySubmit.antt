@@ -1,8 +1,8 @@
 -- Whether a new call may be submitted: what a requester says of it is said of the client of its marks; and then it is refused neither since
 -- no credit is left nor since its xid is too far above the least one.
-use Rattle.std.proofs.Common.{◌≡◌, ℕ, ◌+◌, ◌-◌, ◌<◌, ◌≤◌, Bool, true, false, cond, not, ◌&&◌, ◌||◌, ltb, leb, eqb, List, [], ◌∷◌, ◌++◌, length, map, Option, None, Some, Ok, refl, sym, ap, ◌∙◌, arith}
+use Rattle.std.proofs.Common.{◌≡◌, ℕ, zero, suc, ◌+◌, ◌-◌, ◌<◌, ◌≤◌, Bool, true, false, cond, not, ◌&&◌, ◌||◌, ltb, leb, eqb, List, [], ◌∷◌, ◌++◌, length, map, take, Option, None, Some, Ok, refl, sym, ap, ◌∙◌, arith}
 use Rattle.std.specs.Prelude.{is_none, is_some}
-use Rattle.std.proofs.lemmas.Bool.{and_from, and_parts, lt-ltb, true≢false}
+use Rattle.std.proofs.lemmas.Bool.{and_from, and_parts, le-ltb, lt-ltb, true≢false}
 use Rattle.nr_wire.specs.declared.hello.Side.TheVariants.{Initiator}
 use Rattle.nr_link.specs.declared.end.End.{End}
 use Rattle.nr_endpoint.specs.LinkState.{LinkState}
@@ -22,14 +22,14 @@ use Rattle.nr_reduce.specs.KeptCalls.{AreKept, numbered_from, numbered_calls}
 use Rattle.nr_reduce.specs.KeptClient.{CallsKeep, ClientKeeps}
 use Rattle.nr_reduce.specs.Credits.{calls_outstanding}
 use Rattle.nr_reduce.specs.Run.{client}
-use Rattle.nr_reduce.specs.SubmitAnswer.{calls_counted, least_xid, unless_spent, unless_far_by, unless_far_from}
+use Rattle.nr_reduce.specs.SubmitAnswer.{calls_counted, calls_to_resend, least_xid, unless_spent, unless_far_by, unless_far_from}
 use Rattle.nr_reduce.proofs.Keeping.{kept_counts}
-use Rattle.nr_reduce.proofs.Unresumed.{none_waits}
+use Rattle.nr_reduce.proofs.Unresumed.{none_resent, none_waits}
 use Rattle.nr_requester.specs.RequesterState.{RequesterState, RequesterSide, StoredCall, kept_call, kept_client}
 use Rattle.nr_requester.specs.Answers.{answer_by_plan}
 use Rattle.nr_requester.specs.MaySubmit.{is_far_from, is_far, may_submit_by, may_submit, may_be_submitted, client_may_submit}
 use Rattle.nr_requester.specs.Sending.{has_credit, least_stored, unless_refused}
-use Rattle.nr_requester.specs.Standing.{LinkKeeps, RequesterRepresents, waiting_message}
+use Rattle.nr_requester.specs.Standing.{KeepsClient, LinkKeeps, RequesterRepresents, waiting_message}
 use Rattle.nr_requester.proofs.Accepting.{counts_as_client}
 
 -- ---- The client of its marks
@@ -44,29 +44,83 @@ least_of_kept k n sent (c ∷ cs) [] (w ∷ ws) is = ap (λ (xid : ℕ). Some xi
 least_of_kept k n sent (c ∷ cs) (o ∷ os) ws is = ap (λ (xid : ℕ). Some xid) is.0.xid
 
 -- of one that has ended only the credits are compared
-by_ended : (ended : Option End) (grant counted number next : ℕ) (free : Bool) (x y : Option ℕ) → (ended ≡ None → (free ≡ true) × (x ≡ y)) →
-    may_submit_by ended grant counted free (is_far number next x) ≡ may_submit_by ended grant counted true (is_far number next y)
-by_ended (Some end) grant counted number next free x y h = refl
-by_ended None grant counted number next free x y h =
-    let same : (free ≡ true) × (x ≡ y) = h refl in
-    λ i. ltb counted grant && (same.0 i && not (is_far number next (same.1 i)))
+by_ended : (ended : Option End) (grant counted : ℕ) (free far distant : Bool) → (ended ≡ None → may_submit_by None grant counted free far ≡ may_submit_by None grant counted true distant) →
+    may_submit_by ended grant counted free far ≡ may_submit_by ended grant counted true distant
+by_ended (Some end) grant counted free far distant h = refl
+by_ended None grant counted free far distant h = h refl
+
+-- without a credit it isn't asked for more
+without_credit : (grant counted : ℕ) (free far distant : Bool) → grant ≤ counted → may_submit_by None grant counted free far ≡ may_submit_by None grant counted true distant
+without_credit grant counted free far distant none =
+    let no : ltb counted grant ≡ false = le-ltb counted grant none in
+    ap (λ (b : Bool). b && (free && not far)) no ∙ sym (ap (λ (b : Bool). b && (true && not distant)) no)
+
+take_none : {A : Type 0} (n : ℕ) (x : A) (xs : List A) → take n (x ∷ xs) ≡ [] → n ≡ 0
+take_none zero x xs is = refl
+take_none (suc n) x xs is = absurd cc
+
+-- While a call waits to be sent again no credit is left: before the server's hello one is granted, and then as many are sent again as can be.
+full : (e : EndState ClientState) (w : WaitingCall) (ws : List WaitingCall) → e.ended ≡ None → e.state.waiting ≡ w ∷ ws → (e.state.has_hello ≡ false → e.state.grant ≡ 1) → calls_to_resend e ≡ [] →
+    e.state.grant ≤ calls_counted e.state
+unfolding calls_to_resend
+full e w ws none some granted resent =
+    let count : length e.state.waiting ≡ suc (length ws) = ap (λ (l : List WaitingCall). length l) some in
+    by count e.state.has_hello refl
+  where
+    by : length e.state.waiting ≡ suc (length ws) → (b : Bool) → e.state.has_hello ≡ b → e.state.grant ≤ calls_counted e.state
+    by count false no = (let one = granted no in omega (arith, one, count))
+    by count true yes =
+        let taken : cond (is_none e.ended && e.state.has_hello) (take (e.state.grant - length e.state.outstanding) e.state.waiting) [] ≡ take (e.state.grant - length e.state.outstanding) (w ∷ ws) =
+            λ i. cond (is_none (none i) && yes i) (take (e.state.grant - length e.state.outstanding) (some i)) [] in
+        let left : e.state.grant - length e.state.outstanding ≡ 0 = take_none (e.state.grant - length e.state.outstanding) w ws (sym taken ∙ resent) in
+        omega (arith, left)
 
 none_held : (opened : LinkParameters) (s : LinkState) (k : ClientState) → k.waiting ≡ [] → LinkKeeps opened s k → eqb (length s.send_queue.held) 0 ≡ true
 none_held opened s k none keeps = ap (λ (held : List (List ℕ)). eqb (length held) 0) (keeps.held ∙ ap (map (waiting_message opened)) none)
 
+-- what it says of a new call is said of the client of its marks, also on a link that was reopened, once all calls are sent again that can be
+module _ (opened : LinkParameters) (link : ℕ) (h : RequesterSide) (run : List Mark) (s : KeepsClient opened link h run) (resent : calls_to_resend (client opened link run) ≡ []) where
+  abbrev r : RequesterState
+  r = h.state
+
+  abbrev e : EndState ClientState
+  e = client opened link run
+
+  abbrev number : ℕ
+  number = r.side.terms.number
+
+  abbrev free : Bool
+  free = eqb (length r.side.send_queue.held) 0
+
+  keeps : ClientKeeps opened (kept_client r) e (length (bytes_received link Initiator run))
+  keeps = s.kept.keeps
+
+  counted : length r.outstanding ≡ calls_counted e.state
+  counted = (kept_counts opened (kept_client r) e (length (bytes_received link Initiator run)) keeps).0
+
+  lives : r.side.ended ≡ None → (ws : List WaitingCall) → e.state.waiting ≡ ws →
+      may_submit_by None r.grant (length r.outstanding) free (is_far number r.next_xid (least_stored r.outstanding))
+      ≡ may_submit_by None r.grant (length r.outstanding) true (is_far number r.next_xid (least_xid e.state.outstanding e.state.waiting))
+  lives none [] unwaited =
+      let calls : CallsKeep (kept_client r).calls r.next_xid e.state = keeps.calls (sym keeps.ended ∙ none) in
+      let least : least_stored r.outstanding ≡ least_xid e.state.outstanding e.state.waiting = least_of_kept e.state e.state.sends r.sent r.outstanding e.state.outstanding e.state.waiting calls.kept in
+      let unheld : free ≡ true = none_held opened r.side e.state unwaited (s.side none) in
+      λ i. may_submit_by None r.grant (length r.outstanding) (unheld i) (is_far number r.next_xid (least i))
+  lives none (w ∷ ws) some =
+      let all : e.state.grant ≤ calls_counted e.state = full e w ws (sym keeps.ended ∙ none) some (s.side none).granted resent in
+      let grant : r.grant ≡ e.state.grant = keeps.grant in
+      without_credit r.grant (length r.outstanding) free (is_far number r.next_xid (least_stored r.outstanding)) (is_far number r.next_xid (least_xid e.state.outstanding e.state.waiting))
+      (omega (arith, all, grant, counted))
+
+  pub may_kept : may_submit h.state ≡ client_may_submit opened link run
+  unfolding may_submit client_may_submit
+  may_kept =
+      by_ended r.side.ended r.grant (length r.outstanding) free (is_far number r.next_xid (least_stored r.outstanding)) (is_far number r.next_xid (least_xid e.state.outstanding e.state.waiting))
+      (λ none. lives none e.state.waiting refl)
+      ∙ (λ i. may_submit_by (keeps.ended i) (keeps.grant i) (counted i) true (is_far (keeps.opening.0 i) (keeps.xid i) (least_xid e.state.outstanding e.state.waiting)))
+
 pub may_as_client : (opened : LinkParameters) (link : ℕ) (h : RequesterSide) (run : List Mark) → RequesterRepresents opened link h run → may_submit h.state ≡ client_may_submit opened link run
-unfolding may_submit client_may_submit
-may_as_client opened link h run s =
-    let r : RequesterState = h.state in
-    let e : EndState ClientState = client opened link run in
-    let keeps : ClientKeeps opened (kept_client r) e (length (bytes_received link Initiator run)) = s.keeps.kept.keeps in
-    let counted : length r.outstanding ≡ calls_counted e.state = (counts_as_client opened link h run s).0 in
-    by_ended r.side.ended r.grant (length r.outstanding) r.side.terms.number r.next_xid (eqb (length r.side.send_queue.held) 0) (least_stored r.outstanding) (least_xid e.state.outstanding e.state.waiting)
-    (λ none. (
-      none_held opened r.side e.state (none_waits opened link run s.first.resumed) (s.keeps.side none),
-      (let calls : CallsKeep (kept_client r).calls r.next_xid e.state = keeps.calls (sym keeps.ended ∙ none) in least_of_kept e.state e.state.sends r.sent r.outstanding e.state.outstanding e.state.waiting calls.kept),
-    ))
-    ∙ (λ i. may_submit_by (keeps.ended i) (keeps.grant i) (counted i) true (is_far (keeps.opening.0 i) (keeps.xid i) (least_xid e.state.outstanding e.state.waiting)))
+may_as_client opened link h run s = may_kept opened link h run s.keeps (none_resent opened link run s.first.resumed)
 
 -- on a link that was not reopened no call waits, so the calls that it keeps are those that are outstanding
 pub outstanding_as_client : (opened : LinkParameters) (link : ℕ) (h : RequesterSide) (run : List Mark) → RequesterRepresents opened link h run → length h.state.outstanding ≡ calls_outstanding opened link run
