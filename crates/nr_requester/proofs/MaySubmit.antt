@@ -52,8 +52,8 @@ by_ended None grant counted free far distant h = h refl
 -- without a credit it isn't asked for more
 without_credit : (grant counted : ℕ) (free far distant : Bool) → grant ≤ counted → may_submit_by None grant counted free far ≡ may_submit_by None grant counted true distant
 without_credit grant counted free far distant none =
-    let no : ltb counted grant ≡ false = le-ltb counted grant none in
-    ap (λ (b : Bool). b && (free && not far)) no ∙ sym (ap (λ (b : Bool). b && (true && not distant)) no)
+    let spent : ltb counted grant ≡ false = le-ltb counted grant none in
+    ap (λ (b : Bool). b && (free && not far)) spent ∙ sym (ap (λ (b : Bool). b && (true && not distant)) spent)
 
 take_none : {A : Type 0} (n : ℕ) (x : A) (xs : List A) → take n (x ∷ xs) ≡ [] → n ≡ 0
 take_none zero x xs is = refl
@@ -68,10 +68,10 @@ full e w ws none some granted resent =
     by count e.state.has_hello refl
   where
     by : length e.state.waiting ≡ suc (length ws) → (b : Bool) → e.state.has_hello ≡ b → e.state.grant ≤ calls_counted e.state
-    by count false no = (let one = granted no in omega (arith, one, count))
-    by count true yes =
+    by count false ungreeted = (let one = granted ungreeted in omega (arith, one, count))
+    by count true greeted =
         let taken : cond (is_none e.ended && e.state.has_hello) (take (e.state.grant - length e.state.outstanding) e.state.waiting) [] ≡ take (e.state.grant - length e.state.outstanding) (w ∷ ws) =
-            λ i. cond (is_none (none i) && yes i) (take (e.state.grant - length e.state.outstanding) (some i)) [] in
+            λ i. cond (is_none (none i) && greeted i) (take (e.state.grant - length e.state.outstanding) (some i)) [] in
         let left : e.state.grant - length e.state.outstanding ≡ 0 = take_none (e.state.grant - length e.state.outstanding) w ws (sym taken ∙ resent) in
         omega (arith, left)
 
@@ -228,7 +228,7 @@ far_is number next least why says = by_number (eqb number 0) (sym (accepted why)
 -- if no call may be submitted, one is outstanding
 pub blocked_waits : (r : RequesterState) → 1 ≤ r.grant → length r.side.send_queue.held ≤ length r.outstanding → may_submit r ≡ false → 0 < length r.outstanding
 unfolding may_submit
-blocked_waits r granted held no = by r.outstanding refl where
+blocked_waits r granted held blocked = by r.outstanding refl where
   none_far : (number next : ℕ) → not (is_far number next None) ≡ true
   none_far number next = by_number (eqb number 0) where
     by_number : (b : Bool) → not (cond b false false) ≡ true
@@ -236,18 +236,18 @@ blocked_waits r granted held no = by r.outstanding refl where
     by_number false = refl
 
   ended_or : (ended : Option End) (free far : Bool) → free ≡ true → not far ≡ true → (is_some ended || (free && not far)) ≡ true
-  ended_or (Some end) free far is near = refl
-  ended_or None free far is near = (λ i. is i && not far) ∙ near
+  ended_or (Some end) free far is isnt = refl
+  ended_or None free far is isnt = (λ i. is i && not far) ∙ isnt
 
   by : (calls : List StoredCall) → r.outstanding ≡ calls → 0 < length r.outstanding
   by [] none =
       let count : length r.outstanding ≡ 0 = ap (λ (calls : List StoredCall). length calls) none in
       let unheld : length r.side.send_queue.held ≡ 0 = omega (arith, held, count) in
       let far : Bool = is_far r.side.terms.number r.next_xid (least_stored r.outstanding) in
-      let near : not far ≡ true = ap (λ (calls : List StoredCall). not (is_far r.side.terms.number r.next_xid (least_stored calls))) none ∙ none_far r.side.terms.number r.next_xid in
+      let isnt : not far ≡ true = ap (λ (calls : List StoredCall). not (is_far r.side.terms.number r.next_xid (least_stored calls))) none ∙ none_far r.side.terms.number r.next_xid in
       let credit : ltb (length r.outstanding) r.grant ≡ true = lt-ltb (length r.outstanding) r.grant (omega (arith, granted, count)) in
       let may : may_submit_by r.side.ended r.grant (length r.outstanding) (eqb (length r.side.send_queue.held) 0) far ≡ true =
           and_from (ltb (length r.outstanding) r.grant) (is_some r.side.ended || ((eqb (length r.side.send_queue.held) 0) && not far)) credit
-          (ended_or r.side.ended (eqb (length r.side.send_queue.held) 0) far (ap (λ (n : ℕ). eqb n 0) unheld) near) in
-      absurd (true≢false (sym may ∙ no))
+          (ended_or r.side.ended (eqb (length r.side.send_queue.held) 0) far (ap (λ (n : ℕ). eqb n 0) unheld) isnt) in
+      absurd (true≢false (sym may ∙ blocked))
   by (c ∷ calls) some = (let count = ap (λ (cs : List StoredCall). length cs) some in omega (arith, count))
