@@ -13,6 +13,7 @@ use Rattle.nr_wire.proofs.Splits.{split_Splits}
 use Rattle.nr_regions.specs.declared.right.Right.{Right}
 use Rattle.nr_regions.specs.RegisteredMemory.{Claim, IsHeld, RegisteredMemory, claim_of}
 use Rattle.nr_link.specs.declared.agreement.SideTerms.{SideTerms}
+use Rattle.nr_link.specs.declared.agreement.Agreement.{Agreement}
 use Rattle.nr_link.specs.declared.end.End.{End}
 use Rattle.nr_link.specs.declared.end.End.TheVariants as ends
 use Rattle.nr_endpoint.specs.LinkState.{LinkState, LinkSide, has_ended, initial_link}
@@ -276,8 +277,8 @@ read_counted_lem l after sink at stag to len (Err e) most least region fine none
 
 -- ---- Regions
 
-pub open_counted : (l : LinkSide) (side : Side) (receives stag : ℕ) (terms : SideTerms) → l ≡ initial_link side receives stag terms → IsCounted l 0 0 None
-open_counted l side receives stag terms is = record { most_fed = omega (arith, open_fed l side receives stag terms is); least_fed = λ none. omega arith; held = tt }
+pub open_counted : (l : LinkSide) (side : Side) (receives stag : ℕ) (terms : SideTerms) (earlier : Option Agreement) → l ≡ initial_link side receives stag terms earlier → IsCounted l 0 0 None
+open_counted l side receives stag terms earlier is = record { most_fed = omega (arith, open_fed l side receives stag terms earlier is); least_fed = λ none. omega arith; held = tt }
 
 register_ended : (l after : LinkSide) (buf : List ℕ) (right : Right) → after ≡ after_call l (Register buf right) → after.state.ended ≡ l.state.ended
 unfolding after_call
