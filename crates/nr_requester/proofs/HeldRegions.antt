@@ -22,6 +22,7 @@ use Rattle.nr_requester.proofs.Releases.{from_lower}
 use Rattle.nr_requester.specs.HeldBytes.{xid_of, AreRisingBy}
 use Rattle.nr_requester.specs.Views.{claim_len, HasRoom, AreRising, IsAnswered, RequesterInvariant}
 use Rattle.std.proofs.lemmas.List.{length-replicate}
+use Rattle.nr_link.specs.declared.agreement.Agreement.{Agreement}
 use Rattle.nr_link.specs.declared.agreement.SideTerms.{SideTerms}
 use Rattle.nr_reduce.specs.declared.outline.Plan.{Plan}
 use Rattle.nr_reduce.specs.Plans.{total, has_segment}
@@ -187,11 +188,11 @@ pub drain_sound : (link link2 : LinkSide) (len n xid grant room : ℕ) (items : 
 drain_sound link link2 len n xid grant room items answers s is =
     same_sound link link2 len xid grant room room items answers s (ap (λ (l : LinkSide). l.state.memory) is ∙ (drain_leaves link n).0) (ap (λ (l : LinkSide). l.state.receive_queue) is ∙ (drain_leaves link n).1.0) (ap (λ (l : LinkSide). l.state.reads) is ∙ (drain_leaves link n).1.1) (omega arith)
 
-first_sound : (len first_stag xid room : ℕ) (terms : SideTerms) → xid ≤ 2 ^ 32 → RequesterInvariant len (initial_link Initiator 1 first_stag terms) xid 1 [] [] room
+first_sound : (len first_stag xid room : ℕ) (terms : SideTerms) (earlier : Option Agreement) → xid ≤ 2 ^ 32 → RequesterInvariant len (initial_link Initiator 1 first_stag terms earlier) xid 1 [] [] room
 unfolding initial_link
-first_sound len first_stag xid room terms fits = record { xid = fits; few = omega arith; some = omega arith; granted = omega arith; none_waits = refl; none_lent = refl; held = omega arith; offers = tt; rooms = tt; no_reads = refl; rising = tt; apart = tt; has_room = omega arith }
+first_sound len first_stag xid room terms earlier fits = record { xid = fits; few = omega arith; some = omega arith; granted = omega arith; none_waits = refl; none_lent = refl; held = omega arith; offers = tt; rooms = tt; no_reads = refl; rising = tt; apart = tt; has_room = omega arith }
 
-pub opened_sound : (link : LinkSide) (len first_xid first_stag n room : ℕ) (terms : SideTerms) (items : List OutstandingCall) (answers : List AnsweredCall) → link ≡ initial_link Initiator 1 first_stag terms → n ≡ first_xid → first_xid < 2 ^ 32 → items ≡ [] → answers ≡ [] → RequesterInvariant len link n 1 items answers room
-opened_sound link len first_xid first_stag n room terms items answers is xid fits none empty =
-    subst (λ (l : LinkSide). RequesterInvariant len l n 1 items answers room) (sym is) (subst (λ (ys : List AnsweredCall). RequesterInvariant len (initial_link Initiator 1 first_stag terms) n 1 items ys room) (sym empty)
-    (subst (λ (xs : List OutstandingCall). RequesterInvariant len (initial_link Initiator 1 first_stag terms) n 1 xs [] room) (sym none) (first_sound len first_stag n room terms (omega (arith, xid, fits)))))
+pub opened_sound : (link : LinkSide) (len first_xid first_stag n room : ℕ) (terms : SideTerms) (earlier : Option Agreement) (items : List OutstandingCall) (answers : List AnsweredCall) → link ≡ initial_link Initiator 1 first_stag terms earlier → n ≡ first_xid → first_xid < 2 ^ 32 → items ≡ [] → answers ≡ [] → RequesterInvariant len link n 1 items answers room
+opened_sound link len first_xid first_stag n room terms earlier items answers is xid fits none empty =
+    subst (λ (l : LinkSide). RequesterInvariant len l n 1 items answers room) (sym is) (subst (λ (ys : List AnsweredCall). RequesterInvariant len (initial_link Initiator 1 first_stag terms earlier) n 1 items ys room) (sym empty)
+    (subst (λ (xs : List OutstandingCall). RequesterInvariant len (initial_link Initiator 1 first_stag terms earlier) n 1 xs [] room) (sym none) (first_sound len first_stag n room terms earlier (omega (arith, xid, fits)))))

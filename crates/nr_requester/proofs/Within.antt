@@ -19,6 +19,7 @@ use Rattle.nr_regions.specs.RegisteredMemory.{RegisteredMemory, initial_memory, 
 use Rattle.nr_regions.proofs.Totals.{sound_initial}
 use Rattle.nr_link.specs.declared.end.End.{End}
 use Rattle.nr_link.specs.Limits.{open_reads_max}
+use Rattle.nr_link.specs.declared.agreement.Agreement.{Agreement}
 use Rattle.nr_link.specs.declared.agreement.SideTerms.{SideTerms}
 use Rattle.nr_link.specs.Agreement.{initiator_private}
 use Rattle.nr_endpoint.specs.Hellos.{receive_length_for}
@@ -77,10 +78,10 @@ first_next : (first_stag : ℕ) → (initial_memory first_stag).next ≡ first_s
 unfolding initial_memory
 first_next first_stag = refl
 
-first_link : (size : ℕ → ℕ) (first_stag : ℕ) (terms : SideTerms) → 0 < first_stag → first_stag ≤ 2 ^ 32 →
-    LinkFits (receive_length_for terms) (initial_link Initiator 1 first_stag terms).state × RegionsHave size (initial_link Initiator 1 first_stag terms).state.memory 0
+first_link : (size : ℕ → ℕ) (first_stag : ℕ) (terms : SideTerms) (earlier : Option Agreement) → 0 < first_stag → first_stag ≤ 2 ^ 32 →
+    LinkFits (receive_length_for terms) (initial_link Initiator 1 first_stag terms earlier).state × RegionsHave size (initial_link Initiator 1 first_stag terms earlier).state.memory 0
 unfolding initial_link
-first_link size first_stag terms some fits =
+first_link size first_stag terms earlier some fits =
     let b = first_regions size first_stag fits in (
       record {
         side = refl;
@@ -89,7 +90,7 @@ first_link size first_stag terms some fits =
         receive = receive_small terms;
         up = (omega arith, omega arith);
         down = (omega arith, omega arith);
-        hello = hello_len Initiator (initiator_private terms) (initiator_short terms);
+        hello = (let short = hello_len Initiator (initiator_private terms) (initiator_short terms) in omega (arith, short));
         queue = λ n. omega arith;
         responses = omega arith;
         messages = tt;
@@ -99,26 +100,26 @@ first_link size first_stag terms some fits =
       b.1,
     )
 
-first_counts : (first_stag : ℕ) (terms : SideTerms) → CountsFit 0 (initial_link Initiator 1 first_stag terms).state.send_queue []
+first_counts : (first_stag : ℕ) (terms : SideTerms) (earlier : Option Agreement) → CountsFit 0 (initial_link Initiator 1 first_stag terms earlier).state.send_queue []
 unfolding initial_link
-first_counts first_stag terms = record { waiting = omega arith; numbered = omega arith }
+first_counts first_stag terms earlier = record { waiting = omega arith; numbered = omega arith }
 
-none_held_first : (first_stag next : ℕ) (terms : SideTerms) → 0 + length (initial_link Initiator 1 first_stag terms).state.send_queue.held ≤ next
+none_held_first : (first_stag next : ℕ) (terms : SideTerms) (earlier : Option Agreement) → 0 + length (initial_link Initiator 1 first_stag terms earlier).state.send_queue.held ≤ next
 unfolding initial_link
-none_held_first first_stag next terms = omega arith
+none_held_first first_stag next terms earlier = omega arith
 
-pub opened_within : (e : EndpointState) (len first_stag next : ℕ) (terms : SideTerms) (calls : List OutstandingCall) (answers : List AnsweredCall) → length e.staging ≡ FPDU_MAX → e.outside ≡ empty → e.link ≡ initial_link Initiator 1 first_stag terms → len ≡ receive_length_for terms →
-    0 < first_stag → first_stag < 2 ^ 32 → calls ≡ [] → answers ≡ [] → RequesterBounds len e 0 next calls answers
-opened_within e len first_stag next terms calls answers staging nothing is receives some fits none empty =
+pub opened_within : (e : EndpointState) (len first_stag next : ℕ) (terms : SideTerms) (earlier : Option Agreement) (calls : List OutstandingCall) (answers : List AnsweredCall) → length e.staging ≡ FPDU_MAX → e.outside ≡ empty → e.link ≡ initial_link Initiator 1 first_stag terms earlier → len ≡ receive_length_for terms →
+    0 < first_stag → first_stag ≤ 2 ^ 32 → calls ≡ [] → answers ≡ [] → RequesterBounds len e 0 next calls answers
+opened_within e len first_stag next terms earlier calls answers staging nothing is receives some fits none empty =
     let le : first_stag ≤ 2 ^ 32 = omega (arith, fits) in
     let all : RequesterBounds (receive_length_for terms) e 0 next [] [] = record {
       staging = staging;
-      outside = opened_outside e first_stag terms is nothing (omega (arith, fits));
+      outside = opened_outside e first_stag terms earlier is nothing (omega (arith, fits));
       numbers = tt;
-      order = subst (λ (x : LinkSide). 0 + length x.state.send_queue.held ≤ next) (sym is) (none_held_first first_stag next terms);
-      link = subst (λ (x : LinkSide). LinkFits (receive_length_for terms) x.state) (sym is) (first_link in_bytes first_stag terms some le).0;
-      regions = λ size counts. subst (λ (x : LinkSide). RegionsHave size x.state.memory 0) (sym is) (first_link size first_stag terms some le).1;
-      counts = subst (λ (x : LinkSide). CountsFit 0 x.state.send_queue []) (sym is) (first_counts first_stag terms);
+      order = subst (λ (x : LinkSide). 0 + length x.state.send_queue.held ≤ next) (sym is) (none_held_first first_stag next terms earlier);
+      link = subst (λ (x : LinkSide). LinkFits (receive_length_for terms) x.state) (sym is) (first_link in_bytes first_stag terms earlier some le).0;
+      regions = λ size counts. subst (λ (x : LinkSide). RegionsHave size x.state.memory 0) (sym is) (first_link size first_stag terms earlier some le).1;
+      counts = subst (λ (x : LinkSide). CountsFit 0 x.state.send_queue []) (sym is) (first_counts first_stag terms earlier);
       each = tt;
       kept = tt;
       distinct = tt;
@@ -238,7 +239,7 @@ drained_link len s n l = record {
   receive = l.receive;
   up = l.up;
   down = l.down;
-  hello = omega (arith, l.hello, written_hello n s.send_queue);
+  hello = (let short = l.hello in omega (arith, short, written_hello n s.send_queue));
   queue = written_fits (has_ended s) n s.send_queue l.queue;
   responses = written_responses n s.send_queue l.responses;
   messages = written_messages n s.send_queue l.messages;

@@ -18,6 +18,7 @@
 //! answers, and that the value stands for that list with the marks of the call.
 #![tactic(auto)]
 
+mod again;
 mod answer;
 mod dismantling;
 mod holding;
@@ -28,8 +29,10 @@ mod offered;
 mod outstanding;
 mod pieces;
 mod releasing;
+mod reopening;
 mod replies;
 mod requester;
+mod resending;
 mod revoking;
 mod submitting;
 mod taking;

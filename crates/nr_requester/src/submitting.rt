@@ -36,7 +36,7 @@ use nr_xdr::{Memory, Octets};
 use std::alloc::Global;
 
 /// How many numbers there are.
-const NUMBERS_END: u64 = 4294967296;
+pub(crate) const NUMBERS_END: u64 = 4294967296;
 
 /// The xids of a client's outstanding calls, and the next one, are fewer than this apart.
 const WINDOW: u64 = 64;
@@ -304,7 +304,7 @@ fn free_xid(next_xid: u64) -> u32
 }
 
 /// What a call asks for under the next xid.
-fn target_under(next_xid: u64, call: &Call) -> CallTarget
+pub(crate) fn target_under(next_xid: u64, call: &Call) -> CallTarget
     ensures { result ≡ target_under next_xid call.now }
 {
     CallTarget {

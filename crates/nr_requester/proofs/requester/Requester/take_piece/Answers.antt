@@ -6,7 +6,7 @@ use Rattle.nr_requester.specs.RequesterState.{RequesterSide, feeding_of}
 use Rattle.nr_requester.specs.CountedMarks.{marks_if}
 use Rattle.nr_requester.specs.Views.{requester_view, side_view}
 use Rattle.nr_requester.proofs.PieceLoop.{stands_fed, late_fed, fed_after, out_after}
-use Rattle.nr_requester.proofs.requester.Requester.feed.Goals as goal
+use Rattle.nr_requester.proofs.requester.Requester.take_piece.Goals as goal
 
 abbrev unit_error : End → Result (Unit {0}) End
 unit_error e = Err e
