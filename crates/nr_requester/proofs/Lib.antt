@@ -69,7 +69,7 @@ pub mod KeptLists
 pub mod NamedRegions
 pub mod DeadRegions
 pub mod CountedReleases
-pub mod Reopening
+pub mod CallsGoOn
 pub mod ReopenedLinks
 pub mod NextLinks
 pub mod NextAnswers
@@ -78,3 +78,6 @@ pub mod Resent
 pub mod ResentAnswers
 pub mod ResendStands
 pub mod AllResent
+pub mod OwnSides
+pub mod KeptOn
+pub mod CallsKeep

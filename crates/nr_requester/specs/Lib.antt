@@ -23,3 +23,4 @@ pub mod Reopening
 pub mod ReopenedLinks
 pub mod Resends
 pub mod private
+pub mod KeptOn

@@ -18,6 +18,7 @@ ghost use Rattle.nr_requester.specs.Sending.{IsPlan, HasNumbers, has_credit, lea
 ghost use Rattle.nr_requester.specs.HeldClaims.{SentHeld, IsOfferOf};
 ghost use Rattle.nr_requester.specs.HeldBytes.{call_bytes, call_max, receive_max, NothingOutside};
 ghost use Rattle.nr_requester.specs.Standing.{StandsOn};
+ghost use Rattle.nr_requester.specs.ReopenedLinks.{KeepsOn};
 ghost use Rattle.nr_requester.specs.Fed.{fed_bytes};
 ghost use Rattle.nr_requester.specs.OpenCalls.{OpensTicket};
 
@@ -424,6 +425,7 @@ impl Requester {
         ensures returned { IfErr result (λ e. e.0 ≡ call) }
         ensures err { OnErr result (self.new ≡ self.old) }
         ensures stands { IfOk result (λ xid. StandsOn self.old (λ link. marks.Submit link call form (submissions.Accepted xid)) self.new) }
+        ensures keeps { IfOk result (λ xid. KeepsOn self.old (λ link. marks.Submit link call form (submissions.Accepted xid)) self.new) }
         ensures tickets { IfOk result (λ xid. OpensTicket xid call self.old.state self.new.state) }
         ensures fed { fed_bytes self.new ≡ fed_bytes self.old }
     {
