@@ -77,7 +77,7 @@ offered_held_from m o =
 
 -- ---- A call more
 
-claims_append : (xs : List OutstandingCall) (o : OutstandingCall) → all_claims (xs ++ o ∷ []) ≡ all_claims xs ++ call_claims o.claims
+pub claims_append : (xs : List OutstandingCall) (o : OutstandingCall) → all_claims (xs ++ o ∷ []) ≡ all_claims xs ++ call_claims o.claims
 claims_append [] o = append-nil (call_claims o.claims)
 claims_append (x ∷ xs) o = ap (λ (cs : List Claim). call_claims x.claims ++ cs) (claims_append xs o) ∙ sym (append_assoc (call_claims x.claims) (all_claims xs) (call_claims o.claims))
 
@@ -87,11 +87,11 @@ sent_held m m2 offered claims memory is =
     let all : SentHeld m (with_offered m offered) (claims_of m offered) = record { next = keep.0; keeps = keep.1; own = offered_held_from m offered } in
     subst (λ (n : RegisteredMemory). SentHeld m n claims) (sym memory) (subst (λ (c : Claims). SentHeld m (with_offered m offered) c) (sym is) all)
 
-offers_append : (xs : List OutstandingCall) (o : OutstandingCall) → AllByRecursion OffersOwn xs → OffersOwn o → AllByRecursion OffersOwn (xs ++ o ∷ [])
+pub offers_append : (xs : List OutstandingCall) (o : OutstandingCall) → AllByRecursion OffersOwn xs → OffersOwn o → AllByRecursion OffersOwn (xs ++ o ∷ [])
 offers_append [] o h one = (one, tt)
 offers_append (x ∷ xs) o h one = (h.0, offers_append xs o h.1 one)
 
-rooms_append : (len : ℕ) (xs : List OutstandingCall) (o : OutstandingCall) → AllByRecursion (HasRoom len) xs → HasRoom len o → AllByRecursion (HasRoom len) (xs ++ o ∷ [])
+pub rooms_append : (len : ℕ) (xs : List OutstandingCall) (o : OutstandingCall) → AllByRecursion (HasRoom len) xs → HasRoom len o → AllByRecursion (HasRoom len) (xs ++ o ∷ [])
 rooms_append len [] o h one = (one, tt)
 rooms_append len (x ∷ xs) o h one = (h.0, rooms_append len xs o h.1 one)
 

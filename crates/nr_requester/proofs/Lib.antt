@@ -69,6 +69,11 @@ pub mod KeptLists
 pub mod NamedRegions
 pub mod DeadRegions
 pub mod CountedReleases
+pub mod ResumedLists
+pub mod Resuming
+pub mod ResendSteps
+pub mod NextBegun
+pub mod NextTickets
 pub mod CallsGoOn
 pub mod ReopenedLinks
 pub mod NextLinks

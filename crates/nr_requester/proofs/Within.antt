@@ -130,7 +130,7 @@ opened_within e len first_stag next terms earlier calls answers staging nothing 
 
 -- ---- A call more
 
-all_append : (P : OutstandingCall → Type 0) (xs : List OutstandingCall) (o : OutstandingCall) → AllByRecursion P xs → P o → AllByRecursion P (xs ++ o ∷ [])
+pub all_append : (P : OutstandingCall → Type 0) (xs : List OutstandingCall) (o : OutstandingCall) → AllByRecursion P xs → P o → AllByRecursion P (xs ++ o ∷ [])
 all_append P [] o h one = (one, tt)
 all_append P (x ∷ xs) o h one = (h.0, all_append P xs o h.1 one)
 
@@ -169,7 +169,24 @@ sent_state size counts s plan len xid credit total i lives stags l have =
       after.1,
     )
 
-sum_sent : (size : ℕ → ℕ) (calls : List OutstandingCall) (o : OutstandingCall) (claims : Claims) → o.claims ≡ claims → claims_total size calls + claims_size size claims ≡ claims_total size (calls ++ o ∷ [])
+-- a call that is sent by its plan
+pub call_fits : (len : ℕ) (m : RegisteredMemory) (plan : Plan) (o : OutstandingCall) → len ≤ receive_max → IsPlan plan → o.claims ≡ claims_of m (offered_of plan) → o.offered ≡ lists_of m.next plan → stored_bytes o.call ≤ call_max → o.room.bytes ≡ [] →
+    o.room.len ≡ reply_room len o.offered → o.room.len ≤ len + (total plan.write + (total plan.reply + 3)) → CallFits len o
+call_fits len m plan o receive i claims lists small empty offered room =
+    let fits : PlanFits plan = plan_bounds i.payload i.form i.up i.down plan i.is in
+    let own : claims_len o.claims ≡ claims_len (claims_of m (offered_of plan)) = ap (λ (c : Claims). claims_len c) claims in
+    let short = plan_len m plan fits in
+    record {
+      call = small;
+      offer = omega (arith, own, short);
+      segments = subst (λ (l : ChunkLists). segments_offered l ≤ offered_segments_max) (sym lists) (plan_segments i.payload i.form i.up i.down m.next plan i.short i.is);
+      writes = subst (λ (l : ChunkLists). length l.write ≤ 1) (sym lists) (plan_writes m.next plan);
+      written = (let none : length o.room.bytes ≡ 0 = ap (λ (xs : List ℕ). length xs) empty in omega (arith, none));
+      room = offered;
+      short = (let back = fits.back in omega (arith, room, back, receive));
+    }
+
+pub sum_sent : (size : ℕ → ℕ) (calls : List OutstandingCall) (o : OutstandingCall) (claims : Claims) → o.claims ≡ claims → claims_total size calls + claims_size size claims ≡ claims_total size (calls ++ o ∷ [])
 sum_sent size calls o claims is = omega (arith, ap (λ (c : Claims). claims_size size c) is, total_append size calls o)
 
 pub sent_within : (e e2 : EndpointState) (len sends next xid credit : ℕ) (calls calls2 : List OutstandingCall) (answers answers2 : List AnsweredCall) (o : OutstandingCall) (plan : Plan) → RequesterBounds len e sends next calls answers → e2.staging ≡ e.staging → (NothingOutside e → NothingOutside e2) →
@@ -181,10 +198,7 @@ sent_within e e2 len sends next xid credit calls calls2 answers answers2 o plan 
     let state : e2.link.state ≡ after = ap (λ (l : LinkSide). l.state) link_is in
     let sent : (size : ℕ → ℕ) → IsCount size → LinkFits len after × RegionsHave size after.memory (claims_total size calls + claims_size size (claims_of s.memory (offered_of plan))) =
     λ size is. sent_state size is s plan len xid credit (claims_total size calls) i lives stags w.link (w.regions size is) in
-    let own : claims_len o.claims ≡ claims_len (claims_of s.memory (offered_of plan)) = ap (λ (c : Claims). claims_len c) claims in
     let sum : (size : ℕ → ℕ) → claims_total size calls + claims_size size (claims_of s.memory (offered_of plan)) ≡ claims_total size (calls ++ o ∷ []) = λ size. sum_sent size calls o _ claims in
-    let fits : PlanFits plan = plan_bounds i.payload i.form i.up i.down plan i.is in
-    let short = plan_len s.memory plan fits in
     let alone : sends + length s.send_queue.held ≡ sends = omega (arith, unheld) in
     let all : RequesterBounds len e2 (sends + 1) (next + 1) (calls ++ o ∷ []) answers = record {
       staging = ap (λ (xs : List ℕ). length xs) same ∙ w.staging;
@@ -196,7 +210,7 @@ sent_within e e2 len sends next xid credit calls calls2 answers answers2 o plan 
       regions = λ size is. subst (λ (x : LinkState). RegionsHave size x.memory (claims_total size (calls ++ o ∷ []))) (sym state) (subst (λ (n : ℕ). RegionsHave size after.memory n) (sum size) (sent size is).1);
       counts = subst (λ (x : LinkState). CountsFit (sends + 1) x.send_queue (calls ++ o ∷ [])) (sym state)
           (counts_sent sends _ s.send_queue after.send_queue calls o refl refl refl number w.counts);
-      each = all_append (CallFits len) calls o w.each (record { call = small; offer = omega (arith, own, short); segments = subst (λ (l : ChunkLists). segments_offered l ≤ offered_segments_max) (sym lists) (plan_segments i.payload i.form i.up i.down s.memory.next plan i.short i.is); writes = subst (λ (l : ChunkLists). length l.write ≤ 1) (sym lists) (plan_writes s.memory.next plan); written = (let none : length o.room.bytes ≡ 0 = ap (λ (xs : List ℕ). length xs) empty in omega (arith, none)); room = offered; short = (let back = fits.back in omega (arith, room, back, w.link.receive)) });
+      each = all_append (CallFits len) calls o w.each (call_fits len s.memory plan o w.link.receive i claims lists small empty offered room);
       kept = w.kept;
       distinct = w.distinct;
     } in

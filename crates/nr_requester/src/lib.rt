@@ -24,12 +24,13 @@ mod dismantling;
 mod holding;
 mod judging;
 mod laws;
+mod leaving;
 mod messages;
 mod offered;
 mod outstanding;
 mod pieces;
 mod releasing;
-mod reopening;
+
 mod replies;
 mod requester;
 mod resending;

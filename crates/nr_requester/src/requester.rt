@@ -214,6 +214,14 @@ impl Requester {
         self.outstanding.len()
     }
 
+    /// How many of them wait to be sent again: they were outstanding when the last connection was left (`reopen`), and the grant of this one
+    /// didn't allow it yet. Takes no memory.
+    pub fn waiting(&self) -> usize
+        ensures { result ≡ length self.now.state.side.send_queue.held }
+    {
+        self.endpoint.sends_held()
+    }
+
     /// How many credits the server grants: 1 before its first message.
     pub fn grant(&self) -> u32
         ensures { result ≡ self.now.state.grant }

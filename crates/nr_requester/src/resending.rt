@@ -33,10 +33,7 @@ impl Requester {
         requires { self.old.state.side.ended ≡ None }
         ensures { self.new ≡ with_resends self.old }
     {
-        'resends: for _i in 0..self.endpoint.sends_held() {
-            if !self.may_resend() {
-                return;
-            }
+        'resends: while self.may_resend() {
             self.resend_one();
         }
     }

@@ -108,8 +108,15 @@ abbrev pub IsMadeAgain : (credit len : ℕ) → OutstandingCall → Option Call 
 IsMadeAgain credit len c None e e2 made made2 = (e2 ≡ e) × (made2 ≡ made)
 IsMadeAgain credit len c (Some call) e e2 made made2 = MadeOne credit len c call e e2 made made2
 
--- The calls before the first `i` were made again, on an endpoint that was `first` before.
+-- the calls that are outstanding when a link is left
+pub record AreLeft (len next : ℕ) (calls : List OutstandingCall) : Type 0 where
+  pub own : AllByRecursion OffersOwn calls
+  pub rising : AreRising calls next
+  pub fits : AllByRecursion (CallFits len) calls
+
+-- Of those before the first `i` all that go on were made again, on an endpoint that was `first` before.
 pub record AreResuming (credit len next : ℕ) (first e : EndpointState) (calls : List OutstandingCall) (i : ℕ) (made : List OutstandingCall) : Type 0 where
+  pub left : AreLeft len next calls
   pub resumed : AreResumed len next e calls i (with_calls (awaited_calls (take i calls)) made)
   pub again : calls_again_from credit (map stored_view (drop i calls)) (made_again e (with_calls (awaited_calls (take i calls)) made)) ≡ calls_again_from credit (map stored_view calls) (made_again first [])
   pub link : e.link ≡ resumed_link first.link (made_again e [])

@@ -1,7 +1,6 @@
 //! A requester leaves its connection and begins the next one.
 
 ghost use Rattle.std.specs.Prelude.{◌≡◌, ℕ, ◌+◌, ◌^◌, ◌<◌, ◌≤◌, [], ◌++◌, length, map, take, drop, option_map, Some, None, IfOk, IfErr, OnOk, OnErr, List, ◌≢◌};
-ghost use Rattle.std.specs.List.{AllByRecursion};
 ghost use Rattle.nr_reduce.specs.declared.call.Refused.TheVariants as refusals;
 ghost use Rattle.nr_reduce.specs.Plans.{has_segment, one_if};
 ghost use Rattle.nr_reduce.specs.Limits.{credits_max};
@@ -12,8 +11,8 @@ ghost use Rattle.nr_requester.specs.HeldClaims.{OffersOwn};
 ghost use Rattle.nr_requester.specs.OpenCalls.{KeepsTickets};
 ghost use Rattle.nr_requester.specs.RequesterState.{awaited_call};
 ghost use Rattle.nr_requester.specs.Reopening.{stags_for_call, stags_for_calls, reopen_refusal, after_reopen, ReopenStands};
-ghost use Rattle.nr_requester.specs.Views.{stored_view, AreRising};
-ghost use Rattle.nr_requester.specs.private.Resuming.{AreResuming, IsMadeAgain, IsNextLink, awaited_calls, with_calls};
+ghost use Rattle.nr_requester.specs.Views.{stored_view};
+ghost use Rattle.nr_requester.specs.private.Resuming.{AreLeft, AreResuming, IsMadeAgain, IsNextLink, awaited_calls, with_calls};
 
 use crate::again::resume_call;
 use crate::outstanding::{OutstandingCall, given_by};
@@ -152,7 +151,6 @@ fn resume_all(
     made: &mut Vec<OutstandingCall>,
 ) -> Result<(), Memory>
     requires receive { receive_length ≤ receive_max }
-    requires offers { AllByRecursion OffersOwn calls.now }
     requires none { made.old.items ≡ [] }
     requires begun { (next : ℕ) × AreResuming credit receive_length next endpoint.old endpoint.old calls.now 0 [] }
     ensures { OnOk result ((next : ℕ) → AreResuming credit receive_length next endpoint.old endpoint.old calls.now 0 [] → AreResuming credit receive_length next endpoint.old endpoint.new calls.now (length calls.now) made.new.items) }
@@ -194,11 +192,10 @@ fn next_link(
     credit: u32,
     calls: &[OutstandingCall],
 ) -> Result<(Endpoint, Vec<OutstandingCall>), Memory>
-    requires offers { AllByRecursion OffersOwn calls.now }
-    requires rising { (next : ℕ) × AreRising calls.now next }
+    requires calls { (next : ℕ) × AreLeft left.now.link.state.receive_queue.receive_length next calls.now }
     requires first { 0 < left.now.link.state.memory.next }
     requires stags { left.now.link.state.memory.next + stags_for_calls (map stored_view calls.now) ≤ 2 ^ 32 }
-    ensures { IfOk result (λ r. (next : ℕ) → AreRising calls.now next → IsNextLink credit left.now.link.state next r.0 calls.now r.1.items) }
+    ensures { IfOk result (λ r. (next : ℕ) → AreLeft left.now.link.state.receive_queue.receive_length next calls.now → IsNextLink credit left.now.link.state next r.0 calls.now r.1.items) }
 {
     let mut endpoint = Endpoint::open_again(
         alloc,
