@@ -71,7 +71,7 @@ full e w ws none some granted resent =
     by count false ungreeted = (let one = granted ungreeted in omega (arith, one, count))
     by count true greeted =
         let taken : cond (is_none e.ended && e.state.has_hello) (take (e.state.grant - length e.state.outstanding) e.state.waiting) [] ≡ take (e.state.grant - length e.state.outstanding) (w ∷ ws) =
-            λ i. cond (is_none (none i) && greeted i) (take (e.state.grant - length e.state.outstanding) (some i)) [] in
+        λ i. cond (is_none (none i) && greeted i) (take (e.state.grant - length e.state.outstanding) (some i)) [] in
         let left : e.state.grant - length e.state.outstanding ≡ 0 = take_none (e.state.grant - length e.state.outstanding) w ws (sym taken ∙ resent) in
         omega (arith, left)
 
@@ -195,7 +195,7 @@ answer_in_window r plan none may =
     let free : Bool = eqb (length r.side.send_queue.held) 0 in
     let far : Bool = is_far number r.next_xid least in
     let parts : (ltb (length r.outstanding) r.grant ≡ true) × ((free && not far) ≡ true) =
-        and_parts (ltb (length r.outstanding) r.grant) (free && not far) (sym (ap (λ (ended : Option End). may_submit_by ended r.grant (length r.outstanding) free far) none) ∙ may) in
+    and_parts (ltb (length r.outstanding) r.grant) (free && not far) (sym (ap (λ (ended : Option End). may_submit_by ended r.grant (length r.outstanding) free far) none) ∙ may) in
     let apart : (free ≡ true) × (not far ≡ true) = and_parts free (not far) parts.1 in
     (λ i. cond (apart.0 i && parts.0 i) (unless_far_by number r.next_xid least (answer_by_numbers r plan)) (submissions.Refused (refusals.NoCredit (length r.outstanding) r.grant)))
     ∙ near number r.next_xid least (answer_by_numbers r plan) apart.1
@@ -247,7 +247,7 @@ blocked_waits r granted held blocked = by r.outstanding refl where
       let isnt : not far ≡ true = ap (λ (calls : List StoredCall). not (is_far r.side.terms.number r.next_xid (least_stored calls))) none ∙ none_far r.side.terms.number r.next_xid in
       let credit : ltb (length r.outstanding) r.grant ≡ true = lt-ltb (length r.outstanding) r.grant (omega (arith, granted, count)) in
       let may : may_submit_by r.side.ended r.grant (length r.outstanding) (eqb (length r.side.send_queue.held) 0) far ≡ true =
-          and_from (ltb (length r.outstanding) r.grant) (is_some r.side.ended || ((eqb (length r.side.send_queue.held) 0) && not far)) credit
-          (ended_or r.side.ended (eqb (length r.side.send_queue.held) 0) far (ap (λ (n : ℕ). eqb n 0) unheld) isnt) in
+      and_from (ltb (length r.outstanding) r.grant) (is_some r.side.ended || ((eqb (length r.side.send_queue.held) 0) && not far)) credit
+      (ended_or r.side.ended (eqb (length r.side.send_queue.held) 0) far (ap (λ (n : ℕ). eqb n 0) unheld) isnt) in
       absurd (true≢false (sym may ∙ blocked))
   by (c ∷ calls) some = (let count = ap (λ (cs : List StoredCall). length cs) some in omega (arith, count))
