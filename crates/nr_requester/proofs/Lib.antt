@@ -86,3 +86,5 @@ pub mod AllResent
 pub mod OwnSides
 pub mod KeptOn
 pub mod CallsKeep
+pub mod OutcomesAccepted
+pub mod KeptLaw

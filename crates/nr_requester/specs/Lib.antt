@@ -24,3 +24,4 @@ pub mod ReopenedLinks
 pub mod Resends
 pub mod private
 pub mod KeptOn
+pub mod KeptLaw

@@ -197,15 +197,11 @@ fn next_link(
     requires stags { left.now.link.state.memory.next + stags_for_calls (map stored_view calls.now) ≤ 2 ^ 32 }
     ensures { IfOk result (λ r. (next : ℕ) → AreLeft left.now.link.state.receive_queue.receive_length next calls.now → IsNextLink credit left.now.link.state next r.0 calls.now r.1.items) }
 {
-    let mut endpoint = Endpoint::open_again(
-        alloc,
-        1,
-        NUMBERS_END - left.regions().stags_left(),
-        left.terms(),
-        left.last_agreed(),
-    )?;
-    let mut made = Vec::new(alloc);
+    let first = NUMBERS_END - left.regions().stags_left();
     let receive_length = left.receive_length() as u32;
+    let mut endpoint =
+        Endpoint::open_again(alloc, 1, first, left.terms(), left.last_agreed())?;
+    let mut made = Vec::new(alloc);
     match resume_all(
         alloc,
         &mut endpoint,
