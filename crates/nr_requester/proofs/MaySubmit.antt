@@ -2,7 +2,7 @@
 -- no credit is left nor since its xid is too far above the least one.
 use Rattle.std.proofs.Common.{◌≡◌, ℕ, zero, suc, ◌+◌, ◌-◌, ◌<◌, ◌≤◌, Bool, true, false, cond, not, ◌&&◌, ◌||◌, ltb, leb, eqb, List, [], ◌∷◌, ◌++◌, length, map, take, Option, None, Some, Ok, refl, sym, ap, ◌∙◌, arith}
 use Rattle.std.specs.Prelude.{is_none, is_some}
-use Rattle.std.proofs.lemmas.Bool.{and_from, and_parts, le-ltb, lt-ltb, or_left, true≢false}
+use Rattle.std.proofs.lemmas.Bool.{and_from, and_parts, le-ltb, lt-ltb, or_left, false≢true, true≢false}
 use Rattle.nr_wire.specs.declared.hello.Side.TheVariants.{Initiator}
 use Rattle.nr_link.specs.declared.end.End.{End}
 use Rattle.nr_endpoint.specs.LinkState.{LinkState}
@@ -205,6 +205,12 @@ answer_in_window r plan none may =
 abbrev is_accepted : Submission → Bool
 is_accepted (submissions.Accepted xid) = true
 is_accepted answer = false
+
+pub none_is : (why : Option Refused) (b : Bool) → is_some why ≡ not b → b ≡ is_none why
+none_is None true e = refl
+none_is None false e = absurd (false≢true e)
+none_is (Some refused) true e = absurd (true≢false e)
+none_is (Some refused) false e = refl
 
 -- why the next xid is too far above the least one, if it is
 pub far_is : (number next : ℕ) (least : Option ℕ) (why : Option Refused) → ((answer : Submission) → unless_far_by number next least answer ≡ unless_refused why answer) →

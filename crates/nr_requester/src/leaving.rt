@@ -199,8 +199,7 @@ fn next_link(
 {
     let first = NUMBERS_END - left.regions().stags_left();
     let receive_length = left.receive_length() as u32;
-    let mut endpoint =
-        Endpoint::open_again(alloc, 1, first, left.terms(), left.last_agreed())?;
+    let mut endpoint = Endpoint::open_again(alloc, 1, first, left.terms(), left.last_agreed())?;
     let mut made = Vec::new(alloc);
     match resume_all(
         alloc,
