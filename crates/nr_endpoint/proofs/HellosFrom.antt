@@ -1,11 +1,12 @@
 -- A side after its peer's hello, case by case.
-use Rattle.std.proofs.Common.{◌≡◌, ℕ, Bool, true, false, cond, not, Result, Ok, Err, refl, ap}
+use Rattle.std.proofs.Common.{◌≡◌, ℕ, Bool, true, false, cond, not, Option, Result, Ok, Err, refl, ap}
 use Rattle.nr_wire.specs.declared.hello.Side.{Side}
 use Rattle.nr_wire.specs.declared.hello.Side.TheVariants.{Initiator, Responder}
 use Rattle.nr_wire.specs.Hello.{Hello}
 use Rattle.nr_link.specs.Frames.{Frame}
+use Rattle.nr_endpoint.specs.Hellos.{has_same_sizes}
 use Rattle.nr_endpoint.specs.LinkState.{LinkState}
-use Rattle.nr_endpoint.specs.Judging.{has_other_sizes, with_other_sizes, with_hello_from, with_peer_hello}
+use Rattle.nr_endpoint.specs.Judging.{agreed_with, has_other_sizes, with_other_sizes, with_hello_from, with_peer_hello}
 
 -- a hello that is refused for what it says, one that is accepted, and one that agrees on other lengths of Sends than an earlier one
 pub refused_from : (side : Side) (f : Frame) (reason : ℕ) (s : LinkState) → with_hello_from side f (Err reason) s ≡ with_peer_hello f (Err reason) s

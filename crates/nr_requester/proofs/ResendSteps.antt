@@ -150,6 +150,18 @@ resends_over h none = by h.state.side.send_queue.held none
     by [] e = refl
     by (message ∷ messages) e = absurd (omega (arith, e))
 
+pub waits_if : (h : RequesterSide) → (ltb 0 (length h.state.side.send_queue.held) && may_resend h.state) ≡ true → 0 < length h.state.side.send_queue.held
+waits_if h e = by h.state.side.send_queue.held e
+  where
+    by : (messages : List (List ℕ)) → (ltb 0 (length messages) && may_resend h.state) ≡ true → 0 < length messages
+    by [] e = absurd cc
+    by (message ∷ messages) e = omega arith
+
+-- fewer wait after each
+pub resend_fewer : (h : RequesterSide) (message : List ℕ) → 0 < length h.state.side.send_queue.held → length (after_resend h message).state.side.send_queue.held < length h.state.side.send_queue.held
+unfolding after_resend
+resend_fewer h message some = (let fewer = others_count h.state.side.send_queue.held some in omega (arith, fewer))
+
 -- ---- What stays
 
 pub record ResendsKeep (h h2 : RequesterSide) : Type 0 where

@@ -1,6 +1,7 @@
 -- The Sends that are held back: the bytes of their messages are counted, and there is room for their FPDUs in the output, and for their ends.
 use Rattle.std.specs.Prelude.{◌≡◌, ℕ, ◌+◌, ◌^◌, ◌<◌, ◌≤◌, List, [], ◌∷◌, length}
 use Rattle.std.specs.List.{AllByRecursion}
+use Rattle.nr_link.specs.Limits.{segment_max}
 use Rattle.nr_endpoint.specs.SendQueue.{held_len}
 use Rattle.nr_endpoint.specs.OperationSegments.{cut_room}
 

@@ -20,7 +20,7 @@ returns c =
     let m = c.args.endpoint.now.link.state.memory in
     let plan : Plan = plan_again (stored_view stored) call in
     let made = c.in_ok-lists.field-0 in
-    let one : OutstandingCall = record { xid = stored.xid; send = length c.as_slice.result.now; call = None; is_forgotten = false; read_at = stored.read_at; offered = c.in_ok-lists.lists; given = c.given_by-given.result; claims = c.in_ok-lists.claims; room = c.in_ok-lists.room } in
+    let one : OutstandingCall = record { xid = stored.xid; send = length c.as_slice.result.now; call = None; is_forgotten = false; read_at = stored.read_at; offered = made.sent.lists; given = c.given_by-given.result; claims = made.sent.claims; room = made.room } in
     let given : given_stags c.given_by-given.result ≡ map (λ b. b.stag) (buffers m.next plan) = c.given_by-given.ensures ∙ ap (λ (x : Claims). stags_of x) c.in_ok-lists.ensures.claims ∙ stags_are_lem m plan in
     let is : MadeOne c.args.credit c.args.receive_length stored call c.args.endpoint.now c.resume_call.new.endpoint c.args.made.now.items c.push.new.self.items = record {
       one = one;

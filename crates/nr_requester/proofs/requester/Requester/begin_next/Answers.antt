@@ -54,3 +54,6 @@ returns-clause-state c =
 
 pub returns-clause-rising : goal.returns-clause-rising
 returns-clause-rising c = subst (λ (h : RequesterSide). RiseBy h.state.outstanding) c.self.view_is (stored_rise c.self.inside.next_xid c.self.inside.outstanding.items c.self.invariant.0.rising)
+
+pub returns-in_err-endpoint-clause-rising : goal.returns-in_err-endpoint-clause-rising
+returns-in_err-endpoint-clause-rising c = subst (λ (h : RequesterSide). RiseBy h.state.outstanding) c.self.view_is (stored_rise c.self.inside.next_xid c.self.inside.outstanding.items c.self.invariant.0.rising)
