@@ -89,3 +89,4 @@ pub mod KeptOn
 pub mod CallsKeep
 pub mod OutcomesAccepted
 pub mod KeptLaw
+pub mod EarlierLinks
