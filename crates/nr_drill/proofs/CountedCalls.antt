@@ -33,7 +33,8 @@ use Rattle.nr_reduce.proofs.WaitingFit.{AreFit, waiting_fit}
 use Rattle.nr_laws.proofs.ResumedCalls.{next_least}
 use Rattle.nr_texts.specs.declared.opening.Opening.{Opening}
 use Rattle.nr_script.specs.Limits.{lines_max}
-use Rattle.nr_script.specs.Script.{ScriptLines, IsScript}
+use Rattle.nr_script.specs.Script.{ScriptLines}
+use Rattle.nr_drill.specs.Lines.{IsDrillScript}
 use Rattle.nr_drill.specs.Drill.{SerialServer, link_of, Setting, Drill, IsLink, client_of, is_sent_again, last_link, links_of, setting_now, start, with_cred, after_opening, after_openings, after_leaving}
 use Rattle.nr_drill.specs.Follows.{Follows, setting_of, opened_drill}
 use Rattle.nr_drill.specs.InBytes.{RepliedInBytes}
@@ -617,7 +618,7 @@ none_so_far : (link : ℕ) → executed_calls link [] ≡ []
 unfolding executed_calls
 none_so_far link = refl
 
-module _ (server : SerialServer) (script : ScriptLines) (is : IsScript script) where
+module _ (server : SerialServer) (script : ScriptLines) (is : IsDrillScript script) where
   abbrev first : Drill
   first = opened_drill server script.opening
 
