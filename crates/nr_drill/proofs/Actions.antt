@@ -132,12 +132,14 @@ all_last clients d count = each_at (IsLastOfSome clients d) d.last_links (λ i o
 
     at : (i other : ℕ) → i < length d.last_links → IsLastOfSome clients d (slice_index_or d.last_links i other)
     at i other lt =
-        let here : i ≡ suc i - 1 = omega arith in
-        (suc i, record {
-          low = omega arith;
-          high = omega (arith, lt, count);
-          is = inside d.last_links i other (suc i) lt ∙ ap (λ (j : ℕ). slice_index_or d.last_links j (suc i)) here;
-        })
+        let here : i ≡ suc i - 1 = omega arith in (
+          suc i,
+          record {
+            low = omega arith;
+            high = omega (arith, lt, count);
+            is = inside d.last_links i other (suc i) lt ∙ ap (λ (j : ℕ). slice_index_or d.last_links j (suc i)) here;
+          },
+        )
 
 -- ===== lines
 

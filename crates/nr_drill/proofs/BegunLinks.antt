@@ -322,17 +322,19 @@ holds_kept s opening Acts Raws = record {
   later = λ n d p. (p.0, λ le replied. drill_later s opening n d (p.1 (omega (arith, le)) replied));
   credential = λ n c cred d can typed p. (p.0, λ le replied. drill_credential s opening n c cred d can typed (p.1 le replied));
   time = λ n seconds d p. (p.0, λ le replied. drill_time s opening n seconds d (p.1 le replied));
-  action = λ n c link a d last acts may p.
-      (ap (λ (ls : List ℕ). length ls) (action_keeps (setting_now s d) link a d).last_links ∙ p.0,
-      λ le replied. (let most = counted_most a n in
-      drill_acts s opening n c link a d last (may_any Raws opening.credits c d a may) replied
-      (p.1 (omega (arith, le, most)) (replied_before link d (after_action (setting_now s d) link a d) (action_extends (setting_now s d) link a d) replied))));
+  action = λ n c link a d last acts may p. (
+    ap (λ (ls : List ℕ). length ls) (action_keeps (setting_now s d) link a d).last_links ∙ p.0,
+    λ le replied. (let most = counted_most a n in
+        drill_acts s opening n c link a d last (may_any Raws opening.credits c d a may) replied
+        (p.1 (omega (arith, le, most)) (replied_before link d (after_action (setting_now s d) link a d) (action_extends (setting_now s d) link a d) replied))),
+  );
   begins = λ n c link d last acts numbered gone stays p.
       (let begun = begun_drill s c link d in
       let own = last_link c begun in
-      let x = opening_adds (setting_now s begun) own begun in
-      (ap (λ (ls : List ℕ). length ls) x.last_links ∙ length-set d.last_links (c - 1) (length d.pipes + 1) ∙ p.0,
-      λ le replied. drill_begins s opening n c link d le last numbered stays (p.1 (omega (arith, le)) (replied_before own begun (after_leaving s c link d) x replied)) replied));
+      let x = opening_adds (setting_now s begun) own begun in (
+        ap (λ (ls : List ℕ). length ls) x.last_links ∙ length-set d.last_links (c - 1) (length d.pipes + 1) ∙ p.0,
+        λ le replied. drill_begins s opening n c link d le last numbered stays (p.1 (omega (arith, le)) (replied_before own begun (after_leaving s c link d) x replied)) replied,
+      ));
 }
 
 -- ===== the links of the first line open

@@ -165,18 +165,20 @@ carries_kept s opening own =
       later = λ n d p. (k.later n d p.0, λ le replied. p.1 (omega (arith, le)) replied);
       credential = λ n c cred d can typed p. (k.credential n c cred d can typed p.0, λ le replied. moved_on s own d (with_cred c cred d) refl refl refl refl (p.1 le replied));
       time = λ n seconds d p. (k.time n seconds d p.0, λ le replied. moved_on s own d (record d { seconds = d.seconds + seconds }) refl refl refl refl (p.1 le replied));
-      action = λ n c link a d last acts may p.
-          (k.action n c link a d last acts may p.0,
-          λ le replied. (let most = counted_most a n in
-          let fits : n ≤ lines_max = omega (arith, le, most) in
-          let before = replied_before link d (after_action (setting_now s d) link a d) (action_extends (setting_now s d) link a d) replied in
-          client_acts s opening own n c link a d last may (p.0.1 fits before) (p.1 fits before)));
-      begins = λ n c link d last acts numbered gone stays p.
-          (k.begins n c link d last acts numbered gone stays p.0,
-          λ le replied. (let fits : n ≤ lines_max = omega (arith, le) in
-          let begun = begun_drill s c link d in
-          let before = replied_before (last_link c begun) begun (after_leaving s c link d) (opening_adds (setting_now s begun) (last_link c begun) begun) replied in
-          client_begins s opening own n c link d (begins_so s opening n c link d le last numbered stays (p.0.1 fits before)) (p.1 fits before)));
+      action = λ n c link a d last acts may p. (
+        k.action n c link a d last acts may p.0,
+        λ le replied. (let most = counted_most a n in
+            let fits : n ≤ lines_max = omega (arith, le, most) in
+            let before = replied_before link d (after_action (setting_now s d) link a d) (action_extends (setting_now s d) link a d) replied in
+            client_acts s opening own n c link a d last may (p.0.1 fits before) (p.1 fits before)),
+      );
+      begins = λ n c link d last acts numbered gone stays p. (
+        k.begins n c link d last acts numbered gone stays p.0,
+        λ le replied. (let fits : n ≤ lines_max = omega (arith, le) in
+            let begun = begun_drill s c link d in
+            let before = replied_before (last_link c begun) begun (after_leaving s c link d) (opening_adds (setting_now s begun) (last_link c begun) begun) replied in
+            client_begins s opening own n c link d (begins_so s opening n c link d le last numbered stays (p.0.1 fits before)) (p.1 fits before)),
+      );
     }
 
 -- ===== the first links open

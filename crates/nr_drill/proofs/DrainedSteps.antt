@@ -141,9 +141,10 @@ adds_kept s opening first = record {
       (ap (λ (ls : List ℕ). length ls) x.last_links ∙ p.0, (p.1.0 ++ x.marks.added, x.marks.is ∙ ap (λ (r : List Mark). r ++ x.marks.added) p.1.1 ∙ append_assoc first p.1.0 x.marks.added)));
   begins = λ n c link d last acts numbered gone stays p.
       (let begun = begun_drill s c link d in
-      let x = opening_adds (setting_now s begun) (last_link c begun) begun in
-      (ap (λ (ls : List ℕ). length ls) x.last_links ∙ length-set d.last_links (c - 1) (length d.pipes + 1) ∙ p.0,
-      (p.1.0 ++ x.marks.added, x.marks.is ∙ ap (λ (r : List Mark). r ++ x.marks.added) p.1.1 ∙ append_assoc first p.1.0 x.marks.added)));
+      let x = opening_adds (setting_now s begun) (last_link c begun) begun in (
+        ap (λ (ls : List ℕ). length ls) x.last_links ∙ length-set d.last_links (c - 1) (length d.pipes + 1) ∙ p.0,
+        (p.1.0 ++ x.marks.added, x.marks.is ∙ ap (λ (r : List Mark). r ++ x.marks.added) p.1.1 ∙ append_assoc first p.1.0 x.marks.added),
+      ));
 }
 
 -- ===== the drill before the step

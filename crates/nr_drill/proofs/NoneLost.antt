@@ -415,23 +415,25 @@ loses_kept s opening =
       credential = λ n c cred d can typed p.
           (k.credential n c cred d can typed p.0, λ le replied link is. (let h = p.1 le replied link is in record { room = h.room; up = h.up; down = h.down }));
       time = λ n seconds d p. (k.time n seconds d p.0, λ le replied link is. (let h = p.1 le replied link is in record { room = h.room; up = h.up; down = h.down }));
-      action = λ n c link a d last acts may p.
-          (k.action n c link a d last acts may p.0,
-          λ le replied other is. (let most = counted_most a n in
-          let fits : n ≤ lines_max = omega (arith, le, most) in
-          let t = setting_now s d in
-          let new = after_action t link a d in
-          let x = action_extends t link a d in
-          let before = replied_before link d new x replied in
-          let here = (p.0.1 fits before).frame.owned c link last in
-          let was = link_of_same d new other x.opened is in
-          none_by link other d new here.0.0 is.0 x (none_acts t link a d) (p.1 fits before other was)));
-      begins = λ n c link d last acts numbered gone stays p.
-          (k.begins n c link d last acts numbered gone stays p.0,
-          λ le replied. (let fits : n ≤ lines_max = omega (arith, le) in
-          let begun = begun_drill s c link d in
-          let before = replied_before (last_link c begun) begun (after_leaving s c link d) (opening_adds (setting_now s begun) (last_link c begun) begun) replied in
-          begun_loses s c link d (begins_so s opening n c link d le last numbered stays (p.0.1 fits before)) (p.1 fits before)));
+      action = λ n c link a d last acts may p. (
+        k.action n c link a d last acts may p.0,
+        λ le replied other is. (let most = counted_most a n in
+            let fits : n ≤ lines_max = omega (arith, le, most) in
+            let t = setting_now s d in
+            let new = after_action t link a d in
+            let x = action_extends t link a d in
+            let before = replied_before link d new x replied in
+            let here = (p.0.1 fits before).frame.owned c link last in
+            let was = link_of_same d new other x.opened is in
+            none_by link other d new here.0.0 is.0 x (none_acts t link a d) (p.1 fits before other was)),
+      );
+      begins = λ n c link d last acts numbered gone stays p. (
+        k.begins n c link d last acts numbered gone stays p.0,
+        λ le replied. (let fits : n ≤ lines_max = omega (arith, le) in
+            let begun = begun_drill s c link d in
+            let before = replied_before (last_link c begun) begun (after_leaving s c link d) (opening_adds (setting_now s begun) (last_link c begun) begun) replied in
+            begun_loses s c link d (begins_so s opening n c link d le last numbered stays (p.0.1 fits before)) (p.1 fits before)),
+      );
     }
 
 none_openings : (s : Setting) (link : ℕ) (links : List ℕ) (d : Drill) → 1 ≤ link → AllByRecursion (λ (l : ℕ). 1 ≤ l) links → NoneLost link d → NoneLost link (after_openings s links d)

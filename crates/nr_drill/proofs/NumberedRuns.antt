@@ -147,20 +147,22 @@ journaled_kept s opening =
       later = λ n d p. (k.later n d p.0, λ le replied. p.1 (omega (arith, le)) replied);
       credential = λ n c cred d can typed p. (k.credential n c cred d can typed p.0, λ le replied. (let h = p.1 le replied in record { stands = h.stands; heard = h.heard }));
       time = λ n seconds d p. (k.time n seconds d p.0, λ le replied. (let h = p.1 le replied in record { stands = h.stands; heard = h.heard }));
-      action = λ n c link a d last acts may p.
-          (k.action n c link a d last acts may p.0,
-          λ le replied. (let most = counted_most a n in
-          let fits : n ≤ lines_max = omega (arith, le, most) in
-          let before = replied_before link d (after_action (setting_now s d) link a d) (action_extends (setting_now s d) link a d) replied in
-          action_journaled s opening n c link a d last (p.0.1 fits before) (p.1 fits before)));
-      begins = λ n c link d last acts numbered gone stays p.
-          (k.begins n c link d last acts numbered gone stays p.0,
-          λ le replied. (let fits : n ≤ lines_max = omega (arith, le) in
-          let begun = begun_drill s c link d in
-          let own = last_link c begun in
-          let before = replied_before own begun (after_leaving s c link d) (opening_adds (setting_now s begun) own begun) replied in
-          let h = p.1 fits before in
-          opening_journaled (setting_now s begun) own begun (record { stands = h.stands; heard = h.heard })));
+      action = λ n c link a d last acts may p. (
+        k.action n c link a d last acts may p.0,
+        λ le replied. (let most = counted_most a n in
+            let fits : n ≤ lines_max = omega (arith, le, most) in
+            let before = replied_before link d (after_action (setting_now s d) link a d) (action_extends (setting_now s d) link a d) replied in
+            action_journaled s opening n c link a d last (p.0.1 fits before) (p.1 fits before)),
+      );
+      begins = λ n c link d last acts numbered gone stays p. (
+        k.begins n c link d last acts numbered gone stays p.0,
+        λ le replied. (let fits : n ≤ lines_max = omega (arith, le) in
+            let begun = begun_drill s c link d in
+            let own = last_link c begun in
+            let before = replied_before own begun (after_leaving s c link d) (opening_adds (setting_now s begun) own begun) replied in
+            let h = p.1 fits before in
+            opening_journaled (setting_now s begun) own begun (record { stands = h.stands; heard = h.heard })),
+      );
     }
 
 first_journaled : (server : SerialServer) (opening : Opening) → IsJournaled server (opened_drill server opening)
