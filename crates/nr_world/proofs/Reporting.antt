@@ -17,7 +17,7 @@ use Rattle.nr_world.specs.private.Stands.{drill_setting, WorldStands}
 use Rattle.nr_world.specs.private.Results.{AreEndsOf, ReportsWorld}
 use Rattle.nr_world.proofs.Rounds.{links_from, no_links}
 use Rattle.nr_drill.specs.Follows.{last_setting}
-use Rattle.nr_drill.proofs.FirstLines.{follows_first}
+use Rattle.nr_drill.proofs.FirstLines.{drill_script, follows_first}
 use Rattle.nr_drill.proofs.FirstRuns.{first_clients}
 
 abbrev pub ends_from : Option End → Option End → Bool → LinkEnds
@@ -72,4 +72,4 @@ tells_world w run clients ends report same clients_are are tells tree script d h
     let first = follows_first s script run is h.unnumbered own.follows in
     let ends_are : ends ≡ map (ends_of (last_setting own.follows) run) own.follows.last.last_links =
     are tree script.opening d h ∙ sym (λ i. map (ends_of (first.setting i) (run_is i)) (first.last_links i)) in
-    tells s script is own refl (clients_are ∙ ap links_of h.count ∙ first_clients s script run is h.unnumbered own.follows) ends_are
+    tells s script (drill_script script is) own refl (clients_are ∙ ap links_of h.count ∙ first_clients s script run is h.unnumbered own.follows) ends_are

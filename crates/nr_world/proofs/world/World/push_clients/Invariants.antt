@@ -1,4 +1,4 @@
-use Rattle.std.proofs.Common.{◌≡◌, ◌≤◌, length}
+use Rattle.std.proofs.Common.{◌≡◌}
 use Rattle.nr_drill.specs.Drill.{links_of}
 use Rattle.nr_world.proofs.world.World.push_clients.Given as goal
 
