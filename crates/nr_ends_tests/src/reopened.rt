@@ -39,7 +39,7 @@ client-agreed = (4096, 4096)\n\
 submit auto 0 :\n\
 reopen 1 4\n\
 feed-down : hello-back 10008 4e523031 1000000 = Bad { at: 0, reason: 31 }\n\
-client-writes : hello 10010 4e523031 4010000 0 5 164147 0 2 1 0 1f 0\n\
+client-writes : hello 10010 4e523031 1010303 0 5 164147 0 2 1 0 1f 0\n\
 ";
 
 /// One that has ended stays.
