@@ -49,5 +49,6 @@ pub mod NumberedDrills
 pub mod DrainedSteps
 pub mod PlacesByLinks
 pub mod StayingLinks
+pub mod KeptReplies
 pub mod EndingDrains
 pub mod NoOldCalls
