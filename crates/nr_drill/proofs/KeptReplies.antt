@@ -1,5 +1,5 @@
 -- A call that is sent again, and has an entry, has a reply: that of the call which added the entry.
-use Rattle.std.specs.Prelude.{◌-◌, map}
+use Rattle.std.specs.Prelude.{◌-◌, if◌then◌else◌, map}
 use Rattle.std.proofs.Common.{◌≡◌, ◌≢◌, ℕ, ◌+◌, ◌<◌, arith, Bool, true, false, cond, eqb, eqb-true, leb, ◌&&◌, List, [], ◌∷◌, ◌++◌, length, take, drop, Option, None, Some, refl, sym, ap, subst, ◌∙◌, append_assoc, append-nil, length-append}
 use Rattle.std.proofs.lemmas.Bool.{and_parts}
 use Rattle.std.proofs.lemmas.List.{length-set}
@@ -137,6 +137,18 @@ both_reply server earlier [] U h g = subst (λ (E : List TaggedEntry). HaveRepli
 both_reply server earlier (t ∷ T) U h g =
     (h.0, both_reply server (earlier ++ t ∷ []) T U h.1 (subst (λ (E : List TaggedEntry). HaveReplies server E U) (sym (append_assoc earlier (t ∷ []) T)) g))
 
+-- an entry with or without the number and the xid of its call
+abbrev tagged_if : (n xid : ℕ) → Entry → Bool → TaggedEntry
+tagged_if n xid e true = record { entry = e; client = 0; xid = 0 }
+tagged_if n xid e false = record { entry = e; client = n; xid = xid }
+
+tagged_is : (n xid : ℕ) (e : Entry) (b : Bool) → eqb n 0 ≡ b → tagged n xid e ≡ tagged_if n xid e b
+tagged_is n xid e b is = same (eqb n 0) ∙ ap (tagged_if n xid e) is
+  where
+    same : (c : Bool) → (if c then record { entry = e; client = 0; xid = 0 } else record { entry = e; client = n; xid = xid }) ≡ tagged_if n xid e c
+    same true = refl
+    same false = refl
+
 -- what a call that is executed adds
 tagged_reply : (server : SerialServer) (keeps : KeepsCalls server.reply_to server.adds) (T : List TaggedEntry) (n xid : ℕ) (moment : Moment) (payload : List ℕ) (reply : List ℕ) (es : List Entry) → server.adds moment payload reply ≡ es → length es < 2 →
     IsBytes payload → xid_of_call (call_of payload) ≡ Some xid → server.reply_to (entries_alone T) moment payload ≡ Some reply → HaveReplies server T (map (tagged n xid) es)
@@ -148,9 +160,9 @@ tagged_reply server keeps T n xid moment payload reply (e ∷ []) is few bytes h
     same = keeps.moment moment payload reply e is
 
     by : (tagged n xid e).client ≢ 0 → (b : Bool) → eqb n 0 ≡ b → (r : List ℕ) × (server.reply_to (entries_alone T) (tagged n xid e).entry.moment (call_of_entry (tagged n xid e).xid (tagged n xid e).entry) ≡ Some r)
-    by some true zero_is = absurd (some (ap (λ (b : Bool). (cond b (record { entry = e; client = 0; xid = 0 }) (record { entry = e; client = n; xid = xid })).client) zero_is))
+    by some true zero_is = absurd (some (ap (λ (t : TaggedEntry). t.client) (tagged_is n xid e true zero_is)))
     by some false some_is =
-        let own : tagged n xid e ≡ record { entry = e; client = n; xid = xid } = ap (λ (b : Bool). cond b (record { entry = e; client = 0; xid = 0 }) (record { entry = e; client = n; xid = xid })) some_is in
+        let own : tagged n xid e ≡ record { entry = e; client = n; xid = xid } = tagged_is n xid e false some_is in
         (reply, (λ i. server.reply_to (entries_alone T) (own i).entry.moment (call_of_entry (own i).xid (own i).entry)) ∙ ap (λ (m : Moment). server.reply_to (entries_alone T) m (call_of_entry xid e)) same
         ∙ keeps.own (entries_alone T) moment payload reply xid e bytes replied is head)
 
