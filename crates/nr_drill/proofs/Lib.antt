@@ -26,8 +26,10 @@ pub mod Told
 pub mod Lookups
 pub mod Executions
 pub mod Counting
+pub mod DraftLists
 pub mod DraftTables
 pub mod DraftSteps
+pub mod NextXids
 pub mod CountedCalls
 pub mod Numbering
 pub mod TellingMarks

@@ -32,7 +32,8 @@ use Rattle.nr_drill.proofs.BegunLinks.{lines_hold}
 use Rattle.nr_drill.proofs.BegunOrder.{InOrder, links_in_order}
 use Rattle.nr_drill.proofs.Actions.{IsLastOf}
 use Rattle.nr_drill.proofs.EndingDrains.{Owned, owned_map, last_owned}
-use Rattle.nr_drill.proofs.CountedCalls.{AreCounted, IsOfLatest, calls_are_counted}
+use Rattle.nr_drill.proofs.CountedCalls.{AreCounted, calls_are_counted}
+use Rattle.nr_drill.proofs.NextXids.{IsOfLatest}
 
 -- ===== what an execution adds to the journal
 
