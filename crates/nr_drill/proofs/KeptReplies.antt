@@ -82,9 +82,10 @@ own_kept s opening = record {
   begins = λ n c link d last acts numbered gone stays p.
       (let begun = begun_drill s c link d in
       let own = last_link c begun in
-      let u = setting_now s begun in
-      (ap (λ (ls : List ℕ). length ls) (opening_adds u own begun).last_links ∙ length-set d.last_links (c - 1) (length d.pipes + 1) ∙ p.0,
-      each_then OwnXidMark begun (after_opening u own begun) (opening_by OwnXidMark u own (own_quiet u own) begun) p.1));
+      let u = setting_now s begun in (
+        ap (λ (ls : List ℕ). length ls) (opening_adds u own begun).last_links ∙ length-set d.last_links (c - 1) (length d.pipes + 1) ∙ p.0,
+        each_then OwnXidMark begun (after_opening u own begun) (opening_by OwnXidMark u own (own_quiet u own) begun) p.1,
+      ));
 }
 
 openings_own : (s : Setting) (links : List ℕ) (d : Drill) → AtEachMark OwnXidMark [] d.marks → AtEachMark OwnXidMark [] (after_openings s links d).marks
@@ -162,9 +163,11 @@ tagged_reply server keeps T n xid moment payload reply (e ∷ []) is few bytes h
     by : (tagged n xid e).client ≢ 0 → (b : Bool) → eqb n 0 ≡ b → (r : List ℕ) × (server.reply_to (entries_alone T) (tagged n xid e).entry.moment (call_of_entry (tagged n xid e).xid (tagged n xid e).entry) ≡ Some r)
     by some true zero_is = absurd (some (ap (λ (t : TaggedEntry). t.client) (tagged_is n xid e true zero_is)))
     by some false some_is =
-        let own : tagged n xid e ≡ record { entry = e; client = n; xid = xid } = tagged_is n xid e false some_is in
-        (reply, (λ i. server.reply_to (entries_alone T) (own i).entry.moment (call_of_entry (own i).xid (own i).entry)) ∙ ap (λ (m : Moment). server.reply_to (entries_alone T) m (call_of_entry xid e)) same
-        ∙ keeps.own (entries_alone T) moment payload reply xid e bytes replied is head)
+        let own : tagged n xid e ≡ record { entry = e; client = n; xid = xid } = tagged_is n xid e false some_is in (
+          reply,
+          (λ i. server.reply_to (entries_alone T) (own i).entry.moment (call_of_entry (own i).xid (own i).entry)) ∙ ap (λ (m : Moment). server.reply_to (entries_alone T) m (call_of_entry xid e)) same
+              ∙ keeps.own (entries_alone T) moment payload reply xid e bytes replied is head,
+        )
 
 added_reply : (server : SerialServer) (keeps : KeepsCalls server.reply_to server.adds) (T : List TaggedEntry) (n xid : ℕ) (moment : Moment) (payload : List ℕ) (place : ℕ) (reply : List ℕ) (is : Standing) → IsBytes payload → xid_of_call (call_of payload) ≡ Some xid →
     IsExecutedBy (plain_of server) T is moment payload place reply → HaveReplies server T (added_by is (map (tagged n xid) (server.adds moment payload reply)))
