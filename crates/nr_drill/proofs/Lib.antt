@@ -47,6 +47,7 @@ pub mod NumberedJournals
 pub mod NumberedRuns
 pub mod BegunOrder
 pub mod EarlierOnes
+pub mod LeftLinks
 pub mod NumberedDrills
 pub mod DrainedSteps
 pub mod PlacesByLinks

@@ -80,9 +80,9 @@ pub record Stays (script : ScriptLines) (opened : LinkParameters) (client link :
 
 -- ===== the run
 
--- each link of the client of this one is matched
-abbrev pub LinksAreMatched : Setting → List Mark → ℕ → Type 0
-LinksAreMatched s run link = (other : ℕ) → 1 ≤ other → client_of s other ≡ client_of s link → Matched other run
+-- A link is matched, and so is each link that its client had before.
+abbrev pub IsMatchedFromFirst : Setting → List Mark → ℕ → Type 0
+IsMatchedFromFirst s run link = (earlier : ℕ) → 1 ≤ earlier → earlier ≤ link → client_of s earlier ≡ client_of s link → Matched earlier run
 
 -- A call is submitted on a link for the first time, after the outcome of another was handed over. Its place isn't smaller, on whichever of its
 -- client's links it is executed.
@@ -113,17 +113,16 @@ pub record IsDrillRun (server : SerialServer) (script : ScriptLines) (run : List
   pub numbers : (link : ℕ) → IsLink follows.last link → number_heard run link ≡ ((last_setting follows).opened link).client.number
   pub laws : (link : ℕ) → IsLink follows.last link → KeepsLaws script ((last_setting follows).opened link) (client_of (last_setting follows) link) link run
   pub memory : (link : ℕ) → IsLink follows.last link → KeepsMemory ((last_setting follows).opened link) link run
-  pub outcomes : (link : ℕ) → IsLink follows.last link → LinksAreMatched (last_setting follows) run link →
+  pub outcomes : (link : ℕ) → IsLink follows.last link → IsMatchedFromFirst (last_setting follows) run link →
       Completes (plain_of server) (entries_alone (journal_of (last_setting follows) run)) ((last_setting follows).opened link) link run
-  pub changes : (link : ℕ) → IsLink follows.last link → (((last_setting follows).opened link).client.number ≢ 0 → LinksAreMatched (last_setting follows) run link) →
-      AnswersChanges server ((last_setting follows).opened link) link run
+  pub changes : (link : ℕ) → IsLink follows.last link → AnswersChanges server ((last_setting follows).opened link) link run
   pub places : (link other_link executing : ℕ) → IsLink follows.last link → IsLink follows.last other_link → IsLink follows.last executing →
-      client_of (last_setting follows) other_link ≡ client_of (last_setting follows) executing → LinksAreMatched (last_setting follows) run link →
-      LinksAreMatched (last_setting follows) run other_link → LinksAreMatched (last_setting follows) run executing → PlacesRise (last_setting follows) link other_link executing run
+      client_of (last_setting follows) other_link ≡ client_of (last_setting follows) executing → Matched link run → IsMatchedFromFirst (last_setting follows) run executing →
+      PlacesRise (last_setting follows) link other_link executing run
   pub once : HasNoEntryTwice (journal_of (last_setting follows) run)
-  pub entries : (link : ℕ) → IsLink follows.last link → ((last_setting follows).opened link).client.number ≢ 0 → LinksAreMatched (last_setting follows) run link →
+  pub entries : (link : ℕ) → IsLink follows.last link → ((last_setting follows).opened link).client.number ≢ 0 → IsMatchedFromFirst (last_setting follows) run link →
       ChangesHaveEntries server (journal_of (last_setting follows) run) (last_setting follows).opened link run
-  pub staying : (link : ℕ) → IsLink follows.last link → LinksAreMatched (last_setting follows) run link → is_dropped link run ≡ false → HasNoRevoke link run →
+  pub staying : (link : ℕ) → IsLink follows.last link → IsMatchedFromFirst (last_setting follows) run link → is_dropped link run ≡ false → HasNoRevoke link run →
       AreConveyedOrRefused ((last_setting follows).opened link) link run → Stays script ((last_setting follows).opened link) (client_of (last_setting follows) link) link run
   pub drains : (link : ℕ) → IsLink follows.last link → DrainStepsLeaveLess server script link
 
