@@ -15,6 +15,7 @@ use Rattle.nr_drill.specs.Drains.{AnswersInBytes, AnswersCalls}
 use Rattle.nr_drill.proofs.EndingDrains.{drains_end}
 use Rattle.nr_drill.proofs.LessPlain.{plain_answers, plain_answers_in_bytes, plain_runs_reply_in_bytes}
 use Rattle.nr_drill.proofs.Headed.{drill_is_run}
+use Rattle.nr_drill.proofs.OneRun.{last_made}
 use Rattle.nr_byte_laws.proofs.TreeBytes.{drill_in_bytes}
 use Rattle.nr_drill.proofs.DrillTrees.{drill_sane}
 use Rattle.nr_plain.proofs.KeptCalls.{server_keeps_calls}
@@ -24,10 +25,6 @@ use Rattle.nr_reduce.specs.KeepsCalls.{KeepsCalls}
 line_made : (s : Setting) (clients : ℕ) (line : Line) (mid : Drill) → ((rounds : ℕ) × (new : Drill) × Drains (setting_now s mid) mid.last_links rounds mid new) → (new : Drill) × Makes s clients line mid new
 line_made s clients lines.Drain mid drains = (drains.1, (drains.0, drains.2))
 line_made s clients line mid drains = (after_line s line mid, refl)
-
-last_made : (s : Setting) (clients : ℕ) (before : List Line) (line : Line) (old mid new : Drill) → MakeAll s clients before old mid → Makes s clients line mid new → MakeAll s clients (before ++ line ∷ []) old new
-last_made s clients [] line old mid new made is = (new, subst (λ (d : Drill). Makes s clients line d new) made is, refl)
-last_made s clients (first ∷ before) line old mid new made is = (made.0, made.1, last_made s clients before line made.0 mid new made.2 is)
 
 any_front : {X : Type 0} (p : X → Bool) (xs ys : List X) → list_any p (xs ++ ys) ≡ false → list_any p xs ≡ false
 any_front p [] ys e = refl
