@@ -47,6 +47,8 @@ mod random;
 #[cfg(test)]
 mod refused;
 #[cfg(test)]
+mod reopened;
+#[cfg(test)]
 mod replies;
 #[cfg(test)]
 mod script;

@@ -136,6 +136,55 @@ impl TestLink {
         }
     }
 
+    /// Two ends with these units, of the client and of the server. The client has this number, which isn't 0.
+    pub fn open_numbered(
+        rt: &impl Abort,
+        alloc: Global,
+        number: u64,
+        credits: u32,
+        units: (u8, u8),
+    ) -> TestLink {
+        check(rt, number > 0);
+        TestLink {
+            client: Requester::open_numbered(alloc, number, credits, units.0, false).expect(
+                rt, "memory",
+            ),
+            server: Responder::open_sized(alloc, credits, credits, units.1, false).expect(
+                rt, "memory",
+            ),
+            fed_up: 0,
+            fed_down: 0,
+            next_xid: 1,
+        }
+    }
+
+    /// The client end leaves the link and begins the next one, to a new server end with these credits and units; or it is refused, and the link
+    /// stays.
+    pub fn reopen(
+        &mut self,
+        rt: &impl Abort,
+        alloc: Global,
+        credits: u32,
+        units: u8,
+    ) -> Result<(), Refused>
+        ensures { KeepsTickets self.old.state self.new.state }
+    {
+        check(rt, self.client.client() > 0);
+        let server = Responder::open_sized(alloc, credits, credits, units, false).expect(
+            rt, "memory",
+        );
+        self.client.reopen()?;
+        self.server = server;
+        self.fed_up = 0;
+        self.fed_down = 0;
+        Ok(())
+    }
+
+    /// How many calls wait to be sent again.
+    pub fn waiting(&self) -> usize {
+        self.client.waiting()
+    }
+
     /// Two ends of which the server end has these credits, and grants at most `low` while more than half of its receives are in use.
     pub fn open_low(rt: &impl Abort, alloc: Global, credits: u32, low: u32) -> TestLink {
         TestLink {

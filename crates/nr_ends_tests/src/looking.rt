@@ -45,6 +45,7 @@ fn counted(rt: &impl Abort, alloc: Global, link: &TestLink, line: &Line<'_>, out
         "client" => show(rt, alloc, out, &link.client_number()),
         "marks" => show(rt, alloc, out, &link.marks()),
         "releases" => show(rt, alloc, out, &link.releases()),
+        "waiting" => show(rt, alloc, out, &link.waiting()),
         "server-held" => show(rt, alloc, out, &server_held(link)),
         "holds-at-most" => {
             let holds = held(link) <= u128::from(line.number(rt, 0));

@@ -7,11 +7,12 @@ use crate::line::Line;
 use crate::link::TestLink;
 use nr_link::End;
 use nr_outside::MemSink;
+use nr_reduce::Refused;
 use std::alloc::Global;
 use std::process::Abort;
 
 /// Both ends as a line asks for them: `open CREDITS`, `open-at XID STAG CREDITS`, `open-sized CREDITS UNITS UNITS` and `open-invalidating UNITS
-/// CLIENT SERVER` with what the client end and the server end say, and `open-low CREDITS LOW`.
+/// CLIENT SERVER` with what the client end and the server end say, `open-low CREDITS LOW`, and `open-numbered NUMBER CREDITS UNITS UNITS`.
 fn opened(rt: &impl Abort, alloc: Global, line: &Line<'_>) -> TestLink {
     let first = line.number(rt, 0);
     match line.name {
@@ -28,6 +29,10 @@ fn opened(rt: &impl Abort, alloc: Global, line: &Line<'_>) -> TestLink {
             TestLink::open_invalidating(rt, alloc, line.units(rt, 0), invalidates)
         }
         "open-low" => TestLink::open_low(rt, alloc, first, line.number(rt, 1)),
+        "open-numbered" => {
+            let units = (line.units(rt, 2), line.units(rt, 3));
+            TestLink::open_numbered(rt, alloc, u64::from(first), line.number(rt, 1), units)
+        }
         _ => TestLink::open(rt, alloc, first),
     }
 }
@@ -87,6 +92,21 @@ fn cross(rt: &impl Abort, alloc: Global, link: &mut TestLink, line: &Line<'_>, o
     }
 }
 
+/// `reopen CREDITS UNITS`: the client end leaves the link, and begins the next one to a new server end. Gives why it had ended, if it had.
+fn reopened(
+    rt: &impl Abort,
+    alloc: Global,
+    link: &mut TestLink,
+    line: &Line<'_>,
+    out: &mut String,
+) {
+    match link.reopen(rt, alloc, line.number(rt, 0), line.units(rt, 1)) {
+        Ok(()) => (),
+        Err(Refused::Ended(end)) => show(rt, alloc, out, &end),
+        Err(_) => panic!(rt; "row {}: refused", line.row),
+    }
+}
+
 /// `feed-up` and `feed-down`: feeds an end the bytes.
 fn feed(rt: &impl Abort, link: &mut TestLink, line: &Line<'_>) -> Result<(), End> {
     if line.name == "feed-up" {
@@ -108,7 +128,7 @@ pub fn moved(
         "up" | "up-bytes" | "down" | "down-bytes" => cross(rt, alloc, link, line, out),
         "feed-up" | "feed-down" => done(rt, alloc, out, &feed(rt, link, line)),
         "down-ends" => done(rt, alloc, out, &down_ends(rt, alloc, link, line)),
-        "open" | "open-at" | "open-sized" | "open-invalidating" | "open-low" => {
+        "open" | "open-at" | "open-sized" | "open-invalidating" | "open-low" | "open-numbered" => {
             *link = opened(rt, alloc, line);
         }
         _ => written(rt, alloc, link, line, out),
@@ -125,6 +145,7 @@ fn written(rt: &impl Abort, alloc: Global, link: &mut TestLink, line: &Line<'_>,
         "drain" => drain(rt, alloc, link, line),
         "set-credits" => link.set_credits(rt, line.number(rt, 0)),
         "stop" => show(rt, alloc, out, &link.stop(rt)),
+        "reopen" => reopened(rt, alloc, link, line, out),
         _ => called(rt, alloc, link, line, out),
     }
 }
