@@ -12,7 +12,7 @@ use nr_xdr::Memory;
 use std::alloc::Global;
 
 impl World {
-    /// What each link came to, in order.
+    /// What the link that each client has now came to, in order.
     fn push_ends(&self, ends: &mut Vec<LinkEnds>) -> Result<(), Memory>
         requires { ends.old.items ≡ [] }
         ensures ends { OnOk result (AreEndsOf self.now ends.new.items) }
@@ -36,7 +36,7 @@ impl World {
     {
         let mut ends = Vec::new(alloc);
         match self.push_ends(&mut ends) {
-            Ok(()) => report_of(alloc, self.marks, ends.as_slice()),
+            Ok(()) => report_of(alloc, self.marks, self.owners.as_slice(), ends.as_slice()),
             Err(memory) => Err(memory),
         }
     }

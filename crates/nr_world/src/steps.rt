@@ -28,6 +28,9 @@ pub(crate) struct Procedure {
     pub(crate) proc: u32,
 }
 
+/// The maximum number of links that are begun.
+const LINKS_MAX: usize = 0xffff_ffff;
+
 impl World {
     /// A call of a client, with its credential.
     fn call(
@@ -114,6 +117,33 @@ impl World {
         ensures { OnOk result (Steps (λ s d. after_drop client d) self.old self.new) }
     {
         self.links[client - 1].drop_link(&mut self.marks)
+    }
+
+    /// The client drops its link, if that stands still, and begins the next one; nothing if it has ended.
+    pub(crate) fn rejoin(&mut self, client: usize) -> Result<(), Memory>
+        requires client { IsClient (length self.old.links.items) client }
+        ensures { OnOk result (MakesLine (lines.Rejoin client) self.old self.new) }
+    {
+        if self.links[client - 1].client_end().is_some() {
+            return Ok(());
+        }
+        if !self.links[client - 1].is_dropped() {
+            self.drop_link(client)?;
+        }
+        self.begin_link(client)
+    }
+
+    /// The client begins its next link.
+    fn begin_link(&mut self, client: usize) -> Result<(), Memory>
+        requires client { IsClient (length self.old.links.items) client }
+        ensures { OnOk result (BeginsLink client self.old self.new) }
+    {
+        if self.owners.len() >= LINKS_MAX {
+            return Err(Memory);
+        }
+        self.owners.push(client as u32)?;
+        let number = self.owners.len() as u32;
+        self.links[client - 1].reopen(&mut self.marks, number, self.opening)
     }
 
     pub(crate) fn grant(&mut self, client: usize, credits: u32) -> Result<(), Memory>
