@@ -1,6 +1,6 @@
 //! A link: how it is opened, and what is reported of it.
 
-ghost use Rattle.std.specs.Prelude.{◌≡◌, ◌+◌, ◌*◌, ◌≤◌, ◌^◌, ℕ, List, length, IfOk, OnOk, true, false};
+ghost use Rattle.std.specs.Prelude.{◌≡◌, ◌+◌, ◌*◌, ◌≤◌, ◌^◌, ℕ, List, [], map, length, None, IfOk, OnOk, true, false};
 ghost use Rattle.nr_wire.specs.declared.hello.Side.TheVariants.{Initiator, Responder as ResponderSide};
 ghost use Rattle.nr_reduce.specs.declared.mark.Mark.{Mark};
 ghost use Rattle.nr_reduce.specs.Run.{end_of_side};
@@ -8,7 +8,19 @@ ghost use Rattle.nr_reduce.specs.History.{is_dropped as is_dropped_after};
 ghost use Rattle.nr_drill.specs.Drill.{Setting, Drill, after_drop, after_grant, after_opening, after_raw};
 ghost use Rattle.nr_drill.specs.Follows.{is_still as is_still_in};
 ghost use Rattle.nr_world.specs.LinkStands.{LinkStands};
-ghost use Rattle.nr_world.specs.Steps.{Goes, IsFresh, Opens};
+ghost use Rattle.nr_link.specs.Agreement.{terms_with};
+ghost use Rattle.nr_endpoint.specs.FedBytes.{fed_bytes};
+ghost use Rattle.nr_reduce.specs.declared.mark.LinkParameters.{LinkParameters};
+ghost use Rattle.nr_reduce.specs.Opening.{ClientOpened, ServerOpened};
+ghost use Rattle.nr_requester.specs.Fed.{fed_bytes as client_fed_bytes};
+ghost use Rattle.nr_requester.specs.Standing.{RequesterRepresents};
+ghost use Rattle.nr_responder.specs.ResponderState.{end_of};
+ghost use Rattle.nr_responder.specs.Standing.{ResponderRepresents};
+ghost use Rattle.nr_drill.specs.Follows.{client_terms};
+ghost use Rattle.nr_world.specs.OpenTickets.{AreOpen};
+ghost use Rattle.nr_world.specs.Steps.{Goes, IsFresh, Opens, Reopens};
+ghost use Rattle.nr_world.specs.Views.{held_view};
+ghost use Rattle.nr_world.specs.private.Working.{begun_link};
 
 use crate::awaited::{AwaitedCall, HeldCall};
 use crate::draining::add_mark;
@@ -177,7 +189,8 @@ impl DrillLink {
     }
 
     /// Leaves the link, and begins the next one of its client, with this number: the calls that are awaited are sent again there.
-    /// Each end is fed the complete hello of the other. It fails also if the client has ended, or if its STags are spent.
+    /// Each end is fed the complete hello of the other. It fails also if the client has no number, if it has ended, or
+    /// if its STags are spent.
     #[tactic(none)]
     pub fn reopen(
         &mut self,
@@ -185,9 +198,11 @@ impl DrillLink {
         number: u32,
         opening: Opening,
     ) -> Result<(), Memory>
-        requires { 0 < self.old.client.state.side.terms.number }
         ensures { OnOk result (Reopens number opening self.old self.new marks.old marks.new) }
     {
+        if self.client.client() == 0 {
+            return Err(Memory);
+        }
         let server = match drill_responder(self.alloc, opening) {
             Ok(server) => server,
             Err(memory) => return Err(memory),
