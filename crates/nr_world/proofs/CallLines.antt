@@ -26,6 +26,7 @@ use Rattle.nr_requester.specs.Laws.{GivesUpNothing}
 use Rattle.nr_requester.proofs.AnswerSteps.{due_same}
 use Rattle.nr_drill.specs.Drill.{Setting, answer_at, client_of, link_of, settles, is_sent_again}
 use Rattle.nr_world.specs.DrillLinkState.{AwaitedLine}
+use Rattle.nr_world.proofs.EarlierCalls.{elsewhere_on, quiet_elsewhere}
 use Rattle.nr_world.specs.LinkStands.{TracksCalls, answers_of, as_waiting, awaited_lines, due_calls, is_awaited, lines_from, link_calls, waiting_calls}
 
 pub filter_as : {X : Type 0} (p q : X → Bool) (xs : List X) → ((x : X) → p x ≡ q x) → filter p xs ≡ filter q xs
@@ -113,4 +114,5 @@ tracks_on s link run mark lines awaited calls waiting none kept leaves up t = re
   calls_are = t.calls_are ∙ sym (due_still (s.opened link) link run mark leaves up);
   waiting_are = t.waiting_are ∙ sym leaves.waits;
   same_ids = t.same_ids;
+  none_before = λ xid above. elsewhere_on s link xid run mark (quiet_elsewhere s link xid mark (kept xid)) (t.none_before xid above);
 }

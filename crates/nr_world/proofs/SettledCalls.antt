@@ -15,16 +15,18 @@ use Rattle.nr_reduce.proofs.Unconcerned.{of_other_side}
 use Rattle.nr_requester.specs.KeptAnswers.{is_due}
 use Rattle.nr_requester.specs.Laws.{gives_up}
 use Rattle.nr_requester.proofs.AnswerSteps.{due_one}
-use Rattle.nr_drill.specs.Drill.{Setting, answer_at, client_of, settles}
+use Rattle.nr_drill.specs.Drill.{link_of, Setting, answer_at, client_of, settles}
 use Rattle.nr_drill.specs.InBytes.{RepliedMark}
 use Rattle.nr_world.specs.DrillLinkState.{AwaitedLine}
 use Rattle.nr_world.specs.LinkStands.{TracksCalls, answers_of, awaited_lines, call_ids, due_calls, is_awaited, line_ids, lines_from, link_calls}
 use Rattle.nr_world.specs.OpenTickets.{calls_without}
 use Rattle.nr_world.proofs.CallLines.{LeavesCalls, answers_same, awaited_one, calls_same, filter_as}
+use Rattle.nr_world.proofs.EarlierCalls.{elsewhere_on, own_elsewhere}
 use Rattle.nr_world.proofs.WaitingCalls.{leaves_calls}
 
 -- a mark that settles the call of an xid of this link, and no other
 pub record SettlesOne (s : Setting) (link xid : ℕ) (mark : Mark) : Type 0 where
+  pub own : link_of mark ≡ link
   pub drops : is_drop_of link mark ≡ false
   pub answer : answer_at s (client_of s link) mark ≡ []
   pub settle : (x : ℕ) → settles s (client_of s link) x mark ≡ eqb xid x
@@ -44,17 +46,18 @@ own_client : (s : Setting) (link xid x : ℕ) → (client_of s link == client_of
 own_client s link xid x = ap (λ (b : Bool). b && eqb xid x) (eq-eqb (client_of s link) (client_of s link) refl)
 
 pub forget_settles : (s : Setting) (link xid : ℕ) → SettlesOne s link xid (marks.Forget link xid)
-forget_settles s link xid = record { drops = refl; answer = refl; settle = own_client s link xid; gives = own_link link xid; accepts = refl; others = of_other_side (eqb link link); replied = λ before. tt }
+forget_settles s link xid = record { own = refl; drops = refl; answer = refl; settle = own_client s link xid; gives = own_link link xid; accepts = refl; others = of_other_side (eqb link link); replied = λ before. tt }
 
 pub revoke_settles : (s : Setting) (link xid : ℕ) (bytes : List ℕ) → SettlesOne s link xid (marks.Revoke link xid bytes)
 revoke_settles s link xid bytes =
-    record { drops = refl; answer = refl; settle = own_client s link xid; gives = own_link link xid; accepts = refl; others = of_other_side (eqb link link); replied = λ before. tt }
+    record { own = refl; drops = refl; answer = refl; settle = own_client s link xid; gives = own_link link xid; accepts = refl; others = of_other_side (eqb link link); replied = λ before. tt }
 
 done_given : (link xid x : ℕ) (outcome : Outcome) → gives_up link x (marks.Done link xid outcome) ≡ eqb xid x
 done_given link xid x outcome = ap (λ (b : Bool). false || list_any (λ (c : CompletedCall). eqb c.xid x) (cond b (record { xid = xid; outcome = outcome } ∷ []) [])) (itself link) ∙ or_false (eqb xid x)
 
 pub done_settles : (s : Setting) (link xid : ℕ) (outcome : Outcome) → SettlesOne s link xid (marks.Done link xid outcome)
 done_settles s link xid outcome = record {
+  own = refl;
   drops = refl;
   answer = refl;
   settle = own_client s link xid;
@@ -113,4 +116,5 @@ tracks_less s link xid run mark lines awaited left calls fewer waiting g lines_l
       ap (λ (cs : List AcceptedCall). call_ids cs) calls_left ∙ ids_filtered (λ (a : AcceptedCall). a.xid) (λ x. not (eqb xid x)) calls
       ∙ ap (λ (ns : List ℕ). filter (λ x. not (eqb xid x)) ns) t.same_ids
       ∙ sym (ap (λ (ls : List AwaitedLine). line_ids ls) lines_left ∙ ids_filtered (λ (l : AwaitedLine). l.xid) (λ x. not (eqb xid x)) awaited);
+  none_before = λ x above. elsewhere_on s link x run mark (own_elsewhere s link x mark g.own) (t.none_before x above);
 }

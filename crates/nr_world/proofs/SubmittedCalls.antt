@@ -30,6 +30,7 @@ use Rattle.nr_drill.specs.Drill.{Setting, answer_at, client_of, is_sent_again, r
 use Rattle.nr_world.specs.DrillLinkState.{AwaitedLine}
 use Rattle.nr_world.specs.LinkStands.{TracksCalls, accepted_line, answers_of, as_waiting, awaited_lines, call_ids, due_calls, is_awaited, line_ids, lines_from, link_calls, waiting_calls}
 use Rattle.nr_world.proofs.CallLines.{answers_one, answers_same, awaited_same, awaited_still, calls_same, due_still, filter_as, filter_parts, waits_same}
+use Rattle.nr_world.proofs.EarlierCalls.{elsewhere_on, own_elsewhere}
 use Rattle.nr_world.proofs.WaitingCalls.{IsFirstWaiting, leaves_calls}
 
 -- ---- The answers
@@ -99,6 +100,7 @@ tracks_refused s link run call form answer lines awaited calls waiting new none 
       calls_are = t.calls_are ∙ sym (due_still o link run mark leaves (λ xid. refl));
       waiting_are = t.waiting_are ∙ sym leaves.waits;
       same_ids = t.same_ids;
+      none_before = λ x above. elsewhere_on s link x run mark (own_elsewhere s link x mark refl) (t.none_before x above);
     }
 
 -- ---- A new call that is accepted, while none waits
@@ -137,6 +139,7 @@ tracks_accepted s link run call form xid lines awaited calls waiting new none du
       calls_are = more_due o t.calls_are all due;
       waiting_are = t.waiting_are ∙ no_calls_wait o link run none ∙ sym (no_calls_wait o link (run ++ mark ∷ []) after);
       same_ids = map-append (λ (c : AcceptedCall). c.xid) calls (a ∷ []) ∙ ap (λ (ns : List ℕ). ns ++ xid ∷ []) t.same_ids ∙ sym (map-append (λ (l : AwaitedLine). l.xid) awaited (line ∷ []));
+      none_before = λ x above. elsewhere_on s link x run mark (own_elsewhere s link x mark refl) (t.none_before x above);
     }
   where
     more_due : (o : LinkParameters) → calls ≡ due_calls o link run →
@@ -172,6 +175,7 @@ tracks_resent s link run w lines awaited calls waiting first below t =
       calls_are = t.calls_are ∙ sym (due_as o all);
       waiting_are = sym (ap (λ (ws : List WaitingCall). map as_waiting ws) first.after);
       same_ids = t.same_ids;
+      none_before = λ x above. elsewhere_on s link x run mark (own_elsewhere s link x mark refl) (t.none_before x above);
     }
   where
     due_as : (o : LinkParameters) → link_calls o link (run ++ resend_mark link w ∷ []) ≡ link_calls o link run → due_calls o link (run ++ resend_mark link w ∷ []) ≡ due_calls o link run

@@ -1,5 +1,5 @@
 -- The drills that a link stands for.
-use Rattle.std.specs.Prelude.{◌≡◌, ◌≢◌, ℕ, ◌+◌, ◌≤◌, Bool, true, not, List, [], ◌∷◌, ◌++◌, map, length, Some}
+use Rattle.std.specs.Prelude.{◌≡◌, ◌≢◌, ℕ, ◌+◌, ◌≤◌, ◌==◌, Bool, true, false, not, ◌&&◌, List, [], ◌∷◌, ◌++◌, map, length, Some}
 use Rattle.std.specs.List.{flat_map, filter, list_any}
 use Rattle.nr_link.specs.declared.end.End.TheVariants as ends
 use Rattle.nr_reduce.specs.declared.call.Submission.{Submission}
@@ -14,7 +14,7 @@ use Rattle.nr_requester.specs.RequesterState.{RequesterSide}
 use Rattle.nr_requester.specs.ReopenedLinks.{RequesterKeeps}
 use Rattle.nr_responder.specs.ResponderState.{end_of}
 use Rattle.nr_responder.specs.Standing.{RepresentsServer}
-use Rattle.nr_drill.specs.Drill.{Setting, Drill, pipes_of, answer_at, client_of, settles}
+use Rattle.nr_drill.specs.Drill.{link_of, Setting, Drill, pipes_of, answer_at, client_of, settles}
 use Rattle.nr_world.specs.DrillLinkState.{AwaitedLine, DrillLinkState}
 
 -- ---- The call lines of a link's client
@@ -63,6 +63,10 @@ line_ids lines = map (λ (line : AwaitedLine). line.xid) lines
 abbrev pub call_ids : List AcceptedCall → List ℕ
 call_ids calls = map (λ (call : AcceptedCall). call.xid) calls
 
+-- a mark of another link settles a call of the link's client
+abbrev pub settles_elsewhere : Setting → ℕ → ℕ → Mark → Bool
+settles_elsewhere s link xid mark = not (link_of mark == link) && settles s (client_of s link) xid mark
+
 -- What a link knows of the calls of its client: how many lines there were, whose calls are awaited, these calls, which are those of the link that are or
 -- will be due, and those that wait to be sent again.
 pub record TracksCalls (s : Setting) (link : ℕ) (run : List Mark) (lines : ℕ) (awaited : List AwaitedLine) (calls waiting : List AcceptedCall) : Type 0 where
@@ -71,6 +75,7 @@ pub record TracksCalls (s : Setting) (link : ℕ) (run : List Mark) (lines : ℕ
   pub calls_are : calls ≡ due_calls (s.opened link) link run
   pub waiting_are : waiting ≡ waiting_calls (s.opened link) link run
   pub same_ids : call_ids calls ≡ line_ids awaited
+  pub none_before : (xid : ℕ) → (s.opened link).first_xid ≤ xid → list_any (settles_elsewhere s link xid) run ≡ false
 
 -- ---- The link
 
