@@ -58,7 +58,7 @@ unfolding waiting_call
 waits_is s link run call stands next = ap (λ (b : Bool). if_standing b (next_call (s.opened link) link run)) stands ∙ next
 
 plain_execute : (link xid : ℕ) (moment : Moment) (payload : List ℕ) (place : ℕ) (reply : List ℕ) → IsBytes reply → IsPlain link (marks.Execute link xid moment payload place reply)
-plain_execute link xid moment payload place reply bytes = record { drops = refl; answer = refl; kept = λ x. refl; replied = λ before. bytes }
+plain_execute link xid moment payload place reply bytes = record { drops = refl; answer = λ s. refl; settle = λ s x. refl; accepts = refl; kept = λ x. refl; replied = λ before. bytes }
 
 -- what the responder says of the payload of its next call, and of the answer
 abbrev pub HasPayload : ResponderSide → ℕ → List ℕ → Type 0
@@ -91,7 +91,7 @@ executes seconds v server run run2 kept kept2 xid payload reply place stands has
     sym (λ i. plain_reply setup J (plain.place_is i) (moments i) (ex.conveyed i)) ∙ plain.replied in
     let not_memory : end_of server ≢ Some ends.Memory = (λ e. absurd (let no = sym live ∙ e in cc)) in
     let e : EndsStand s link (d.marks ++ mark ∷ []) v.client server = record {
-      client = others_leave_it o link v.client d.marks mark h.client (not_own link _) refl refl (λ x. refl);
+      client = others_leave o link v.client d.marks mark h.client (not_own link _) refl refl (λ x. refl);
       server = represents_of o link (d.marks ++ mark ∷ []) server not_memory (takes o link d.marks moment payload place (inl h.server) ex);
       client_memory = h.client_memory;
       server_memory = not_memory;

@@ -6,7 +6,7 @@ use Rattle.nr_reduce.specs.declared.mark.Mark.{Mark}
 use Rattle.nr_reduce.specs.declared.mark.Mark.TheVariants as marks
 use Rattle.nr_reduce.proofs.Unconcerned.{fed_elsewhere}
 use Rattle.nr_requester.specs.RequesterState.{RequesterSide}
-use Rattle.nr_requester.specs.Standing.{StandsOn}
+use Rattle.nr_requester.specs.Standing.{KeepsOn}
 use Rattle.nr_drill.specs.Drill.{Drill, Pipes, pipes_of, with_pipes, with_mark, after_feeding, after_feeding_down, after_outcomes, after_down, settled}
 use Rattle.nr_drill.specs.InBytes.{RepliedInBytes}
 use Rattle.nr_world.specs.DrillLinkState.{DrillLinkState}
@@ -22,9 +22,9 @@ down_nothing v n run none s link d at =
     subst (λ (xs : List ℕ). StandsAt s link (after_feeding link Initiator xs (record { up = (pipes_of link d).up; down = drop n (pipes_of link d).down }) d) v run) (sym piece) at
 
 plain_fed_down : (link : ℕ) (bytes : List ℕ) → IsPlain link (marks.Fed link Initiator bytes)
-plain_fed_down link bytes = record { drops = refl; answer = refl; kept = λ xid. refl; replied = λ before. tt }
+plain_fed_down link bytes = record { drops = refl; answer = λ s. refl; settle = λ s xid. refl; accepts = refl; kept = λ xid. refl; replied = λ before. tt }
 
-pub down_fed : (v : DrillLinkState) (client : RequesterSide) (n : ℕ) (piece : List ℕ) (pipes : Pipes) (run run2 : List Mark) → piece ≡ take n v.pipes.down → piece ≢ [] → StandsOn v.client (λ link. marks.Fed link Initiator piece) client →
+pub down_fed : (v : DrillLinkState) (client : RequesterSide) (n : ℕ) (piece : List ℕ) (pipes : Pipes) (run run2 : List Mark) → piece ≡ take n v.pipes.down → piece ≢ [] → KeepsOn v.client (λ link. marks.Fed link Initiator piece) client →
     client.state.side.ended ≢ Some ends.Memory → pipes ≡ record { up = v.pipes.up; down = drop n v.pipes.down } → run2 ≡ run ++ marks.Fed v.number Initiator piece ∷ [] → Goes (λ s link. after_feeding_down link n) v (with_ends v client v.server pipes) run run2
 down_fed v client n [] pipes run run2 taken some takes ends_not is more s link d at = absurd (some refl)
 down_fed v client n (b ∷ bytes) pipes run run2 taken some takes ends_not is more s link d at =

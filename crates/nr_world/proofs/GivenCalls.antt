@@ -31,7 +31,7 @@ use Rattle.nr_requester.specs.RequesterState.{RequesterSide, RequesterState}
 use Rattle.nr_requester.specs.Answers.{plan_under, answer_by_plan, answer_if, answer_of}
 use Rattle.nr_requester.specs.KeptAnswers.{is_due}
 use Rattle.nr_requester.specs.OpenCalls.{open_call, OpensTicket}
-use Rattle.nr_requester.specs.Standing.{RequesterRepresents}
+use Rattle.nr_requester.specs.Standing.{StandsForClient}
 use Rattle.nr_requester.proofs.Accepting.{answers_as_client}
 use Rattle.nr_requester.proofs.AllMarks.{others_leave_it}
 use Rattle.nr_requester.proofs.AnswerSteps.{due_same}
@@ -150,15 +150,14 @@ awaited_more link run call form answer =
 -- ---- The link with the mark of the call
 
 marked : (s : Setting) (link : ℕ) (d : Drill) (v : DrillLinkState) (asks : RequesterSide) (left : List AwaitedLine) (call : Call) (form : Form) (answer : Submission) → LinkStands s link d v → is_sent_again s link answer ≡ false →
-    RequesterRepresents (s.opened link) link asks (d.marks ++ marks.Submit link call form answer ∷ []) → asks.state.side.ended ≢ Some ends.Memory →
+    StandsForClient (s.opened link) link asks (d.marks ++ marks.Submit link call form answer ∷ []) → asks.state.side.ended ≢ Some ends.Memory →
     left ≡ v.awaited ++ filter (is_awaited link d.marks) (accepted_line v.lines answer) → LinkStands s link (with_mark (marks.Submit link call form answer) d) (with_line v asks left)
 marked s link d v asks left call form answer h new represents lives is =
     let mark : Mark = marks.Submit link call form answer in
     let count : v.lines + 1 ≡ length (answers_of link d.marks ++ answer ∷ []) = (let e = h.lines in omega (arith, e, length-append (answers_of link d.marks) (answer ∷ []))) in
     record {
       number = h.number;
-      firsts = h.firsts;
-      first = h.first;
+          first = h.first;
       room = h.room;
       pipes = h.pipes;
       dropped = h.dropped ∙ sym (same_dropped link d.marks mark refl);
@@ -179,7 +178,7 @@ dropped_call v h v2 call form same gone is s link d stands =
       ap (λ (b : Bool). unless_dropped b (submit_answer (client (s.opened link) link d.marks) call form)) (sym gone ∙ at.dropped),
       subst (λ (x : DrillLinkState). LinkStands s link (with_mark (marks.Submit link call form submissions.Dropped) d) x) (sym is)
           (marked s link d v v.client v.awaited call form submissions.Dropped at refl
-          (others_leave_it (s.opened link) link v.client d.marks (marks.Submit link call form submissions.Dropped) at.client refl refl refl (λ xid. refl)) at.client_memory (sym (append-nil v.awaited))),
+          (others_leave (s.opened link) link v.client d.marks (marks.Submit link call form submissions.Dropped) at.client refl refl refl (λ xid. refl)) at.client_memory (sym (append-nil v.awaited))),
     )
 
 -- by the client
@@ -216,7 +215,7 @@ is_new s link d v xid h next =
     let o : LinkParameters = s.opened link in
     let k : ClientState = (client o link d.marks).state in
     let follows : k.next_xid + length o.resumed ≡ o.first_xid + k.sends + length k.waiting = next_xid_follows o link d.marks in
-    let kept : v.client.state.next_xid ≡ k.next_xid = h.client.keeps.kept.keeps.xid in
+    let kept : v.client.state.next_xid ≡ k.next_xid = h.client.1.keeps.kept.keeps.xid in
     let none : length o.resumed ≡ 0 = ap (λ (rs : List ResumedCall). length rs) (h.firsts.on link).resumed in
     not_below xid o.first_xid (omega (arith, follows, kept, none, next))
 
@@ -231,7 +230,7 @@ client_call v h v2 asks left call form (submissions.Accepted xid) same standing 
     let o : LinkParameters = s.opened link in
     let mark : Mark = marks.Submit link call form (submissions.Accepted xid) in
     let next : (v.client.state.side.ended ≡ None) × (xid ≡ v.client.state.next_xid) = accepted_next v.client.state call form xid t.0 in
-    let represents : RequesterRepresents o link asks (d.marks ++ mark ∷ []) = t.1.0 o link d.marks at.client in
+    let represents : StandsForClient o link asks (d.marks ++ mark ∷ []) = t.1.0 o link d.marks at.client in
     let ended : asks.state.side.ended ≡ None = represents.keeps.kept.keeps.ended ∙ accepted_lives o link d.marks call form xid (sym at.client.keeps.kept.keeps.ended ∙ next.0) in
     let first : v.client.state.next_xid ≤ xid = (let e = next.1 in omega (arith, e)) in
     let due : is_due link d.marks xid ≡ true = at.client.answers.to_come xid first in (
@@ -244,7 +243,7 @@ client_call v h v2 asks left call form (submissions.Refused why) same standing t
     let at : LinkStands s link d v = subst (λ (x : DrillLinkState). LinkStands s link d x) (sym same) stands in
     let mark : Mark = marks.Submit link call form (submissions.Refused why) in
     let rest : LinkStands s link (with_mark mark d) (with_line v v.client v.awaited) =
-    marked s link d v v.client v.awaited call form (submissions.Refused why) at refl (others_leave_it (s.opened link) link v.client d.marks mark at.client refl refl refl (λ xid. refl)) at.client_memory (sym (append-nil v.awaited)) in (
+    marked s link d v v.client v.awaited call form (submissions.Refused why) at refl (others_leave (s.opened link) link v.client d.marks mark at.client refl refl refl (λ xid. refl)) at.client_memory (sym (append-nil v.awaited)) in (
       client_answer s link d v call form (submissions.Refused why) standing at t.0,
       subst (λ (x : DrillLinkState). LinkStands s link (with_mark mark d) x) (sym is) (subst (λ (ls : List AwaitedLine). LinkStands s link (with_mark mark d) (with_line v asks ls)) (sym t.1.1)
           (subst (λ (x : RequesterSide). LinkStands s link (with_mark mark d) (with_line v x v.awaited)) (sym t.1.0) rest)),

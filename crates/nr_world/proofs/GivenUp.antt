@@ -18,7 +18,7 @@ use Rattle.nr_requester.specs.AfterCalls.{after_forget as forgotten, after_revok
 use Rattle.nr_requester.specs.Buffers.{bytes_of_buffers}
 use Rattle.nr_requester.specs.Laws.{gives_up}
 use Rattle.nr_requester.specs.OpenCalls.{open_call, buffers_of}
-use Rattle.nr_requester.specs.Standing.{RequesterRepresents, StandsOn}
+use Rattle.nr_requester.specs.Standing.{StandsForClient, KeepsOn}
 use Rattle.nr_requester.proofs.RevokedBytes.{left_are_placed}
 use Rattle.nr_requester.proofs.HandedBack.{open_remains}
 use Rattle.nr_reduce.specs.Concerns.{concerns}
@@ -88,7 +88,7 @@ abbrev pub NoneOpen : ℕ → DrillLinkState → Type 0
 NoneOpen number v = (s : Setting) (link : ℕ) (d : Drill) → LinkStands s link d v → xid_of s link d number ≡ None
 
 ended_is : (s : Setting) (link : ℕ) (d : Drill) (v : DrillLinkState) → LinkStands s link d v → v.client.state.side.ended ≡ (client (s.opened link) link d.marks).ended
-ended_is s link d v h = h.client.keeps.kept.keeps.ended
+ended_is s link d v h = h.client.1.keeps.kept.keeps.ended
 
 pub none_if_dropped : (number : ℕ) (v : DrillLinkState) → v.is_dropped ≡ true → NoneOpen number v
 none_if_dropped number v gone s link d h = none_open s link d.marks (answer_of_line s (client_of s link) number d.marks) (λ xid is.
@@ -166,10 +166,9 @@ pub record TookOut (v : DrillLinkState) (number xid : ℕ) (left : List AwaitedL
   pub taken : IsTakenOut (number - 1) xid v.awaited left
 
 given_up : (s : Setting) (link : ℕ) (d : Drill) (v : DrillLinkState) (client : RequesterSide) (number xid : ℕ) (left : List AwaitedLine) (mark : Mark) → GivesUpOne link xid mark → TookOut v number xid left → LinkStands s link d v →
-    RequesterRepresents (s.opened link) link client (d.marks ++ mark ∷ []) → client.state.side.ended ≡ v.client.state.side.ended → LinkStands s link (with_mark mark d) (with_client v client left)
+    StandsForClient (s.opened link) link client (d.marks ++ mark ∷ []) → client.state.side.ended ≡ v.client.state.side.ended → LinkStands s link (with_mark mark d) (with_client v client left)
 given_up s link d v client number xid left mark g t h represents same = record {
   number = h.number;
-  firsts = h.firsts;
   first = h.first;
   room = h.room;
   pipes = h.pipes;
@@ -187,7 +186,7 @@ forgotten_end : (h : RequesterSide) (xid : ℕ) → (forgotten h xid).state.side
 unfolding forgotten
 forgotten_end h xid = refl
 
-pub forgets : (v : DrillLinkState) (client : RequesterSide) (number xid : ℕ) (left : List AwaitedLine) (run run2 : List Mark) → TookOut v number xid left → client ≡ forgotten v.client xid → StandsOn v.client (λ link. marks.Forget link xid) client →
+pub forgets : (v : DrillLinkState) (client : RequesterSide) (number xid : ℕ) (left : List AwaitedLine) (run run2 : List Mark) → TookOut v number xid left → client ≡ forgotten v.client xid → KeepsOn v.client (λ link. marks.Forget link xid) client →
     run2 ≡ run ++ marks.Forget v.number xid ∷ [] → Goes (λ s link. after_forget s link number) v (with_client v client left) run run2
 unfolding after_forget
 forgets v client number xid left run run2 t is stands_on more s link d at =
@@ -206,15 +205,15 @@ unfolding revoked
 revoked_end h xid = refl
 
 pub revokes : (v v3 : DrillLinkState) (client : RequesterSide) (number xid : ℕ) (bytes : List ℕ) (left : List AwaitedLine) (run run2 run3 : List Mark) → TookOut v number xid left → is_some (open_call xid v.client.state) ≡ true →
-    bytes ≡ bytes_of_buffers (buffers_of xid v.client.state) → client ≡ revoked v.client xid → StandsOn v.client (λ link. marks.Revoke link xid (bytes_of_buffers (buffers_of xid v.client.state))) client →
+    bytes ≡ bytes_of_buffers (buffers_of xid v.client.state) → client ≡ revoked v.client xid → KeepsOn v.client (λ link. marks.Revoke link xid (bytes_of_buffers (buffers_of xid v.client.state))) client →
     run2 ≡ run ++ marks.Revoke v.number xid bytes ∷ [] → Goes settled (with_client v client left) v3 run2 run3 → Goes (λ s link. after_revoke s link number) v v3 run run3
 unfolding after_revoke
 revokes v v3 client number xid bytes left run run2 run3 t there own is stands_on more settles s link d at =
     let h = at.stands in
     let o = s.opened link in
     let placed : revoked_bytes o link d.marks xid ≡ bytes = sym (left_are_placed o link v.client d.marks xid h.client (open_remains v.client.state xid there)) ∙ sym own in
-    let represents : RequesterRepresents o link client (d.marks ++ marks.Revoke link xid bytes ∷ []) =
-    subst (λ (bs : List ℕ). RequesterRepresents o link client (d.marks ++ marks.Revoke link xid bs ∷ [])) (sym own) (stands_on o link d.marks h.client) in
+    let represents : StandsForClient o link client (d.marks ++ marks.Revoke link xid bytes ∷ []) =
+    subst (λ (bs : List ℕ). StandsForClient o link client (d.marks ++ marks.Revoke link xid bs ∷ [])) (sym own) (stands_on o link d.marks h.client) in
     let marked : StandsAt s link (with_mark (marks.Revoke link xid bytes) d) (with_client v client left) run2 = record {
       stands = given_up s link d v client number xid left (marks.Revoke link xid bytes) (revoke_gives link xid bytes) t h represents (ap (λ (x : RequesterSide). x.state.side.ended) is ∙ revoked_end v.client xid);
       marks = one_more_mark v.number link (λ (l : ℕ). marks.Revoke l xid bytes) run run2 d.marks h.number at.marks more;

@@ -24,7 +24,7 @@ use Rattle.nr_requester.specs.declared.answer.AnsweredCall.{AnsweredCall}
 use Rattle.nr_requester.specs.RequesterState.{RequesterState, RequesterSide}
 use Rattle.nr_requester.specs.KeptAnswers.{is_due, completed_of}
 use Rattle.nr_requester.specs.OpenCalls.{found_answer}
-use Rattle.nr_requester.specs.Standing.{RequesterRepresents, AnswersAfter}
+use Rattle.nr_requester.specs.Standing.{StandsForClient, AnswersAfter}
 use Rattle.nr_requester.proofs.AnswerSteps.{due_one, done_gives}
 use Rattle.nr_requester.proofs.FirstDue.{first_is_due_first}
 use Rattle.nr_drill.specs.Drill.{Setting, Drill, after_handing, after_done, after_dones, after_outcomes}
@@ -171,7 +171,7 @@ all_ids F (line ∷ lines) all = (all.0, all_ids F lines all.1)
 abbrev has_none : RequesterState → ℕ → Type 0
 has_none r xid = found_answer xid r ≡ None
 
-pub first_awaited : (o : LinkParameters) (link : ℕ) (h : RequesterSide) (run : List Mark) (front back : List AwaitedLine) (line : AwaitedLine) (a : AnsweredCall) → RequesterRepresents o link h run → front ++ line ∷ back ≡ awaited_lines link run →
+pub first_awaited : (o : LinkParameters) (link : ℕ) (h : RequesterSide) (run : List Mark) (front back : List AwaitedLine) (line : AwaitedLine) (a : AnsweredCall) → StandsForClient o link h run → front ++ line ∷ back ≡ awaited_lines link run →
     HaveNoOutcome h.state front → found_answer line.xid h.state ≡ Some a → (rest : List CompletedCall) × (outcomes_due o link run ≡ completed_of a ∷ rest)
 first_awaited o link h run front back line a s is none there =
     let ids : filter (is_due link run) (call_ids (accepted_calls link run)) ≡ line_ids front ++ line.xid ∷ line_ids back =
@@ -180,7 +180,7 @@ first_awaited o link h run front back line a s is none there =
     splits_at (has_none h.state) (is_due link run) (λ x off. not_due o link h run x s.answers off) (accepted_calls link run) (line_ids front) line.xid (line_ids back) ids (all_ids (has_none h.state) front none) in
     (first_is_due_first o link h run s).0 p.before p.after p.call a p.is p.all (ap (λ (x : ℕ). found_answer x h.state) p.own ∙ there)
 
-pub none_awaited : (o : LinkParameters) (link : ℕ) (h : RequesterSide) (run : List Mark) (lines : List AwaitedLine) → RequesterRepresents o link h run → lines ≡ awaited_lines link run → HaveNoOutcome h.state lines → outcomes_due o link run ≡ []
+pub none_awaited : (o : LinkParameters) (link : ℕ) (h : RequesterSide) (run : List Mark) (lines : List AwaitedLine) → StandsForClient o link h run → lines ≡ awaited_lines link run → HaveNoOutcome h.state lines → outcomes_due o link run ≡ []
 none_awaited o link h run lines s is none =
     (first_is_due_first o link h run s).1
     (all_calls (has_none h.state) (is_due link run) (λ x off. not_due o link h run x s.answers off) (accepted_calls link run)

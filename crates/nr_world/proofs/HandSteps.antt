@@ -124,8 +124,7 @@ hands_at v client at l xid outcome run run2 within apart own t more = record {
         subst (λ (x : Drill). StandsAt s link x (handed v client (remove v.awaited at)) run2) (sym (done_is s link d (completed_of a) due.0 due.1)) (record {
           stands = record {
             number = h.number;
-            firsts = h.firsts;
-            first = h.first;
+                      first = h.first;
             room = h.room;
             pipes = h.pipes;
             dropped = h.dropped ∙ sym (same_dropped link d.marks mark refl);
