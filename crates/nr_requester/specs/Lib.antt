@@ -23,3 +23,5 @@ pub mod Reopening
 pub mod ReopenedLinks
 pub mod Resends
 pub mod private
+pub mod KeptOn
+pub mod KeptLaw

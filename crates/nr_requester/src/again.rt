@@ -1,12 +1,12 @@
 //! A call is made again of what is kept of it: its message and its buffers, under new STags.
 
-ghost use Rattle.std.specs.Prelude.{◌≡◌, ℕ, ◌+◌, ◌^◌, ◌<◌, ◌≤◌, List, [], length, ◌++◌, sum, None, Some, IfOk, OnOk, OnErr, option_map};
+ghost use Rattle.std.specs.Prelude.{◌≡◌, ℕ, ◌+◌, ◌^◌, ◌<◌, ◌≤◌, List, [], length, ◌++◌, sum, None, Some, IfOk, OnOk, OnErr, option_map, Option};
 ghost use Rattle.nr_rpc.specs.Credential.{CanWriteCred};
 ghost use Rattle.nr_header.specs.Slices.{lists_of_slices};
 ghost use Rattle.nr_endpoint.specs.Offering.{claims_of};
 ghost use Rattle.nr_reduce.specs.Plans.{regions_needed, lists_of, total};
 ghost use Rattle.nr_reduce.specs.PlansByLists.{segment_lengths, entry_lengths, write_lengths};
-ghost use Rattle.nr_reduce.specs.CallOutlines.{chunk_lengths, outline_plan};
+ghost use Rattle.nr_reduce.specs.CallOutlines.{chunk_lengths, outline_plan, outline_plan_by};
 ghost use Rattle.nr_requester.specs.Sending.{IsPlan, offered_of, head_under, call_plan};
 ghost use Rattle.nr_requester.specs.HeldClaims.{SentHeld, IsOfferOf};
 ghost use Rattle.nr_requester.specs.HeldBytes.{receive_max, NothingOutside};

@@ -1,6 +1,6 @@
 use Rattle.std.proofs.Common.{sym, ◌∙◌, arith}
 use Rattle.nr_requester.proofs.MaySubmit.{blocked_waits}
-use Rattle.nr_requester.proofs.window.Requester.may_submit.Goals as goal
+use Rattle.nr_requester.proofs.requester.Requester.may_submit.Goals as goal
 
 pub returns-clause-waits : goal.returns-clause-waits
 returns-clause-waits c no =
