@@ -144,13 +144,13 @@ module _ (s : Setting) (opening : Opening) (n c link : ℕ) (d : Drill) (within 
   is_last : last_link c begun ≡ next
   is_last = get_or-set_same d.last_links (c - 1) next c (let count = f.count in let low = last.low in let high = last.high in omega (arith, count, low, high))
 
-  other_last : (other : ℕ) → 1 ≤ other → other ≢ c → last_link other begun ≡ last_link other d
+  pub other_last : (other : ℕ) → 1 ≤ other → other ≢ c → last_link other begun ≡ last_link other d
   other_last other some ne = get_or-set_other d.last_links (c - 1) (other - 1) next other (λ same. ne (let low = last.low in omega (arith, same, low, some)))
 
   apart : NoMarkOf next d.marks
   apart = map_all (λ (mark : Mark). IsLink d (link_of mark)) (λ (mark : Mark). link_of mark ≢ next) d.marks (λ mark is. (λ same. (let few = is.1 in omega (arith, few, same, next_is)))) f.within
 
-  same_on : SameOn t u d.marks
+  pub same_on : SameOn t u d.marks
   same_on = map_all (λ (mark : Mark). IsLink d (link_of mark)) (λ (mark : Mark). u.opened (link_of mark) ≡ t.opened (link_of mark)) d.marks (λ mark is. old_link (link_of mark) is) f.within
 
   owner : client_of u next ≡ c
@@ -201,7 +201,7 @@ module _ (s : Setting) (opening : Opening) (n c link : ℕ) (d : Drill) (within 
       (subst (λ (x : LinkParameters). AllByRecursion ResumedTyped x.resumed) (sym new_link) again)
       (subst (λ (x : LinkParameters). NextStag x next [] ≤ 1 + suc n * 192) (sym new_link) (omega (arith, stags, low)))
 
-  begun_owned : (other l : ℕ) → IsLastOf opening.clients other l begun → IsLink begun l × (client_of u l ≡ other)
+  pub begun_owned : (other l : ℕ) → IsLastOf opening.clients other l begun → IsLink begun l × (client_of u l ≡ other)
   begun_owned other l is = by (eqb other c) refl
     where
       differs : false ≡ true → ⊥

@@ -319,7 +319,7 @@ module _ (s : Setting) (opening : Opening) (n c link : ℕ) (d : Drill) (last : 
           let some = (h.owners l is).0 in
           subst (λ (m : ℕ). l ≤ m) (sym (get_or-set_other d.last_links (c - 1) (client_of t l - 1) next (client_of t l) (λ same. ne (omega (arith, same, low, some))))) (h.last l is)
 
-  order_begun : InOrder u clients begun
+  pub order_begun : InOrder u clients begun
   order_begun = record {
     began = began;
     before = before;
@@ -418,10 +418,10 @@ module _ (s : Setting) (opening : Opening) (n c link : ℕ) (d : Drill) (last : 
 
 -- ===== all lines
 
-abbrev OrderThen : Setting → Opening → ℕ → Drill → Type 0
+abbrev pub OrderThen : Setting → Opening → ℕ → Drill → Type 0
 OrderThen s opening n d = Holds s opening n d × (n ≤ lines_max → RepliedInBytes d.marks → InOrder (setting_now s d) opening.clients d)
 
-order_kept : (s : Setting) (opening : Opening) → IsKept s opening AnyRaw AnyRaw (OrderThen s opening)
+pub order_kept : (s : Setting) (opening : Opening) → IsKept s opening AnyRaw AnyRaw (OrderThen s opening)
 order_kept s opening =
     let k = holds_kept s opening AnyRaw AnyRaw in
     record {
@@ -459,7 +459,7 @@ module _ (server : SerialServer) (script : ScriptLines) (is : IsScript script) w
   abbrev base : Setting
   base = setting_of server script.opening
 
-  first_order : InOrder (setting_now base first) script.opening.clients first
+  pub first_order : InOrder (setting_now base first) script.opening.clients first
   first_order = record {
     began = λ link. [];
     before = λ link. 0;

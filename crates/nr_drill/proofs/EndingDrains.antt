@@ -60,7 +60,7 @@ new_executed s link none answers d call r e =
 -- ===== the last links of clients
 
 -- they are of clients one after the other
-abbrev Owned : (P : ℕ → ℕ → Type 0) → ℕ → List ℕ → Type 0
+abbrev pub Owned : (P : ℕ → ℕ → Type 0) → ℕ → List ℕ → Type 0
 Owned P k [] = Unit {0}
 Owned P k (x ∷ xs) = P k x × Owned P (suc k) xs
 
@@ -84,9 +84,26 @@ owned_all : (P : ℕ → ℕ → Type 0) (Q : ℕ → Type 0) (k : ℕ) (xs : Li
 owned_all P Q k [] all h = tt
 owned_all P Q k (x ∷ xs) all h = (all k x h.0, owned_all P Q (suc k) xs all h.1)
 
-owned_map : (P Q : ℕ → ℕ → Type 0) (k : ℕ) (xs : List ℕ) → ((c link : ℕ) → P c link → Q c link) → Owned P k xs → Owned Q k xs
+pub owned_map : (P Q : ℕ → ℕ → Type 0) (k : ℕ) (xs : List ℕ) → ((c link : ℕ) → P c link → Q c link) → Owned P k xs → Owned Q k xs
 owned_map P Q k [] all h = tt
 owned_map P Q k (x ∷ xs) all h = (all k x h.0, owned_map P Q (suc k) xs all h.1)
+
+pub last_owned : (clients : ℕ) (d : Drill) → length d.last_links ≡ clients → Owned (λ (c : ℕ) (link : ℕ). IsLastOf clients c link d) 1 d.last_links
+last_owned clients d count = owned_at (λ (c : ℕ) (link : ℕ). IsLastOf clients c link d) 1 d.last_links (λ i n other lt e. at i n other lt e)
+  where
+    inside : (links : List ℕ) (i one two : ℕ) → i < length links → slice_index_or links i one ≡ slice_index_or links i two
+    inside [] i one two lt = absurd (omega (arith, lt))
+    inside (l ∷ links) zero one two lt = refl
+    inside (l ∷ links) (suc i) one two lt = inside links i one two (omega (arith, lt))
+
+    at : (i n other : ℕ) → i < length d.last_links → n ≡ 1 + i → IsLastOf clients n (slice_index_or d.last_links i other) d
+    at i n other lt e =
+        let here : i ≡ n - 1 = omega (arith, e) in
+        record {
+          low = omega (arith, e);
+          high = omega (arith, e, lt, count);
+          is = inside d.last_links i other n lt ∙ ap (λ (k : ℕ). slice_index_or d.last_links k n) here;
+        }
 
 -- ===== a script
 
@@ -129,22 +146,7 @@ drains_end server script is none replies answers before after cut raw mid made =
 
     -- the last links, by their clients
     owned : Owned (λ (c : ℕ) (link : ℕ). IsLastOf clients c link mid) 1 mid.last_links
-    owned = owned_at (λ (c : ℕ) (link : ℕ). IsLastOf clients c link mid) 1 mid.last_links (λ i n other lt e. at i n other lt e)
-      where
-        inside : (links : List ℕ) (i one two : ℕ) → i < length links → slice_index_or links i one ≡ slice_index_or links i two
-        inside [] i one two lt = absurd (omega (arith, lt))
-        inside (l ∷ links) zero one two lt = refl
-        inside (l ∷ links) (suc i) one two lt = inside links i one two (omega (arith, lt))
-
-        at : (i n other : ℕ) → i < length mid.last_links → n ≡ 1 + i → IsLastOf clients n (slice_index_or mid.last_links i other) mid
-        at i n other lt e =
-            let count = held.frame.count in
-            let here : i ≡ n - 1 = omega (arith, e) in
-            record {
-              low = omega (arith, e);
-              high = omega (arith, e, lt, count);
-              is = inside mid.last_links i other n lt ∙ ap (λ (k : ℕ). slice_index_or mid.last_links k n) here;
-            }
+    owned = last_owned clients mid held.frame.count
 
     apart : AreApart mid.last_links
     apart = are_apart t 1 mid.last_links (owned_map (λ (c : ℕ) (link : ℕ). IsLastOf clients c link mid) (OfClient t) 1 mid.last_links (λ c link last. (let own = held.frame.owned c link last in (own.0.0, own.1))) owned)

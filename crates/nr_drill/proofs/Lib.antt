@@ -14,7 +14,6 @@ pub mod LessUp
 pub mod LessFrames
 pub mod LessDown
 pub mod LessSteps
-pub mod LessScripts
 pub mod Journals
 pub mod KeptTypes
 pub mod ByteDrills
@@ -27,9 +26,12 @@ pub mod Told
 pub mod Lookups
 pub mod Executions
 pub mod Counting
+pub mod DraftTables
 pub mod DraftSteps
+pub mod CountedCalls
 pub mod Numbering
 pub mod TellingMarks
+pub mod FirstRuns
 pub mod Actions
 pub mod OpenCalls
 pub mod Greeted

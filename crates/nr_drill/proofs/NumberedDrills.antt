@@ -13,7 +13,7 @@ use Rattle.nr_reduce.specs.declared.outline.Plan.{Plan}
 use Rattle.nr_reduce.specs.Events.{events}
 use Rattle.nr_reduce.specs.KeepsCalls.{AddsOneAtMost, KeepsCalls}
 use Rattle.nr_reduce.specs.KeepsReplyLimits.{KeepsReplyLimits}
-use Rattle.nr_reduce.specs.NumberedJournal.{JournaledByNumber, entries_alone, number_heard}
+use Rattle.nr_reduce.specs.NumberedJournal.{JournaledByNumber, HasNoEntryTwice, entries_alone, number_heard}
 use Rattle.nr_reduce.specs.Asked.{AskedMark, IsAll}
 use Rattle.nr_reduce.specs.Served.{ServedMark}
 use Rattle.nr_reduce.specs.Matched.{IsPrefixOf, Matched}
@@ -38,7 +38,7 @@ use Rattle.nr_laws.proofs.CompletedChanges.{completed_changes_have_entries}
 use Rattle.nr_script.specs.Script.{ScriptLines, IsScript}
 use Rattle.nr_drill.specs.Drill.{SerialServer, link_of, Setting, IsLink, client_of, plain_of, journal_of}
 use Rattle.nr_drill.specs.Follows.{Follows, setting_of, last_setting}
-use Rattle.nr_drill.specs.Headline.{Completes, AnswersChanges, LinksAreMatched, HasNoEntryTwice, ChangesHaveEntries}
+use Rattle.nr_drill.specs.Headline.{Completes, AnswersChanges, LinksAreMatched, ChangesHaveEntries}
 use Rattle.nr_drill.specs.InBytes.{RepliedInBytes}
 use Rattle.nr_drill.specs.Memory.{KeepsMemory}
 use Rattle.nr_drill.specs.Unnumbered.{Heard}

@@ -67,10 +67,10 @@ given_by server T moment payload New g e = new_given server T moment payload g (
 
 -- ===== each mark, by the numbers that were heard so far
 
-abbrev HasHeard : ℕ → List Mark → Type 0
+abbrev pub HasHeard : ℕ → List Mark → Type 0
 HasHeard link run = frames_of Initiator (bytes_received link Responder run) ≢ []
 
-abbrev JournalSoFar : SerialServer → List Mark → List TaggedEntry
+abbrev pub JournalSoFar : SerialServer → List Mark → List TaggedEntry
 JournalSoFar server run = tagged_journal (plain_of server) (number_heard run) run
 
 -- a call that is executed on a link whose server has heard its client, or that is told to be old there
@@ -160,7 +160,7 @@ all_executed before (mark ∷ run) more h = (
 )
 
 -- so the journal after the first marks is that by the numbers of the run
-first_journal : (plain : PlainServer) (run more : List Mark) → AtEachMark HeardMark [] run → tagged_journal plain (number_heard run) run ≡ tagged_journal plain (number_heard (run ++ more)) run
+pub first_journal : (plain : PlainServer) (run more : List Mark) → AtEachMark HeardMark [] run → tagged_journal plain (number_heard run) run ≡ tagged_journal plain (number_heard (run ++ more)) run
 unfolding tagged_journal
 first_journal plain run more h = journal_same plain (number_heard run) (number_heard (run ++ more)) [] run (all_executed [] run more h)
 

@@ -166,15 +166,20 @@ first_journaled : (server : SerialServer) (opening : Opening) → IsJournaled se
 unfolding opened_drill
 first_journaled server opening = openings_journaled (setting_of server opening) (links_of opening.clients) (start (setting_of server opening) opening.clients) (record { stands = tt; heard = tt })
 
-pub follows_journaled : (server : SerialServer) (script : ScriptLines) (run : List Mark) → IsScript script → RepliedInBytes run → (follows : Follows server script run) → JournaledByNumber (plain_of server) (number_heard run) (journal_of (last_setting follows) run) run
-follows_journaled server script run is replied follows =
+-- each link of an executed call has been heard by then, and the call has the reply that the journal gives
+pub follows_stands : (server : SerialServer) (script : ScriptLines) (run : List Mark) → IsScript script → RepliedInBytes run → Follows server script run → AtEachMark HeardMark [] run × AtEachMark (StandingMark server) [] run
+follows_stands server script run is replied follows =
     let s = setting_of server script.opening in
     let all = lines_kept s script.opening AnyRaw AnyRaw (JournaledThen s script.opening) (journaled_kept s script.opening) 0 (length script.lines) script.opening.clients script.lines (opened_drill server script.opening)
     follows.last (lines_of script is) (all_act script.lines) (omega arith) follows.makes
     (first_then server script is, λ le replied. first_journaled server script.opening) in
     let h = all.1 is.few_lines (subst RepliedInBytes follows.marks_are replied) in
     let back = sym follows.marks_are in
-    journaled_by_number (last_setting follows) run (subst (AtEachMark HeardMark []) back h.heard) (subst (AtEachMark (StandingMark server) []) back h.stands)
+    (subst (AtEachMark HeardMark []) back h.heard, subst (AtEachMark (StandingMark server) []) back h.stands)
+
+pub follows_journaled : (server : SerialServer) (script : ScriptLines) (run : List Mark) → IsScript script → RepliedInBytes run → (follows : Follows server script run) → JournaledByNumber (plain_of server) (number_heard run) (journal_of (last_setting follows) run) run
+follows_journaled server script run is replied follows =
+    (let h = follows_stands server script run is replied follows in journaled_by_number (last_setting follows) run h.0 h.1)
 
 pub follows_numbers : (server : SerialServer) (script : ScriptLines) (run : List Mark) → IsScript script → RepliedInBytes run → (follows : Follows server script run) → (link : ℕ) → IsLink follows.last link →
     number_heard run link ≡ ((last_setting follows).opened link).client.number

@@ -1,5 +1,5 @@
 -- What a drill promises: its run follows the script, both ends of each link keep their laws, and what these mean to callers.
-use Rattle.std.specs.Prelude.{◌≡◌, ◌≢◌, ℕ, ◌≤◌, false, List, [], ◌∷◌, ◌++◌, slice_get, None, Some, ◌↔◌}
+use Rattle.std.specs.Prelude.{◌≡◌, ◌≢◌, ℕ, ◌≤◌, false, List, [], ◌∷◌, ◌++◌, None, Some, ◌↔◌}
 use Rattle.nr_wire.specs.declared.hello.Side.TheVariants.{Initiator, Responder}
 use Rattle.nr_reduce.specs.declared.call.Call.{Call}
 use Rattle.nr_reduce.specs.declared.call.Form.{Form}
@@ -15,7 +15,7 @@ use Rattle.nr_reduce.specs.declared.mark.Mark.TheVariants as marks
 use Rattle.nr_reduce.specs.declared.mark.LinkParameters.{LinkParameters}
 use Rattle.nr_reduce.specs.declared.outline.Plan.{Plan}
 use Rattle.nr_reduce.specs.PlainJournal.{PlainServer}
-use Rattle.nr_reduce.specs.NumberedJournal.{JournaledByNumber, entries_alone, number_heard}
+use Rattle.nr_reduce.specs.NumberedJournal.{JournaledByNumber, HasNoEntryTwice, entries_alone, number_heard}
 use Rattle.nr_reduce.specs.ClientState.{call_payload}
 use Rattle.nr_reduce.specs.History.{AcceptedCall, completed_calls, bytes_sent, bytes_received, is_dropped}
 use Rattle.nr_reduce.specs.OutcomesDue.{outcomes_due}
@@ -96,12 +96,7 @@ PlacesRise s link other_link executing run = (before between before_first before
 
 -- ===== each change once
 
--- no two entries are of one call of a client that has a number
-abbrev pub HasNoEntryTwice : List TaggedEntry → Type 0
-HasNoEntryTwice T = (place other : ℕ) (t u : TaggedEntry) → slice_get T place ≡ Some t → slice_get T other ≡ Some u →
-    t.client ≢ 0 → t.client ≡ u.client → t.xid ≡ u.xid → place ≡ other
-
--- a call that completes on a link of such a client, with a reply that adds an entry, has its entry
+-- a call that completes on a link of a client that has a number, with a reply that adds an entry, has its entry
 abbrev pub ChangesHaveEntries : SerialServer → List TaggedEntry → (ℕ → LinkParameters) → ℕ → List Mark → Type 0
 ChangesHaveEntries server T opened link run = (before : List Mark) (xid : ℕ) (call : Call) (form : Form) (moment : Moment) (payload reply : List ℕ) →
     IsAskedFor opened link run xid call form → MarkAt run before (marks.Done link xid (outcomes.Reply reply)) →
