@@ -22,10 +22,12 @@ use Rattle.nr_requester.specs.Buffers.{bytes_of_buffers}
 use Rattle.nr_requester.specs.KeptAnswers.{completed_of, is_due}
 use Rattle.nr_requester.specs.Laws.{DueFirst, GivesUpNothing}
 use Rattle.nr_requester.specs.OpenCalls.{buffers_of, found_answer, remaining_call}
-use Rattle.nr_requester.specs.ReopenedLinks.{KeepsOn, RequesterKeeps, next_own}
+use Rattle.nr_requester.specs.ReopenedLinks.{KeepsOn, RequesterKeeps, next_own, own_side}
 use Rattle.nr_requester.specs.RequesterState.{RequesterSide, RequesterState, queue_of}
 use Rattle.nr_requester.specs.Standing.{RequesterRepresents}
 use Rattle.nr_requester.proofs.ReopenedLinks.{first_links_are_kept}
+use Rattle.nr_requester.proofs.KeptOn.{answers_as_kept, first_is_kept, others_keep_on}
+use Rattle.nr_requester.proofs.RevokedBytes.{buffers_are_kept}
 use Rattle.nr_world.specs.LinkStands.{StandsForClient, all_own}
 
 -- one mark more
@@ -39,20 +41,16 @@ first_stands o link h run r = (0, first_links_are_kept o link h run r)
 -- a mark that is no event of it and gives up no call of it
 pub others_leave : (o : LinkParameters) (link : ℕ) (h : RequesterSide) (run : List Mark) (mark : Mark) → StandsForClient o link h run → events_at link Initiator run mark ≡ [] → written_at link Initiator mark ≡ [] → fed_at link Initiator mark ≡ [] →
     GivesUpNothing link mark → StandsForClient o link h (run ++ mark ∷ [])
-others_leave o link h run mark (earlier, k) events written fed kept = (earlier, others_leave_kept all_own earlier o link h run mark k events written fed kept)
+others_leave o link h run mark (earlier, k) events written fed kept = (earlier, others_keep_on all_own earlier o link h run mark k events written fed kept)
 
 -- its answer to a call is its client's
 pub answers_as : (o : LinkParameters) (link : ℕ) (h : RequesterSide) (run : List Mark) (call : Call) (form : Form) → StandsForClient o link h run → answer_of h.state call form ≡ submit_answer (client o link run) call form
-answers_as o link h run call form (earlier, k) = kept_answers_as_client all_own earlier o link h run call form k
-
--- Of the calls whose answers wait, the one that was submitted first has the outcome that is due first.
-pub due_first : (o : LinkParameters) (link : ℕ) (h : RequesterSide) (run : List Mark) → StandsForClient o link h run → DueFirst o link h run
-due_first o link h run (earlier, k) = kept_is_due_first earlier o link h run k
+answers_as o link h run call form (earlier, k) = answers_as_kept all_own earlier o link h run call form k
 
 -- what the buffers of a call hold that was neither handed over nor revoked
 pub revoked_are : (o : LinkParameters) (link : ℕ) (h : RequesterSide) (run : List Mark) (xid : ℕ) → StandsForClient o link h run → is_some (remaining_call xid h.state) ≡ true →
     bytes_of_buffers (buffers_of xid h.state) ≡ revoked_bytes o link run xid
-revoked_are o link h run xid (earlier, k) there = kept_left_are_placed all_own earlier o link h run xid k there
+revoked_are o link h run xid (earlier, k) there = buffers_are_kept all_own earlier o link h run xid k refl there
 
 -- no call can be sent again
 pub none_again : (o : LinkParameters) (link : ℕ) (h : RequesterSide) (run : List Mark) → StandsForClient o link h run → calls_to_resend (client o link run) ≡ []
@@ -67,6 +65,13 @@ ended_as o link h run (earlier, k) = k.keeps.kept.keeps.ended
 all_answers : (as : List AnsweredCall) → filter (λ (a : AnsweredCall). all_own a.xid) as ≡ as
 all_answers [] = refl
 all_answers (a ∷ as) = ap (λ (rest : List AnsweredCall). a ∷ rest) (all_answers as)
+
+own_all : (h : RequesterSide) → own_side all_own h ≡ h
+own_all h = ap (λ (as : List AnsweredCall). record h { state = record h.state { answered = as } }) (all_answers h.state.answered)
+
+-- Of the calls whose answers wait, the one that was submitted first has the outcome that is due first.
+pub due_first : (o : LinkParameters) (link : ℕ) (h : RequesterSide) (run : List Mark) → StandsForClient o link h run → DueFirst o link h run
+due_first o link h run (earlier, k) = subst (λ (x : RequesterSide). DueFirst o link x run) (own_all h) (first_is_kept all_own earlier o link h run k)
 
 -- they are the outcomes that are due, of the messages that came
 pub outcomes_are : (o : LinkParameters) (link : ℕ) (h : RequesterSide) (run : List Mark) → StandsForClient o link h run →
