@@ -1,25 +1,24 @@
 -- Marks of other links leave a link.
-use Rattle.std.specs.Prelude.{◌-◌, ◌||◌, if◌then◌else◌}
+use Rattle.std.specs.Prelude.{◌-◌, ◌||◌, if◌then◌else◌, ◌&&◌}
 use Rattle.std.specs.List.{AllByRecursion, list_any}
-use Rattle.std.proofs.Common.{◌≡◌, ◌≢◌, ℕ, ◌≤◌, arith, eqb, Bool, false, List, [], ◌∷◌, ◌++◌, length, refl, ap, sym, subst, ◌∙◌, append_assoc, append-nil}
+use Rattle.std.proofs.Common.{◌≡◌, ◌≢◌, ℕ, ◌≤◌, arith, eqb, Bool, false, List, [], ◌∷◌, ◌++◌, length, refl, ap, sym, subst, ◌∙◌, append_assoc, append-nil, not}
 use Rattle.nr_wire.specs.declared.hello.Side.TheVariants.{Initiator, Responder}
 use Rattle.nr_reduce.specs.declared.mark.Mark.{Mark}
-use Rattle.nr_reduce.specs.declared.mark.Mark.TheVariants as marks
-use Rattle.nr_reduce.specs.History.{CompletedCall, is_dropped}
+use Rattle.nr_reduce.specs.History.{CompletedCall, is_dropped, accepted_as, accepted_at}
 use Rattle.nr_reduce.specs.Concerns.{is_judged}
 use Rattle.nr_reduce.proofs.Unconcerned.{not_judged, none_abandoned, none_completed}
-use Rattle.nr_requester.specs.Standing.{StandsForClient}
 use Rattle.nr_requester.specs.Laws.{GivesUpNothing}
-use Rattle.nr_requester.proofs.AllMarks.{others_leave_it}
 use Rattle.nr_responder.specs.Standing.{RepresentsServer}
-use Rattle.nr_drill.specs.Drill.{link_of, Setting, Drill, pipes_of, with_mark}
+use Rattle.nr_drill.specs.Drill.{client_of, link_of, Setting, Drill, pipes_of, with_mark, answer_at, is_sent_again}
 use Rattle.nr_drill.proofs.Carried.{not_drop, not_fed, same_dropped}
 use Rattle.nr_drill.proofs.Followed.{apart, unconcerned, not_written, no_event, Extends}
 use Rattle.nr_world.specs.DrillLinkState.{DrillLinkState}
-use Rattle.nr_world.specs.LinkStands.{answers_of, awaited_lines, LinkStands, answer_on, AnswersAreOwn}
+use Rattle.nr_world.specs.LinkStands.{LinkStands, StandsForClient, TracksCalls}
 use Rattle.nr_world.specs.Laws.{OtherLinksStand}
-use Rattle.nr_world.proofs.CallLines.{answers_same, awaited_same, own_one, own_none}
 use Rattle.nr_world.proofs.Writes.{server_stays}
+use Rattle.nr_world.proofs.WaitingCalls.{leaves_calls}
+use Rattle.std.proofs.lemmas.Bool.{ne_eqb}
+use Rattle.nr_reduce.specs.declared.mark.Mark.TheVariants as marks
 
 -- ---- A mark of a link of another client
 

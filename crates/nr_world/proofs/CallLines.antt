@@ -1,33 +1,30 @@
 -- The calls of a client, after one mark more.
-use Rattle.std.specs.Prelude.{◌&&◌, ◌||◌, ◌==◌, if◌then◌else◌, not}
-use Rattle.std.specs.List.{flat_map, list_any}
-use Rattle.std.proofs.Common.{◌≡◌, ◌≢◌, ℕ, ◌+◌, Bool, true, false, cond, eqb, List, [], ◌∷◌, ◌++◌, length, map, filter, Option, None, Some, refl, ap, sym, subst, ◌∙◌, append-nil, append_assoc}
-use Rattle.std.proofs.lemmas.List.{map-append}
-use Rattle.nr_wire.specs.declared.hello.Side.TheVariants.{Initiator, Responder}
-use Rattle.nr_reduce.specs.declared.call.Call.{Call}
-use Rattle.nr_reduce.specs.declared.call.Form.{Form}
+use Rattle.std.specs.Prelude.{◌&&◌, ◌||◌, not}
+use Rattle.std.specs.List.{list_any}
+use Rattle.std.proofs.Common.{◌≡◌, ℕ, ◌+◌, Bool, true, false, cond, List, [], ◌∷◌, ◌++◌, length, map, filter, refl, ap, sym, ◌∙◌, append-nil}
+use Rattle.nr_wire.specs.declared.hello.Side.TheVariants.{Initiator}
 use Rattle.nr_reduce.specs.declared.call.Submission.{Submission}
-use Rattle.nr_reduce.specs.declared.call.Submission.TheVariants as submissions
 use Rattle.nr_reduce.specs.declared.mark.LinkParameters.{LinkParameters}
 use Rattle.nr_reduce.specs.declared.mark.Mark.{Mark}
-use Rattle.nr_reduce.specs.declared.mark.Mark.TheVariants as marks
-use Rattle.nr_reduce.specs.ClientState.{ClientState, WaitingCall}
+use Rattle.nr_reduce.specs.ClientState.{ClientState}
 use Rattle.nr_reduce.specs.Events.{RunEvent, events_at}
 use Rattle.nr_reduce.specs.EndRules.{EndState, end_state_after}
 use Rattle.nr_reduce.specs.Client.{client_rules}
 use Rattle.nr_reduce.specs.History.{AcceptedCall, accepted_at, accepted_calls}
 use Rattle.nr_reduce.specs.Run.{client}
-use Rattle.nr_reduce.proofs.Standing.{one_more, itself}
+use Rattle.nr_reduce.proofs.Standing.{one_more}
 use Rattle.nr_reduce.proofs.Steps.{client_one}
 use Rattle.nr_reduce.proofs.Waiting.{accepted_one}
 use Rattle.nr_laws.proofs.DistinctKeys.{any_append}
 use Rattle.nr_requester.specs.KeptAnswers.{is_due}
 use Rattle.nr_requester.specs.Laws.{GivesUpNothing}
 use Rattle.nr_requester.proofs.AnswerSteps.{due_same}
-use Rattle.nr_drill.specs.Drill.{Setting, answer_at, client_of, link_of, settles, is_sent_again}
+use Rattle.nr_drill.specs.Drill.{Setting, answer_at, client_of, settles}
 use Rattle.nr_world.specs.DrillLinkState.{AwaitedLine}
 use Rattle.nr_world.proofs.EarlierCalls.{elsewhere_on, quiet_elsewhere}
 use Rattle.nr_world.specs.LinkStands.{TracksCalls, answers_of, as_waiting, awaited_lines, due_calls, is_awaited, lines_from, link_calls, waiting_calls}
+use Rattle.nr_reduce.specs.declared.call.Submission.TheVariants as submissions
+use Rattle.nr_reduce.specs.declared.mark.Mark.TheVariants as marks
 
 pub filter_as : {X : Type 0} (p q : X → Bool) (xs : List X) → ((x : X) → p x ≡ q x) → filter p xs ≡ filter q xs
 filter_as p q [] same = refl

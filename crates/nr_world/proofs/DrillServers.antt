@@ -1,16 +1,15 @@
 -- What the plain server of a drill makes of a call, as a run says it.
 use Rattle.std.specs.Prelude.{◌==◌, get_or, All}
-use Rattle.std.proofs.Common.{◌≡◌, ◌≢◌, ℕ, zero, suc, ◌+◌, ◌≤◌, arith, ltb, Bool, true, false, cond, List, [], ◌∷◌, ◌++◌, length, map, ◌⊎◌, inl, inr, refl, sym, ap, subst, ◌∙◌, append-nil, length-append, ltb-true}
+use Rattle.std.proofs.Common.{◌≡◌, ℕ, ◌+◌, arith, ltb, Bool, true, false, cond, List, [], ◌∷◌, ◌++◌, length, map, ◌⊎◌, inl, inr, refl, sym, ap, subst, ◌∙◌, append-nil, length-append, ltb-true}
 use Rattle.std.proofs.lemmas.Bool.{ltb-false}
 use Rattle.std.proofs.lemmas.List.{length-map, map-append}
 use Rattle.nr_xdr.specs.Item.{IsBytes}
 use Rattle.nr_outside.specs.declared.moment.Moment.{Moment}
 use Rattle.nr_reduce.specs.declared.mark.Entry.{Entry}
 use Rattle.nr_reduce.specs.declared.mark.TaggedEntry.{TaggedEntry}
-use Rattle.nr_reduce.specs.NumberedJournal.{Standing, IsExecutedBy, IsOld, IsReplyOf, added_by, entries_alone, standing_for, tagged}
+use Rattle.nr_reduce.specs.NumberedJournal.{Standing, IsExecutedBy, IsReplyOf, added_by, entries_alone, standing_for, tagged}
 use Rattle.nr_reduce.specs.NumberedJournal.Standing.{Old, Kept, New}
 use Rattle.nr_plain.specs.Setup.{Setup}
-use Rattle.nr_plain.specs.Stands.{PlainServerState}
 use Rattle.nr_plain.specs.Added.{entries_of_call}
 use Rattle.nr_plain.specs.History.{AddsOne, entries_added, xid_in}
 use Rattle.nr_plain.specs.Numbered.{AnsweredAsRun, AnswersFor, HasCall, RepresentsTagged, added_for}
@@ -18,7 +17,6 @@ use Rattle.nr_plain.specs.ReplyLaws.{plain_server}
 use Rattle.nr_plain.proofs.EntryCalls.{moment_is}
 use Rattle.nr_plain.proofs.OneEntry.{few}
 use Rattle.nr_plain.proofs.TurnAnswers.{answered_as_run}
-use Rattle.nr_world.specs.declared.server.Execution.{Execution}
 use Rattle.nr_world.specs.DrillServers.{DrillServerState, ExecutesFor, StandsForEntries, at_second, seconds_if}
 
 abbrev moment_of : TaggedEntry → Moment

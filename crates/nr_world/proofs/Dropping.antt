@@ -4,18 +4,17 @@ use Rattle.std.proofs.Common.{◌≡◌, ℕ, ◌≤◌, Bool, true, false, List
 use Rattle.std.proofs.lemmas.List.{length-set}
 use Rattle.nr_wire.specs.declared.hello.Side.{Side}
 use Rattle.nr_reduce.specs.declared.mark.Mark.{Mark}
-use Rattle.nr_reduce.specs.declared.mark.Mark.TheVariants as marks
 use Rattle.nr_reduce.specs.History.{is_dropped}
-use Rattle.nr_requester.proofs.AllMarks.{others_leave_it}
 use Rattle.nr_drill.specs.Drill.{Pipes, pipes_of, with_pipes, with_mark, appended, empty_pipes, after_drop, after_raw}
 use Rattle.nr_drill.specs.InBytes.{RepliedInBytes}
 use Rattle.nr_drill.proofs.Carried.{own_pipes, dropped_at_last}
 use Rattle.nr_world.specs.DrillLinkState.{DrillLinkState}
 use Rattle.nr_world.specs.LinkStands.{LinkStands}
 use Rattle.nr_world.specs.Steps.{Goes, StandsAt}
-use Rattle.nr_world.proofs.CallLines.{answers_same, awaited_same, own_one}
 use Rattle.nr_world.proofs.Standing.{with_ends, ends_of, other_pipes, replied_one, below_room}
 use Rattle.nr_world.proofs.Writes.{server_stays, one_more_mark}
+use Rattle.nr_world.proofs.WaitingCalls.{leaves_calls}
+use Rattle.nr_reduce.specs.declared.mark.Mark.TheVariants as marks
 
 -- the link once it is dropped
 abbrev pub dropped_link : DrillLinkState → DrillLinkState

@@ -1,11 +1,10 @@
 -- What settles a call for its client: a mark of the link, or one of an earlier link, and new calls have larger xids than those.
 use Rattle.std.specs.Prelude.{◌&&◌, ◌||◌, ◌==◌, not}
-use Rattle.std.specs.List.{AllByRecursion, flat_map, list_any}
-use Rattle.std.proofs.Common.{◌≡◌, ◌≢◌, ℕ, ◌≤◌, eqb-true, Bool, true, false, cond, eqb, List, [], ◌∷◌, ◌++◌, refl, ap, sym, subst, ◌∙◌}
+use Rattle.std.specs.List.{flat_map, list_any}
+use Rattle.std.proofs.Common.{◌≡◌, ℕ, eqb-true, Bool, true, false, cond, eqb, List, [], ◌∷◌, ◌++◌, refl, ap, sym, ◌∙◌}
 use Rattle.std.proofs.lemmas.Bool.{eq-eqb}
 use Rattle.nr_reduce.specs.declared.call.Outcome.{Outcome}
 use Rattle.nr_reduce.specs.declared.mark.Mark.{Mark}
-use Rattle.nr_reduce.specs.declared.mark.Mark.TheVariants as marks
 use Rattle.nr_reduce.specs.History.{CompletedCall, abandons, completed_at, completed_calls, is_abandoned}
 use Rattle.nr_reduce.specs.OutcomesDue.{is_completed}
 use Rattle.nr_laws.proofs.DistinctKeys.{any_append}
@@ -13,6 +12,7 @@ use Rattle.nr_requester.specs.KeptAnswers.{is_due}
 use Rattle.nr_requester.specs.Laws.{gives_up}
 use Rattle.nr_drill.specs.Drill.{Setting, client_of, link_of, settles}
 use Rattle.nr_world.specs.LinkStands.{settles_elsewhere}
+use Rattle.nr_reduce.specs.declared.mark.Mark.TheVariants as marks
 
 -- ---- A mark
 

@@ -1,16 +1,14 @@
 -- Both ends after a drain of nothing: a Wrote of no bytes is no mark.
 use Rattle.std.specs.Prelude.{◌&&◌}
-use Rattle.std.proofs.Common.{◌≡◌, ◌≢◌, ℕ, ◌≤◌, Bool, true, List, [], ◌∷◌, ◌++◌, length, take, drop, Option, None, Some, inl, inr, refl, ap, sym, subst, ◌∙◌, add-zero}
+use Rattle.std.proofs.Common.{◌≡◌, ◌≢◌, ℕ, ◌≤◌, Bool, true, List, [], ◌∷◌, ◌++◌, length, take, drop, Option, None, Some, inl, inr, refl, ap, sym, subst, ◌∙◌, add-zero, map}
 use Rattle.std.proofs.Math.Seq.{drop-nil, take-nil}
 use Rattle.nr_wire.specs.declared.hello.Side.TheVariants.{Initiator, Responder}
 use Rattle.nr_link.specs.declared.end.End.{End}
-use Rattle.nr_link.specs.declared.end.End.TheVariants as ends
 use Rattle.nr_link.specs.Input.{input_of}
 use Rattle.nr_endpoint.specs.SendQueue.{written}
 use Rattle.nr_reduce.specs.declared.mark.LinkParameters.{LinkParameters}
 use Rattle.nr_reduce.specs.declared.mark.Mark.{Mark}
-use Rattle.nr_reduce.specs.declared.mark.Mark.TheVariants as marks
-use Rattle.nr_reduce.specs.History.{bytes_sent, bytes_received}
+use Rattle.nr_reduce.specs.History.{bytes_sent, bytes_received, AcceptedCall}
 use Rattle.nr_reduce.specs.Events.{if_own}
 use Rattle.nr_reduce.specs.Events.RunEvent.{QueueWritten}
 use Rattle.nr_reduce.specs.EndRules.{EndState, end_state_after}
@@ -28,7 +26,6 @@ use Rattle.nr_requester.specs.CountedMarks.{has_bytes, marks_if}
 use Rattle.nr_requester.specs.Standing.{AnswersWith, LinkKeeps}
 use Rattle.nr_requester.specs.ReopenedLinks.{HasOwnCalls, own_side}
 use Rattle.nr_reduce.specs.Asked.{as_accepted}
-use Rattle.nr_reduce.specs.History.{AcceptedCall}
 use Rattle.nr_world.specs.LinkStands.{StandsForClient, all_own}
 use Rattle.nr_requester.proofs.Queues.{written_writable}
 use Rattle.nr_responder.specs.Heard.{KeepsHeard}
@@ -36,6 +33,8 @@ use Rattle.nr_responder.specs.ResponderState.{ResponderSide, queue, queued_bytes
 use Rattle.nr_responder.specs.Standing.{RepresentsServer, ResponderRepresents}
 use Rattle.nr_responder.proofs.Drained.{split_queue}
 use Rattle.nr_drill.proofs.Carried.{same_received}
+use Rattle.nr_link.specs.declared.end.End.TheVariants as ends
+use Rattle.nr_reduce.specs.declared.mark.Mark.TheVariants as marks
 
 -- ---- The client
 

@@ -1,15 +1,12 @@
 -- Bytes that are fed to a client, which sends calls again then, as the grant allows.
 use Rattle.std.specs.Prelude.{◌-◌, is_none, ◌&&◌}
 use Rattle.std.specs.List.{AllByRecursion}
-use Rattle.std.proofs.Common.{◌≡◌, ◌≢◌, ℕ, zero, suc, ◌+◌, ◌<◌, ◌≤◌, arith, Bool, true, false, cond, eqb, List, [], ◌∷◌, ◌++◌, length, map, take, drop, Option, None, Some, refl, ap, sym, subst, ◌∙◌, append_assoc, append-nil}
-use Rattle.std.proofs.lemmas.List.{length-map}
+use Rattle.std.proofs.Common.{◌≡◌, ◌≢◌, ℕ, zero, suc, ◌+◌, ◌<◌, ◌≤◌, arith, cond, eqb, List, [], ◌∷◌, ◌++◌, length, map, take, drop, Option, None, Some, refl, ap, sym, subst, ◌∙◌, append_assoc, append-nil}
+use Rattle.std.proofs.lemmas.List.{length-map, length-set}
 use Rattle.nr_wire.specs.declared.hello.Side.TheVariants.{Initiator}
 use Rattle.nr_link.specs.declared.end.End.{End}
-use Rattle.nr_link.specs.declared.end.End.TheVariants as ends
-use Rattle.nr_reduce.specs.declared.call.Submission.TheVariants as submissions
 use Rattle.nr_reduce.specs.declared.mark.LinkParameters.{LinkParameters}
 use Rattle.nr_reduce.specs.declared.mark.Mark.{Mark}
-use Rattle.nr_reduce.specs.declared.mark.Mark.TheVariants as marks
 use Rattle.nr_reduce.specs.ClientState.{WaitingCall}
 use Rattle.nr_reduce.specs.History.{AcceptedCall, is_dropped}
 use Rattle.nr_reduce.specs.KeptClient.{CanResume}
@@ -24,11 +21,11 @@ use Rattle.nr_requester.specs.Resends.{KeepsPiece}
 use Rattle.nr_requester.specs.Standing.{waiting_message}
 use Rattle.nr_responder.specs.ResponderState.{ResponderSide, end_of}
 use Rattle.nr_responder.specs.Standing.{RepresentsServer}
-use Rattle.nr_drill.specs.Drill.{Setting, Drill, Pipes, pipes_of, with_pipes, with_mark, resend_mark, after_feeding, after_feeding_down, after_resends, after_outcomes, after_down, settled}
+use Rattle.nr_drill.specs.Drill.{Setting, Drill, Pipes, pipes_of, resend_mark, after_feeding, after_feeding_down, after_resends, after_outcomes, after_down, settled}
 use Rattle.nr_drill.specs.InBytes.{RepliedInBytes}
-use Rattle.nr_drill.proofs.Carried.{same_dropped}
+use Rattle.nr_drill.proofs.Carried.{same_dropped, own_pipes}
 use Rattle.nr_world.specs.DrillLinkState.{AwaitedLine, DrillLinkState}
-use Rattle.nr_world.specs.LinkStands.{LinkStands, StandsForClient, TracksCalls, all_own, as_waiting, waiting_calls}
+use Rattle.nr_world.specs.LinkStands.{StandsForClient, TracksCalls, all_own, as_waiting, waiting_calls}
 use Rattle.nr_world.specs.Steps.{Goes, StandsAt}
 use Rattle.nr_world.specs.private.Working.{again_mark, resends_of}
 use Rattle.nr_world.proofs.GivenCalls.{accepted_lives}
@@ -37,8 +34,9 @@ use Rattle.nr_world.proofs.Standing.{IsPlain, below_room, plain_tracks, replied_
 use Rattle.nr_world.proofs.SubmittedCalls.{tracks_resent}
 use Rattle.nr_world.proofs.WaitingCalls.{first_waiting, waiting_below}
 use Rattle.nr_world.proofs.Writes.{server_stays}
-use Rattle.nr_drill.proofs.Carried.{own_pipes}
-use Rattle.std.proofs.lemmas.List.{length-set}
+use Rattle.nr_link.specs.declared.end.End.TheVariants as ends
+use Rattle.nr_reduce.specs.declared.call.Submission.TheVariants as submissions
+use Rattle.nr_reduce.specs.declared.mark.Mark.TheVariants as marks
 
 -- ---- Nothing is fed
 

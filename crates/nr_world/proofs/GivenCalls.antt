@@ -1,24 +1,20 @@
 -- A call that is submitted.
 use Rattle.std.specs.Prelude.{◌&&◌, is_some, IfOk}
 use Rattle.std.specs.List.{AllByRecursion}
-use Rattle.std.proofs.Common.{◌≡◌, ◌≢◌, ℕ, ◌+◌, ◌-◌, ◌≤◌, arith, leb, ltb, suc, Bool, true, false, cond, List, [], ◌∷◌, ◌++◌, length, filter, Option, None, Some, Result, Ok, Err, refl, ap, sym, subst, ◌∙◌, append-nil, length-append, ltb-true}
+use Rattle.std.proofs.Common.{◌≡◌, ◌≢◌, ℕ, ◌+◌, ◌≤◌, arith, ltb, Bool, true, false, List, [], ◌∷◌, ◌++◌, length, Option, None, Some, Result, Ok, Err, refl, ap, sym, subst, ◌∙◌, ltb-true, map, not}
 use Rattle.nr_link.specs.declared.end.End.{End}
-use Rattle.nr_link.specs.declared.end.End.TheVariants as ends
 use Rattle.nr_wire.specs.declared.hello.Side.TheVariants.{Initiator}
 use Rattle.nr_reduce.specs.declared.call.Call.{Call}
 use Rattle.nr_reduce.specs.declared.call.Form.{Form}
 use Rattle.nr_reduce.specs.declared.call.Refused.{Refused}
-use Rattle.nr_reduce.specs.declared.call.Refused.TheVariants as refusals
 use Rattle.nr_reduce.specs.declared.call.Submission.{Submission}
-use Rattle.nr_reduce.specs.declared.call.Submission.TheVariants as submissions
 use Rattle.nr_reduce.specs.declared.mark.LinkParameters.{LinkParameters}
 use Rattle.nr_reduce.specs.declared.mark.Mark.{Mark}
-use Rattle.nr_reduce.specs.declared.mark.Mark.TheVariants as marks
 use Rattle.nr_reduce.specs.declared.outline.Plan.{Plan}
 use Rattle.nr_reduce.specs.Events.{if_own}
 use Rattle.nr_reduce.specs.Events.RunEvent.{CallSubmitted}
 use Rattle.nr_reduce.specs.EndRules.{EndState, end_state_after}
-use Rattle.nr_reduce.specs.ClientState.{ClientState}
+use Rattle.nr_reduce.specs.ClientState.{ClientState, WaitingCall}
 use Rattle.nr_reduce.specs.Client.{client_rules, client_end}
 use Rattle.nr_reduce.specs.History.{AcceptedCall, bytes_received}
 use Rattle.nr_reduce.specs.Plans.{TooLarge}
@@ -31,24 +27,25 @@ use Rattle.nr_requester.specs.RequesterState.{RequesterSide, RequesterState}
 use Rattle.nr_requester.specs.Answers.{plan_under, answer_by_plan, answer_if, answer_of}
 use Rattle.nr_requester.specs.KeptAnswers.{is_due}
 use Rattle.nr_requester.specs.OpenCalls.{open_call, OpensTicket}
-use Rattle.nr_requester.specs.Standing.{StandsForClient}
-use Rattle.nr_requester.proofs.Accepting.{answers_as_client}
-use Rattle.nr_requester.proofs.AllMarks.{others_leave_it}
-use Rattle.nr_requester.proofs.AnswerSteps.{due_same}
+use Rattle.nr_requester.specs.Standing.{waiting_message}
 use Rattle.nr_requester.proofs.MaySubmit.{answer_cases}
-use Rattle.nr_drill.specs.Drill.{Setting, Drill, with_mark, settled, after_submit, is_sent_again}
+use Rattle.nr_drill.specs.Drill.{Setting, Drill, with_mark, settled, after_submit}
 use Rattle.nr_drill.specs.InBytes.{RepliedInBytes}
 use Rattle.nr_drill.proofs.Carried.{same_dropped}
 use Rattle.nr_world.specs.DrillLinkState.{AwaitedLine, DrillLinkState}
-use Rattle.nr_world.specs.LinkStands.{answers_of, accepted_line, lines_from, awaited_lines, is_awaited, LinkStands}
+use Rattle.nr_world.specs.LinkStands.{is_awaited, LinkStands, StandsForClient}
 use Rattle.nr_world.specs.OpenTickets.{LinesOpen, SubmitsLine, AnswersCall}
 use Rattle.nr_world.specs.Steps.{Goes, StandsAt}
-use Rattle.nr_world.proofs.CallLines.{filter_as, filter_parts, answers_one, own_one, own_submit}
 use Rattle.nr_world.proofs.Standing.{replied_one}
 use Rattle.nr_world.proofs.Writes.{server_stays, one_more_mark}
 use Rattle.nr_world.proofs.GivenLines.{open_others}
-use Rattle.nr_reduce.specs.declared.mark.ResumedCall.{ResumedCall}
-use Rattle.nr_reduce.proofs.XidsFollow.{next_xid_follows}
+use Rattle.nr_world.proofs.Requesters.{ended_as}
+use Rattle.nr_laws.proofs.ResumedCalls.{next_least}
+use Rattle.nr_regions.proofs.Holding.{none_held}
+use Rattle.nr_link.specs.declared.end.End.TheVariants as ends
+use Rattle.nr_reduce.specs.declared.call.Refused.TheVariants as refusals
+use Rattle.nr_reduce.specs.declared.call.Submission.TheVariants as submissions
+use Rattle.nr_reduce.specs.declared.mark.Mark.TheVariants as marks
 
 -- the link after one call line more, with another client and these lines and calls
 abbrev pub with_line : DrillLinkState → RequesterSide → List AwaitedLine → List AcceptedCall → DrillLinkState

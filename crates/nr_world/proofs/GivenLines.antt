@@ -1,24 +1,23 @@
 -- The lines of the calls that are awaited, and their tickets.
 use Rattle.std.specs.Prelude.{remove, is_some, slice_get}
-use Rattle.std.specs.List.{AllByRecursion}
-use Rattle.std.proofs.Common.{◌≡◌, ◌≢◌, ℕ, ◌+◌, ◌<◌, arith, zero, suc, eqb, Bool, true, false, not, ◌&&◌, cond, List, [], ◌∷◌, ◌++◌, map, length, take, drop, get_or, filter, Option, None, Some, refl, ap, sym, subst, ◌∙◌}
+use Rattle.std.specs.List.{AllByRecursion, list_any}
+use Rattle.std.proofs.Common.{◌≡◌, ◌≢◌, ℕ, ◌+◌, ◌<◌, arith, zero, suc, eqb, Bool, true, false, not, cond, List, [], ◌∷◌, ◌++◌, map, length, take, drop, get_or, filter, Option, None, Some, refl, ap, sym, subst, ◌∙◌}
 use Rattle.std.proofs.lemmas.Bool.{eq-eqb, ne_eqb}
 use Rattle.std.proofs.lemmas.List.{map-append}
 use Rattle.nr_reduce.specs.declared.call.Call.{Call}
 use Rattle.nr_reduce.specs.declared.call.Submission.{Submission}
-use Rattle.nr_reduce.specs.declared.call.Submission.TheVariants as submissions
 use Rattle.nr_reduce.specs.declared.mark.Mark.{Mark}
 use Rattle.nr_requester.specs.RequesterState.{RequesterState}
 use Rattle.nr_requester.specs.OpenCalls.{open_call, KeepsTickets}
-use Rattle.nr_requester.specs.KeptAnswers.{is_due}
-use Rattle.nr_requester.specs.Laws.{gives_up}
-use Rattle.nr_requester.proofs.AnswerSteps.{due_one, all_as, all_filter}
+use Rattle.nr_requester.proofs.AnswerSteps.{all_as, all_filter}
+use Rattle.nr_drill.specs.Drill.{client_of}
 use Rattle.nr_world.specs.declared.awaited.AwaitedCall.{AwaitedCall}
 use Rattle.nr_world.specs.DrillLinkState.{AwaitedLine}
-use Rattle.nr_world.specs.LinkStands.{answers_of, lines_from, is_awaited, awaited_lines, answer_on}
-use Rattle.nr_world.specs.OpenTickets.{LinesOpen, IsTakenOut, TakesLine}
-use Rattle.nr_world.specs.Views.{line_view}
-use Rattle.nr_world.proofs.CallLines.{filter_as, filter_parts, answers_same}
+use Rattle.nr_world.specs.LinkStands.{answers_of, lines_from, is_awaited, awaited_lines}
+use Rattle.nr_world.specs.OpenTickets.{LinesOpen, IsTakenOut, TakesLine, AreApart, calls_without}
+use Rattle.nr_world.specs.Views.{line_view, call_view}
+use Rattle.nr_world.proofs.CallLines.{filter_parts}
+use Rattle.nr_reduce.specs.declared.call.Submission.TheVariants as submissions
 
 -- ---- A line is taken out
 

@@ -1,40 +1,32 @@
 -- A call that is given up: forgotten, or revoked.
 use Rattle.std.specs.Prelude.{◌-◌, if◌then◌else◌, is_none, is_some, slice_get}
-use Rattle.std.specs.List.{AllByRecursion}
-use Rattle.std.proofs.Common.{◌≡◌, ◌≢◌, ℕ, eqb, Bool, true, false, not, ◌&&◌, ◌||◌, List, [], ◌∷◌, ◌++◌, length, Option, None, Some, refl, ap, sym, subst, ◌∙◌}
+use Rattle.std.specs.List.{AllByRecursion, list_any}
+use Rattle.std.proofs.Common.{◌≡◌, ◌≢◌, ℕ, Bool, true, false, not, ◌&&◌, ◌||◌, List, [], ◌∷◌, ◌++◌, Option, None, Some, refl, ap, sym, subst, ◌∙◌}
 use Rattle.nr_link.specs.declared.end.End.{End}
-use Rattle.nr_wire.specs.declared.hello.Side.TheVariants.{Responder}
 use Rattle.nr_reduce.specs.declared.call.Submission.{Submission}
-use Rattle.nr_reduce.specs.declared.call.Submission.TheVariants as submissions
 use Rattle.nr_reduce.specs.declared.mark.Mark.{Mark}
-use Rattle.nr_reduce.specs.declared.mark.Mark.TheVariants as marks
-use Rattle.nr_reduce.specs.History.{is_drop_of, is_dropped, is_abandoned}
-use Rattle.nr_reduce.specs.OutcomesDue.{is_completed}
+use Rattle.nr_reduce.specs.History.{is_dropped}
 use Rattle.nr_reduce.specs.Asked.{revoked_bytes}
 use Rattle.nr_reduce.specs.Run.{client}
-use Rattle.nr_reduce.proofs.Standing.{itself}
 use Rattle.nr_requester.specs.RequesterState.{RequesterSide}
 use Rattle.nr_requester.specs.AfterCalls.{after_forget as forgotten, after_revoke as revoked}
 use Rattle.nr_requester.specs.Buffers.{bytes_of_buffers}
-use Rattle.nr_requester.specs.Laws.{gives_up}
 use Rattle.nr_requester.specs.OpenCalls.{open_call, buffers_of}
-use Rattle.nr_requester.specs.Standing.{StandsForClient, KeepsOn}
-use Rattle.nr_requester.proofs.RevokedBytes.{left_are_placed}
 use Rattle.nr_requester.proofs.HandedBack.{open_remains}
-use Rattle.nr_reduce.specs.Concerns.{concerns}
-use Rattle.nr_reduce.proofs.Unconcerned.{of_other_side}
 use Rattle.nr_drill.specs.Drill.{Setting, Drill, with_mark, settled, answer_of_line, is_open, open_xid, after_giving_up, after_forget, after_taking_back, after_revoke, client_of}
-use Rattle.nr_drill.specs.InBytes.{RepliedInBytes, RepliedMark}
+use Rattle.nr_drill.specs.InBytes.{RepliedInBytes}
 use Rattle.nr_drill.proofs.Carried.{same_dropped}
 use Rattle.nr_world.specs.DrillLinkState.{AwaitedLine, DrillLinkState}
-use Rattle.nr_world.specs.LinkStands.{answers_of, LinkStands, answer_on}
-use Rattle.nr_world.specs.OpenTickets.{LinesOpen, IsTakenOut, TakesLine}
+use Rattle.nr_world.specs.LinkStands.{answers_of, LinkStands, StandsForClient}
+use Rattle.nr_world.specs.OpenTickets.{LinesOpen, IsTakenOut, TakesLine, calls_without}
 use Rattle.nr_world.specs.Steps.{Goes, StandsAt}
-use Rattle.nr_world.proofs.CallLines.{answers_same, own_one, own_none}
 use Rattle.nr_world.proofs.Standing.{replied_one, from_view}
 use Rattle.nr_world.proofs.Writes.{server_stays, one_more_mark}
-use Rattle.nr_world.proofs.GivenLines.{line_answer, line_awaited, not_awaited, awaited_less}
-use Rattle.nr_world.proofs.Settled.{settled_is}
+use Rattle.nr_world.proofs.GivenLines.{line_answer, line_awaited, not_awaited}
+use Rattle.nr_requester.specs.ReopenedLinks.{KeepsOn}
+use Rattle.nr_world.proofs.Requesters.{ended_as}
+use Rattle.nr_reduce.specs.declared.call.Submission.TheVariants as submissions
+use Rattle.nr_reduce.specs.declared.mark.Mark.TheVariants as marks
 
 -- the link with another client, and these lines and calls
 abbrev pub with_client : DrillLinkState → RequesterSide → List AwaitedLine → List AcceptedCall → DrillLinkState

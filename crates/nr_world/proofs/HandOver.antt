@@ -1,18 +1,12 @@
 -- Outcomes that are due are handed over.
 use Rattle.std.specs.Prelude.{◌&&◌, not, slice_get}
 use Rattle.std.specs.List.{AllByRecursion, filter, find, flat_map}
-use Rattle.std.proofs.Common.{◌≡◌, ℕ, ◌+◌, ◌≤◌, arith, zero, suc, eqb, eqb-true, Bool, true, false, cond, List, [], ◌∷◌, ◌++◌, length, map, Option, None, Some, refl, ap, sym, subst, ◌∙◌, append-nil}
-use Rattle.std.proofs.lemmas.Grind.{flat_map-append}
+use Rattle.std.proofs.Common.{◌≡◌, ℕ, ◌+◌, ◌≤◌, arith, zero, suc, eqb, eqb-true, Bool, true, false, cond, List, [], ◌∷◌, ◌++◌, length, map, Option, None, Some, refl, ap, sym, subst, ◌∙◌, append-nil, drop, ◌⊎◌}
 use Rattle.std.proofs.lemmas.List.{map-append}
-use Rattle.nr_reduce.specs.declared.call.Call.{Call}
-use Rattle.nr_reduce.specs.declared.call.Form.{Form}
 use Rattle.nr_reduce.specs.declared.call.Outcome.{Outcome}
-use Rattle.nr_reduce.specs.declared.call.Submission.{Submission}
-use Rattle.nr_reduce.specs.declared.call.Submission.TheVariants as submissions
 use Rattle.nr_reduce.specs.declared.mark.LinkParameters.{LinkParameters}
 use Rattle.nr_reduce.specs.declared.mark.Mark.{Mark}
-use Rattle.nr_reduce.specs.declared.mark.Mark.TheVariants as marks
-use Rattle.nr_reduce.specs.History.{AcceptedCall, CompletedCall, accepted_as, accepted_at, accepted_calls}
+use Rattle.nr_reduce.specs.History.{AcceptedCall, CompletedCall, accepted_calls}
 use Rattle.nr_reduce.specs.OutcomesDue.{outcomes_of_call, outcomes_due}
 use Rattle.nr_reduce.specs.EndRules.{EndState}
 use Rattle.nr_reduce.specs.ClientState.{ClientState}
@@ -24,14 +18,14 @@ use Rattle.nr_requester.specs.declared.answer.AnsweredCall.{AnsweredCall}
 use Rattle.nr_requester.specs.RequesterState.{RequesterState, RequesterSide}
 use Rattle.nr_requester.specs.KeptAnswers.{is_due, completed_of}
 use Rattle.nr_requester.specs.OpenCalls.{found_answer}
-use Rattle.nr_requester.specs.Standing.{StandsForClient, AnswersAfter}
 use Rattle.nr_requester.proofs.AnswerSteps.{due_one, done_gives}
-use Rattle.nr_requester.proofs.FirstDue.{first_is_due_first}
 use Rattle.nr_drill.specs.Drill.{Setting, Drill, after_handing, after_done, after_dones, after_outcomes}
 use Rattle.nr_world.specs.DrillLinkState.{AwaitedLine}
-use Rattle.nr_world.specs.LinkStands.{answers_of, lines_from, is_awaited, awaited_lines, answer_on}
 use Rattle.nr_world.specs.private.HandsOver.{HaveNoOutcome}
-use Rattle.nr_world.proofs.CallLines.{filter_as, answers_same}
+use Rattle.nr_world.specs.LinkStands.{StandsForClient, call_ids, due_calls, line_ids, link_calls, waiting_calls}
+use Rattle.std.proofs.lemmas.List.Elements.{Contains-append_right}
+use Rattle.nr_reduce.specs.declared.call.Submission.TheVariants as submissions
+use Rattle.nr_reduce.specs.declared.mark.Mark.TheVariants as marks
 
 -- ---- The xids of the awaited lines are those of the calls that are or will be due
 

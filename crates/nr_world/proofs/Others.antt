@@ -1,7 +1,7 @@
 -- What is done on another link leaves what a link stands for, and so do the clock and the credentials.
-use Rattle.std.proofs.Common.{◌≢◌, ℕ, ◌≤◌, List, refl, sym}
+use Rattle.std.proofs.Common.{◌≢◌, ℕ, ◌≤◌, List, refl, arith}
 use Rattle.nr_rpc.specs.declared.cred.Cred.{Cred}
-use Rattle.nr_drill.specs.Drill.{Setting, Drill}
+use Rattle.nr_drill.specs.Drill.{client_of, Setting, Drill}
 use Rattle.nr_drill.proofs.Followed.{Extends}
 use Rattle.nr_world.specs.DrillLinkState.{DrillLinkState}
 use Rattle.nr_world.specs.LinkStands.{LinkStands}

@@ -1,6 +1,6 @@
 -- What the code hands to the lemmas of a step.
 use Rattle.std.specs.Prelude.{◌↔◌, Result, Ok, Err, IfOk, IsTrue}
-use Rattle.std.proofs.Common.{◌≡◌, ◌≢◌, ℕ, ◌≤◌, Bool, true, false, List, [], ◌∷◌, ◌++◌, length, map, take, None, Some, refl, ap, sym, subst, ◌∙◌}
+use Rattle.std.proofs.Common.{◌≡◌, ◌≢◌, ℕ, ◌≤◌, Bool, true, false, List, [], ◌∷◌, ◌++◌, length, map, take, None, Some, refl, ap, sym, subst, ◌∙◌, cond, ◌⊎◌}
 use Rattle.std.proofs.Math.Seq.{take-length}
 use Rattle.nr_wire.specs.declared.hello.Side.{Side}
 use Rattle.nr_wire.specs.declared.hello.Side.TheVariants.{Initiator, Responder}
@@ -9,10 +9,8 @@ use Rattle.nr_link.specs.Agreement.{terms_with}
 use Rattle.nr_reduce.specs.Opening.{ClientOpened, ServerOpened}
 use Rattle.nr_reduce.specs.declared.mark.LinkParameters.{LinkParameters}
 use Rattle.nr_reduce.specs.declared.mark.Mark.{Mark}
-use Rattle.nr_reduce.specs.declared.mark.Mark.TheVariants as marks
 use Rattle.nr_reduce.specs.History.{is_dropped}
 use Rattle.nr_requester.specs.RequesterState.{RequesterSide, RequesterState}
-use Rattle.nr_requester.specs.Standing.{StandsForClient}
 use Rattle.nr_requester.specs.AfterCalls.{opened_as}
 use Rattle.nr_responder.specs.ResponderState.{ResponderSide, may_write, end_of}
 use Rattle.nr_responder.specs.Draining.{Drains}
@@ -28,11 +26,14 @@ use Rattle.nr_world.specs.Transits.{TransitState}
 use Rattle.nr_world.specs.OpenTickets.{AreOpen}
 use Rattle.nr_world.specs.Steps.{Goes, ClientWrites, ServerWrites, IsFresh}
 use Rattle.nr_texts.specs.declared.opening.Opening.{Opening}
-use Rattle.nr_world.specs.Views.{line_view, link_view}
+use Rattle.nr_world.specs.Views.{line_view, link_view, call_view}
 use Rattle.nr_world.proofs.OpenTickets.{none_open, kept_open}
 use Rattle.nr_world.proofs.Standing.{with_ends, from_view}
 use Rattle.nr_world.proofs.Writes.{up_none, up_some, down_none, down_some}
 use Rattle.nr_world.proofs.Dropping.{dropped_link, drops, raw_put}
+use Rattle.nr_requester.specs.Standing.{RequesterRepresents}
+use Rattle.nr_drill.specs.Follows.{client_terms}
+use Rattle.nr_reduce.specs.declared.mark.Mark.TheVariants as marks
 
 -- what holds of the value of an Ok
 pub if_ok : {T E : Type 0} (r : Result T E) (P Q : T → Type 0) → ((x : T) → P x → Q x) → IfOk r P → IfOk r Q

@@ -1,19 +1,15 @@
 -- A requester that stands for the marks of its link, which may be one that was reopened.
-use Rattle.std.specs.List.{AllByRecursion, filter, find, list_any}
-use Rattle.std.specs.Prelude.{not, ◌==◌, ◌||◌, is_some}
-use Rattle.std.proofs.Common.{◌≡◌, ◌≢◌, ℕ, ◌≤◌, Bool, true, false, cond, eqb, List, [], ◌∷◌, ◌++◌, length, map, Option, None, Some, refl, sym, ap, subst, ◌∙◌}
+use Rattle.std.specs.List.{filter, find}
+use Rattle.std.specs.Prelude.{not, is_some}
+use Rattle.std.proofs.Common.{◌≡◌, ℕ, Bool, true, eqb, List, [], ◌∷◌, ◌++◌, map, refl, sym, ap, subst, ◌∙◌}
 use Rattle.nr_wire.specs.declared.hello.Side.TheVariants.{Initiator}
-use Rattle.nr_link.specs.declared.end.End.{End}
 use Rattle.nr_reduce.specs.declared.call.Call.{Call}
 use Rattle.nr_reduce.specs.declared.call.Form.{Form}
 use Rattle.nr_reduce.specs.declared.mark.LinkParameters.{LinkParameters}
 use Rattle.nr_reduce.specs.declared.mark.Mark.{Mark}
 use Rattle.nr_reduce.specs.Asked.{revoked_bytes}
-use Rattle.nr_reduce.specs.ClientState.{ClientState}
 use Rattle.nr_reduce.specs.Events.{events_at}
-use Rattle.nr_reduce.specs.History.{AcceptedCall, CompletedCall, accepted_calls, fed_at, written_at}
-use Rattle.nr_reduce.specs.OutcomesDue.{outcomes_due}
-use Rattle.nr_reduce.specs.Reopening.{reopened}
+use Rattle.nr_reduce.specs.History.{CompletedCall, fed_at, written_at}
 use Rattle.nr_reduce.specs.Run.{client}
 use Rattle.nr_reduce.specs.SubmitAnswer.{calls_to_resend, submit_answer}
 use Rattle.nr_requester.specs.declared.answer.AnsweredCall.{AnsweredCall}
@@ -21,9 +17,9 @@ use Rattle.nr_requester.specs.Answers.{answer_of}
 use Rattle.nr_requester.specs.Buffers.{bytes_of_buffers}
 use Rattle.nr_requester.specs.KeptAnswers.{completed_of, is_due}
 use Rattle.nr_requester.specs.Laws.{DueFirst, GivesUpNothing}
-use Rattle.nr_requester.specs.OpenCalls.{buffers_of, found_answer, remaining_call}
+use Rattle.nr_requester.specs.OpenCalls.{buffers_of, remaining_call}
 use Rattle.nr_requester.specs.ReopenedLinks.{KeepsOn, RequesterKeeps, next_own, own_side}
-use Rattle.nr_requester.specs.RequesterState.{RequesterSide, RequesterState, queue_of}
+use Rattle.nr_requester.specs.RequesterState.{RequesterSide, RequesterState}
 use Rattle.nr_requester.specs.Standing.{RequesterRepresents}
 use Rattle.nr_requester.proofs.ReopenedLinks.{first_links_are_kept}
 use Rattle.nr_requester.proofs.KeptOn.{answers_as_kept, first_is_kept, others_keep_on}

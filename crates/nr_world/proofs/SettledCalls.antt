@@ -1,13 +1,12 @@
 -- A call of a link is settled: its outcome is handed over, or it is given up.
 use Rattle.std.specs.Prelude.{◌&&◌, ◌||◌, ◌==◌, not}
-use Rattle.std.specs.List.{AllByRecursion, list_any}
-use Rattle.std.proofs.Common.{◌≡◌, ◌≢◌, ℕ, Bool, true, false, cond, eqb, List, [], ◌∷◌, ◌++◌, length, map, filter, refl, ap, sym, subst, ◌∙◌}
-use Rattle.std.proofs.lemmas.Bool.{eq-eqb, ne_eqb}
+use Rattle.std.specs.List.{list_any}
+use Rattle.std.proofs.Common.{◌≡◌, ℕ, Bool, true, false, cond, eqb, List, [], ◌∷◌, ◌++◌, length, map, filter, refl, ap, sym, ◌∙◌}
+use Rattle.std.proofs.lemmas.Bool.{eq-eqb}
 use Rattle.nr_wire.specs.declared.hello.Side.TheVariants.{Responder}
 use Rattle.nr_reduce.specs.declared.call.Outcome.{Outcome}
 use Rattle.nr_reduce.specs.declared.call.Submission.{Submission}
 use Rattle.nr_reduce.specs.declared.mark.Mark.{Mark}
-use Rattle.nr_reduce.specs.declared.mark.Mark.TheVariants as marks
 use Rattle.nr_reduce.specs.Concerns.{concerns}
 use Rattle.nr_reduce.specs.History.{AcceptedCall, CompletedCall, accepted_at, is_drop_of}
 use Rattle.nr_reduce.proofs.Standing.{itself}
@@ -20,9 +19,10 @@ use Rattle.nr_drill.specs.InBytes.{RepliedMark}
 use Rattle.nr_world.specs.DrillLinkState.{AwaitedLine}
 use Rattle.nr_world.specs.LinkStands.{TracksCalls, answers_of, awaited_lines, call_ids, due_calls, is_awaited, line_ids, lines_from, link_calls}
 use Rattle.nr_world.specs.OpenTickets.{calls_without}
-use Rattle.nr_world.proofs.CallLines.{LeavesCalls, answers_same, awaited_one, calls_same, filter_as}
+use Rattle.nr_world.proofs.CallLines.{answers_same, awaited_one, calls_same, filter_as}
 use Rattle.nr_world.proofs.EarlierCalls.{elsewhere_on, own_elsewhere}
 use Rattle.nr_world.proofs.WaitingCalls.{leaves_calls}
+use Rattle.nr_reduce.specs.declared.mark.Mark.TheVariants as marks
 
 -- a mark that settles the call of an xid of this link, and no other
 pub record SettlesOne (s : Setting) (link xid : ℕ) (mark : Mark) : Type 0 where

@@ -1,23 +1,22 @@
 -- What a link stands for after one mark more.
 use Rattle.std.specs.Prelude.{◌-◌, Result, Ok, Err, OnOk}
-use Rattle.std.proofs.Common.{◌≡◌, ◌≢◌, ℕ, ◌≤◌, ◌<◌, arith, false, List, [], ◌∷◌, ◌++◌, length, Some, ap, sym, subst, ◌∙◌}
+use Rattle.std.proofs.Common.{◌≡◌, ◌≢◌, ℕ, ◌≤◌, ◌<◌, arith, false, List, [], ◌∷◌, ◌++◌, length, Some, sym, subst, ◌∙◌}
 use Rattle.std.proofs.lemmas.List.{length-set}
-use Rattle.nr_link.specs.declared.end.End.TheVariants as ends
 use Rattle.nr_reduce.specs.declared.mark.Mark.{Mark}
-use Rattle.nr_reduce.specs.History.{is_drop_of}
+use Rattle.nr_reduce.specs.History.{is_drop_of, accepted_at}
 use Rattle.nr_reduce.proofs.Standing.{AtEachMark_more}
 use Rattle.nr_requester.specs.RequesterState.{RequesterSide}
-use Rattle.nr_requester.specs.Standing.{StandsForClient}
 use Rattle.nr_requester.specs.Laws.{GivesUpNothing}
 use Rattle.nr_responder.specs.ResponderState.{ResponderSide, end_of}
 use Rattle.nr_responder.specs.Standing.{RepresentsServer}
-use Rattle.nr_drill.specs.Drill.{Setting, Drill, Pipes, with_pipes, with_mark}
+use Rattle.nr_drill.specs.Drill.{client_of, Setting, Drill, Pipes, with_pipes, with_mark, answer_at}
 use Rattle.nr_drill.specs.InBytes.{RepliedInBytes, RepliedMark}
 use Rattle.nr_drill.proofs.Carried.{own_pipes, same_dropped}
 use Rattle.nr_world.specs.DrillLinkState.{DrillLinkState}
-use Rattle.nr_world.specs.LinkStands.{LinkStands, answer_on}
+use Rattle.nr_world.specs.LinkStands.{LinkStands, StandsForClient, TracksCalls}
 use Rattle.nr_world.specs.Steps.{Goes, StandsAt}
-use Rattle.nr_world.proofs.CallLines.{answers_same, awaited_same, own_one, own_none}
+use Rattle.nr_world.proofs.WaitingCalls.{leaves_calls}
+use Rattle.nr_link.specs.declared.end.End.TheVariants as ends
 
 -- the link with other ends and pipes
 abbrev pub with_ends : DrillLinkState → RequesterSide → ResponderSide → Pipes → DrillLinkState

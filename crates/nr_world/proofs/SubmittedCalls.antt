@@ -1,18 +1,14 @@
 -- A call line is answered, or a call is sent again.
 use Rattle.std.specs.Prelude.{◌&&◌, ◌==◌, if◌then◌else◌, not}
-use Rattle.std.specs.List.{AllByRecursion, flat_map}
-use Rattle.std.proofs.Common.{◌≡◌, ◌≢◌, ℕ, suc, ◌+◌, ◌<◌, arith, Bool, true, false, cond, eqb, ltb, List, [], ◌∷◌, ◌++◌, length, map, filter, refl, ap, sym, subst, ◌∙◌, append-nil, append_assoc, length-append}
+use Rattle.std.proofs.Common.{◌≡◌, ℕ, suc, ◌+◌, ◌<◌, arith, Bool, true, false, cond, eqb, List, [], ◌∷◌, ◌++◌, length, map, filter, refl, ap, sym, ◌∙◌, append-nil, append_assoc, length-append}
 use Rattle.std.proofs.lemmas.Bool.{eq-eqb, lt-ltb}
 use Rattle.std.proofs.lemmas.List.{map-append}
 use Rattle.nr_wire.specs.declared.hello.Side.TheVariants.{Initiator}
 use Rattle.nr_reduce.specs.declared.call.Call.{Call}
 use Rattle.nr_reduce.specs.declared.call.Form.{Form}
-use Rattle.nr_reduce.specs.declared.call.Refused.{Refused}
 use Rattle.nr_reduce.specs.declared.call.Submission.{Submission}
-use Rattle.nr_reduce.specs.declared.call.Submission.TheVariants as submissions
 use Rattle.nr_reduce.specs.declared.mark.LinkParameters.{LinkParameters}
 use Rattle.nr_reduce.specs.declared.mark.Mark.{Mark}
-use Rattle.nr_reduce.specs.declared.mark.Mark.TheVariants as marks
 use Rattle.nr_reduce.specs.Client.{client_rules}
 use Rattle.nr_reduce.specs.ClientState.{ClientState, WaitingCall}
 use Rattle.nr_reduce.specs.EndRules.{EndState}
@@ -28,10 +24,12 @@ use Rattle.nr_requester.specs.KeptAnswers.{is_due}
 use Rattle.nr_requester.proofs.AnswerSteps.{due_same}
 use Rattle.nr_drill.specs.Drill.{Setting, answer_at, client_of, is_sent_again, resend_mark}
 use Rattle.nr_world.specs.DrillLinkState.{AwaitedLine}
-use Rattle.nr_world.specs.LinkStands.{TracksCalls, accepted_line, answers_of, as_waiting, awaited_lines, call_ids, due_calls, is_awaited, line_ids, lines_from, link_calls, waiting_calls}
-use Rattle.nr_world.proofs.CallLines.{answers_one, answers_same, awaited_same, awaited_still, calls_same, due_still, filter_as, filter_parts, waits_same}
+use Rattle.nr_world.specs.LinkStands.{TracksCalls, accepted_line, answers_of, as_waiting, awaited_lines, due_calls, is_awaited, lines_from, link_calls, waiting_calls}
+use Rattle.nr_world.proofs.CallLines.{answers_one, answers_same, awaited_same, awaited_still, due_still, filter_as, filter_parts}
 use Rattle.nr_world.proofs.EarlierCalls.{elsewhere_on, own_elsewhere}
 use Rattle.nr_world.proofs.WaitingCalls.{IsFirstWaiting, leaves_calls}
+use Rattle.nr_reduce.specs.declared.call.Submission.TheVariants as submissions
+use Rattle.nr_reduce.specs.declared.mark.Mark.TheVariants as marks
 
 -- ---- The answers
 

@@ -1,17 +1,13 @@
 -- The calls that wait to be sent again: only a call that is accepted changes them, and those that are sent again are the first ones.
-use Rattle.std.specs.Prelude.{◌&&◌, not, nat_lt}
+use Rattle.std.specs.Prelude.{◌&&◌}
 use Rattle.std.specs.List.{AllByRecursion}
-use Rattle.std.proofs.Common.{◌≡◌, ◌≢◌, ℕ, zero, suc, ◌+◌, ◌<◌, ◌≤◌, arith, Bool, true, false, cond, eqb, ltb, List, [], ◌∷◌, ◌++◌, length, map, take, drop, Option, None, Some, refl, sym, ap, subst, ◌∙◌, append_assoc, append-nil}
-use Rattle.std.proofs.lemmas.Bool.{eq-eqb, lt-ltb}
+use Rattle.std.proofs.Common.{◌≡◌, ℕ, ◌+◌, ◌<◌, Bool, true, false, cond, eqb, List, [], ◌∷◌, ◌++◌, length, map, Option, None, Some, refl, sym, ap, subst, ◌∙◌}
+use Rattle.std.proofs.lemmas.Bool.{eq-eqb}
 use Rattle.nr_wire.specs.declared.hello.Side.TheVariants.{Initiator}
 use Rattle.nr_link.specs.declared.end.End.{End}
 use Rattle.nr_link.specs.Frames.{Frame, is_hello}
-use Rattle.nr_reduce.specs.declared.call.Call.{Call}
-use Rattle.nr_reduce.specs.declared.call.Form.{Form}
-use Rattle.nr_reduce.specs.declared.call.Submission.TheVariants as submissions
 use Rattle.nr_reduce.specs.declared.mark.LinkParameters.{LinkParameters}
 use Rattle.nr_reduce.specs.declared.mark.Mark.{Mark}
-use Rattle.nr_reduce.specs.declared.mark.Mark.TheVariants as marks
 use Rattle.nr_reduce.specs.declared.mark.ResumedCall.{ResumedCall}
 use Rattle.nr_reduce.specs.Client.{client_end, client_rules, client_segment, client_state_after, initial_client, revoked_waiting, with_hello, with_segment}
 use Rattle.nr_reduce.specs.ClientState.{ClientState, WaitingCall, others_than, waiting_from}
@@ -29,8 +25,10 @@ use Rattle.nr_reduce.proofs.Resending.{both, first_to_resend}
 use Rattle.nr_reduce.proofs.Standing.{itself}
 use Rattle.nr_reduce.proofs.Steps.{client_one}
 use Rattle.nr_drill.specs.Drill.{resend_mark}
-use Rattle.nr_world.specs.LinkStands.{as_waiting, waiting_calls}
+use Rattle.nr_world.specs.LinkStands.{as_waiting}
 use Rattle.nr_world.proofs.CallLines.{LeavesCalls}
+use Rattle.nr_reduce.specs.declared.call.Submission.TheVariants as submissions
+use Rattle.nr_reduce.specs.declared.mark.Mark.TheVariants as marks
 
 -- ---- Events that are no accepted call
 

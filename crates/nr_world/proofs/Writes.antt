@@ -2,17 +2,13 @@
 use Rattle.std.specs.Prelude.{◌&&◌}
 use Rattle.std.proofs.Common.{◌≡◌, ◌≢◌, ℕ, eqb, Bool, false, List, [], ◌∷◌, ◌++◌, length, Some, inl, refl, ap, sym, subst, ◌∙◌}
 use Rattle.nr_wire.specs.declared.hello.Side.TheVariants.{Initiator, Responder}
-use Rattle.nr_link.specs.declared.end.End.TheVariants as ends
 use Rattle.nr_reduce.specs.declared.mark.LinkParameters.{LinkParameters}
 use Rattle.nr_reduce.specs.declared.mark.Mark.{Mark}
-use Rattle.nr_reduce.specs.declared.mark.Mark.TheVariants as marks
 use Rattle.nr_reduce.specs.Events.{RunEvent, if_own}
 use Rattle.nr_reduce.specs.Events.RunEvent.{QueueWritten}
 use Rattle.nr_reduce.proofs.Standing.{itself}
 use Rattle.nr_requester.specs.RequesterState.{RequesterSide, queue_of}
 use Rattle.nr_requester.specs.AfterCalls.{after_drain}
-use Rattle.nr_requester.specs.Standing.{StandsForClient}
-use Rattle.nr_requester.proofs.AllMarks.{others_leave_it}
 use Rattle.nr_responder.specs.ResponderState.{ResponderSide, queue, may_write, end_of, after_drain as after_server_drain}
 use Rattle.nr_responder.specs.Standing.{RepresentsServer}
 use Rattle.nr_reduce.proofs.Unconcerned.{of_other_side}
@@ -22,10 +18,12 @@ use Rattle.nr_drill.specs.Drill.{Setting, Drill, Pipes, pipes_of, with_pipes, wi
 use Rattle.nr_drill.specs.InBytes.{RepliedInBytes}
 use Rattle.nr_drill.proofs.Lawful.{left_is, down_written}
 use Rattle.nr_world.specs.DrillLinkState.{DrillLinkState}
-use Rattle.nr_world.specs.LinkStands.{LinkStands}
+use Rattle.nr_world.specs.LinkStands.{LinkStands, StandsForClient}
 use Rattle.nr_world.specs.Steps.{Goes, StandsAt, ClientWrites, ServerWrites}
 use Rattle.nr_world.proofs.Ends.{requester_quiet, responder_quiet, represents_of}
 use Rattle.nr_world.proofs.Standing.{with_ends, IsPlain, EndsStand, other_pipes, plain_mark, replied_one}
+use Rattle.nr_link.specs.declared.end.End.TheVariants as ends
+use Rattle.nr_reduce.specs.declared.mark.Mark.TheVariants as marks
 
 -- ---- Marks of the other side
 

@@ -1,9 +1,7 @@
 -- The drills that a link stands for.
 use Rattle.std.specs.Prelude.{◌≡◌, ◌≢◌, ℕ, ◌+◌, ◌≤◌, ◌==◌, Bool, true, false, not, ◌&&◌, List, [], ◌∷◌, ◌++◌, map, length, Some}
 use Rattle.std.specs.List.{flat_map, filter, list_any}
-use Rattle.nr_link.specs.declared.end.End.TheVariants as ends
 use Rattle.nr_reduce.specs.declared.call.Submission.{Submission}
-use Rattle.nr_reduce.specs.declared.call.Submission.TheVariants as submissions
 use Rattle.nr_reduce.specs.declared.mark.LinkParameters.{LinkParameters}
 use Rattle.nr_reduce.specs.declared.mark.Mark.{Mark}
 use Rattle.nr_reduce.specs.ClientState.{WaitingCall}
@@ -16,6 +14,8 @@ use Rattle.nr_responder.specs.ResponderState.{end_of}
 use Rattle.nr_responder.specs.Standing.{RepresentsServer}
 use Rattle.nr_drill.specs.Drill.{link_of, Setting, Drill, pipes_of, answer_at, client_of, settles}
 use Rattle.nr_world.specs.DrillLinkState.{AwaitedLine, DrillLinkState}
+use Rattle.nr_link.specs.declared.end.End.TheVariants as ends
+use Rattle.nr_reduce.specs.declared.call.Submission.TheVariants as submissions
 
 -- ---- The call lines of a link's client
 

@@ -6,8 +6,6 @@ use Rattle.nr_world.specs.declared.awaited.AwaitedCall.{AwaitedCall}
 use Rattle.nr_reduce.specs.declared.call.Call.{Call}
 use Rattle.nr_reduce.specs.declared.call.Form.{Form}
 use Rattle.nr_reduce.specs.declared.call.Submission.{Submission}
-use Rattle.nr_reduce.specs.declared.call.Submission.TheVariants as submissions
-use Rattle.nr_reduce.specs.declared.mark.Mark.TheVariants as marks
 use Rattle.nr_reduce.specs.History.{AcceptedCall}
 use Rattle.nr_reduce.specs.SubmitAnswer.{submit_answer_after}
 use Rattle.nr_requester.specs.Answers.{answer_of}
@@ -16,6 +14,8 @@ use Rattle.nr_drill.specs.Drill.{Setting, Drill, with_mark}
 use Rattle.nr_world.specs.LinkStands.{LinkStands}
 use Rattle.nr_requester.specs.RequesterState.{RequesterState, RequesterSide}
 use Rattle.nr_world.specs.DrillLinkState.{AwaitedLine, DrillLinkState}
+use Rattle.nr_reduce.specs.declared.call.Submission.TheVariants as submissions
+use Rattle.nr_reduce.specs.declared.mark.Mark.TheVariants as marks
 
 abbrev pub IsTicketOpen : RequesterState → AwaitedCall → Type 0
 IsTicketOpen r call = is_some (open_call call.ticket r) ≡ true

@@ -12,7 +12,6 @@ use Rattle.nr_reduce.specs.Opening.{ClientOpened, IsOpened, ServerOpened}
 use Rattle.nr_reduce.specs.OutcomesDue.{outcomes_due}
 use Rattle.nr_reduce.specs.Reopening.{reopened}
 use Rattle.nr_reduce.specs.declared.mark.Mark.{Mark}
-use Rattle.nr_reduce.specs.declared.mark.Mark.TheVariants as marks
 use Rattle.nr_reduce.specs.declared.mark.LinkParameters.{LinkParameters}
 use Rattle.nr_reduce.specs.declared.mark.TaggedEntry.{TaggedEntry}
 use Rattle.nr_requester.specs.RequesterState.{RequesterSide, queue_of}
@@ -30,6 +29,8 @@ use Rattle.nr_drill.specs.InBytes.{RepliedInBytes}
 use Rattle.nr_world.specs.DrillLinkState.{DrillLinkState}
 use Rattle.nr_world.specs.DrillServers.{DrillServerState, StandsForEntries}
 use Rattle.nr_world.specs.LinkStands.{LinkStands}
+use Rattle.nr_reduce.specs.declared.mark.Mark.TheVariants as marks
+use Rattle.nr_reduce.specs.declared.mark.Told.TheVariants as told
 
 -- A link stands for a drill, and these are the drill's marks, each of whose replies is bytes.
 pub record StandsAt (s : Setting) (link : ℕ) (d : Drill) (v : DrillLinkState) (run : List Mark) : Type 0 where
@@ -49,12 +50,13 @@ setting_over setup opened = record { server = server_of setup; opened = opened }
 abbrev pub journal_over : Setup → List Mark → List TaggedEntry
 journal_over setup run = tagged_journal (plain_of (server_of setup)) (number_heard run) run
 
--- a call was executed after its server had heard the client
+-- a call was executed, or found old, after its server had heard the client
 abbrev pub HearsFirst : List Mark → Mark → Type 0
 HearsFirst before (marks.Execute l xid moment payload place reply) = frames_of Initiator (bytes_received l Responder before) ≢ []
+HearsFirst before (marks.Told l (told.Old xid at)) = frames_of Initiator (bytes_received l Responder before) ≢ []
 HearsFirst before mark = Unit {0}
 
--- A server that stands for the journal of a drill, each of whose calls was executed after its server had heard the client.
+-- A server that stands for the journal of a drill, each of whose calls was executed, or found old, after its server had heard the client.
 pub record ServerStands (setup : Setup) (d : Drill) (kept : DrillServerState) : Type 0 where
   pub entries : StandsForEntries setup (journal_over setup d.marks) kept
   pub heard : AtEachMark HearsFirst [] d.marks

@@ -4,7 +4,6 @@ use Rattle.std.specs.List.{AllByRecursion, remove}
 use Rattle.nr_reduce.specs.declared.call.Call.{Call}
 use Rattle.nr_reduce.specs.declared.call.Outcome.{Outcome}
 use Rattle.nr_reduce.specs.declared.mark.Mark.{Mark}
-use Rattle.nr_reduce.specs.declared.mark.Mark.TheVariants as marks
 use Rattle.nr_requester.specs.declared.answer.Buffers.{Buffers}
 use Rattle.nr_requester.specs.RequesterState.{RequesterState, RequesterSide}
 use Rattle.nr_requester.specs.AfterCalls.{after_forget}
@@ -13,6 +12,7 @@ use Rattle.nr_requester.specs.ReopenedLinks.{KeepsOn}
 use Rattle.nr_drill.specs.Drill.{after_done}
 use Rattle.nr_world.specs.DrillLinkState.{AwaitedLine, DrillLinkState}
 use Rattle.nr_world.specs.Steps.{Goes}
+use Rattle.nr_reduce.specs.declared.mark.Mark.TheVariants as marks
 
 -- the outcome of an xid, which had come, was taken
 pub record TakesOutcome (before : RequesterSide) (xid : ℕ) (outcome : Outcome) (after : RequesterSide) : Type 0 where

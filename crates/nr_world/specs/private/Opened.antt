@@ -1,5 +1,5 @@
 -- The world of a drill, as its links open.
-use Rattle.std.specs.Prelude.{◌≡◌, ℕ, ◌+◌, ◌<◌, ◌++◌, [], ◌∷◌, length}
+use Rattle.std.specs.Prelude.{◌≡◌, ℕ, ◌+◌, ◌<◌, []}
 use Rattle.std.specs.List.{range_with_len}
 use Rattle.nr_tree.specs.Tree.{Tree}
 use Rattle.nr_tree.specs.Drill.{IsDrill}

@@ -3,14 +3,12 @@ use Rattle.std.specs.Prelude.{◌≡◌, ℕ, ◌-◌, ◌≤◌, List, [], ◌�
 use Rattle.std.specs.List.{AllByRecursion, range_with_len}
 use Rattle.nr_rpc.specs.Credential.{CanWriteCred}
 use Rattle.nr_rpc.specs.declared.cred.Cred.{Cred}
-use Rattle.nr_rpc.specs.declared.cred.Cred.TheVariants as creds
 use Rattle.nr_reduce.specs.declared.call.Call.{Call}
 use Rattle.nr_reduce.specs.declared.mark.Mark.{Mark}
 use Rattle.nr_reduce.specs.Run.{client}
 use Rattle.nr_tree.specs.Tree.{Tree}
 use Rattle.nr_texts.specs.declared.opening.Opening.{Opening}
 use Rattle.nr_script.specs.declared.script.Line.{Line}
-use Rattle.nr_script.specs.declared.script.Line.TheVariants as lines
 use Rattle.nr_drill.specs.Drill.{link_of, IsLink, Setting, Drill, client_of, last_link, setting_now, after_leaving}
 use Rattle.nr_drill.specs.DrillSetup.{drill_setup, server_of}
 use Rattle.nr_drill.specs.Follows.{MakeAll, Makes, setting_of}
@@ -20,6 +18,8 @@ use Rattle.nr_world.specs.LinkStands.{LinkStands}
 use Rattle.nr_world.specs.Steps.{MayLeave, ServerStands}
 use Rattle.nr_world.specs.declared.steps.Procedure.{Procedure}
 use Rattle.nr_world.specs.declared.world.World.{World}
+use Rattle.nr_rpc.specs.declared.cred.Cred.TheVariants as creds
+use Rattle.nr_script.specs.declared.script.Line.TheVariants as lines
 
 -- what a drill over this tree is with, if this is its first line
 abbrev pub drill_setting : Tree → Opening → Setting

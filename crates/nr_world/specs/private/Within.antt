@@ -4,7 +4,6 @@ use Rattle.nr_rpc.specs.Credential.{CanWriteCred}
 use Rattle.nr_tree.specs.Tree.{Tree}
 use Rattle.nr_texts.specs.declared.opening.Opening.{Opening}
 use Rattle.nr_script.specs.declared.script.Line.{Line}
-use Rattle.nr_script.specs.declared.script.Line.TheVariants as lines
 use Rattle.nr_texts.specs.Limits.{number_max}
 use Rattle.nr_script.specs.Script.{seconds_in}
 use Rattle.nr_reduce.specs.Served.{CreditsInRange}
@@ -12,6 +11,7 @@ use Rattle.nr_drill.specs.Drill.{Drill}
 use Rattle.nr_world.specs.DrillLinkState.{DrillLinkState}
 use Rattle.nr_world.specs.declared.world.World.{World}
 use Rattle.nr_world.specs.private.Stands.{WorldStands}
+use Rattle.nr_script.specs.declared.script.Line.TheVariants as lines
 
 -- a client of the script
 abbrev pub IsClient : ℕ → ℕ → Type 0
