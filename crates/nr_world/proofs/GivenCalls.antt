@@ -1,7 +1,7 @@
 -- A call that is submitted.
 use Rattle.std.specs.Prelude.{◌&&◌, is_some, IfOk}
 use Rattle.std.specs.List.{AllByRecursion}
-use Rattle.std.proofs.Common.{◌≡◌, ◌≢◌, ℕ, ◌+◌, ◌≤◌, arith, ltb, Bool, true, false, List, [], ◌∷◌, ◌++◌, length, Option, None, Some, Result, Ok, Err, refl, ap, sym, subst, ◌∙◌, ltb-true, map, not}
+use Rattle.std.proofs.Common.{◌≡◌, ◌≢◌, ℕ, ◌+◌, ◌≤◌, arith, ltb, Bool, true, false, List, [], ◌∷◌, ◌++◌, length, Option, None, Some, Result, Ok, Err, refl, ap, sym, subst, ◌∙◌, ltb-true, map, not, eqb, nat_lt}
 use Rattle.nr_link.specs.declared.end.End.{End}
 use Rattle.nr_wire.specs.declared.hello.Side.TheVariants.{Initiator}
 use Rattle.nr_reduce.specs.declared.call.Call.{Call}
@@ -39,9 +39,9 @@ use Rattle.nr_world.specs.Steps.{Goes, StandsAt}
 use Rattle.nr_world.proofs.Standing.{replied_one}
 use Rattle.nr_world.proofs.Writes.{server_stays, one_more_mark}
 use Rattle.nr_world.proofs.GivenLines.{open_others}
-use Rattle.nr_world.proofs.Requesters.{ended_as}
+use Rattle.nr_world.proofs.Requesters.{ended_as, others_leave}
 use Rattle.nr_laws.proofs.ResumedCalls.{next_least}
-use Rattle.nr_regions.proofs.Holding.{none_held}
+use Rattle.nr_requester.specs.Sending.{has_credit}
 use Rattle.nr_link.specs.declared.end.End.TheVariants as ends
 use Rattle.nr_reduce.specs.declared.call.Refused.TheVariants as refusals
 use Rattle.nr_reduce.specs.declared.call.Submission.TheVariants as submissions
@@ -115,6 +115,31 @@ next_if r call form None xid e = (refl, next_by_plan r (plan_under r call form) 
 accepted_next : (r : RequesterState) (call : Call) (form : Form) (xid : ℕ) → answer_of r call form ≡ submissions.Accepted xid → (r.side.ended ≡ None) × (xid ≡ r.next_xid)
 unfolding answer_of
 accepted_next r call form xid e = next_if r call form r.side.ended xid e
+
+-- a call is accepted only while no Send is held back
+credit_if : (b : Bool) (answer : Submission) (why : Refused) (xid : ℕ) → (if b then answer else submissions.Refused why) ≡ submissions.Accepted xid → b ≡ true
+credit_if true answer why xid e = refl
+credit_if false answer why xid e = absurd (refused_apart why xid e)
+
+credit_by_plan : (r : RequesterState) (p : Result Plan TooLarge) (xid : ℕ) → answer_by_plan r p ≡ submissions.Accepted xid → has_credit r ≡ true
+credit_by_plan r (Err large) xid e = absurd (refused_apart (refusals.TooLarge large.need large.room) xid e)
+credit_by_plan r (Ok plan) xid e = credit_if (has_credit r) _ (refusals.NoCredit (length r.outstanding) r.grant) xid e
+
+credit_unless_ended : (r : RequesterState) (call : Call) (form : Form) (ended : Option End) (xid : ℕ) → answer_if r call form ended ≡ submissions.Accepted xid → has_credit r ≡ true
+credit_unless_ended r call form (Some end) xid e = absurd (refused_apart (refusals.Ended end) xid e)
+credit_unless_ended r call form None xid e = credit_by_plan r (plan_under r call form) xid e
+
+none_of : (held : List (List ℕ)) (other : Bool) → (eqb (length held) 0 && other) ≡ true → held ≡ []
+none_of [] other e = refl
+none_of (bytes ∷ held) other e = by (eqb (length (bytes ∷ held)) 0) refl e
+  where
+    by : (b : Bool) → eqb (length (bytes ∷ held)) 0 ≡ b → (b && other) ≡ true → bytes ∷ held ≡ []
+    by true none e = absurd (let zero = eqb-true (length (bytes ∷ held)) 0 none in omega (arith, zero))
+    by false none e = absurd (false_true e)
+
+none_held : (r : RequesterState) (call : Call) (form : Form) (xid : ℕ) → answer_of r call form ≡ submissions.Accepted xid → r.side.send_queue.held ≡ []
+unfolding answer_of
+none_held r call form xid e = none_of r.side.send_queue.held (nat_lt (length r.outstanding) r.grant) (credit_unless_ended r call form r.side.ended xid e)
 
 -- ---- The link with the mark of the call
 

@@ -14,6 +14,7 @@ use Rattle.nr_world.proofs.Ends.{represents_of}
 use Rattle.nr_world.proofs.Apart.{all_elsewhere, stands_by}
 use Rattle.nr_reduce.specs.History.{accepted_calls}
 use Rattle.std.specs.List.{filter}
+use Rattle.nr_reduce.proofs.Unresumed.{none_waits}
 use Rattle.nr_requester.specs.KeptAnswers.{is_due}
 use Rattle.nr_link.specs.declared.end.End.TheVariants as ends
 
