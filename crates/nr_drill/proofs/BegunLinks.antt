@@ -17,12 +17,13 @@ use Rattle.nr_laws.proofs.OpenedAgain.{reopened_links_are_opened}
 use Rattle.nr_laws.specs.Reopened.{AgreedInRange}
 use Rattle.nr_reduce.proofs.Steps.{AtEachMark_first}
 use Rattle.nr_script.proofs.ByteLists.{no_bytes_lem}
+use Rattle.nr_drill.specs.Lines.{IsDrillScript}
 use Rattle.nr_drill.specs.InBytes.{RepliedMark, RepliedInBytes}
 use Rattle.nr_drill.proofs.TypedDrills.{IsTypedDrill, PipesOfBytes, TypedIf, ResumedTyped, typed_if, kept_typed, opening_keeps_steps, start_typed}
 use Rattle.nr_texts.specs.declared.opening.Opening.{Opening}
 use Rattle.nr_texts.specs.Limits.{clients_max}
 use Rattle.nr_script.specs.Limits.{lines_max}
-use Rattle.nr_script.specs.Script.{ScriptLines, IsScript}
+use Rattle.nr_script.specs.Script.{ScriptLines}
 use Rattle.nr_drill.specs.Drill.{SerialServer, link_of, Setting, Drill, IsLink, client_of, last_link, setting_now, links_of, pipes_of, empty_pipes, start, with_link, after_opening, after_openings, after_leaving}
 use Rattle.nr_drill.specs.Follows.{Follows, parameters_of, setting_of, opened_drill}
 use Rattle.nr_drill.proofs.Lawful.{asked_so_far, none_in}
@@ -321,17 +322,19 @@ holds_kept s opening Acts Raws = record {
   later = λ n d p. (p.0, λ le replied. drill_later s opening n d (p.1 (omega (arith, le)) replied));
   credential = λ n c cred d can typed p. (p.0, λ le replied. drill_credential s opening n c cred d can typed (p.1 le replied));
   time = λ n seconds d p. (p.0, λ le replied. drill_time s opening n seconds d (p.1 le replied));
-  action = λ n c link a d last acts may p.
-      (ap (λ (ls : List ℕ). length ls) (action_keeps (setting_now s d) link a d).last_links ∙ p.0,
-      λ le replied. (let most = counted_most a n in
-      drill_acts s opening n c link a d last (may_any Raws opening.credits c d a may) replied
-      (p.1 (omega (arith, le, most)) (replied_before link d (after_action (setting_now s d) link a d) (action_extends (setting_now s d) link a d) replied))));
+  action = λ n c link a d last acts may p. (
+    ap (λ (ls : List ℕ). length ls) (action_keeps (setting_now s d) link a d).last_links ∙ p.0,
+    λ le replied. (let most = counted_most a n in
+        drill_acts s opening n c link a d last (may_any Raws opening.credits c d a may) replied
+        (p.1 (omega (arith, le, most)) (replied_before link d (after_action (setting_now s d) link a d) (action_extends (setting_now s d) link a d) replied))),
+  );
   begins = λ n c link d last acts numbered gone stays p.
       (let begun = begun_drill s c link d in
       let own = last_link c begun in
-      let x = opening_adds (setting_now s begun) own begun in
-      (ap (λ (ls : List ℕ). length ls) x.last_links ∙ length-set d.last_links (c - 1) (length d.pipes + 1) ∙ p.0,
-      λ le replied. drill_begins s opening n c link d le last numbered stays (p.1 (omega (arith, le)) (replied_before own begun (after_leaving s c link d) x replied)) replied));
+      let x = opening_adds (setting_now s begun) own begun in (
+        ap (λ (ls : List ℕ). length ls) x.last_links ∙ length-set d.last_links (c - 1) (length d.pipes + 1) ∙ p.0,
+        λ le replied. drill_begins s opening n c link d le last numbered stays (p.1 (omega (arith, le)) (replied_before own begun (after_leaving s c link d) x replied)) replied,
+      ));
 }
 
 -- ===== the links of the first line open
@@ -355,7 +358,7 @@ map_length g [] = refl
 map_length g (x ∷ xs) = ap (λ (m : ℕ). suc m) (map_length g xs)
 
 -- what the links of a script are opened with
-first_terms : (script : ScriptLines) → IsScript script → (link : ℕ) → 1 ≤ link → link ≤ script.opening.clients → HasTerms script.opening (parameters_of script.opening link)
+first_terms : (script : ScriptLines) → IsDrillScript script → (link : ℕ) → 1 ≤ link → link ≤ script.opening.clients → HasTerms script.opening (parameters_of script.opening link)
 first_terms script is link low high = record {
   granted = refl;
   terms = (is.some_client_units, is.few_client_units, by script.opening.numbered);
@@ -401,7 +404,7 @@ pub none_of_next : (server : SerialServer) (script : ScriptLines) (done : ℕ) (
 none_of_next server script done d h =
     map_all (λ (mark : Mark). (1 ≤ link_of mark) × (link_of mark ≤ done)) (λ (mark : Mark). link_of mark ≢ done + 1) d.marks (λ mark a. (λ same. (let most = a.1 in omega (arith, most, same)))) h.within
 
-module _ (server : SerialServer) (script : ScriptLines) (is : IsScript script) where
+module _ (server : SerialServer) (script : ScriptLines) (is : IsDrillScript script) where
   abbrev base : Setting
   base = setting_of server script.opening
 

@@ -22,7 +22,8 @@ use Rattle.nr_laws.proofs.Brought.{frames_in, events_frames}
 use Rattle.nr_laws.specs.OnceEach.{HasNotBegun, IsNextLink}
 use Rattle.nr_texts.specs.declared.opening.Opening.{Opening}
 use Rattle.nr_script.specs.Limits.{lines_max}
-use Rattle.nr_script.specs.Script.{ScriptLines, IsScript}
+use Rattle.nr_script.specs.Script.{ScriptLines}
+use Rattle.nr_drill.specs.Lines.{IsDrillScript}
 use Rattle.nr_drill.specs.Drill.{SerialServer, link_of, Setting, Drill, IsLink, client_of, last_link, setting_now, after_opening, after_leaving}
 use Rattle.nr_drill.specs.Follows.{Follows, setting_of, opened_drill}
 use Rattle.nr_drill.specs.InBytes.{RepliedInBytes}
@@ -429,30 +430,32 @@ order_kept s opening =
       later = λ n d p. (k.later n d p.0, λ le replied. p.1 (omega (arith, le)) replied);
       credential = λ n c cred d can typed p. (k.credential n c cred d can typed p.0, λ le replied. p.1 le replied);
       time = λ n seconds d p. (k.time n seconds d p.0, λ le replied. p.1 le replied);
-      action = λ n c link a d last acts may p.
-          (k.action n c link a d last acts may p.0,
-          λ le replied. (let most = counted_most a n in
-          let fits : n ≤ lines_max = omega (arith, le, most) in
-          let t = setting_now s d in
-          let new = after_action t link a d in
-          let x = action_extends t link a d in
-          let before = replied_before link d new x replied in
-          let here = (p.0.1 fits before).frame.owned c link last in
-          subst (λ (v : Setting). InOrder v opening.clients new) (sym (same_setting s d new (record { opened = x.opened; last_links = x.last_links })))
-          (order_extends t opening.clients c link d new x here.1 last.is (p.1 fits before))));
-      begins = λ n c link d last acts numbered gone stays p.
-          (k.begins n c link d last acts numbered gone stays p.0,
-          λ le replied. (let fits : n ≤ lines_max = omega (arith, le) in
-          let begun = begun_drill s c link d in
-          let before = replied_before (last_link c begun) begun (after_leaving s c link d) (opening_adds (setting_now s begun) (last_link c begun) begun) replied in
-          let held = p.0.1 fits before in
-          order_left s opening n c link d last (begins_so s opening n c link d le last numbered stays held) held numbered stays
-          (next_stags s opening n c link d le last numbered stays held) gone (p.1 fits before)));
+      action = λ n c link a d last acts may p. (
+        k.action n c link a d last acts may p.0,
+        λ le replied. (let most = counted_most a n in
+            let fits : n ≤ lines_max = omega (arith, le, most) in
+            let t = setting_now s d in
+            let new = after_action t link a d in
+            let x = action_extends t link a d in
+            let before = replied_before link d new x replied in
+            let here = (p.0.1 fits before).frame.owned c link last in
+            subst (λ (v : Setting). InOrder v opening.clients new) (sym (same_setting s d new (record { opened = x.opened; last_links = x.last_links })))
+            (order_extends t opening.clients c link d new x here.1 last.is (p.1 fits before))),
+      );
+      begins = λ n c link d last acts numbered gone stays p. (
+        k.begins n c link d last acts numbered gone stays p.0,
+        λ le replied. (let fits : n ≤ lines_max = omega (arith, le) in
+            let begun = begun_drill s c link d in
+            let before = replied_before (last_link c begun) begun (after_leaving s c link d) (opening_adds (setting_now s begun) (last_link c begun) begun) replied in
+            let held = p.0.1 fits before in
+            order_left s opening n c link d last (begins_so s opening n c link d le last numbered stays held) held numbered stays
+            (next_stags s opening n c link d le last numbered stays held) gone (p.1 fits before)),
+      );
     }
 
 -- ===== the first links
 
-module _ (server : SerialServer) (script : ScriptLines) (is : IsScript script) where
+module _ (server : SerialServer) (script : ScriptLines) (is : IsDrillScript script) where
   abbrev first : Drill
   first = opened_drill server script.opening
 

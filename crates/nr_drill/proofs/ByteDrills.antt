@@ -18,7 +18,8 @@ use Rattle.nr_byte_laws.specs.DueBytes.{AreInBytes}
 use Rattle.nr_byte_laws.proofs.ByteServers.{ReadyOfBytes, ready_bytes}
 use Rattle.nr_texts.specs.declared.opening.Opening.{Opening}
 use Rattle.nr_script.specs.Limits.{lines_max}
-use Rattle.nr_script.specs.Script.{ScriptLines, IsScript}
+use Rattle.nr_script.specs.Script.{ScriptLines}
+use Rattle.nr_drill.specs.Lines.{IsDrillScript}
 use Rattle.nr_drill.specs.Drill.{SerialServer, Setting, Drill, setting_now, start, links_of, if_standing, waiting_call, after_opening, after_openings}
 use Rattle.nr_drill.specs.Follows.{Follows, setting_of, opened_drill}
 use Rattle.nr_drill.specs.InBytes.{RepliedMark, RepliedInBytes, ExecutedMark, ExecutedInBytes}
@@ -102,35 +103,39 @@ bytes_kept s opening Raws replies =
     record {
       count = λ n d p. k.count n d p.0;
       later = λ n d p. (k.later n d p.0, λ le. p.1 (omega (arith, le)));
-      credential = λ n c cred d can typed p.
-          (k.credential n c cred d can typed p.0, λ le. (let h = p.1 le in record {
-            typed = record { typed = h.typed.typed; pipes = h.typed.pipes; creds = with_cred_at_lem d.creds (c - 1) cred h.typed.creds typed };
-            executed = h.executed;
-          }));
+      credential = λ n c cred d can typed p. (
+        k.credential n c cred d can typed p.0,
+        λ le. (let h = p.1 le in record {
+          typed = record { typed = h.typed.typed; pipes = h.typed.pipes; creds = with_cred_at_lem d.creds (c - 1) cred h.typed.creds typed };
+          executed = h.executed;
+        }),
+      );
       time = λ n seconds d p. (k.time n seconds d p.0, λ le. (let h = p.1 le in record { typed = record { typed = h.typed.typed; pipes = h.typed.pipes; creds = h.typed.creds }; executed = h.executed }));
-      action = λ n c link a d last acts may p.
-          (k.action n c link a d last acts may p.0,
-          λ le. (let most = counted_most a n in
-          let fits : n ≤ lines_max = omega (arith, le, most) in
-          let h = p.1 fits in
-          let t = setting_now s d in
-          let held = p.0.1 fits (byte_replied d h) in
-          let l = held.links link (held.frame.owned c link last).0 in
-          action_keeps_steps t link c opening.credits Raws IsByteDrill
-          (byte_steps t link (link_bytes opening n (t.opened link) link d.marks l) l.again (λ e typed executed. replies t.opened link e typed executed)) a d h.typed.creds may h));
-      begins = λ n c link d last acts numbered gone stays p.
-          (k.begins n c link d last acts numbered gone stays p.0,
-          λ le. (let fits : n ≤ lines_max = omega (arith, le) in
-          let h = p.1 fits in
-          let held = p.0.1 fits (byte_replied d h) in
-          let begun = begun_drill s c link d in
-          let u = setting_now s begun in
-          let next = next_link d in
-          let l = new_holds s opening n c link d le last numbered stays held in
-          let b = begins_so s opening n c link d le last numbered stays held in
-          let steps = byte_steps u next (link_bytes opening (suc n) (u.opened next) next (after_opening u next begun).marks l) l.again (λ e typed executed. replies u.opened next e typed executed) in
-          subst (λ (m : ℕ). IsByteDrill (after_opening u m begun)) (sym b.is_last)
-          (opening_keeps_steps u next IsByteDrill steps begun (record { typed = begun_typed s opening n c link d le last numbered stays held; executed = h.executed }))));
+      action = λ n c link a d last acts may p. (
+        k.action n c link a d last acts may p.0,
+        λ le. (let most = counted_most a n in
+            let fits : n ≤ lines_max = omega (arith, le, most) in
+            let h = p.1 fits in
+            let t = setting_now s d in
+            let held = p.0.1 fits (byte_replied d h) in
+            let l = held.links link (held.frame.owned c link last).0 in
+            action_keeps_steps t link c opening.credits Raws IsByteDrill
+            (byte_steps t link (link_bytes opening n (t.opened link) link d.marks l) l.again (λ e typed executed. replies t.opened link e typed executed)) a d h.typed.creds may h),
+      );
+      begins = λ n c link d last acts numbered gone stays p. (
+        k.begins n c link d last acts numbered gone stays p.0,
+        λ le. (let fits : n ≤ lines_max = omega (arith, le) in
+            let h = p.1 fits in
+            let held = p.0.1 fits (byte_replied d h) in
+            let begun = begun_drill s c link d in
+            let u = setting_now s begun in
+            let next = next_link d in
+            let l = new_holds s opening n c link d le last numbered stays held in
+            let b = begins_so s opening n c link d le last numbered stays held in
+            let steps = byte_steps u next (link_bytes opening (suc n) (u.opened next) next (after_opening u next begun).marks l) l.again (λ e typed executed. replies u.opened next e typed executed) in
+            subst (λ (m : ℕ). IsByteDrill (after_opening u m begun)) (sym b.is_last)
+            (opening_keeps_steps u next IsByteDrill steps begun (record { typed = begun_typed s opening n c link d le last numbered stays held; executed = h.executed }))),
+      );
     }
 
 openings_bytes : (server : SerialServer) (opening : Opening) → AnswersInBytes (setting_of server opening) → (links : List ℕ) (d : Drill) → IsByteDrill d → IsByteDrill (after_openings (setting_of server opening) links d)
@@ -140,15 +145,16 @@ openings_bytes server opening replies (link ∷ links) d h =
     openings_bytes server opening replies links (after_opening s link d)
     (opening_keeps_steps s link IsByteDrill (byte_steps s link tt tt (λ e typed executed. replies s.opened link e typed executed)) d h)
 
-pub first_bytes : (server : SerialServer) (script : ScriptLines) → IsScript script → AnswersInBytes (setting_of server script.opening) → BytesThen (setting_of server script.opening) script.opening 0 (opened_drill server script.opening)
+pub first_bytes : (server : SerialServer) (script : ScriptLines) → IsDrillScript script → AnswersInBytes (setting_of server script.opening) → BytesThen (setting_of server script.opening) script.opening 0 (opened_drill server script.opening)
 unfolding opened_drill
-first_bytes server script is replies =
-    (first_then server script is,
-    λ le. openings_bytes server script.opening replies (links_of script.opening.clients) (start (setting_of server script.opening) script.opening.clients)
-    (record { typed = start_typed (setting_of server script.opening) script.opening.clients; executed = tt }))
+first_bytes server script is replies = (
+  first_then server script is,
+  λ le. openings_bytes server script.opening replies (links_of script.opening.clients) (start (setting_of server script.opening) script.opening.clients)
+      (record { typed = start_typed (setting_of server script.opening) script.opening.clients; executed = tt }),
+)
 
 -- so all that a script makes is of its types
-pub script_bytes : (server : SerialServer) (script : ScriptLines) (run : List Mark) → IsScript script → AnswersInBytes (setting_of server script.opening) → (follows : Follows server script run) → IsByteDrill follows.last
+pub script_bytes : (server : SerialServer) (script : ScriptLines) (run : List Mark) → IsDrillScript script → AnswersInBytes (setting_of server script.opening) → (follows : Follows server script run) → IsByteDrill follows.last
 script_bytes server script run is replies follows =
     let s = setting_of server script.opening in
     (lines_kept s script.opening AnyRaw AnyRaw (BytesThen s script.opening) (bytes_kept s script.opening AnyRaw replies) 0 (length script.lines) script.opening.clients script.lines (opened_drill server script.opening) follows.last

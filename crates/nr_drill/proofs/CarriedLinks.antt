@@ -17,7 +17,8 @@ use Rattle.nr_reduce.specs.SubmitAnswer.{calls_to_resend}
 use Rattle.nr_laws.proofs.Granted.{submits_within}
 use Rattle.nr_texts.specs.declared.opening.Opening.{Opening}
 use Rattle.nr_script.specs.Limits.{lines_max}
-use Rattle.nr_script.specs.Script.{ScriptLines, IsScript}
+use Rattle.nr_script.specs.Script.{ScriptLines}
+use Rattle.nr_drill.specs.Lines.{IsDrillScript}
 use Rattle.nr_drill.specs.Drill.{SerialServer, Setting, Drill, IsLink, client_of, setting_now, pipes_of, empty_pipes, start, with_cred, after_opening, after_openings, after_leaving, last_link}
 use Rattle.nr_drill.specs.Follows.{Follows, setting_of, last_setting, opened_drill}
 use Rattle.nr_drill.specs.Headline.{KeepsLaws}
@@ -164,18 +165,20 @@ carries_kept s opening own =
       later = λ n d p. (k.later n d p.0, λ le replied. p.1 (omega (arith, le)) replied);
       credential = λ n c cred d can typed p. (k.credential n c cred d can typed p.0, λ le replied. moved_on s own d (with_cred c cred d) refl refl refl refl (p.1 le replied));
       time = λ n seconds d p. (k.time n seconds d p.0, λ le replied. moved_on s own d (record d { seconds = d.seconds + seconds }) refl refl refl refl (p.1 le replied));
-      action = λ n c link a d last acts may p.
-          (k.action n c link a d last acts may p.0,
-          λ le replied. (let most = counted_most a n in
-          let fits : n ≤ lines_max = omega (arith, le, most) in
-          let before = replied_before link d (after_action (setting_now s d) link a d) (action_extends (setting_now s d) link a d) replied in
-          client_acts s opening own n c link a d last may (p.0.1 fits before) (p.1 fits before)));
-      begins = λ n c link d last acts numbered gone stays p.
-          (k.begins n c link d last acts numbered gone stays p.0,
-          λ le replied. (let fits : n ≤ lines_max = omega (arith, le) in
-          let begun = begun_drill s c link d in
-          let before = replied_before (last_link c begun) begun (after_leaving s c link d) (opening_adds (setting_now s begun) (last_link c begun) begun) replied in
-          client_begins s opening own n c link d (begins_so s opening n c link d le last numbered stays (p.0.1 fits before)) (p.1 fits before)));
+      action = λ n c link a d last acts may p. (
+        k.action n c link a d last acts may p.0,
+        λ le replied. (let most = counted_most a n in
+            let fits : n ≤ lines_max = omega (arith, le, most) in
+            let before = replied_before link d (after_action (setting_now s d) link a d) (action_extends (setting_now s d) link a d) replied in
+            client_acts s opening own n c link a d last may (p.0.1 fits before) (p.1 fits before)),
+      );
+      begins = λ n c link d last acts numbered gone stays p. (
+        k.begins n c link d last acts numbered gone stays p.0,
+        λ le replied. (let fits : n ≤ lines_max = omega (arith, le) in
+            let begun = begun_drill s c link d in
+            let before = replied_before (last_link c begun) begun (after_leaving s c link d) (opening_adds (setting_now s begun) (last_link c begun) begun) replied in
+            client_begins s opening own n c link d (begins_so s opening n c link d le last numbered stays (p.0.1 fits before)) (p.1 fits before)),
+      );
     }
 
 -- ===== the first links open
@@ -199,7 +202,7 @@ first_one s clients done d apart empty room h = record { links = by }
             let ne : done + 1 ≢ link = (λ same. differs (sym e ∙ eq-eqb (done + 1) link same)) in
             carries_elsewhere link (done + 1) d (after_opening s (done + 1) d) ne (apart_pipes link (done + 1) low (omega arith) (λ same. ne (sym same))) x (h.links link low (omega (arith, high, ne)))
 
-first_all : (server : SerialServer) (script : ScriptLines) (is : IsScript script) (done more : ℕ) (d : Drill) → done + more ≡ script.opening.clients → AreOpen server script done d → FirstCarry done d →
+first_all : (server : SerialServer) (script : ScriptLines) (is : IsDrillScript script) (done more : ℕ) (d : Drill) → done + more ≡ script.opening.clients → AreOpen server script done d → FirstCarry done d →
     FirstCarry script.opening.clients (after_openings (setting_of server script.opening) (range_with_len (done + 1) more) d)
 first_all server script is done zero d all a h = (let same : done ≡ script.opening.clients = omega (arith, all) in subst (λ (m : ℕ). FirstCarry m d) same h)
 first_all server script is done (suc more) d all a h =
@@ -208,7 +211,7 @@ first_all server script is done (suc more) d all a h =
     first_all server script is (done + 1) more (after_opening s (done + 1) d) (omega (arith, all)) (open_one server script is done d le a)
     (first_one s script.opening.clients done d (none_of_next server script done d a) (a.empty (done + 1) (omega arith) le) (let room = a.room in omega (arith, room, le)) h)
 
-pub first_carries : (server : SerialServer) (script : ScriptLines) → IsScript script → (own : ℕ) → ClientCarries (setting_of server script.opening) own (opened_drill server script.opening)
+pub first_carries : (server : SerialServer) (script : ScriptLines) → IsDrillScript script → (own : ℕ) → ClientCarries (setting_of server script.opening) own (opened_drill server script.opening)
 unfolding opened_drill
 first_carries server script is own link within mine =
     let all = first_all server script is 0 script.opening.clients (start (setting_of server script.opening) script.opening.clients) (omega arith) (at_start server script is) (record { links = λ l low high. absurd (omega (arith, low, high)) }) in
@@ -221,7 +224,7 @@ link_laws : (opening : Opening) (n : ℕ) (o : LinkParameters) (link : ℕ) (run
 link_laws opening n o link run h = laws_of o link run h.lawful h.written h.none
 
 -- of a script whose first links carry what is sent on them
-pub follows_keeps : (server : SerialServer) (script : ScriptLines) (run : List Mark) → IsScript script → RepliedInBytes run → (follows : Follows server script run) → (link : ℕ) → IsLink follows.last link →
+pub follows_keeps : (server : SerialServer) (script : ScriptLines) (run : List Mark) → IsDrillScript script → RepliedInBytes run → (follows : Follows server script run) → (link : ℕ) → IsLink follows.last link →
     KeepsLaws script ((last_setting follows).opened link) (client_of (last_setting follows) link) link run
 follows_keeps server script run is replied follows link within =
     let s = setting_of server script.opening in

@@ -33,7 +33,8 @@ use Rattle.nr_reduce.proofs.WaitingFit.{AreFit, waiting_fit}
 use Rattle.nr_laws.proofs.ResumedCalls.{next_least}
 use Rattle.nr_texts.specs.declared.opening.Opening.{Opening}
 use Rattle.nr_script.specs.Limits.{lines_max}
-use Rattle.nr_script.specs.Script.{ScriptLines, IsScript}
+use Rattle.nr_script.specs.Script.{ScriptLines}
+use Rattle.nr_drill.specs.Lines.{IsDrillScript}
 use Rattle.nr_drill.specs.Drill.{SerialServer, link_of, Setting, Drill, IsLink, client_of, is_sent_again, last_link, links_of, setting_now, start, with_cred, after_opening, after_openings, after_leaving}
 use Rattle.nr_drill.specs.Follows.{Follows, setting_of, opened_drill}
 use Rattle.nr_drill.specs.InBytes.{RepliedInBytes}
@@ -498,16 +499,18 @@ counted_kept s opening =
       later = λ n d p. (k.later n d p.0, λ le replied. p.1 (omega (arith, le)) replied);
       credential = λ n c cred d can typed p. (k.credential n c cred d can typed p.0, λ le replied. same_counts (setting_now s d) opening.clients d (with_cred c cred d) refl refl (p.1 le replied));
       time = λ n seconds d p. (k.time n seconds d p.0, λ le replied. same_counts (setting_now s d) opening.clients d (record d { seconds = d.seconds + seconds }) refl refl (p.1 le replied));
-      action = λ n c link a d last acts may p.
-          (k.action n c link a d last acts may p.0,
-          λ le replied. acted n c link a d last p le replied ((k.action n c link a d last acts may p.0).0.1 le replied));
-      begins = λ n c link d last acts numbered gone stays p.
-          (k.begins n c link d last acts numbered gone stays p.0,
-          λ le replied. (let fits : n ≤ lines_max = omega (arith, le) in
-          let begun = begun_drill s c link d in
-          let before = replied_before (last_link c begun) begun (after_leaving s c link d) (opening_adds (setting_now s begun) (last_link c begun) begun) replied in
-          let held = p.0.0.1 fits before in
-          counts_left s opening n c link d le last numbered stays held (p.1 fits before) (next_stags s opening n c link d le last numbered stays held) gone (p.0.1 fits before)));
+      action = λ n c link a d last acts may p. (
+        k.action n c link a d last acts may p.0,
+        λ le replied. acted n c link a d last p le replied ((k.action n c link a d last acts may p.0).0.1 le replied),
+      );
+      begins = λ n c link d last acts numbered gone stays p. (
+        k.begins n c link d last acts numbered gone stays p.0,
+        λ le replied. (let fits : n ≤ lines_max = omega (arith, le) in
+            let begun = begun_drill s c link d in
+            let before = replied_before (last_link c begun) begun (after_leaving s c link d) (opening_adds (setting_now s begun) (last_link c begun) begun) replied in
+            let held = p.0.0.1 fits before in
+            counts_left s opening n c link d le last numbered stays held (p.1 fits before) (next_stags s opening n c link d le last numbered stays held) gone (p.0.1 fits before)),
+      );
     }
   where
     acted : (n c link : ℕ) (a : Action) (d : Drill) → IsLastOf opening.clients c link d → CountedThen s opening n d → counted a n ≤ lines_max → RepliedInBytes (after_action (setting_now s d) link a d).marks →
@@ -617,7 +620,7 @@ none_so_far : (link : ℕ) → executed_calls link [] ≡ []
 unfolding executed_calls
 none_so_far link = refl
 
-module _ (server : SerialServer) (script : ScriptLines) (is : IsScript script) where
+module _ (server : SerialServer) (script : ScriptLines) (is : IsDrillScript script) where
   abbrev first : Drill
   first = opened_drill server script.opening
 

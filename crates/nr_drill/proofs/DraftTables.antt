@@ -605,4 +605,3 @@ module _ (s : Setting) (clients : List ℕ) (all before : List Mark) (l xid : �
   other_place c t ne h =
       idle_table s clients all before c executed_mark calls t
       (record { accepts = refl; executes = λ link own. executes_none link (λ same. ne (ap (client_of s) same ∙ own)) }) h
-

@@ -23,8 +23,8 @@ use Rattle.nr_texts.specs.declared.opening.Opening.{Opening}
 use Rattle.nr_script.specs.Limits.{lines_max}
 use Rattle.nr_script.specs.declared.script.Line.{Line}
 use Rattle.nr_script.specs.declared.script.Line.TheVariants as lines
-use Rattle.nr_script.specs.Script.{ScriptLines, IsScript}
-use Rattle.nr_drill.specs.Lines.{EndsWithDrain}
+use Rattle.nr_script.specs.Script.{ScriptLines}
+use Rattle.nr_drill.specs.Lines.{EndsWithDrain, IsDrillScript}
 use Rattle.nr_drill.specs.Drill.{link_of, SerialServer, Setting, Drill, IsLink, client_of, last_link, setting_now, pipes_of, with_cred, if_standing, waiting_call, after_moves, after_round, after_opening, after_leaving}
 use Rattle.nr_drill.specs.Follows.{is_empty, is_still, Drains, MakeAll, Follows, setting_of, last_setting, opened_drill}
 use Rattle.nr_drill.specs.InBytes.{RepliedInBytes}
@@ -160,8 +160,11 @@ still_begins : (s : Setting) (opening : Opening) (own link n c old : ℕ) (d : D
 still_begins s opening own link n c old d last apart low b h q = subst (λ (l : ℕ). StaysStill s own link (after_opening u l begun)) (sym b.is_last) (record {
   is_last = ap (λ (ls : List ℕ). slice_index_or ls (own - 1) own) x.last_links
       ∙ get_or-set_other d.last_links (c - 1) (own - 1) next own (λ same. apart (let some = last.low in omega (arith, same, low, some))) ∙ q.is_last;
-  within = (q.within.0, (let few = q.within.1 in let more = ap (λ (os : List LinkParameters). length os) x.opened in
-      let one = length-append d.opened (reopened (t.opened old) old d.marks ∷ []) in omega (arith, few, more, one)));
+  within = (
+    q.within.0,
+    (let few = q.within.1 in let more = ap (λ (os : List LinkParameters). length os) x.opened in
+        let one = length-append d.opened (reopened (t.opened old) old d.marks ∷ []) in omega (arith, few, more, one)),
+  );
   owner = ap (λ (v : Setting). client_of v link) same ∙ ap (λ (o : LinkParameters). if o.client.number == 0 then link else o.client.number) (b.old_link link q.within) ∙ q.owner;
   still = ap (λ (v : Setting). is_still v new link) same ∙ left_elsewhere u link next begun new q.within.0 b.is_link.0 ne x ∙ still_by t u link d begun (b.old_link link q.within) refl (b.old_pipes link q.within) ∙ q.still;
 })
@@ -196,33 +199,39 @@ still_kept s opening own link low =
     record {
       count = λ n d p. k.count n d p.0;
       later = λ n d p. (k.later n d p.0, λ le replied. p.1 (omega (arith, le)) replied);
-      credential = λ n c cred d can typed p.
-          (k.credential n c cred d can typed p.0, λ le replied. (let q = p.1 le replied in record {
-            is_last = q.is_last;
-            within = q.within;
-            owner = q.owner;
-            still = still_by (setting_now s d) (setting_now s d) link d (with_cred c cred d) refl refl refl ∙ q.still;
-          }));
-      time = λ n seconds d p.
-          (k.time n seconds d p.0, λ le replied. (let q = p.1 le replied in record {
-            is_last = q.is_last;
-            within = q.within;
-            owner = q.owner;
-            still = still_by (setting_now s d) (setting_now s d) link d (record d { seconds = d.seconds + seconds }) refl refl refl ∙ q.still;
-          }));
-      action = λ n c acted a d last acts may p.
-          (k.action n c acted a d last acts may p.0,
-          λ le replied. (let most = counted_most a n in
-          let fits : n ≤ lines_max = omega (arith, le, most) in
-          let before = replied_before acted d (after_action (setting_now s d) acted a d) (action_extends (setting_now s d) acted a d) replied in
-          still_acts s opening own link n c acted a d last acts (p.0.1 fits before) (p.1 fits before)));
-      begins = λ n c old d last acts numbered gone stays p.
-          (k.begins n c old d last acts numbered gone stays p.0,
-          λ le replied. (let fits : n ≤ lines_max = omega (arith, le) in
-          let begun = begun_drill s c old d in
-          let before = replied_before (last_link c begun) begun (after_leaving s c old d) (opening_adds (setting_now s begun) (last_link c begun) begun) replied in
-          let held = p.0.1 fits before in
-          still_begins s opening own link n c old d last acts low (begins_so s opening n c old d le last numbered stays held) held (p.1 fits before)));
+      credential = λ n c cred d can typed p. (
+        k.credential n c cred d can typed p.0,
+        λ le replied. (let q = p.1 le replied in record {
+          is_last = q.is_last;
+          within = q.within;
+          owner = q.owner;
+          still = still_by (setting_now s d) (setting_now s d) link d (with_cred c cred d) refl refl refl ∙ q.still;
+        }),
+      );
+      time = λ n seconds d p. (
+        k.time n seconds d p.0,
+        λ le replied. (let q = p.1 le replied in record {
+          is_last = q.is_last;
+          within = q.within;
+          owner = q.owner;
+          still = still_by (setting_now s d) (setting_now s d) link d (record d { seconds = d.seconds + seconds }) refl refl refl ∙ q.still;
+        }),
+      );
+      action = λ n c acted a d last acts may p. (
+        k.action n c acted a d last acts may p.0,
+        λ le replied. (let most = counted_most a n in
+            let fits : n ≤ lines_max = omega (arith, le, most) in
+            let before = replied_before acted d (after_action (setting_now s d) acted a d) (action_extends (setting_now s d) acted a d) replied in
+            still_acts s opening own link n c acted a d last acts (p.0.1 fits before) (p.1 fits before)),
+      );
+      begins = λ n c old d last acts numbered gone stays p. (
+        k.begins n c old d last acts numbered gone stays p.0,
+        λ le replied. (let fits : n ≤ lines_max = omega (arith, le) in
+            let begun = begun_drill s c old d in
+            let before = replied_before (last_link c begun) begun (after_leaving s c old d) (opening_adds (setting_now s begun) (last_link c begun) begun) replied in
+            let held = p.0.1 fits before in
+            still_begins s opening own link n c old d last acts low (begins_so s opening n c old d le last numbered stays held) held (p.1 fits before)),
+      );
     }
 
 differs_at : false ≡ true → ⊥
@@ -240,7 +249,7 @@ drains_keep s links (suc rounds) old new e = then_keep old (after_round s links 
 -- ===== a script that ends with a drain, for a link
 
 -- After a drain that no later line of the client of a matched link follows nothing waits on it, if it wasn't dropped.
-pub follows_waits : (server : SerialServer) (script : ScriptLines) (run : List Mark) → IsScript script → RepliedInBytes run → (follows : Follows server script run) → (link : ℕ) → IsLink follows.last link → Matched link run →
+pub follows_waits : (server : SerialServer) (script : ScriptLines) (run : List Mark) → IsDrillScript script → RepliedInBytes run → (follows : Follows server script run) → (link : ℕ) → IsLink follows.last link → Matched link run →
     is_dropped link run ≡ false → EndsWithDrain script (client_of (last_setting follows) link) → NothingInTransit ((last_setting follows).opened link) link run
 follows_waits server script run is replied follows link within matched standing ends =
     let here : is_dropped link follows.last.marks ≡ false = ap (λ (r : List Mark). is_dropped link r) (sym follows.marks_are) ∙ standing in

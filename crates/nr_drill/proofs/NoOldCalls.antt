@@ -13,7 +13,8 @@ use Rattle.nr_laws.specs.MarkAt.{MarkAt}
 use Rattle.nr_laws.specs.EndCauses.{HasNoOldCall, NotOldMark}
 use Rattle.nr_laws.specs.OnceEach.{AcceptsWithEarlier, IsFirstOf, IsLeft}
 use Rattle.nr_laws.proofs.OldCalls.{no_call_is_old}
-use Rattle.nr_script.specs.Script.{ScriptLines, IsScript}
+use Rattle.nr_script.specs.Script.{ScriptLines}
+use Rattle.nr_drill.specs.Lines.{IsDrillScript}
 use Rattle.nr_drill.specs.Drill.{SerialServer, link_of, Setting, IsLink, client_of, last_link, journal_of}
 use Rattle.nr_drill.specs.Follows.{Follows, last_setting}
 use Rattle.nr_drill.specs.Headline.{LinksAreMatched}
@@ -36,7 +37,7 @@ front_none : (link : ℕ) (run more : List Mark) → NoMarkOf link (run ++ more)
 front_none link [] more h = tt
 front_none link (mark ∷ run) more h = (h.0, front_none link run more h.1)
 
-module _ (server : SerialServer) (script : ScriptLines) (run : List Mark) (is : IsScript script) (replied : RepliedInBytes run) (follows : Follows server script run) where
+module _ (server : SerialServer) (script : ScriptLines) (run : List Mark) (is : IsDrillScript script) (replied : RepliedInBytes run) (follows : Follows server script run) where
   abbrev t : Setting
   t = last_setting follows
 

@@ -19,7 +19,8 @@ use Rattle.nr_reduce.specs.Asked.{revoked_bytes}
 use Rattle.nr_reduce.specs.Run.{server, client}
 use Rattle.nr_reduce.proofs.Standing.{sent_one, received_one}
 use Rattle.nr_script.specs.declared.script.Line.TheVariants as lines
-use Rattle.nr_script.specs.Script.{ScriptLines, IsScript}
+use Rattle.nr_script.specs.Script.{ScriptLines}
+use Rattle.nr_drill.specs.Lines.{IsDrillScript}
 use Rattle.nr_drill.specs.Drill.{SerialServer, Setting, Drill, Pipes, empty_pipes, unwritten, appended, after_output, after_all_output, settled, pipes_of, with_mark, after_feeding, after_feeding_up, after_feeding_down, after_up, after_down, after_handing, after_done, after_dones, after_outcomes, after_submit, waiting_call, after_answer, after_execution, after_work, after_calls, after_all_up, after_all_work, after_moves, answer_of_line, open_xid, after_giving_up, after_forget, after_taking_back, after_revoke, after_drop, after_raw, after_opening, after_openings, start, links_of, IsLink, last_link, setting_now, after_leaving, after_grant, GivenReply, client_of, standing_of, reply_given, resend_mark, after_resends, after_call}
 use Rattle.nr_drill.specs.Follows.{Follows, setting_of, opened_drill}
 use Rattle.nr_drill.proofs.Lawful.{own_written, up_written, down_written}
@@ -414,23 +415,25 @@ loses_kept s opening =
       credential = λ n c cred d can typed p.
           (k.credential n c cred d can typed p.0, λ le replied link is. (let h = p.1 le replied link is in record { room = h.room; up = h.up; down = h.down }));
       time = λ n seconds d p. (k.time n seconds d p.0, λ le replied link is. (let h = p.1 le replied link is in record { room = h.room; up = h.up; down = h.down }));
-      action = λ n c link a d last acts may p.
-          (k.action n c link a d last acts may p.0,
-          λ le replied other is. (let most = counted_most a n in
-          let fits : n ≤ lines_max = omega (arith, le, most) in
-          let t = setting_now s d in
-          let new = after_action t link a d in
-          let x = action_extends t link a d in
-          let before = replied_before link d new x replied in
-          let here = (p.0.1 fits before).frame.owned c link last in
-          let was = link_of_same d new other x.opened is in
-          none_by link other d new here.0.0 is.0 x (none_acts t link a d) (p.1 fits before other was)));
-      begins = λ n c link d last acts numbered gone stays p.
-          (k.begins n c link d last acts numbered gone stays p.0,
-          λ le replied. (let fits : n ≤ lines_max = omega (arith, le) in
-          let begun = begun_drill s c link d in
-          let before = replied_before (last_link c begun) begun (after_leaving s c link d) (opening_adds (setting_now s begun) (last_link c begun) begun) replied in
-          begun_loses s c link d (begins_so s opening n c link d le last numbered stays (p.0.1 fits before)) (p.1 fits before)));
+      action = λ n c link a d last acts may p. (
+        k.action n c link a d last acts may p.0,
+        λ le replied other is. (let most = counted_most a n in
+            let fits : n ≤ lines_max = omega (arith, le, most) in
+            let t = setting_now s d in
+            let new = after_action t link a d in
+            let x = action_extends t link a d in
+            let before = replied_before link d new x replied in
+            let here = (p.0.1 fits before).frame.owned c link last in
+            let was = link_of_same d new other x.opened is in
+            none_by link other d new here.0.0 is.0 x (none_acts t link a d) (p.1 fits before other was)),
+      );
+      begins = λ n c link d last acts numbered gone stays p. (
+        k.begins n c link d last acts numbered gone stays p.0,
+        λ le replied. (let fits : n ≤ lines_max = omega (arith, le) in
+            let begun = begun_drill s c link d in
+            let before = replied_before (last_link c begun) begun (after_leaving s c link d) (opening_adds (setting_now s begun) (last_link c begun) begun) replied in
+            begun_loses s c link d (begins_so s opening n c link d le last numbered stays (p.0.1 fits before)) (p.1 fits before)),
+      );
     }
 
 none_openings : (s : Setting) (link : ℕ) (links : List ℕ) (d : Drill) → 1 ≤ link → AllByRecursion (λ (l : ℕ). 1 ≤ l) links → NoneLost link d → NoneLost link (after_openings s links d)
@@ -450,7 +453,7 @@ start_none s clients link low high = record {
   down = λ e. omega arith;
 }
 
-first_loses : (server : SerialServer) (script : ScriptLines) → IsScript script → LosesNothing (opened_drill server script.opening)
+first_loses : (server : SerialServer) (script : ScriptLines) → IsDrillScript script → LosesNothing (opened_drill server script.opening)
 unfolding opened_drill
 first_loses server script is link within =
     let opening = script.opening in
@@ -459,7 +462,7 @@ first_loses server script is link within =
     none_openings s link (links_of opening.clients) (start s opening.clients) within.0 (from_one 1 opening.clients (omega arith))
     (start_none s opening.clients link within.0 (let most = within.1 in omega (arith, most, many)))
 
-pub follows_lose_nothing : (server : SerialServer) (script : ScriptLines) (run : List Mark) → IsScript script → RepliedInBytes run → (follows : Follows server script run) → LosesNothing follows.last
+pub follows_lose_nothing : (server : SerialServer) (script : ScriptLines) (run : List Mark) → IsDrillScript script → RepliedInBytes run → (follows : Follows server script run) → LosesNothing follows.last
 follows_lose_nothing server script run is replied follows =
     let s = setting_of server script.opening in
     (lines_kept s script.opening AnyRaw AnyRaw (LosesThen s script.opening) (loses_kept s script.opening) 0 (length script.lines) script.opening.clients script.lines (opened_drill server script.opening) follows.last

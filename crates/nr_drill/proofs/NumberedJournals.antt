@@ -49,16 +49,18 @@ kept_given server T place payload g (t ∷ later) is e = by (server.reply_to (en
     by None replied e = absurd cc
     by (Some reply) replied e =
         let own : record { moment = t.entry.moment; place = place; reply = reply } ≡ g = cc in
-        subst (λ (x : GivenReply). IsExecutedBy (plain_of server) T (Kept place) x.moment payload x.place x.reply) own
-        (refl, record {
-          earlier = take place T;
-          own = t;
-          later = later;
-          is_cut = sym (take-append-drop place T) ∙ ap (λ (rest : List TaggedEntry). take place T ++ rest) is;
-          is_place = place_is T place t later is;
-          moment_is = refl;
-          replied = replied;
-        })
+        subst (λ (x : GivenReply). IsExecutedBy (plain_of server) T (Kept place) x.moment payload x.place x.reply) own (
+          refl,
+          record {
+            earlier = take place T;
+            own = t;
+            later = later;
+            is_cut = sym (take-append-drop place T) ∙ ap (λ (rest : List TaggedEntry). take place T ++ rest) is;
+            is_place = place_is T place t later is;
+            moment_is = refl;
+            replied = replied;
+          },
+        )
 
 given_by : (server : SerialServer) (T : List TaggedEntry) (moment : Moment) (payload : List ℕ) (is : Standing) (g : GivenReply) → reply_by server T moment payload is ≡ Some g → IsExecutedBy (plain_of server) T is g.moment payload g.place g.reply
 given_by server T moment payload (Old top) g e = absurd cc
@@ -191,7 +193,7 @@ numbered_from server before [] first heard stands = tt
 numbered_from server before (mark ∷ run) first heard stands = (
   one_numbered server before (mark ∷ run) mark first heard.0 stands.0,
   subst (λ (all : List Mark). AtEachMark (NumberedMark (plain_of server) (number_heard all)) (before ++ mark ∷ []) run) (append_assoc before (mark ∷ []) run)
-  (numbered_from server (before ++ mark ∷ []) run (AtEachMark_more HeardMark [] before mark first heard.0) heard.1 stands.1),
+      (numbered_from server (before ++ mark ∷ []) run (AtEachMark_more HeardMark [] before mark first heard.0) heard.1 stands.1),
 )
 
 pub journaled_by_number : (s : Setting) (run : List Mark) → AtEachMark HeardMark [] run → AtEachMark (StandingMark s.server) [] run → JournaledByNumber (plain_of s.server) (number_heard run) (journal_of s run) run

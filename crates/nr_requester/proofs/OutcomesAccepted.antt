@@ -3,10 +3,10 @@ use Rattle.std.proofs.Common.{◌≡◌, ℕ, Bool, true, false, cond, not, ◌&
 use Rattle.std.specs.List.{AllByRecursion, Contains, filter}
 use Rattle.std.proofs.lemmas.List.Elements.{Contains-append_left, Contains-push}
 use Rattle.nr_xdr.specs.Fields.{word_at}
-use Rattle.nr_wire.specs.declared.hello.Side.TheVariants.{Initiator}
+use Rattle.nr_wire.specs.declared.hello.Side.TheVariants.{Initiator, Responder}
 use Rattle.nr_wire.specs.Segment.{Segment}
 use Rattle.nr_link.specs.declared.end.End.{End}
-use Rattle.nr_link.specs.Frames.{Frame, is_hello}
+use Rattle.nr_link.specs.Frames.{Frame, frames_completed, is_hello}
 use Rattle.nr_link.specs.ReceiveState.{ReadRequest, message_completed, read_request_of}
 use Rattle.nr_reduce.specs.declared.call.Submission.{Submission}
 use Rattle.nr_reduce.specs.declared.call.Submission.TheVariants as submissions
@@ -165,7 +165,8 @@ adds_accepted link run (marks.Submit l call form answer) = by answer
     by (submissions.Refused why) = sym (cond_none (eqb l link))
     by submissions.Dropped = sym (cond_none (eqb l link))
 adds_accepted link run (marks.Wrote l side bytes) = if_none _ (QueueWritten (length bytes) ∷ []) refl
-adds_accepted link run (marks.Fed l side bytes) = if_none _ (map FrameReceived _) (no_frames_add _)
+adds_accepted link run (marks.Fed l side bytes) =
+    if_none _ (map FrameReceived (frames_completed Responder (bytes_received link Initiator run) bytes)) (no_frames_add (frames_completed Responder (bytes_received link Initiator run) bytes))
 adds_accepted link run (marks.Execute l xid moment payload place reply) = if_none _ (CallExecuted _ ∷ []) refl
 adds_accepted link run (marks.Done l xid outcome) = refl
 adds_accepted link run (marks.Lost l xid) = refl

@@ -25,3 +25,4 @@ pub mod Resends
 pub mod private
 pub mod KeptOn
 pub mod KeptLaw
+pub mod EarlierLinks

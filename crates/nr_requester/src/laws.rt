@@ -3,6 +3,7 @@
 ghost use Rattle.nr_requester.specs.Reopening.{CallsGoOn, NextBegins};
 ghost use Rattle.nr_requester.specs.ReopenedLinks.{FirstLinksAreKept};
 ghost use Rattle.nr_requester.specs.Resends.{FeedIsMarks, FirstLinksResendNone};
+ghost use Rattle.nr_requester.specs.EarlierLinks.{EarlierGoes, EarlierCounts, EarlierStays};
 ghost use Rattle.nr_requester.specs.KeptLaw.{SubmitLaw, DrainLaw, QueueLaw, OpenLaw, AwaitedLaw, RevokeLaw, ForgetLaw, DoneLaw, LostLaw};
 ghost use Rattle.nr_requester.specs.KeptOn.{SubmitKeepsOn, DrainKeepsOn, RevokeKeepsOn, ForgetKeepsOn, DoneKeepsOn, LostKeepsOn, OthersKeepOn, AnswersAsKept, BuffersAreKept, FirstIsKept};
 ghost use Rattle.nr_requester.specs.Laws.{Begins, AnswersAsClient, AgreesAsClient, AgreesOut, CountsAsClient, CountsMarks, SubmitIsAMark, PieceIsAMark, PieceRunsOut, DrainIsAMark, RevokeIsAMark, RevokeStaysOut, ForgetIsAMark, DoneIsAMark, AnswersAreDue, AnswersOut, EndAsClient, FirstIsDueFirst, FirstOut, OthersLeaveIt, MemoryAsClient, MemoryOut, CountsOut, CountsMarksOut, RefusesOut, PieceStaysOut, OthersStayOut, LawBegins, OthersKeepLaw, RevokeKeepsLaw, BuffersArePlaced, RevokedOut, SubmitKeepsLaw, DrainKeepsLaw, DrainOutKeepsLaw, QueueIsAllDue, RefusedKeepsLaw, PieceKeepsLaw, DrainKeepsGrant, OpenIsAwaited, OpenOut, AwaitedIsOpen, AwaitedOut, ForgetKeepsLaw, ForgetOutKeepsLaw, DoneKeepsLaw, DoneOutKeepsLaw, LostKeepsLaw, NamedRegionIsNotCounted};
@@ -119,4 +120,12 @@ pub fn reopened_links_keep_their_law()
 pub fn first_links_are_kept()
     ensures kept { FirstLinksAreKept }
     ensures none { FirstLinksResendNone }
+{}
+
+/// What a requester keeps of a link that it left stays through marks of other links, and through an answer of that link that is handed over, given up
+/// or revoked. The present link counts such a mark with those before it.
+pub fn earlier_links_are_kept()
+    ensures goes { EarlierGoes }
+    ensures counts { EarlierCounts }
+    ensures stays { EarlierStays }
 {}

@@ -30,7 +30,6 @@ mod offered;
 mod outstanding;
 mod pieces;
 mod releasing;
-
 mod replies;
 mod requester;
 mod resending;
