@@ -1,12 +1,9 @@
 -- A server that is told to grant other credits, and its receives, which stay.
 use Rattle.std.proofs.Common.{◌≡◌, ◌≢◌, ℕ, List, [], ◌∷◌, ◌++◌, Some, inl, refl, sym, subst, ◌∙◌}
-use Rattle.nr_link.specs.declared.end.End.TheVariants as ends
 use Rattle.nr_reduce.specs.declared.mark.LinkParameters.{LinkParameters}
 use Rattle.nr_reduce.specs.declared.mark.Mark.{Mark}
-use Rattle.nr_reduce.specs.declared.mark.Mark.TheVariants as marks
 use Rattle.nr_reduce.specs.declared.mark.Told.TheVariants.{Granted}
 use Rattle.nr_reduce.specs.Events.RunEvent.{ServerTold}
-use Rattle.nr_requester.proofs.AllMarks.{others_leave_it}
 use Rattle.nr_responder.specs.ResponderState.{ResponderSide, end_of}
 use Rattle.nr_responder.specs.Standing.{ResponderRepresents}
 use Rattle.nr_responder.proofs.KeptReceives.{server_receives}
@@ -18,6 +15,9 @@ use Rattle.nr_world.specs.Steps.{Goes}
 use Rattle.nr_world.proofs.Ends.{represents_of}
 use Rattle.nr_world.proofs.Standing.{with_ends, IsPlain, EndsStand, plain_mark, replied_one, from_view}
 use Rattle.nr_world.proofs.Writes.{not_own, one_more_mark}
+use Rattle.nr_world.proofs.Requesters.{others_leave}
+use Rattle.nr_link.specs.declared.end.End.TheVariants as ends
+use Rattle.nr_reduce.specs.declared.mark.Mark.TheVariants as marks
 
 -- a server that stood for marks stands for these and that of what it was told
 abbrev pub TakesGrant : ℕ → (before after : ResponderSide) → Type 0

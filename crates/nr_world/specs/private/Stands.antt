@@ -15,7 +15,7 @@ use Rattle.nr_drill.specs.Follows.{MakeAll, Makes, setting_of}
 use Rattle.nr_drill.specs.InBytes.{RepliedInBytes}
 use Rattle.nr_world.specs.DrillLinkState.{DrillLinkState}
 use Rattle.nr_world.specs.LinkStands.{LinkStands}
-use Rattle.nr_world.specs.Steps.{MayLeave, ServerStands}
+use Rattle.nr_world.specs.Steps.{MayLeave, OpensServerSo, ServerStands}
 use Rattle.nr_world.specs.declared.steps.Procedure.{Procedure}
 use Rattle.nr_world.specs.declared.world.World.{World}
 use Rattle.nr_rpc.specs.declared.cred.Cred.TheVariants as creds
@@ -46,10 +46,11 @@ pub record HasLastLinks (s : Setting) (clients : ℕ) (d : Drill) : Type 0 where
   pub owned : (c : ℕ) → 1 ≤ c → c ≤ clients → IsLink d (last_link c d) × (client_of (setting_now s d) (last_link c d) ≡ c)
   pub within : AllByRecursion (λ (mark : Mark). IsLink d (link_of mark)) d.marks
 
--- each client has a link, and the world knows the client of each link
+-- Each client has a link, whose server is opened as the first line says; and the world knows the client of each link.
 pub record WorldStands (tree : Tree) (opening : Opening) (d : Drill) (w : World) : Type 0 where
   pub opened : HasOpened tree opening (setting_now (drill_setting tree opening) d) opening.clients d w
   pub frame : HasLastLinks (drill_setting tree opening) opening.clients d
+  pub servers : (c : ℕ) → 1 ≤ c → c ≤ opening.clients → OpensServerSo opening ((setting_now (drill_setting tree opening) d).opened (last_link c d))
   pub owners : w.owners.items ≡ map (client_of (setting_now (drill_setting tree opening) d)) (range_with_len 1 (length d.opened))
 
 -- a client's call of this procedure, with these arguments and with the credential that the client has
