@@ -19,8 +19,7 @@ use Rattle.nr_drill.specs.Follows.{Drains, MakeAll, Makes, is_still}
 use Rattle.nr_reduce.specs.Reopening.{reopened}
 use Rattle.nr_reduce.specs.Run.{client}
 use Rattle.nr_link.specs.declared.end.End.{End}
-use Rattle.nr_reduce.specs.declared.mark.LinkParameters.{LinkParameters}
-use Rattle.nr_drill.proofs.Followed.{cred_at, moves_adds, with_cred_at}
+use Rattle.nr_drill.proofs.Followed.{cred_at, with_cred_at}
 use Rattle.nr_world.specs.DrillLinkState.{DrillLinkState}
 use Rattle.nr_world.specs.LinkStands.{LinkStands}
 use Rattle.nr_world.specs.Steps.{ServerStands}
@@ -30,6 +29,7 @@ use Rattle.nr_world.specs.private.Stands.{drill_setting, WorldStands, Steps, Mak
 use Rattle.nr_reduce.specs.Served.{CreditsInRange}
 use Rattle.nr_world.specs.private.Within.{IsClient, MayGrant, IsLineWithin, AreWithin, CanMake, CanMakeAll}
 use Rattle.nr_world.proofs.Others.{link_stays}
+use Rattle.nr_world.proofs.Rounds.{KeepsLinks, over_links, round_keeps}
 use Rattle.nr_world.proofs.SameServer.{up_leaves, down_leaves, submit_leaves, forget_leaves, revoke_leaves, raw_leaves, work_clock, moves_clock, opening_leaves}
 use Rattle.nr_rpc.specs.declared.cred.Cred.TheVariants as creds
 use Rattle.nr_script.specs.declared.script.Line.TheVariants as lines
@@ -250,17 +250,6 @@ line_within w all at e lt (tree, opening, d, stands, within, may) =
 
 -- ===== drains
 
--- rounds keep what the links are opened with, and the last link of each client
-abbrev pub KeepsLinks : Drill → Drill → Type 0
-KeepsLinks old new = (new.opened ≡ old.opened) × (new.last_links ≡ old.last_links)
-
-pub round_keeps : (t : Setting) (links : List ℕ) (d : Drill) → KeepsLinks d (after_round t links d)
-round_keeps t [] d = (refl, refl)
-round_keeps t (link ∷ links) d =
-    let x = moves_adds t link d in
-    let rest = round_keeps t links (after_moves t link d) in
-    (rest.0 ∙ x.opened, rest.1 ∙ x.last_links)
-
 -- a world in which some rounds were made
 abbrev pub RoundsSoFar : World → World → Type 0
 RoundsSoFar old now = (tree : Tree) (opening : Opening) (d : Drill) → WorldStands tree opening d old →
@@ -269,15 +258,6 @@ RoundsSoFar old now = (tree : Tree) (opening : Opening) (d : Drill) → WorldSta
 
 pub rounds_begin : (w : World) → RoundsSoFar w w
 rounds_begin w tree opening d h = (d, h, (refl, refl), λ rounds new drains. (rounds, drains))
-
--- the setting and the links are the drill's all along
-abbrev OverLinks : Setting → (Setting → List ℕ → Type 0) → Drill → Type 0
-OverLinks s P d = P (setting_now s d) d.last_links
-
-over_links : (s : Setting) (P : Setting → List ℕ → Type 0) (d mid : Drill) → KeepsLinks d mid → OverLinks s P mid → OverLinks s P d
-over_links s P d mid keeps h =
-    subst (λ (all : List LinkParameters). P (record s { opened = λ link. slice_index_or (s.opened 0 ∷ all) link (s.opened link) }) d.last_links) keeps.0
-    (subst (λ (links : List ℕ). P (setting_now s mid) links) keeps.1 h)
 
 pub rounds_on : (old now next : World) (still : Bool) → still ≡ false → RoundsSoFar old now →
     ((tree : Tree) (opening : Opening) (d : Drill) → WorldStands tree opening d now → still ≡ list_all (is_still (setting_now (drill_setting tree opening) d) d) d.last_links) →
