@@ -12,7 +12,7 @@ use Rattle.nr_drill.specs.DrillSetup.{drill_setup, server_of}
 use Rattle.nr_drill.specs.Follows.{opened_drill}
 use Rattle.nr_world.specs.declared.world.World.{World}
 use Rattle.nr_world.specs.Steps.{IsBeforeOpening}
-use Rattle.nr_world.specs.private.Stands.{HasOpened, WorldStands, drill_setting}
+use Rattle.nr_world.specs.private.Stands.{HasOpened, drill_setting}
 
 -- the tree of a drill, which is sane
 pub record IsDrillTree (tree : Tree) : Type 0 where
@@ -43,4 +43,4 @@ OpensAll opening old new = (tree : Tree) → HasFirst tree opening 0 (start (dri
     HasFirst tree opening opening.clients (opened_drill (server_of (drill_setup tree opening)) opening) new
 
 abbrev pub HasOpenLinks : Opening → World → Type 0
-HasOpenLinks opening w = (tree : Tree) × IsDrillTree tree × WorldStands tree opening (opened_drill (server_of (drill_setup tree opening)) opening) w
+HasOpenLinks opening w = (tree : Tree) × IsDrillTree tree × HasFirst tree opening opening.clients (opened_drill (server_of (drill_setup tree opening)) opening) w
