@@ -46,12 +46,12 @@ not_settled s link (marks.Execute l x moment payload place reply) ne xid = refl
 not_settled s link (marks.Drop l) ne xid = refl
 not_settled s link (marks.Told l what) ne xid = refl
 
-not_given_up : (link : ℕ) (mark : Mark) → link_of mark ≢ link → GivesUpNothing link mark
+pub not_given_up : (link : ℕ) (mark : Mark) → link_of mark ≢ link → GivesUpNothing link mark
 not_given_up link mark ne xid =
     let e : is_judged link Initiator mark ≡ false = not_judged link Initiator mark (unconcerned link Initiator mark ne) in
     (λ i. none_abandoned link xid mark e i || list_any (λ (c : CompletedCall). eqb c.xid xid) (none_completed link mark e i))
 
-not_accepted : (link : ℕ) (mark : Mark) → link_of mark ≢ link → accepted_at link mark ≡ []
+pub not_accepted : (link : ℕ) (mark : Mark) → link_of mark ≢ link → accepted_at link mark ≡ []
 not_accepted link (marks.Submit l call form answer) ne = ap (λ (b : Bool). if b then accepted_as answer call form else []) (apart l link ne)
 not_accepted link (marks.Fed l side bytes) ne = refl
 not_accepted link (marks.Wrote l side bytes) ne = refl

@@ -37,3 +37,7 @@ pub mod Requesters
 pub mod SettledCalls
 pub mod SubmittedCalls
 pub mod WaitingCalls
+pub mod BeginsLinks
+pub mod FreshLinks
+pub mod NextLinks
+pub mod RejoinSteps

@@ -115,7 +115,8 @@ impl World {
 
     pub(crate) fn drop_link(&mut self, client: usize) -> Result<(), Memory>
         requires { IsClient (length self.old.links.items) client }
-        ensures { OnOk result (Steps (λ s d. after_drop (last_link client d) d) self.old self.new) }
+        ensures stands { OnOk result (Steps (λ s d. after_drop (last_link client d) d) self.old self.new) }
+        ensures count { length self.new.links.items ≡ length self.old.links.items }
     {
         self.links[client - 1].drop_link(&mut self.marks)
     }
@@ -128,9 +129,10 @@ impl World {
         if self.links[client - 1].client_end().is_some() {
             return Ok(());
         }
-        if !self.links[client - 1].is_dropped() {
-            self.drop_link(client)?;
+        if self.links[client - 1].is_dropped() {
+            return self.begin_link(client);
         }
+        self.drop_link(client)?;
         self.begin_link(client)
     }
 

@@ -5,11 +5,12 @@ use Rattle.nr_rpc.specs.Credential.{CanWriteCred}
 use Rattle.nr_rpc.specs.declared.cred.Cred.{Cred}
 use Rattle.nr_reduce.specs.declared.call.Call.{Call}
 use Rattle.nr_reduce.specs.declared.mark.Mark.{Mark}
+use Rattle.nr_reduce.specs.History.{is_dropped}
 use Rattle.nr_reduce.specs.Run.{client}
 use Rattle.nr_tree.specs.Tree.{Tree}
 use Rattle.nr_texts.specs.declared.opening.Opening.{Opening}
 use Rattle.nr_script.specs.declared.script.Line.{Line}
-use Rattle.nr_drill.specs.Drill.{link_of, IsLink, Setting, Drill, client_of, last_link, setting_now, after_leaving}
+use Rattle.nr_drill.specs.Drill.{link_of, IsLink, Setting, Drill, client_of, last_link, setting_now, after_drop_if, after_leaving}
 use Rattle.nr_drill.specs.DrillSetup.{drill_setup, server_of}
 use Rattle.nr_drill.specs.Follows.{MakeAll, Makes, setting_of}
 use Rattle.nr_drill.specs.InBytes.{RepliedInBytes}
@@ -61,10 +62,10 @@ call_of_client all client procedure args = record { prog = procedure.prog; vers 
 abbrev pub Steps : (Setting → Drill → Drill) → World → World → Type 0
 Steps step old new = (tree : Tree) (opening : Opening) (d : Drill) → WorldStands tree opening d old → WorldStands tree opening (step (drill_setting tree opening) d) new
 
--- A client that hasn't ended may leave its link, if a line has it begin another one.
+-- A client that hasn't ended may leave its link once that is dropped, if a line has it begin another one and each reply so far is bytes.
 abbrev pub MayRejoin : Setting → Line → Drill → Type 0
-MayRejoin s (lines.Rejoin c) d =
-    (client ((setting_now s d).opened (last_link c d)) (last_link c d) d.marks).ended ≡ None → MayLeave ((setting_now s d).opened (last_link c d)) (last_link c d) d.marks
+MayRejoin s (lines.Rejoin c) d = RepliedInBytes d.marks → (client ((setting_now s d).opened (last_link c d)) (last_link c d) d.marks).ended ≡ None →
+    MayLeave ((setting_now s d).opened (last_link c d)) (last_link c d) (after_drop_if (is_dropped (last_link c d) d.marks) (last_link c d) d).marks
 MayRejoin s line d = Unit {0}
 
 -- so for each of these lines, whatever those before it make of the drill

@@ -48,7 +48,7 @@ pub drop_link-requires : goal.drop_link-requires
 drop_link-requires c = (client_of c.args.self.now c.args.line.now (lines.Drop c.in-Drop.client) c.in-Drop.client c.in-Drop.is refl c.requires).link
 
 pub returns-in-Drop : goal.returns-in-Drop
-returns-in-Drop c = on_ok c.drop_link.result _ _ c.drop_link.ensures (λ steps. line_is c.args.self.now c.drop_link.new.self c.args.line.now (lines.Drop c.in-Drop.client) c.in-Drop.is
+returns-in-Drop c = on_ok c.drop_link.result _ _ c.drop_link.ensures.stands (λ steps. line_is c.args.self.now c.drop_link.new.self c.args.line.now (lines.Drop c.in-Drop.client) c.in-Drop.is
     (step_makes (lines.Drop c.in-Drop.client) (λ (s : Setting) (d : Drill). after_drop (last_link c.in-Drop.client d) d) c.args.self.now c.drop_link.new.self (λ s clients d. refl) steps))
 
 pub grant-requires-clause-client : goal.grant-requires-clause-client
