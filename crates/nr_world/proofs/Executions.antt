@@ -1,14 +1,12 @@
 -- A call that is executed, or found old.
-use Rattle.std.specs.Prelude.{is_some, is_err, IfSome, IfOk, OnOk, MatchOption, Result, Ok, Err, unwrap_or}
-use Rattle.std.proofs.Common.{◌≡◌, ◌≢◌, ℕ, ◌≤◌, Bool, true, false, List, [], ◌∷◌, ◌++◌, length, take, drop, Option, None, Some, inl, refl, ap, sym, subst, ◌∙◌, append-nil}
+use Rattle.std.specs.Prelude.{is_some, IfSome, MatchOption, Result, unwrap_or}
+use Rattle.std.proofs.Common.{◌≡◌, ◌≢◌, ℕ, Bool, true, false, List, [], ◌∷◌, ◌++◌, length, take, drop, Option, None, Some, inl, refl, ap, sym, subst, ◌∙◌, append-nil}
 use Rattle.nr_xdr.specs.Item.{IsBytes}
 use Rattle.nr_wire.specs.declared.hello.Side.TheVariants.{Initiator, Responder}
 use Rattle.nr_outside.specs.declared.moment.Moment.{Moment}
 use Rattle.nr_rpc.specs.declared.head.CallHead.{CallHead}
 use Rattle.nr_rpc.specs.Reading.{xid_of_call}
 use Rattle.nr_link.specs.Frames.{frames_of}
-use Rattle.nr_endpoint.specs.FedBytes.{fed_bytes}
-use Rattle.nr_endpoint.specs.LinkState.{LinkSide}
 use Rattle.nr_reduce.specs.declared.mark.LinkParameters.{LinkParameters}
 use Rattle.nr_reduce.specs.declared.mark.Mark.{Mark}
 use Rattle.nr_reduce.specs.declared.mark.TaggedEntry.{TaggedEntry}
@@ -20,6 +18,7 @@ use Rattle.nr_reduce.specs.ServerState.{ReadyCall}
 use Rattle.nr_reduce.specs.Served.{next_call, last_frame_at, IsExecuted}
 use Rattle.nr_reduce.proofs.Calls.{executed_head}
 use Rattle.nr_responder.specs.ResponderState.{ResponderSide, end_of}
+use Rattle.nr_responder.specs.Sound.{IsNext}
 use Rattle.nr_responder.specs.Standing.{ResponderRepresents}
 use Rattle.nr_plain.specs.History.{xid_in}
 use Rattle.nr_plain.specs.Replies.{plain_reply}
@@ -247,6 +246,30 @@ none_ready v none s link d h =
 
 -- ---- As the code has it
 
+-- a call that is next is ready
+some_ready : (v : ResponderSide) (xid : ℕ) → IsNext v xid → v.ready ≢ []
+some_ready v xid next none = absurd (let first = next in let empty = none in cc)
+
+-- what the responder says of its client, if the next call is this
+pub heard_client : (v : ResponderSide) (xid client : ℕ) → end_of v ≡ None → IsNext v xid → (end_of v ≡ None → (opened : LinkParameters) (link : ℕ) (run : List Mark) → ResponderRepresents opened link run v → client ≡ number_heard run link) →
+    (end_of v ≡ None → v.ready ≢ [] → (opened : LinkParameters) (link : ℕ) (run : List Mark) → ResponderRepresents opened link run v → frames_of Initiator (bytes_received link Responder run) ≢ []) → HeardClient v client
+heard_client v xid client live next number heard opened link run stands = (number live opened link run stands, heard live (some_ready v xid next) opened link run stands)
+
+-- the code copies the payload: `given` is the copy as a slice
+pub executes_code : (seconds : ℕ) (v h v2 : DrillLinkState) (run run2 : List Mark) (kept kept2 : DrillServerState) (xid client : ℕ) (conveyed payload given : List ℕ) (e : Execution) → v ≡ h → h.is_dropped ≡ false → HasPayload v.server xid conveyed → payload ≡ conveyed →
+    given ≡ payload → HeardClient v.server client → ExecutesCall client seconds given e kept kept2 → AnswersWith xid payload e h v2 run run2 → Executes seconds h v2 run run2 kept kept2
+executes_code seconds v h v2 run run2 kept kept2 xid client conveyed payload given e is stands has copied shows heard served a =
+    executes seconds h v2 run run2 kept kept2 xid client payload e stands
+    (subst (λ (x : DrillLinkState). HasPayload x.server xid payload) is (subst (λ (xs : List ℕ). HasPayload v.server xid xs) (sym copied) has))
+    (subst (λ (x : DrillLinkState). HeardClient x.server client) is heard) (subst (λ (xs : List ℕ). ExecutesCall client seconds xs e kept kept2) shows served) a
+
+pub old_code : (seconds : ℕ) (v h v2 : DrillLinkState) (run run2 : List Mark) (kept kept2 : DrillServerState) (xid client : ℕ) (conveyed payload given : List ℕ) → v ≡ h → h.is_dropped ≡ false → HasPayload v.server xid conveyed → payload ≡ conveyed →
+    given ≡ payload → HeardClient v.server client → FindsOld client given kept kept2 → TellsOld xid h v2 run run2 → Executes seconds h v2 run run2 kept kept2
+old_code seconds v h v2 run run2 kept kept2 xid client conveyed payload given is stands has copied shows heard old a =
+    tells_old seconds h v2 run run2 kept kept2 xid client payload stands
+    (subst (λ (x : DrillLinkState). HasPayload x.server xid payload) is (subst (λ (xs : List ℕ). HasPayload v.server xid xs) (sym copied) has))
+    (subst (λ (x : DrillLinkState). HeardClient x.server client) is heard) (subst (λ (xs : List ℕ). FindsOld client xs kept kept2) shows old) a
+
 pub works_view : (v h : DrillLinkState) (seconds : ℕ) (run : List Mark) (kept : DrillServerState) → v ≡ h → Works after_work seconds v v run run kept kept → Works after_work seconds h h run run kept kept
 works_view v h seconds run kept is works = subst (λ (x : DrillLinkState). Works after_work seconds x x run run kept kept) is works
 
@@ -257,18 +280,6 @@ pub none_waits : (side : ResponderSide) (answer : Option ℕ) → answer ≡ Non
     end_of side ≢ Some ends.Memory → (o : LinkParameters) (link : ℕ) (run : List Mark) → ResponderRepresents o link run side → next_call o link run ≡ None
 none_waits side answer is exact live o link run stands =
     subst (λ (x : Option ℕ). MatchOption x (next_call o link run ≡ None) (λ xid. IfSome (next_call o link run) (λ r. xid ≡ r.xid) × (is_some (next_call o link run) ≡ true))) is (exact live o link run stands)
-
--- a server that was fed nothing
-pub server_fed_same : (C : Type 0) (l l2 : LinkSide) (most : ℕ) → fed_bytes l2 ≡ fed_bytes l → (fed_bytes l ≤ most) × C → (fed_bytes l2 ≤ most) × C
-server_fed_same C l l2 most fed i = (subst (λ (n : ℕ). n ≤ most) (sym fed) i.0, i.1)
-
-pub of_ok : {T E : Type 0} (r : Result T E) (P : Type 0) → is_err r ≡ false → OnOk r P → P
-of_ok (Ok x) P e h = h
-of_ok (Err x) P e h = absurd cc
-
-pub of_if_ok : {T E : Type 0} (r : Result T E) (F : T → Type 0) → is_err r ≡ false → IfOk r F → (x : T) × F x
-of_if_ok (Ok x) F e h = (x, h)
-of_if_ok (Err x) F e h = absurd cc
 
 pub works_gone : (seconds : ℕ) (v h : DrillLinkState) (run : List Mark) (kept : DrillServerState) → v ≡ h → v.is_dropped ≡ true → Works after_work seconds h h run run kept kept
 works_gone seconds v h run kept is gone = works_view v h seconds run kept is (works_none seconds v run kept (none_dropped v gone))

@@ -41,3 +41,4 @@ pub mod BeginsLinks
 pub mod FreshLinks
 pub mod NextLinks
 pub mod RejoinSteps
+pub mod Answering

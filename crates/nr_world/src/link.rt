@@ -220,7 +220,8 @@ impl DrillLink {
 
     /// The link has this number and this server, and these calls wait; nothing is in transit.
     fn begin(&mut self, number: u32, server: Responder, held: Vec<HeldCall>)
-        requires live { fed_bytes server.side.link ≡ 0 }
+        requires serves { fed_bytes server.side.link ≡ 0 }
+        requires asks { client_fed_bytes self.old.client ≡ 0 }
         ensures { self.new ≡ begun_link self.old number server.side (map held_view held.items) }
     {
         self.number = number;
@@ -230,6 +231,7 @@ impl DrillLink {
         self.down = Transit::new(self.alloc);
         self.dropped = false;
         self.fed_up = 0;
+        self.fed_down = 0;
     }
 
     /// Drops the link: what is in transit is lost, and so is what is written later.
