@@ -1,5 +1,5 @@
 -- What the code made of a call: it answered it, or ended the server since the call is old.
-use Rattle.std.specs.Prelude.{is_err, IfOk, OnOk, Result, Ok, Err}
+use Rattle.std.specs.Prelude.{slice_get, is_err, IfOk, OnOk, Result, Ok, Err}
 use Rattle.std.proofs.Common.{◌≡◌, ◌≢◌, ℕ, ◌≤◌, arith, false, List, [], ◌∷◌, ◌++◌, None, Some, refl, ap, sym, subst, ◌∙◌}
 use Rattle.nr_outside.specs.declared.moment.Moment.{Moment}
 use Rattle.nr_link.specs.declared.end.End.{End}
@@ -46,7 +46,7 @@ of_if_ok (Ok x) F e h = (x, h)
 of_if_ok (Err x) F e h = absurd cc
 
 pub next_some : (v : ResponderSide) (xid : ℕ) → IsNext v xid → v.ready ≢ []
-next_some v xid next none = absurd (let first = next in let empty = none in cc)
+next_some v xid next none = absurd (let no = ap (λ (xs : List ℕ). slice_get xs 0) (sym none) ∙ next in cc)
 
 -- the answer is queued; `sent` is the reply as a slice
 pub answers_with : (v h : DrillLinkState) (server : ResponderSide) (run run2 : List Mark) (call number : ℕ) (payload : List ℕ) (e : Execution) (sent : List ℕ) → v ≡ h →

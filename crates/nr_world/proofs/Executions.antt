@@ -1,5 +1,5 @@
 -- A call that is executed, or found old.
-use Rattle.std.specs.Prelude.{is_some, IfSome, MatchOption, Result, unwrap_or}
+use Rattle.std.specs.Prelude.{slice_get, is_some, IfSome, MatchOption, Result, unwrap_or}
 use Rattle.std.proofs.Common.{◌≡◌, ◌≢◌, ℕ, Bool, true, false, List, [], ◌∷◌, ◌++◌, length, take, drop, Option, None, Some, inl, refl, ap, sym, subst, ◌∙◌, append-nil}
 use Rattle.nr_xdr.specs.Item.{IsBytes}
 use Rattle.nr_wire.specs.declared.hello.Side.TheVariants.{Initiator, Responder}
@@ -248,7 +248,7 @@ none_ready v none s link d h =
 
 -- a call that is next is ready
 some_ready : (v : ResponderSide) (xid : ℕ) → IsNext v xid → v.ready ≢ []
-some_ready v xid next none = absurd (let first = next in let empty = none in cc)
+some_ready v xid next none = absurd (let no = ap (λ (xs : List ℕ). slice_get xs 0) (sym none) ∙ next in cc)
 
 -- what the responder says of its client, if the next call is this
 pub heard_client : (v : ResponderSide) (xid client : ℕ) → end_of v ≡ None → IsNext v xid → (end_of v ≡ None → (opened : LinkParameters) (link : ℕ) (run : List Mark) → ResponderRepresents opened link run v → client ≡ number_heard run link) →

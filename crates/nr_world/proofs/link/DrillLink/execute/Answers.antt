@@ -1,10 +1,9 @@
-use Rattle.std.proofs.Common.{◌≡◌, None, refl, sym, ap, subst, Ok, Some, ◌∙◌}
+use Rattle.std.proofs.Common.{◌≡◌, None, refl, sym, ap, subst, ◌∙◌}
 use Rattle.nr_responder.specs.ResponderState.{ResponderSide, end_of}
 use Rattle.nr_responder.specs.Sound.{IsNext}
 use Rattle.nr_world.specs.DrillLinkState.{DrillLinkState}
 use Rattle.nr_world.proofs.Executions.{executes_code, heard_client, old_code}
 use Rattle.nr_world.proofs.Standing.{on_ok}
-use Rattle.nr_reduce.specs.Run.{client}
 use Rattle.nr_world.proofs.link.DrillLink.execute.Goals as goal
 
 pub payload-requires-clause-live : goal.payload-requires-clause-live

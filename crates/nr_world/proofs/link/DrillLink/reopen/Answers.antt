@@ -1,4 +1,4 @@
-use Rattle.std.proofs.Common.{refl, Ok}
+use Rattle.std.proofs.Common.{refl}
 use Rattle.nr_world.proofs.NextLinks.{reopens}
 use Rattle.nr_world.proofs.Standing.{on_ok}
 use Rattle.nr_world.proofs.link.DrillLink.reopen.Goals as goal

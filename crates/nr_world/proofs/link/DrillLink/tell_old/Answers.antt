@@ -4,7 +4,6 @@ use Rattle.nr_responder.specs.Sound.{IsNext}
 use Rattle.nr_world.specs.DrillLinkState.{DrillLinkState}
 use Rattle.nr_world.proofs.Answering.{next_some, told_fed, told_as}
 use Rattle.nr_world.proofs.Standing.{on_ok}
-use Rattle.nr_wire.specs.Next.Next.{Bad}
 use Rattle.nr_world.proofs.link.DrillLink.tell_old.Goals as goal
 
 pub stop-requires-clause-live : goal.stop-requires-clause-live
