@@ -18,6 +18,7 @@ use Rattle.nr_world.specs.Laws.{OtherLinksStand}
 use Rattle.nr_world.proofs.Writes.{server_stays}
 use Rattle.nr_world.proofs.WaitingCalls.{leaves_calls}
 use Rattle.std.proofs.lemmas.Bool.{ne_eqb}
+use Rattle.nr_world.proofs.Requesters.{others_leave}
 use Rattle.nr_reduce.specs.declared.mark.Mark.TheVariants as marks
 
 -- ---- A mark of a link of another client

@@ -2,12 +2,9 @@
 use Rattle.std.specs.Prelude.{◌&&◌, if◌then◌else◌}
 use Rattle.std.proofs.Common.{◌≡◌, ◌≢◌, ℕ, eqb, Bool, false, List, [], ◌∷◌, ◌++◌, take, drop, Some, inl, refl, ap, sym, subst, ◌∙◌}
 use Rattle.nr_wire.specs.declared.hello.Side.TheVariants.{Responder}
-use Rattle.nr_link.specs.declared.end.End.TheVariants as ends
 use Rattle.nr_reduce.specs.declared.mark.LinkParameters.{LinkParameters}
 use Rattle.nr_reduce.specs.declared.mark.Mark.{Mark}
-use Rattle.nr_reduce.specs.declared.mark.Mark.TheVariants as marks
 use Rattle.nr_reduce.proofs.Standing.{itself}
-use Rattle.nr_requester.proofs.AllMarks.{others_leave_it}
 use Rattle.nr_responder.specs.ResponderState.{ResponderSide, end_of}
 use Rattle.nr_responder.specs.Standing.{ResponderRepresents}
 use Rattle.nr_drill.specs.Drill.{Setting, Drill, Pipes, pipes_of, with_pipes, with_mark, after_feeding, after_feeding_up, after_up, settled}
@@ -18,6 +15,9 @@ use Rattle.nr_world.specs.Steps.{Goes, StandsAt}
 use Rattle.nr_world.proofs.Ends.{represents_of}
 use Rattle.nr_world.proofs.Standing.{with_ends, IsPlain, EndsStand, other_pipes, plain_mark, replied_one}
 use Rattle.nr_world.proofs.Writes.{not_own, one_more_mark}
+use Rattle.nr_world.proofs.Requesters.{others_leave}
+use Rattle.nr_link.specs.declared.end.End.TheVariants as ends
+use Rattle.nr_reduce.specs.declared.mark.Mark.TheVariants as marks
 
 -- ---- The server
 

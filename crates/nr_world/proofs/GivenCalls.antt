@@ -42,6 +42,7 @@ use Rattle.nr_world.proofs.GivenLines.{open_others}
 use Rattle.nr_world.proofs.Requesters.{ended_as, others_leave}
 use Rattle.nr_laws.proofs.ResumedCalls.{next_least}
 use Rattle.nr_requester.specs.Sending.{has_credit}
+use Rattle.nr_world.proofs.EarlierCalls.{none_settled}
 use Rattle.nr_link.specs.declared.end.End.TheVariants as ends
 use Rattle.nr_reduce.specs.declared.call.Refused.TheVariants as refusals
 use Rattle.nr_reduce.specs.declared.call.Submission.TheVariants as submissions

@@ -5,7 +5,7 @@ use Rattle.std.proofs.Common.{◌≡◌, ◌≢◌, ℕ, ◌≤◌, ◌<◌, ari
 use Rattle.std.proofs.lemmas.Bool.{ne_eqb}
 use Rattle.nr_reduce.specs.declared.call.Outcome.{Outcome}
 use Rattle.nr_reduce.specs.declared.mark.Mark.{Mark}
-use Rattle.nr_reduce.specs.History.{CompletedCall}
+use Rattle.nr_reduce.specs.History.{CompletedCall, AcceptedCall}
 use Rattle.nr_reduce.specs.OutcomesDue.{outcomes_due}
 use Rattle.nr_reduce.proofs.Standing.{itself}
 use Rattle.nr_requester.specs.declared.answer.AnsweredCall.{AnsweredCall}
@@ -19,9 +19,9 @@ use Rattle.nr_drill.proofs.Carried.{same_dropped}
 use Rattle.nr_world.specs.declared.awaited.AwaitedCall.{AwaitedCall}
 use Rattle.nr_world.specs.DrillLinkState.{AwaitedLine, DrillLinkState}
 use Rattle.nr_world.specs.private.HandsOver.{TakesOutcome, HaveNoOutcome, HandsAt}
-use Rattle.nr_world.specs.OpenTickets.{AreApart, AreOpen}
+use Rattle.nr_world.specs.OpenTickets.{AreApart, AreOpen, calls_without}
 use Rattle.nr_world.specs.Steps.{Goes, StandsAt}
-use Rattle.nr_world.specs.Views.{line_view}
+use Rattle.nr_world.specs.Views.{line_view, call_view}
 use Rattle.nr_world.proofs.HandOver.{first_awaited, none_awaited, dones_more, outcomes_are}
 use Rattle.nr_world.proofs.OpenTickets.{less_open}
 use Rattle.nr_world.proofs.Standing.{replied_one}

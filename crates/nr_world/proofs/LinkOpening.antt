@@ -6,16 +6,18 @@ use Rattle.nr_reduce.specs.declared.mark.Mark.{Mark}
 use Rattle.nr_responder.specs.ResponderState.{end_of}
 use Rattle.nr_texts.specs.declared.opening.Opening.{Opening}
 use Rattle.nr_drill.specs.Drill.{client_of, Setting, Drill, Pipes, pipes_of, settled, after_up, after_down, after_all_up, after_all_down, after_opening}
-use Rattle.nr_world.specs.DrillLinkState.{DrillLinkState}
-use Rattle.nr_world.specs.LinkStands.{awaited_lines, LinkStands, TracksCalls, as_waiting, due_calls}
+use Rattle.nr_world.specs.DrillLinkState.{DrillLinkState, AwaitedLine}
+use Rattle.nr_world.specs.LinkStands.{awaited_lines, LinkStands, TracksCalls, as_waiting, due_calls, waiting_calls}
 use Rattle.nr_drill.specs.Follows.{parameters_of}
-use Rattle.nr_world.specs.Steps.{Goes, StandsAt, Opens, IsBeforeOpening, IsFresh}
+use Rattle.nr_world.specs.Steps.{Goes, StandsAt, Opens, IsBeforeOpening, IsFresh, HasNoMarkOf}
 use Rattle.nr_world.proofs.Ends.{represents_of}
 use Rattle.nr_world.proofs.Apart.{all_elsewhere, stands_by}
-use Rattle.nr_reduce.specs.History.{accepted_calls}
+use Rattle.nr_reduce.specs.History.{accepted_calls, AcceptedCall}
 use Rattle.std.specs.List.{filter}
 use Rattle.nr_reduce.proofs.Unresumed.{none_waits}
 use Rattle.nr_requester.specs.KeptAnswers.{is_due}
+use Rattle.nr_reduce.specs.Opening.{IsFirstLink}
+use Rattle.nr_reduce.specs.ClientState.{WaitingCall}
 use Rattle.nr_link.specs.declared.end.End.TheVariants as ends
 
 none_awaited : (s : Setting) (link : ℕ) → [] ≡ awaited_lines s link []

@@ -27,7 +27,7 @@ use Rattle.nr_world.proofs.FreshLinks.{NoneOf, due_at_first, elsewhere_all, live
 use Rattle.nr_world.proofs.KeptDue.{kept_are_due, no_answers}
 use Rattle.nr_laws.proofs.ResumedCalls.{next_least}
 use Rattle.nr_world.proofs.Requesters.{next_stands}
-use Rattle.nr_requester.proofs.AllMarks.{same_answers}
+use Rattle.nr_drill.proofs.OpenCalls.{same_answers}
 use Rattle.nr_link.specs.declared.end.End.TheVariants as ends
 
 -- ---- Another setting that says the same of a link and of the links of all marks

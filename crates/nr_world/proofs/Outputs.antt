@@ -33,6 +33,7 @@ use Rattle.nr_world.proofs.Writes.{up_none, up_some, down_none, down_some}
 use Rattle.nr_world.proofs.Dropping.{dropped_link, drops, raw_put}
 use Rattle.nr_requester.specs.Standing.{RequesterRepresents}
 use Rattle.nr_drill.specs.Follows.{client_terms}
+use Rattle.nr_world.specs.declared.awaited.HeldCall.{HeldCall}
 use Rattle.nr_reduce.specs.declared.mark.Mark.TheVariants as marks
 
 -- what holds of the value of an Ok

@@ -8,7 +8,7 @@ use Rattle.nr_script.specs.declared.script.Line.{Line}
 use Rattle.nr_texts.specs.Limits.{number_max, clients_max}
 use Rattle.nr_script.specs.Script.{ScriptLines, IsScript, FollowOn, HasWritableCred, is_client, is_call_line, credits_in_range, may_follow, seconds_in, seconds_after}
 use Rattle.nr_drill.specs.declared.report.Report.{Report}
-use Rattle.nr_drill.specs.Drill.{start, links_of, IsLink, SerialServer, after_drop, after_drop_if, link_of}
+use Rattle.nr_drill.specs.Drill.{client_of, start, links_of, IsLink, SerialServer, after_drop, after_drop_if, link_of, Drill, last_link, setting_now, Setting}
 use Rattle.nr_drill.specs.DrillSetup.{drill_setup, server_of, GivesReport}
 use Rattle.nr_drill.specs.Follows.{Follows, opened_drill, parameters_of}
 use Rattle.nr_drill.proofs.Headed.{drill_is_run}
@@ -21,7 +21,7 @@ use Rattle.nr_world.proofs.SameServer.{openings_clock}
 use Rattle.nr_drill.proofs.FirstLines.{both_true, drill_script}
 use Rattle.nr_drill.proofs.Actions.{ActsIn, AnyRaw, IsLastOf, IsLineOf, all_act, line_kept, lines_of}
 use Rattle.nr_drill.proofs.Actions.Action.{DropLink}
-use Rattle.nr_drill.proofs.BegunLinks.{AreOpen, Holds, begins_so, first_owner, first_then, holds_kept, index_map, index_range, new_holds, open_drill, opened_count}
+use Rattle.nr_drill.proofs.BegunLinks.{AreOpen, Holds, begins_so, first_owner, first_then, holds_kept, index_map, index_range, new_holds, open_drill, opened_count, first_count}
 use Rattle.nr_drill.proofs.Lawful.{asked_so_far}
 use Rattle.nr_drill.proofs.LessWork.{not_own}
 use Rattle.nr_drill.proofs.Links.{DrillHolds, LinkHolds}
@@ -32,11 +32,15 @@ use Rattle.nr_reduce.proofs.Steps.{client_one}
 use Rattle.nr_reduce.specs.Opening.{IsOpened}
 use Rattle.nr_script.specs.Limits.{lines_max}
 use Rattle.nr_world.specs.Steps.{MayLeave, OpensServerSo}
-use Rattle.nr_drill.proofs.FirstRuns.{first_count}
 use Rattle.nr_reduce.specs.Client.{client_rules}
-use Rattle.nr_reduce.specs.EndRules.{end_state_after}
+use Rattle.nr_reduce.specs.Run.{client}
+use Rattle.nr_reduce.specs.EndRules.{end_state_after, EndState}
 use Rattle.nr_reduce.specs.History.{is_dropped}
 use Rattle.std.specs.Prelude.{slice_index_or}
+use Rattle.nr_reduce.specs.ClientState.{ClientState}
+use Rattle.nr_reduce.specs.declared.mark.LinkParameters.{LinkParameters}
+use Rattle.nr_reduce.specs.declared.mark.Mark.{Mark}
+use Rattle.nr_reduce.specs.Events.{RunEvent}
 use Rattle.nr_script.specs.declared.script.Line.TheVariants as lines
 use Rattle.nr_reduce.specs.declared.mark.Mark.TheVariants as marks
 
