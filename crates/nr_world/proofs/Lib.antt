@@ -42,3 +42,4 @@ pub mod FreshLinks
 pub mod NextLinks
 pub mod RejoinSteps
 pub mod Answering
+pub mod NotedCalls
