@@ -22,6 +22,7 @@ use Rattle.nr_requester.proofs.AnswerSteps.{due_one, done_gives}
 use Rattle.nr_drill.specs.Drill.{Setting, Drill, after_handing, after_done, after_dones, after_outcomes}
 use Rattle.nr_world.specs.DrillLinkState.{AwaitedLine}
 use Rattle.nr_world.specs.private.HandsOver.{HaveNoOutcome}
+use Rattle.nr_world.proofs.WaitingAnswers.{CallsApart, waits_unanswered}
 use Rattle.nr_world.specs.LinkStands.{StandsForClient, call_ids, due_calls, line_ids, link_calls, waiting_calls}
 use Rattle.std.proofs.lemmas.List.Elements.{Contains-append_right}
 use Rattle.nr_reduce.specs.declared.call.Submission.TheVariants as submissions
@@ -124,13 +125,9 @@ split_parts F (c ∷ accepted) waiting xid s = by s.before s.is s.all (λ t. spl
         (λ (t : (w : AcceptedCall) × Contains waiting w × (w.xid ≡ xid)). inr t)
         (rest (record { before = before; call = s.call; after = s.after; is = later; own = s.own; all = all.1 }))
 
--- a call that waits to be sent again has no answer
-waiting_unanswered : (o : LinkParameters) (link : ℕ) (h : RequesterSide) (run : List Mark) (w : AcceptedCall) → StandsForClient o link h run → Contains (waiting_calls o link run) w → found_answer w.xid h.state ≡ None
-waiting_unanswered o link h run w k there = waits_unanswered o link h run w k there
-
-pub first_awaited : (s : Setting) (o : LinkParameters) (link : ℕ) (h : RequesterSide) (run : List Mark) (front back : List AwaitedLine) (line : AwaitedLine) (calls : List AcceptedCall) (a : AnsweredCall) → StandsForClient o link h run →
+pub first_awaited : (s : Setting) (o : LinkParameters) (link : ℕ) (h : RequesterSide) (run : List Mark) (front back : List AwaitedLine) (line : AwaitedLine) (calls : List AcceptedCall) (a : AnsweredCall) → StandsForClient o link h run → CallsApart h.state →
     calls ≡ due_calls o link run → call_ids calls ≡ line_ids (front ++ line ∷ back) → HaveNoOutcome h.state front → found_answer line.xid h.state ≡ Some a → (rest : List CompletedCall) × (outcomes_due o link run ≡ completed_of a ∷ rest)
-first_awaited s o link h run front back line calls a k is same none there = by (split_parts (has_none h.state) (accepted_calls link run) (waiting_calls o link run) line.xid p)
+first_awaited s o link h run front back line calls a k apart is same none there = by (split_parts (has_none h.state) (accepted_calls link run) (waiting_calls o link run) line.xid p)
   where
     ids : filter (is_due link run) (call_ids (link_calls o link run)) ≡ line_ids front ++ line.xid ∷ line_ids back
     ids = sym (due_ids o link run) ∙ sym (ap (λ (cs : List AcceptedCall). call_ids cs) is) ∙ same ∙ map-append (λ (l : AwaitedLine). l.xid) front (line ∷ back)
@@ -145,7 +142,7 @@ first_awaited s o link h run front back line calls a k is same none there = by (
     by : Splits (has_none h.state) (accepted_calls link run) line.xid ⊎ ((w : AcceptedCall) × Contains (waiting_calls o link run) w × (w.xid ≡ line.xid)) → (rest : List CompletedCall) × (outcomes_due o link run ≡ completed_of a ∷ rest)
     by (inl q) = (due_first o link h run k).0 q.before q.after q.call a q.is q.all (ap (λ (x : ℕ). found_answer x h.state) q.own ∙ there)
     by (inr (w, in_waiting, own)) =
-        absurd (some_none a (found_answer line.xid h.state) there (ap (λ (x : ℕ). found_answer x h.state) (sym own) ∙ waiting_unanswered o link h run w k in_waiting))
+        absurd (some_none a (found_answer line.xid h.state) there (ap (λ (x : ℕ). found_answer x h.state) (sym own) ∙ waits_unanswered o link h run w k apart in_waiting))
 
 left_all : (P : AcceptedCall → Type 0) (xs ys : List AcceptedCall) → AllByRecursion P (xs ++ ys) → AllByRecursion P xs
 left_all P [] ys all = tt

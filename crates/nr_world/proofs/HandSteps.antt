@@ -22,6 +22,7 @@ use Rattle.nr_world.specs.private.HandsOver.{TakesOutcome, HaveNoOutcome, HandsA
 use Rattle.nr_world.specs.OpenTickets.{AreApart, AreOpen, calls_without}
 use Rattle.nr_world.specs.Steps.{Goes, StandsAt}
 use Rattle.nr_world.specs.Views.{line_view, call_view}
+use Rattle.nr_world.proofs.WaitingAnswers.{CallsApart}
 use Rattle.nr_world.proofs.HandOver.{first_awaited, none_awaited, dones_more, outcomes_are}
 use Rattle.nr_world.proofs.OpenTickets.{less_open}
 use Rattle.nr_world.proofs.Standing.{replied_one}
@@ -103,9 +104,9 @@ done_is : (s : Setting) (link : ℕ) (d : Drill) (c : CompletedCall) (rest : Lis
 unfolding after_done
 done_is s link d c rest e = ap (λ (cs : List CompletedCall). after_handing link (slice_get cs 0) d) e
 
-pub hands_at : (v : DrillLinkState) (client : RequesterSide) (at : ℕ) (l : AwaitedLine) (xid : ℕ) (outcome : Outcome) (fewer : List AcceptedCall) (run run2 : List Mark) → at < length v.awaited → LinesApart v.awaited → xid ≡ (get_or v.awaited at l).xid → fewer ≡ calls_without xid v.calls →
+pub hands_at : (v : DrillLinkState) (client : RequesterSide) (at : ℕ) (l : AwaitedLine) (xid : ℕ) (outcome : Outcome) (fewer : List AcceptedCall) (run run2 : List Mark) → at < length v.awaited → LinesApart v.awaited → xid ≡ (get_or v.awaited at l).xid → fewer ≡ calls_without xid v.calls → CallsApart v.client.state →
     TakesOutcome v.client xid outcome client → run2 ≡ run ++ marks.Done v.number xid outcome ∷ [] → HandsAt at v (handed v client (remove v.awaited at) fewer) run run2
-hands_at v client at l xid outcome fewer run run2 within apart own less t more = record {
+hands_at v client at l xid outcome fewer run run2 within apart own less none_both t more = record {
   goes = goes;
   left = refl;
   none = λ x none. subst (λ (h : RequesterSide). found_answer x h.state ≡ None) (sym t.state) (forget_none v.client xid x none);
@@ -119,7 +120,7 @@ hands_at v client at l xid outcome fewer run run2 within apart own less t more =
         let line : AwaitedLine = get_or v.awaited at l in
         let mark : Mark = marks.Done link xid outcome in
         let g = done_settles s link xid outcome in
-        let due = first_awaited s o link v.client d.marks (take at v.awaited) (drop (suc at) v.awaited) line v.calls a h.client h.tracks.calls_are
+        let due = first_awaited s o link v.client d.marks (take at v.awaited) (drop (suc at) v.awaited) line v.calls a h.client none_both h.tracks.calls_are
         (h.tracks.same_ids ∙ ap (λ (ls : List AwaitedLine). line_ids ls) (sym (parts_at v.awaited at l within))) none
         (subst (λ (x : ℕ). found_answer x v.client.state ≡ Some a) own t.came) in
         subst (λ (x : Drill). StandsAt s link x (handed v client (remove v.awaited at) fewer) run2) (sym (done_is s link d (completed_of a) due.0 due.1)) (record {
@@ -205,10 +206,10 @@ view_less (c ∷ calls) (suc at) within = ap (λ (lines : List AwaitedLine). lin
 pub within_view : (calls : List AwaitedCall) (at : ℕ) → at < length (map line_view calls) → at < length calls
 within_view calls at within = subst (λ (n : ℕ). at < n) (view_length calls) within
 
-pub hands_call : (v : DrillLinkState) (calls : List AwaitedCall) (client : RequesterSide) (at : ℕ) (call : AwaitedCall) (outcome : Outcome) (run run2 : List Mark) → v.awaited ≡ map line_view calls → v.calls ≡ map call_view calls → at < length calls → AreApart calls →
+pub hands_call : (v : DrillLinkState) (calls : List AwaitedCall) (client : RequesterSide) (at : ℕ) (call : AwaitedCall) (outcome : Outcome) (run run2 : List Mark) → v.awaited ≡ map line_view calls → v.calls ≡ map call_view calls → at < length calls → AreApart calls → CallsApart v.client.state →
     TakesOutcome v.client (get_or calls at call).ticket outcome client → run2 ≡ run ++ marks.Done v.number (get_or calls at call).ticket outcome ∷ [] →
     HandsAt at v (handed v client (map line_view (remove calls at)) (map call_view (remove calls at))) run run2
-hands_call v calls client at call outcome run run2 is calls_are within apart t more =
+hands_call v calls client at call outcome run run2 is calls_are within apart none_both t more =
     let inside : at < length v.awaited = subst (λ (n : ℕ). at < n) (sym (ap (λ (lines : List AwaitedLine). length lines) is ∙ view_length calls)) within in
     let own : (get_or calls at call).ticket ≡ (get_or v.awaited at (line_view call)).xid = sym (ap (λ (lines : List AwaitedLine). (get_or lines at (line_view call)).xid) is ∙ view_at calls at call) in
     let left : remove v.awaited at ≡ map line_view (remove calls at) = ap (λ (lines : List AwaitedLine). remove lines at) is ∙ view_less calls at within in
@@ -216,18 +217,18 @@ hands_call v calls client at call outcome run run2 is calls_are within apart t m
     let fewer : map call_view (remove calls at) ≡ calls_without (get_or calls at call).ticket v.calls =
     call_taken calls at call within apart ∙ ap (λ (cs : List AcceptedCall). calls_without (get_or calls at call).ticket cs) (sym calls_are) in
     subst (λ (ls : List AwaitedLine). HandsAt at v (handed v client ls (map call_view (remove calls at))) run run2) left
-    (hands_at v client at (line_view call) (get_or calls at call).ticket outcome (map call_view (remove calls at)) run run2 inside lines own fewer t more)
+    (hands_at v client at (line_view call) (get_or calls at call).ticket outcome (map call_view (remove calls at)) run run2 inside lines own fewer none_both t more)
 
 pub from_hands : (at : ℕ) (before h after : DrillLinkState) (run run2 : List Mark) → before ≡ h → HandsAt at before after run run2 → HandsAt at h after run run2
 from_hands at before h after run run2 is hands = subst (λ (x : DrillLinkState). HandsAt at x after run run2) is hands
 
 -- what the code has of it: the call at a place, taken out, whose xid was read
-pub completes : (v : DrillLinkState) (items left : List AwaitedCall) (call : AwaitedCall) (client : RequesterSide) (at xid : ℕ) (outcome : Outcome) (run run2 : List Mark) → v.awaited ≡ map line_view items → v.calls ≡ map call_view items → at < length items → AreApart items →
+pub completes : (v : DrillLinkState) (items left : List AwaitedCall) (call : AwaitedCall) (client : RequesterSide) (at xid : ℕ) (outcome : Outcome) (run run2 : List Mark) → v.awaited ≡ map line_view items → v.calls ≡ map call_view items → at < length items → AreApart items → CallsApart v.client.state →
     call ≡ get_or items at call → left ≡ remove items at → xid ≡ call.ticket → TakesOutcome v.client call.ticket outcome client → run2 ≡ run ++ marks.Done v.number xid outcome ∷ [] → HandsAt at v (handed v client (map line_view left) (map call_view left)) run run2
-completes v items left call client at xid outcome run run2 is calls_are within apart value less own t more =
+completes v items left call client at xid outcome run run2 is calls_are within apart none_both value less own t more =
     let same : call.ticket ≡ (get_or items at call).ticket = ap (λ (c : AwaitedCall). c.ticket) value in
     let one : HandsAt at v (handed v client (map line_view (remove items at)) (map call_view (remove items at))) run run2 =
-    hands_call v items client at call outcome run run2 is calls_are within apart (subst (λ (x : ℕ). TakesOutcome v.client x outcome client) same t)
+    hands_call v items client at call outcome run run2 is calls_are within apart none_both (subst (λ (x : ℕ). TakesOutcome v.client x outcome client) same t)
     (more ∙ ap (λ (x : ℕ). run ++ marks.Done v.number x outcome ∷ []) (own ∙ same)) in
     subst (λ (ls : List AwaitedCall). HandsAt at v (handed v client (map line_view ls) (map call_view ls)) run run2) (sym less) one
 

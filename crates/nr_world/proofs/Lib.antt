@@ -43,3 +43,4 @@ pub mod NextLinks
 pub mod RejoinSteps
 pub mod Answering
 pub mod NotedCalls
+pub mod WaitingAnswers

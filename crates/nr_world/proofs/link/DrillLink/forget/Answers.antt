@@ -65,7 +65,7 @@ invariant_of-self-2 c = (
 
 pub returns : goal.returns
 returns c =
-    let v : DrillLinkState = link_view c.self.inside.number c.self.inside.client c.self.inside.server.side c.self.inside.up c.self.inside.down c.self.inside.dropped c.self.inside.lines c.self.inside.awaited.items in
+    let v : DrillLinkState = link_view c.self.inside.number c.self.inside.client c.self.inside.server.side c.self.inside.up c.self.inside.down c.self.inside.dropped c.self.inside.lines c.self.inside.awaited.items c.self.inside.held.items in
     let left : List AwaitedLine = map line_view c.take_line.new.awaited.items in
     let took : TookOut v c.args.number c.in-Some.ticket left = record {
       stands = c.if-self.false;

@@ -97,7 +97,7 @@ invariant_of-self-in-Err-add_mark c = (
 
 pub returns-in-Ok-add_mark : goal.returns-in-Ok-add_mark
 returns-in-Ok-add_mark c =
-    let v : DrillLinkState = link_view c.self.inside.number c.self.inside.client c.self.inside.server.side c.self.inside.up c.self.inside.down c.self.inside.dropped c.self.inside.lines c.self.inside.awaited.items in
+    let v : DrillLinkState = link_view c.self.inside.number c.self.inside.client c.self.inside.server.side c.self.inside.up c.self.inside.down c.self.inside.dropped c.self.inside.lines c.self.inside.awaited.items c.self.inside.held.items in
     let left : List AwaitedLine = map line_view c.take_line.new.awaited.items in
     let took : TookOut v c.args.number c.in-Some.ticket left = record {
       stands = c.if-self.false;
