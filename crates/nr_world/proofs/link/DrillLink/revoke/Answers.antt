@@ -111,6 +111,6 @@ returns-in-Ok-add_mark c =
     on_ok c.settle.result _ _
     (λ settles. from_view (λ s link. after_revoke s link c.args.number) v c.args.self.now c.settle.new.self c.args.marks.now c.settle.new.marks c.self.view_is
     (revokes v c.settle.new.self c.revoke_call.new.client c.args.number c.in-Some.ticket c.in-Ok.bytes left calls c.args.marks.now c.add_mark.new.marks c.settle.new.marks took
-    (open_ticket c.self.inside.client.state (c.args.number - 1) c.in-Some.ticket (map line_view c.self.inside.awaited.items) (map line_view c.take_line.new.awaited.items) c.in-Some.ensures.lines (lines_open c.self.inside.client.state c.self.inside.awaited.items c.self.invariant.1.1.1.1)) c.in-Ok.ensures.bytes c.in-Ok.ensures.state c.in-Ok.ensures.keeps
+    (open_ticket c.self.inside.client.state (c.args.number - 1) c.in-Some.ticket (map line_view c.self.inside.awaited.items) (map line_view c.take_line.new.awaited.items) c.in-Some.ensures.lines (lines_open c.self.inside.client.state c.self.inside.awaited.items c.self.invariant.1.1.1.1)) c.in-Ok.ensures.bytes c.in-Ok.ensures.state c.in-Ok.ensures.stands
     (c.in-Ok-add_mark.ensures ∙ ap (λ (x : ℕ). c.args.marks.now ++ marks.Revoke c.self.inside.number x c.in-Ok.bytes ∷ []) c.xid-xid.ensures) settles))
     c.settle.ensures
