@@ -41,6 +41,17 @@ pub enum SubmitTurn {
     Ended(CallEnd),
 }
 
+/// What a caller that waits needs of the link.
+#[derive(Clone, Copy)]
+pub enum Need {
+    /// Nothing: an end or the answer has come, or a call may be submitted.
+    Nothing,
+    /// More of the server's stream.
+    Input,
+    /// The next link: that at hand is lost, and may be dialled again.
+    Link,
+}
+
 /// Whether a call can be submitted.
 #[derive(Clone, Copy)]
 pub enum CreditState {
@@ -134,30 +145,36 @@ pub(crate) fn submit_if_credit_under<O: Sink, C: CallRule>(
     }
 }
 
-/// Whether more of the stream is needed: nothing has ended, a call is outstanding, and the answer of the call isn't there, or no call may be submitted.
-pub(crate) fn needs_input_under<O: Sink, C: CallRule>(
+/// What is needed: nothing, if the link has ended, no call is outstanding, the answer of the call is there, or one may be submitted.
+pub(crate) fn need_under<O: Sink, C: CallRule>(
     turn: &mut MainTurn<'_, O, C>,
     ticket: Option<&Ticket>,
-) -> bool
+) -> Need
     requires ready { IsReady O.taken O.faults C.allows turn.old }
     ensures same { IsSameTurn turn.old turn.new }
     ensures ready { IsReady O.taken O.faults C.allows turn.new }
     ensures seen { seen_by (pass_of turn.new) ≡ seen_by (pass_of turn.old) }
     ensures mine { mine_of (pass_of turn.new) ≡ mine_of (pass_of turn.old) }
-    ensures needs_input { result ≡ true → stop_of (seen_by (pass_of turn.old)) ≡ None }
-    ensures outstanding { result ≡ true → IsCallOutstanding (seen_by (pass_of turn.old)) }
+    ensures need { IsNeeded result (seen_by (pass_of turn.old)) }
 {
     let with_sink = turn.value();
     if with_sink.end().is_some() {
-        return false;
+        return Need::Nothing;
     }
     if with_sink.requester.outstanding() == 0 {
-        return false;
+        return Need::Nothing;
     }
-    match ticket {
-        Some(ticket) => !with_sink.requester.has_outcome(ticket),
-        None => !with_sink.has_credit(),
+    let has_enough = match ticket {
+        Some(ticket) => with_sink.requester.has_outcome(ticket),
+        None => with_sink.has_credit(),
+    };
+    if has_enough {
+        return Need::Nothing;
     }
+    if with_sink.is_lost() {
+        return Need::Link;
+    }
+    Need::Input
 }
 
 /// Whether a call may be submitted.

@@ -15,6 +15,8 @@ mod caller_turns;
 mod calling;
 mod entry;
 mod laws;
+mod no_dialer;
+mod redialing;
 mod opening;
 mod receiving;
 mod requester_with_sink;

@@ -35,7 +35,11 @@ pub enum Drained {
 #[derive(Drop)]
 pub struct RequesterWithSink<O, C> {
     pub(crate) requester: Requester,
-    pub(crate) sink: O,
+    // There is none once a dial failed.
+    pub(crate) sink: Option<O>,
+    // How often a lost link may be dialled again: never, if that isn't told; and how often one was.
+    pub(crate) tries: Option<u32>,
+    pub(crate) rejoined: u32,
     // The length of the history.
     pub(crate) entries: u64,
     // Whether output may be pending.
@@ -84,13 +88,15 @@ impl<O: Sink, C: CallRule> RequesterWithSink<O, C> {
     ghost use Rattle.nr_shared.specs.Output.{IsCallOutstanding};
 
     /// A requester that is shared, with its sink. Output may be pending.
-    pub(crate) fn of_parts(requester: Requester, sink: O) -> RequesterWithSink<O, C>
+    pub(crate) fn of_parts(requester: Requester, sink: O, tries: Option<u32>) -> RequesterWithSink<O, C>
         ensures { (history : List Entry) → IsInitialHistory O.taken O.faults requester sink history → Stands O.taken O.faults C.allows result history }
     {
         requester.facts();
         RequesterWithSink {
             requester,
-            sink,
+            sink: Some(sink),
+            tries,
+            rejoined: 0,
             entries: 1,
             pending: true,
             write_failed: false,
@@ -107,16 +113,42 @@ impl<O: Sink, C: CallRule> RequesterWithSink<O, C> {
         if let Some(end) = self.requester.end() {
             return Some(CallEnd::Ended(end));
         }
+        match self.stopped {
+            Some(Stop::Budget) => return Some(CallEnd::Budget { read: READ_MAX }),
+            Some(Stop::Memory) => return Some(CallEnd::Ended(End::Memory)),
+            Some(Stop::DialFault) => return Some(CallEnd::DialFault),
+            _ => {}
+        }
+        match self.loss() {
+            None => None,
+            Some(loss) => self.end_of_loss(loss),
+        }
+    }
+
+    /// How the link was lost, if it was.
+    fn loss(&self) -> Option<CallEnd> {
         if self.write_failed {
             return Some(CallEnd::LinkWrite);
         }
         match self.stopped {
-            None => None,
             Some(Stop::LinkRead) => Some(CallEnd::LinkRead),
             Some(Stop::Closed) => Some(CallEnd::Closed),
-            Some(Stop::Budget) => Some(CallEnd::Budget { read: READ_MAX }),
-            Some(Stop::Memory) => Some(CallEnd::Ended(End::Memory)),
+            _ => None,
         }
+    }
+
+    /// A loss ends the link, unless it may be dialled again.
+    fn end_of_loss(&self, loss: CallEnd) -> Option<CallEnd> {
+        match self.tries {
+            None => Some(loss),
+            Some(n) if self.rejoined >= n => Some(CallEnd::Tries { n }),
+            Some(_) => None,
+        }
+    }
+
+    /// Whether the link is lost.
+    pub(crate) fn is_lost(&self) -> bool {
+        self.loss().is_some()
     }
 
     /// Whether a credit is left, and the next xid isn't too far above the least one.
@@ -160,7 +192,10 @@ impl<O: Sink, C: CallRule> RequesterWithSink<O, C> {
         if !self.pending {
             return Drained::Nothing;
         }
-        match self.requester.drain_into(&mut self.sink) {
+        let Some(sink) = &mut self.sink else {
+            return Drained::Nothing;
+        };
+        match self.requester.drain_into(sink) {
             Ok(()) => {
                 self.pending = false;
                 self.entries += 1;
