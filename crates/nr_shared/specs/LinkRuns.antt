@@ -6,6 +6,8 @@ use Rattle.nr_reduce.specs.declared.call.Submission.TheVariants as submissions
 use Rattle.nr_reduce.specs.declared.mark.LinkParameters.{LinkParameters}
 use Rattle.nr_reduce.specs.declared.mark.Mark.{Mark}
 use Rattle.nr_reduce.specs.declared.mark.Mark.TheVariants as marks
+use Rattle.nr_reduce.specs.ClientState.{ClientState}
+use Rattle.nr_reduce.specs.EndRules.{EndState}
 use Rattle.nr_reduce.specs.Opening.{IsFirstLink, IsOpened}
 use Rattle.nr_reduce.specs.Reopening.{reopened}
 use Rattle.nr_reduce.specs.Resending.{resends_after}
@@ -92,6 +94,10 @@ first_link opened before = record { opened = opened; index = 0; left = []; run =
 unfoldable pub links_of : LinkParameters → (before : List Mark) → (n : ℕ) → (numbers : ℕ → ℕ) → List Entry → LinkRun
 links_of opened before n numbers history = links_after n numbers (first_link opened before) history
 
+-- the client of the link at hand
+abbrev pub client_at : (numbers : ℕ → ℕ) → LinkRun → EndState ClientState
+client_at numbers l = client l.opened (numbers l.index) l.run
+
 -- ---- What its first link was opened with
 
 -- The first link was opened with these parameters, and the requester stood for these marks when it was shared, which keep the law of its side. The links have
@@ -105,3 +111,35 @@ pub record FitsInitialState (initial : InitialState) (opened : LinkParameters) (
 
 abbrev pub FitsHistory : List Entry → LinkParameters → (ℕ → ℕ) → List Mark → Type 0
 FitsHistory history opened numbers before = (initial : InitialState) × (initial_of history ≡ Some initial) × FitsInitialState initial opened numbers before
+
+-- ---- What is said of the links of a history, whatever its first link was opened with
+
+-- such is so of the link at hand; `n` is how many bytes were fed of the piece at which memory ran out, if it did
+abbrev pub OnLinkAt : (numbers : ℕ → ℕ) → LinkRun → (LinkParameters → ℕ → List Mark → Type 0) → Type 0
+OnLinkAt numbers l Says = Says l.opened (numbers l.index) l.run
+
+abbrev pub OnLink : (n : ℕ) → List Entry → (LinkParameters → ℕ → List Mark → Type 0) → Type 0
+OnLink n history Says = (opened : LinkParameters) (numbers : ℕ → ℕ) (before : List Mark) → FitsHistory history opened numbers before → OnLinkAt numbers (links_of opened before n numbers history) Says
+
+-- the link of the outcome of an xid, with what it was opened with
+abbrev pub left_or : LinkParameters → (link : ℕ) → Option LeftLink → LeftLink
+left_or opened link None = record { opened = opened; link = link }
+left_or opened link (Some l) = l
+
+abbrev pub link_of_outcome : (numbers : ℕ → ℕ) → LinkRun → (xid : ℕ) → LeftLink
+link_of_outcome numbers l xid = left_or l.opened (numbers l.index) (find (has_outcome_on l.run xid) l.left)
+
+abbrev pub OnOutcomeAt : (numbers : ℕ → ℕ) → LinkRun → (xid : ℕ) → (LinkParameters → ℕ → List Mark → Type 0) → Type 0
+OnOutcomeAt numbers l xid Says = Says (link_of_outcome numbers l xid).opened (link_of_outcome numbers l xid).link l.run
+
+-- such is so of the link on which the outcome of an xid came; if none came, of the link at hand
+abbrev pub OnOutcome : (n xid : ℕ) → List Entry → (LinkParameters → ℕ → List Mark → Type 0) → Type 0
+OnOutcome n xid history Says = (opened : LinkParameters) (numbers : ℕ → ℕ) (before : List Mark) → FitsHistory history opened numbers before → OnOutcomeAt numbers (links_of opened before n numbers history) xid Says
+
+-- such is so of the link at hand and of each that was left
+abbrev pub AllLeft : (LinkParameters → ℕ → List Mark → Type 0) → List Mark → List LeftLink → Type 0
+AllLeft Says run left = AllByRecursion (λ l. Says l.opened l.link run) left
+
+abbrev pub OnEachLink : (n : ℕ) → List Entry → (LinkParameters → ℕ → List Mark → Type 0) → Type 0
+OnEachLink n history Says = (opened : LinkParameters) (numbers : ℕ → ℕ) (before : List Mark) → FitsHistory history opened numbers before →
+    OnLinkAt numbers (links_of opened before n numbers history) Says × AllLeft Says (links_of opened before n numbers history).run (links_of opened before n numbers history).left

@@ -20,7 +20,12 @@ use nr_reduce::{Call, Form};
 use nr_requester::{Done, Ticket};
 use std::sync::Wait;
 
-impl<I: LinkSource, O: LinkSink, C: CallRule, D: Dialer<Source = I, Sink = O>> SharedRequester<I, O, C, D> {
+impl<I: LinkSource, O: LinkSink, C: CallRule, D: Dialer<Source = I, Sink = O>> SharedRequester<
+    I,
+    O,
+    C,
+    D,
+> {
     /// Makes a call that the rule allows, and waits for its outcome. It is submitted once a credit is left, and, if the client has a
     /// number, its xid is less than 64 above the least one of an outstanding call. If there is no outcome, a call that was submitted is forgotten.
     pub fn call<R: Wait>(

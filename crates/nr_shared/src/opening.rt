@@ -11,8 +11,8 @@ ghost use Rattle.nr_shared.specs.Sharing.{SharedRests};
 
 use crate::appending::Appended;
 use crate::call_rule::CallRule;
-use crate::no_dialer::NoDialer;
 use crate::entry::Entry;
+use crate::no_dialer::NoDialer;
 use crate::requester_with_sink::RequesterWithSink;
 use crate::shared::{Pass, SharedRequester};
 use crate::source_reader::{InitialSource, SourceReader};
@@ -56,11 +56,19 @@ impl<I: LinkSource, O: LinkSink, C: CallRule, D, K: SourceHistory<I, O, C, D>> O
 }
 
 /// A shared requester and a pass, or the requester that can't be shared for want of memory, with its link and its dialer.
-type Opened<I, O, C, D> =
-    Result<(SharedRequester<I, O, C, D>, Pass<I, O, C, D>), (Requester, Option<(I, O)>, D)>;
+type Opened<I, O, C, D> = Result<
+    (SharedRequester<I, O, C, D>, Pass<I, O, C, D>),
+    (Requester, Option<(I, O)>, D),
+>;
 
 /// Puts the source, with the pass that feeds, in a turnstile.
-fn share_reader<I: LinkSource, O: LinkSink, C: CallRule, D: Dialer<Source = I, Sink = O>, K: SourceHistory<I, O, C, D>>(
+fn share_reader<
+    I: LinkSource,
+    O: LinkSink,
+    C: CallRule,
+    D: Dialer<Source = I, Sink = O>,
+    K: SourceHistory<I, O, C, D>,
+>(
     alloc: Global,
     reader: SourceReader<I, O, C, D>,
     _source: &Snapshot<I>,
@@ -119,7 +127,14 @@ fn take_back<R: Wait, I: LinkSource, O: LinkSink, C: CallRule, D: Dialer<Source 
 }
 
 /// Puts a requester with its sink, and its source with the pass that feeds, in turnstiles.
-fn share<H: OpeningHistory<Entry>, R: Wait, I: LinkSource, O: LinkSink, C: CallRule, D: Dialer<Source = I, Sink = O>>(
+fn share<
+    H: OpeningHistory<Entry>,
+    R: Wait,
+    I: LinkSource,
+    O: LinkSink,
+    C: CallRule,
+    D: Dialer<Source = I, Sink = O>,
+>(
     rt: &R,
     alloc: Global,
     requester: Requester,
@@ -239,7 +254,12 @@ impl<I: LinkSource, O: LinkSink, C: CallRule> SharedRequester<I, O, C, NoDialer<
     }
 }
 
-impl<I: LinkSource, O: LinkSink, C: CallRule, D: Dialer<Source = I, Sink = O>> SharedRequester<I, O, C, D> {
+impl<I: LinkSource, O: LinkSink, C: CallRule, D: Dialer<Source = I, Sink = O>> SharedRequester<
+    I,
+    O,
+    C,
+    D,
+> {
     /// Dials a link to this address, and lets callers share a requester with a number over it. If the link is lost, it is hung up, and the next
     /// one is dialled, at most `tries` times in all; the calls that weren't answered are sent again. `H` names the history that it begins with.
     pub fn new_numbered<H: OpeningHistory<Entry>, R: Wait>(

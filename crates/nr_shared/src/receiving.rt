@@ -11,8 +11,8 @@ ghost use Rattle.nr_shared.specs.Feeding.{FeedsFor};
 ghost use Rattle.nr_shared.specs.Histories.{bytes_fed, stop_of};
 ghost use Rattle.nr_shared.specs.Output.{IsCallOutstanding};
 
-use crate::call_rule::CallRule;
 use crate::call_end::CallEnd;
+use crate::call_rule::CallRule;
 use crate::caller_turns::{Need, need_under};
 use crate::entry::Stop;
 use crate::requester_with_sink::MainPass;
@@ -23,7 +23,12 @@ use nr_links::{Dialer, LinkSink, LinkSource};
 use nr_requester::Ticket;
 use std::sync::Wait;
 
-impl<I: LinkSource, O: LinkSink, C: CallRule, D: Dialer<Source = I, Sink = O>> SharedRequester<I, O, C, D> {
+impl<I: LinkSource, O: LinkSink, C: CallRule, D: Dialer<Source = I, Sink = O>> SharedRequester<
+    I,
+    O,
+    C,
+    D,
+> {
     // The source's turn: reads a piece and feeds it, or dials again if the link is lost, if the answer of the call isn't there, or no call may be
     // submitted. Fails if the requester can't be reopened.
     pub(crate) fn receive<R: Wait>(
@@ -70,12 +75,7 @@ impl<I: LinkSource, O: LinkSink, C: CallRule, D: Dialer<Source = I, Sink = O>> S
     }
 
     // Writes the output that is due. What is needed, by the pass that feeds: then a call is outstanding.
-    fn need<R: Wait>(
-        &self,
-        rt: &R,
-        feeding: &mut MainPass<O, C>,
-        ticket: Option<&Ticket>,
-    ) -> Need
+    fn need<R: Wait>(&self, rt: &R, feeding: &mut MainPass<O, C>, ticket: Option<&Ticket>) -> Need
         requires rests { Rests self.now.main feeding.old }
         requires feeding { IsFeeding feeding.old }
         requires lies { Lies (seen_by feeding.old) (mine_of feeding.old) }

@@ -95,7 +95,12 @@ fn redial_under<O: LinkSink, C: CallRule, I: LinkSource, D: Dialer<Source = I, S
     Ok(())
 }
 
-impl<I: LinkSource, O: LinkSink, C: CallRule, D: Dialer<Source = I, Sink = O>> SharedRequester<I, O, C, D> {
+impl<I: LinkSource, O: LinkSink, C: CallRule, D: Dialer<Source = I, Sink = O>> SharedRequester<
+    I,
+    O,
+    C,
+    D,
+> {
     // Both turns: the source's is held. The link is lost, and may be dialled again.
     pub(crate) fn redial<R: Wait>(
         &self,

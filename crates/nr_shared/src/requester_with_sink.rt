@@ -88,7 +88,11 @@ impl<O: Sink, C: CallRule> RequesterWithSink<O, C> {
     ghost use Rattle.nr_shared.specs.Output.{IsCallOutstanding};
 
     /// A requester that is shared, with its sink. Output may be pending.
-    pub(crate) fn of_parts(requester: Requester, sink: O, tries: Option<u32>) -> RequesterWithSink<O, C>
+    pub(crate) fn of_parts(
+        requester: Requester,
+        sink: O,
+        tries: Option<u32>,
+    ) -> RequesterWithSink<O, C>
         ensures { (history : List Entry) → IsInitialHistory O.taken O.faults requester sink history → Stands O.taken O.faults C.allows result history }
     {
         requester.facts();
