@@ -22,6 +22,14 @@ abbrev pub AreLeft : RequesterSide → List Mark → List LeftLink → Type 0
 AreLeft h run [] = Unit {0}
 AreLeft h run (l ∷ left) = KeepsEarlier (is_left_own run l) l.opened l.link h run × (KeepsLinkLaw l.opened l.link run × AreLeft h run left)
 
+-- The same of one that ran out of memory: the general form of `RequesterRunsOut` is to come with nr_requester's.
+pub record IsOutOn (link : ℕ) (l : LinkRun) (h : RequesterSide) : Type 0 where
+  pub earlier : ℕ
+  pub stopped : List Mark
+  pub keeps : RequesterStops (is_own l) earlier l.opened link h stopped l.run
+  pub law : KeepsLinkLaw l.opened link l.run
+  pub left : AreLeft h l.run l.left
+
 -- The requester stands for the marks of the link at hand, and of those that were left. `earlier` is how many marks it had made when the link at hand began.
 pub record IsLiveOn (link : ℕ) (l : LinkRun) (h : RequesterSide) : Type 0 where
   pub earlier : ℕ
