@@ -57,6 +57,7 @@ impl Model for SendQueue {
 
     ghost view = { λ q. record { hello = q.hello.items; fpdus = q.fpdus.items; send_ends = q.send_ends.items; response_ends = q.response_ends.items; sends_left = q.sends_left; last_send = q.last_send; last_request = q.last_request; held = q.held.items } };
 
+    ghost use Rattle.std.specs.VecDeque.{deque_capacity};
     ghost use Rattle.nr_endpoint.specs.private.HeldSends.{HasRoomFor};
 
     ghost invariant = { λ q. HasRoomFor q.held.items q.held_len q.fpdus.kept q.send_ends.items (deque_capacity q.send_ends) };

@@ -1,5 +1,6 @@
 -- What each call of an owner makes of a requester, as a mark more of a link that may be one that was reopened.
-use Rattle.std.proofs.Common.{◌≡◌, ℕ, ◌<◌, List, Some, sym, subst}
+use Rattle.std.proofs.Common.{◌≡◌, ℕ, ◌^◌, ◌<◌, ◌≤◌, List, length, take, Some, sym, subst, arith}
+use Rattle.nr_wire.specs.declared.hello.Side.TheVariants.{Initiator}
 use Rattle.nr_link.specs.declared.end.End.{End}
 use Rattle.nr_reduce.specs.declared.call.Call.{Call}
 use Rattle.nr_reduce.specs.declared.call.Form.{Form}
@@ -7,12 +8,12 @@ use Rattle.nr_reduce.specs.declared.call.Outcome.{Outcome}
 use Rattle.nr_reduce.specs.declared.call.Submission.TheVariants as submissions
 use Rattle.nr_reduce.specs.declared.mark.Mark.{Mark}
 use Rattle.nr_reduce.specs.declared.mark.Mark.TheVariants as marks
-use Rattle.nr_requester.specs.RequesterState.{RequesterSide}
-use Rattle.nr_requester.specs.AfterCalls.{after_submit, after_revoke, after_forget}
+use Rattle.nr_requester.specs.RequesterState.{RequesterSide, queue_of}
+use Rattle.nr_requester.specs.AfterCalls.{after_submit, after_drain, after_revoke, after_forget}
 use Rattle.nr_requester.specs.Answers.{WasSent, answer_of}
 use Rattle.nr_requester.specs.ReopenedLinks.{KeepsOn}
 use Rattle.nr_requester.proofs.HeldBack.{accepted_unheld}
-use Rattle.nr_requester.proofs.KeptOn.{submit_keeps_on, revoke_keeps_on, forget_keeps_on, done_keeps_on, lost_keeps_on}
+use Rattle.nr_requester.proofs.KeptOn.{submit_keeps_on, drain_keeps_on, revoke_keeps_on, forget_keeps_on, done_keeps_on, lost_keeps_on}
 
 keeps_as : (before after same : RequesterSide) (mark : ℕ → Mark) → same ≡ after → KeepsOn before mark after → KeepsOn before mark same
 keeps_as before after same mark is keeps = subst (λ (h : RequesterSide). KeepsOn before mark h) (sym is) keeps
@@ -35,3 +36,7 @@ done_keeps before after xid outcome lt is = keeps_as before (after_forget before
 
 pub lost_keeps : (before after : RequesterSide) (xid : ℕ) (end : End) → before.state.side.ended ≡ Some end → xid < before.state.next_xid → after ≡ after_revoke before xid → KeepsOn before (λ link. marks.Lost link xid) after
 lost_keeps before after xid end ended lt is = keeps_as before (after_revoke before xid) after (λ link. marks.Lost link xid) is (lost_keeps_on before xid end ended lt)
+
+pub drained_keeps : (before after : RequesterSide) (n next : ℕ) → n ≤ length (queue_of before.state) → before.state.next_xid ≡ next → next ≤ 2 ^ 32 → after ≡ after_drain n before → KeepsOn before (λ link. marks.Wrote link Initiator (take n (queue_of before.state))) after
+drained_keeps before after n next within same le is =
+    keeps_as before (after_drain n before) after (λ link. marks.Wrote link Initiator (take n (queue_of before.state))) is (drain_keeps_on before n within (omega (arith, le, same)))

@@ -70,6 +70,7 @@ pub mod NamedRegions
 pub mod DeadRegions
 pub mod CountedReleases
 pub mod ResumedLists
+pub mod HeldCalls
 pub mod Resuming
 pub mod ResendSteps
 pub mod NextBegun
@@ -86,3 +87,6 @@ pub mod AllResent
 pub mod OwnSides
 pub mod KeptOn
 pub mod CallsKeep
+pub mod OutcomesAccepted
+pub mod KeptLaw
+pub mod EarlierLinks

@@ -2,7 +2,7 @@
 -- no credit is left nor since its xid is too far above the least one.
 use Rattle.std.proofs.Common.{◌≡◌, ℕ, zero, suc, ◌+◌, ◌-◌, ◌<◌, ◌≤◌, Bool, true, false, cond, not, ◌&&◌, ◌||◌, ltb, leb, eqb, List, [], ◌∷◌, ◌++◌, length, map, take, Option, None, Some, Ok, refl, sym, ap, ◌∙◌, arith}
 use Rattle.std.specs.Prelude.{is_none, is_some}
-use Rattle.std.proofs.lemmas.Bool.{and_from, and_parts, le-ltb, lt-ltb, true≢false}
+use Rattle.std.proofs.lemmas.Bool.{and_from, and_parts, le-ltb, lt-ltb, or_left, false≢true, true≢false}
 use Rattle.nr_wire.specs.declared.hello.Side.TheVariants.{Initiator}
 use Rattle.nr_link.specs.declared.end.End.{End}
 use Rattle.nr_endpoint.specs.LinkState.{LinkState}
@@ -206,6 +206,12 @@ abbrev is_accepted : Submission → Bool
 is_accepted (submissions.Accepted xid) = true
 is_accepted answer = false
 
+pub none_is : (why : Option Refused) (b : Bool) → is_some why ≡ not b → b ≡ is_none why
+none_is None true e = refl
+none_is None false e = absurd (false≢true e)
+none_is (Some refused) true e = absurd (true≢false e)
+none_is (Some refused) false e = refl
+
 -- why the next xid is too far above the least one, if it is
 pub far_is : (number next : ℕ) (least : Option ℕ) (why : Option Refused) → ((answer : Submission) → unless_far_by number next least answer ≡ unless_refused why answer) →
     is_none why ≡ not (is_far number next least)
@@ -224,6 +230,26 @@ far_is number next least why says = by_number (eqb number 0) (sym (accepted why)
   by_number : (b : Bool) → is_none why ≡ is_accepted (cond b (submissions.Accepted next) (unless_far_from next least (submissions.Accepted next))) → is_none why ≡ not (cond b false (is_far_from next least))
   by_number true e = e
   by_number false e = from least e
+
+-- by what it finds, one after another
+pub may_ended : (r : RequesterState) → length r.outstanding < r.grant → is_some r.side.ended ≡ true → may_submit r ≡ true
+unfolding may_submit
+may_ended r credit ended =
+    let free : Bool = eqb (length r.side.send_queue.held) 0 && not (is_far r.side.terms.number r.next_xid (least_stored r.outstanding)) in
+    and_from (ltb (length r.outstanding) r.grant) (is_some r.side.ended || free) (lt-ltb (length r.outstanding) r.grant credit) (or_left (is_some r.side.ended) free ended)
+
+pub may_live : (r : RequesterState) → length r.outstanding < r.grant → is_some r.side.ended ≡ false →
+    may_submit r ≡ (eqb (length r.side.send_queue.held) 0 && not (is_far r.side.terms.number r.next_xid (least_stored r.outstanding)))
+unfolding may_submit
+may_live r credit lives =
+    let left : ltb (length r.outstanding) r.grant ≡ true = lt-ltb (length r.outstanding) r.grant credit in
+    λ i. left i && (lives i || (eqb (length r.side.send_queue.held) 0 && not (is_far r.side.terms.number r.next_xid (least_stored r.outstanding))))
+
+pub may_none : (r : RequesterState) → r.grant ≤ length r.outstanding → may_submit r ≡ false
+unfolding may_submit
+may_none r spent =
+    ap (λ (b : Bool). b && (is_some r.side.ended || (eqb (length r.side.send_queue.held) 0 && not (is_far r.side.terms.number r.next_xid (least_stored r.outstanding)))))
+    (le-ltb (length r.outstanding) r.grant spent)
 
 -- if no call may be submitted, one is outstanding
 pub blocked_waits : (r : RequesterState) → 1 ≤ r.grant → length r.side.send_queue.held ≤ length r.outstanding → may_submit r ≡ false → 0 < length r.outstanding

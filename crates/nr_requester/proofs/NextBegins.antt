@@ -103,13 +103,13 @@ next_stands is_own earlier opened link next h run staging opens asked stands liv
 -- ---- After marks of other links
 
 -- a mark of another link is no event of it, and gives up no call of it
-record IsElsewhere (link : ℕ) (run : List Mark) (mark : Mark) : Type 0 where
-  events : events_at link Initiator run mark ≡ []
-  written : written_at link Initiator mark ≡ []
-  fed : fed_at link Initiator mark ≡ []
-  none : GivesUpNothing link mark
+pub record IsElsewhere (link : ℕ) (run : List Mark) (mark : Mark) : Type 0 where
+  pub events : events_at link Initiator run mark ≡ []
+  pub written : written_at link Initiator mark ≡ []
+  pub fed : fed_at link Initiator mark ≡ []
+  pub none : GivesUpNothing link mark
 
-elsewhere : (link : ℕ) (run : List Mark) (mark : Mark) → link_of mark ≢ link → IsElsewhere link run mark
+pub elsewhere : (link : ℕ) (run : List Mark) (mark : Mark) → link_of mark ≢ link → IsElsewhere link run mark
 elsewhere link run (marks.Submit l call form (submissions.Accepted xid)) other =
     record { events = (λ i. if_own (ne_eqb l link other i && true) (CallSubmitted (length (bytes_received link Initiator run)) (record { xid = xid; call = call; form = form }) ∷ [])); written = refl; fed = refl; none = λ x. refl }
 elsewhere link run (marks.Submit l call form (submissions.Refused why)) other = record { events = refl; written = refl; fed = refl; none = λ x. refl }

@@ -1,11 +1,13 @@
 -- The next link of a requester, with the calls that go on.
-use Rattle.std.proofs.Common.{◌≡◌, ℕ, zero, suc, ◌+◌, ◌^◌, ◌<◌, ◌≤◌, Bool, true, false, not, cond, eqb, List, [], ◌∷◌, ◌++◌, length, map, take, drop, Option, None, Some, refl, sym, ap, subst, ◌∙◌, arith}
+use Rattle.std.proofs.Common.{◌≡◌, ℕ, zero, suc, ◌+◌, ◌-◌, ◌^◌, ◌<◌, ◌≤◌, Bool, true, false, not, cond, eqb, List, [], ◌∷◌, ◌++◌, length, map, take, drop, Option, None, Some, refl, sym, ap, subst, ◌∙◌, arith}
 use Rattle.std.specs.List.{AllByRecursion, find}
 use Rattle.std.specs.FinMap.{empty}
+use Rattle.std.proofs.lemmas.Bool.{lt-ltb, le-ltb}
 use Rattle.std.proofs.lemmas.List.{take_all, drop_all}
 use Rattle.nr_wire.specs.Constants.{FPDU_MAX}
 use Rattle.nr_wire.specs.declared.hello.Side.TheVariants.{Initiator, Responder}
 use Rattle.nr_wire.specs.declared.stream.Awaited.TheVariants.{Hello as HelloFrom}
+use Rattle.nr_link.specs.declared.end.End.{End}
 use Rattle.nr_link.specs.declared.agreement.Agreement.{Agreement}
 use Rattle.nr_link.specs.declared.agreement.SideTerms.{SideTerms}
 use Rattle.nr_regions.specs.RegisteredMemory.{RegisteredMemory, initial_memory}
@@ -13,13 +15,15 @@ use Rattle.nr_endpoint.specs.EndpointState.{EndpointState}
 use Rattle.nr_endpoint.specs.Hellos.{first_private, receive_length_for}
 use Rattle.nr_endpoint.specs.LinkState.{LinkState, LinkSide, initial_link, initial_state, last_agreed}
 use Rattle.nr_endpoint.specs.SendQueue.{SendQueue, initial_queue}
+use Rattle.nr_reduce.specs.Limits.{numbers_end}
 use Rattle.nr_reduce.specs.declared.call.Call.{Call}
+use Rattle.nr_reduce.specs.declared.call.Refused.TheVariants as refusals
 use Rattle.nr_requester.specs.declared.answer.AnsweredCall.{AnsweredCall}
 use Rattle.nr_requester.specs.declared.outstanding.OutstandingCall.{OutstandingCall}
 use Rattle.nr_requester.specs.RequesterState.{RequesterState, RequesterSide, awaited_call}
-use Rattle.nr_requester.specs.Reopening.{CallsAgain, calls_again, calls_again_from, stags_for_calls, after_reopen}
+use Rattle.nr_requester.specs.Reopening.{CallsAgain, calls_again, calls_again_from, stags_for_calls, after_reopen, reopen_refusal, reopen_refusal_by, unless_stags_spent}
 use Rattle.nr_requester.specs.Views.{RequesterInvariant, IsAnswered, stored_view, requester_view, side_view}
-use Rattle.nr_requester.specs.HeldBytes.{AreRisingBy, CountsFit, LinkFits, RequesterBounds, IsBounded, send_of, unsent, xid_of}
+use Rattle.nr_requester.specs.HeldBytes.{AreRisingBy, CallFits, CountsFit, LinkFits, RequesterBounds, IsBounded, send_of, unsent, xid_of}
 use Rattle.nr_requester.specs.private.Resuming.{AreLeft, AreResumed, AreResuming, IsNextLink, awaited_calls, with_calls, made_again, resumed_link}
 use Rattle.nr_requester.proofs.Unsent.{all_unsent}
 use Rattle.nr_requester.proofs.Within.{opened_within}
@@ -109,6 +113,16 @@ quiet_link first terms earlier a = (refl, (refl, refl))
 no_sends : (first : ℕ) (terms : SideTerms) (earlier : Option Agreement) (a : CallsAgain) → ((resumed_link (initial_link Initiator 1 first terms earlier) a).state.send_queue.send_ends ≡ []) × ((resumed_link (initial_link Initiator 1 first terms earlier) a).state.send_queue.sends_left ≡ 0)
 unfolding initial_link
 no_sends first terms earlier a = (refl, refl)
+
+-- the calls that are outstanding when the link is left
+pub left_calls : (e : EndpointState) (len next grant room sends : ℕ) (calls slice : List OutstandingCall) (answers : List AnsweredCall) → slice ≡ calls → RequesterInvariant len e.link next grant calls answers room → RequesterBounds len e sends next calls answers → AreLeft e.link.state.receive_queue.receive_length next slice
+left_calls e len next grant room sends calls slice answers same s w =
+    let all : AreLeft e.link.state.receive_queue.receive_length next calls = record {
+      own = s.offers;
+      rising = s.rising;
+      fits = subst (λ (n : ℕ). AllByRecursion (CallFits n) calls) (sym w.link.receive_length) w.each;
+    } in
+    subst (λ (cs : List OutstandingCall). AreLeft e.link.state.receive_queue.receive_length next cs) (sym same) all
 
 still_apart : (next len i : ℕ) (e : EndpointState) (calls made : List OutstandingCall) (answers : List AnsweredCall) → AreResumed len next e calls i made → AllByRecursion (IsAnswered next calls) answers → AllByRecursion (IsAnswered next made) answers
 still_apart next len i e calls made [] r h = tt
@@ -218,3 +232,19 @@ begun_view h link e sent wished sends xid next grant releases calls made all ans
       marks = total;
     })
     ∙ ap (λ (x : RequesterSide). after_reopen x e.staging) is
+
+-- ---- Why it doesn't leave its link
+
+pub ended_refusal : (r : RequesterState) (end : End) → Some end ≡ r.side.ended → Some (refusals.Ended end) ≡ reopen_refusal r
+unfolding reopen_refusal
+ended_refusal r end is = ap (reopen_refusal_by r) is
+
+pub spent_refusal : (r : RequesterState) (left need : ℕ) → r.side.ended ≡ None → left ≡ numbers_end - r.side.memory.next → need ≡ stags_for_calls r.outstanding → left < need → Some (refusals.Spent left need) ≡ reopen_refusal r
+unfolding reopen_refusal
+spent_refusal r left need lives l n lt =
+    sym (ap (λ (b : Bool). cond b (Some (refusals.Spent left need)) None) (lt-ltb left need lt)) ∙ (λ i. unless_stags_spent (l i) (n i)) ∙ sym (ap (reopen_refusal_by r) lives)
+
+pub no_refusal : (r : RequesterState) (left need : ℕ) → r.side.ended ≡ None → left ≡ numbers_end - r.side.memory.next → need ≡ stags_for_calls r.outstanding → need ≤ left → None ≡ reopen_refusal r
+unfolding reopen_refusal
+no_refusal r left need lives l n le =
+    sym (ap (λ (b : Bool). cond b (Some (refusals.Spent left need)) None) (le-ltb left need le)) ∙ (λ i. unless_stags_spent (l i) (n i)) ∙ sym (ap (reopen_refusal_by r) lives)

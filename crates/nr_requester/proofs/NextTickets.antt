@@ -12,6 +12,7 @@ use Rattle.nr_requester.specs.OpenCalls.{KeepsTickets, call_with, found_answer, 
 use Rattle.nr_requester.specs.Reopening.{CallsAgain, after_reopen, call_again, calls_again, calls_again_from, plan_again, with_call_again}
 use Rattle.nr_requester.specs.RequesterState.{StoredCall, RequesterState, RequesterSide, awaited_call}
 use Rattle.nr_requester.specs.Views.{AreRising, stored_view}
+use Rattle.nr_requester.specs.private.Resuming.{RiseBy}
 
 abbrev by_xid : ℕ → List StoredCall → Option StoredCall
 by_xid x cs = find (λ (c : StoredCall). eqb c.xid x) cs
@@ -24,10 +25,6 @@ call_of (Some c) = awaited_call c
 abbrev call_or : Option StoredCall → Option Call → Option Call
 call_or None o = o
 call_or (Some c) o = awaited_call c
-
-abbrev RiseBy : List StoredCall → Type 0
-RiseBy [] = Unit {0}
-RiseBy (c ∷ cs) = AllByRecursion (λ (d : StoredCall). c.xid < d.xid) cs × RiseBy cs
 
 stored_above : (n : ℕ) (cs : List OutstandingCall) → AllByRecursion (λ (d : OutstandingCall). n < d.xid) cs → AllByRecursion (λ (d : StoredCall). n < d.xid) (map stored_view cs)
 stored_above n [] h = tt

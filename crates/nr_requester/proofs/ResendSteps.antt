@@ -2,6 +2,7 @@
 use Rattle.std.proofs.Common.{◌≡◌, ℕ, ◌+◌, ◌<◌, ◌≤◌, max, Bool, true, false, cond, ◌&&◌, ltb, List, [], ◌∷◌, ◌++◌, length, drop, Option, None, Some, refl, sym, ap, subst, ◌∙◌, arith, length-append}
 use Rattle.std.specs.Prelude.{is_some}
 use Rattle.std.specs.List.{AllByRecursion}
+use Rattle.std.proofs.lemmas.Bool.{lt-ltb}
 use Rattle.nr_link.specs.declared.end.End.{End}
 use Rattle.nr_endpoint.specs.EndpointState.{EndpointState, cut_frame_len}
 use Rattle.nr_endpoint.specs.LinkState.{LinkState, LinkSide, has_ended}
@@ -113,6 +114,10 @@ resent_left link link2 message sent is le = subst (λ (l : LinkSide). sent ≤ l
 
 -- ---- All of them
 
+-- whether one can be, if one waits
+may_if : (messages : List (List ℕ)) (message : List ℕ) (may b : Bool) → (ltb 0 (length (message ∷ messages)) && may) ≡ b → may ≡ b
+may_if messages message may b e = (let some : ltb 0 (length (message ∷ messages)) ≡ true = lt-ltb 0 (length (message ∷ messages)) (omega arith) in ap (λ (x : Bool). x && may) (sym some) ∙ e)
+
 -- one more is sent again
 pub resends_on : (h : RequesterSide) → (ltb 0 (length h.state.side.send_queue.held) && may_resend h.state) ≡ true → with_resends (after_resend h (first_message h.state.side.send_queue.held)) ≡ with_resends h
 unfolding with_resends after_resend
@@ -126,7 +131,7 @@ resends_on h may = by h.state.side.send_queue.held refl may
     by [] is e = absurd cc
     by (message ∷ messages) is e =
         ap (λ (ms : List (List ℕ)). resent_from (drop 1 ms) (after_resend h (first_message ms))) is
-        ∙ (sym (ap (λ (b : Bool). cond b (resent_from messages (after_resend h message)) h) e) ∙ sym (ap (λ (ms : List (List ℕ)). resent_from ms h) is))
+        ∙ (sym (ap (λ (b : Bool). cond b (resent_from messages (after_resend h message)) h) (may_if messages message (may_resend h.state) true e)) ∙ sym (ap (λ (ms : List (List ℕ)). resent_from ms h) is))
 
 -- no other can be
 pub resends_none : (h : RequesterSide) → (ltb 0 (length h.state.side.send_queue.held) && may_resend h.state) ≡ false → with_resends h ≡ h
@@ -135,7 +140,7 @@ resends_none h may = by h.state.side.send_queue.held may
   where
     by : (messages : List (List ℕ)) → (ltb 0 (length messages) && may_resend h.state) ≡ false → resent_from messages h ≡ h
     by [] e = refl
-    by (message ∷ messages) e = ap (λ (b : Bool). cond b (resent_from messages (after_resend h message)) h) e
+    by (message ∷ messages) e = ap (λ (b : Bool). cond b (resent_from messages (after_resend h message)) h) (may_if messages message (may_resend h.state) false e)
 
 pub resends_over : (h : RequesterSide) → length h.state.side.send_queue.held ≡ 0 → with_resends h ≡ h
 unfolding with_resends
@@ -144,6 +149,18 @@ resends_over h none = by h.state.side.send_queue.held none
     by : (messages : List (List ℕ)) → length messages ≡ 0 → resent_from messages h ≡ h
     by [] e = refl
     by (message ∷ messages) e = absurd (omega (arith, e))
+
+pub waits_if : (h : RequesterSide) → (ltb 0 (length h.state.side.send_queue.held) && may_resend h.state) ≡ true → 0 < length h.state.side.send_queue.held
+waits_if h e = by h.state.side.send_queue.held e
+  where
+    by : (messages : List (List ℕ)) → (ltb 0 (length messages) && may_resend h.state) ≡ true → 0 < length messages
+    by [] e = absurd cc
+    by (message ∷ messages) e = omega arith
+
+-- fewer wait after each
+pub resend_fewer : (h : RequesterSide) (message : List ℕ) → 0 < length h.state.side.send_queue.held → length (after_resend h message).state.side.send_queue.held < length h.state.side.send_queue.held
+unfolding after_resend
+resend_fewer h message some = (let fewer = others_count h.state.side.send_queue.held some in omega (arith, fewer))
 
 -- ---- What stays
 
@@ -209,3 +226,9 @@ fed_within h h2 h3 n le resent = (let same : fed_bytes h3 ≡ fed_bytes h2 = ap 
 
 pub fed_end : (h2 h3 : RequesterSide) → h3 ≡ with_resends h2 → h3.state.side.ended ≡ h2.state.side.ended
 fed_end h2 h3 resent = ap (λ (x : RequesterSide). x.state.side.ended) resent ∙ (resends_keep h2).ended
+
+-- a piece after which no call is sent again
+pub fed_same : (h h2 h3 : RequesterSide) (piece : List ℕ) → h2 ≡ after_fed h piece h2.staging → after_feed h piece h2.staging ≡ after_fed h piece h2.staging → h2.state.side.ended ≡ None → h3 ≡ with_resends h2 → h2 ≡ h3
+fed_same h h2 h3 piece is none lives resent =
+    let same : h3.staging ≡ h2.staging = ap (λ (x : RequesterSide). x.staging) resent ∙ (resends_keep h2).staging in
+    is ∙ sym none ∙ ap (λ (staging : List ℕ). after_feed h piece staging) (sym same) ∙ sym (fed_on h h2 h3 piece is lives resent)

@@ -1,8 +1,8 @@
 -- Calls are made again for the next link, one after the other.
-use Rattle.std.proofs.Common.{◌≡◌, ◌≢◌, ℕ, ◌+◌, ◌^◌, ◌<◌, ◌≤◌, Bool, true, false, cond, eqb, List, [], ◌∷◌, ◌++◌, length, map, take, drop, Option, None, Some, refl, sym, ap, subst, ◌∙◌, arith, append-nil, length-append}
-use Rattle.std.specs.Prelude.{get_or, IfSome, sum}
+use Rattle.std.proofs.Common.{◌≡◌, ◌≢◌, ℕ, ◌+◌, ◌-◌, ◌^◌, ◌<◌, ◌≤◌, Bool, true, false, cond, eqb, List, [], ◌∷◌, ◌++◌, length, map, take, drop, Option, None, Some, refl, sym, ap, subst, ◌∙◌, arith, append-nil, length-append}
+use Rattle.std.specs.Prelude.{get_or, option_map, replicate, IfSome, sum}
 use Rattle.std.specs.List.{AllByRecursion, find}
-use Rattle.std.proofs.lemmas.List.{length-map}
+use Rattle.std.proofs.lemmas.List.{length-map, length-replicate}
 use Rattle.nr_header.specs.declared.header.ChunkLists.{ChunkLists}
 use Rattle.nr_link.specs.declared.end.End.{End}
 use Rattle.nr_regions.specs.RegisteredMemory.{RegisteredMemory, AreHeldFrom, Claim}
@@ -14,8 +14,10 @@ use Rattle.nr_endpoint.specs.Offering.{claims_of, with_offered}
 use Rattle.nr_reduce.specs.declared.call.Call.{Call}
 use Rattle.nr_reduce.specs.declared.outline.Plan.{Plan}
 use Rattle.nr_reduce.specs.ClientState.{call_payload}
-use Rattle.nr_reduce.specs.Plans.{total, buffers, call_message, lists_of, regions_needed, given_region}
-use Rattle.nr_reduce.specs.PlansByLists.{plan_by_lists}
+use Rattle.nr_reduce.specs.Plans.{has_segment, one_if, total, buffers, call_message, lists_of, regions_needed, given_region}
+use Rattle.nr_reduce.specs.PlansByLists.{entry_lengths, plan_by_lists, segment_lengths, write_lengths}
+use Rattle.nr_reduce.specs.CallOutlines.{outline_plan}
+use Rattle.nr_reduce.specs.declared.outline.Outline.{Outline}
 use Rattle.nr_reduce.specs.KeptClient.{registered_all}
 use Rattle.nr_reduce.proofs.PlansByLists.{planned_by_lists}
 use Rattle.nr_reduce.proofs.Sizes.{message_size}
@@ -23,18 +25,20 @@ use Rattle.nr_requester.specs.declared.outstanding.OutstandingCall.{OutstandingC
 use Rattle.nr_requester.specs.AfterCalls.{stored_call}
 use Rattle.nr_requester.specs.RequesterState.{StoredCall, awaited_call}
 use Rattle.nr_requester.specs.Reopening.{CallsAgain, call_again, calls_again_from, plan_again, stags_for_call, stags_for_calls}
-use Rattle.nr_requester.specs.Sending.{IsPlan, offered_of}
+use Rattle.nr_requester.specs.Sending.{IsPlan, head_under, offered_of, xid_word}
 use Rattle.nr_requester.specs.Views.{stored_view, HasRoom, AreRising}
 use Rattle.nr_requester.specs.HeldClaims.{call_claims, all_claims, IsOwnOffer, OffersOwn}
 use Rattle.nr_requester.specs.HeldBytes.{FitsSend, AreRisingBy, LinkFits, IsCount, RegionsHave, PlanFits, xid_of, send_of, in_bytes, stored_bytes, call_max, receive_max, claims_size, claims_total, reply_room, CallFits}
-use Rattle.nr_requester.specs.private.Resuming.{AreLeft, AreResumed, AreResuming, MadeOne, IsMadeAgain, awaited_calls, with_call, with_calls, held_back, with_held_call, made_again, resumed_link}
+use Rattle.nr_requester.specs.private.Resuming.{AreLeft, AreResumed, AreResuming, plan_by_lengths, MadeOne, IsMadeAgain, awaited_calls, with_call, with_calls, held_back, with_held_call, made_again, resumed_link}
 use Rattle.nr_requester.proofs.AnswerBounds.{call_small}
+use Rattle.nr_requester.proofs.Answered.{payload_word}
 use Rattle.nr_requester.proofs.ChangedCalls.{below_next, not_found, nth_of}
 use Rattle.nr_requester.proofs.HeldRegions.{claims_append, held_append, offers_append, own_room, rising_append, rooms_append}
 use Rattle.nr_requester.proofs.OfferedRooms.{room_offered}
 use Rattle.nr_requester.proofs.PlanBounds.{plan_bounds}
 use Rattle.nr_requester.proofs.RegionBounds.{Both, bytes_count, offered_both, plan_short}
 use Rattle.nr_requester.proofs.ResumedLists.{awaited_more, rest_of, with_calls_append, with_calls_count, rising_more, rising_rest, all_more, below_more, find_more}
+use Rattle.nr_requester.proofs.Sized.{few, plan_fits}
 use Rattle.nr_requester.proofs.Sent.{count_offered, registered_offered, registered_next}
 use Rattle.nr_requester.proofs.Views.{map_one}
 use Rattle.nr_requester.proofs.Within.{call_fits, sum_sent}
@@ -59,6 +63,62 @@ again_same payload (Some at) lists stag i =
 pub read_again : (payload : List ℕ) (at : Option ℕ) (lists : ChunkLists) → (plan_by_lists payload at lists).read_at ≡ at
 read_again payload None lists = refl
 read_again payload (Some at) lists = refl
+
+-- the plan that the code makes, of the lengths of the segments that were offered
+by_lists : (payload : List ℕ) (at : Option ℕ) (lists : ChunkLists) → plan_by_lengths payload at (entry_lengths lists.read) (write_lengths lists.write) (option_map segment_lengths lists.reply) ≡ plan_by_lists payload at lists
+by_lists payload None lists = refl
+by_lists payload (Some at) lists = refl
+
+payload_again : (xid : ℕ) (call : Call) → xid ≤ 2 ^ 32 → head_under xid call ++ call.args ≡ call_payload xid call
+unfolding call_payload
+payload_again xid call le = (let same : head_under xid call ++ call.args ≡ call_payload (xid_word xid) call = refl in same ∙ payload_word xid call le)
+
+pub planned_again : (c : OutstandingCall) (call : Call) (head args : List ℕ) (outline : Outline) (read : List ℕ) (write reply : Option (List ℕ)) → c.xid ≤ 2 ^ 32 → head ≡ head_under c.xid call → args ≡ call.args →
+    ((payload : List ℕ) → outline_plan payload outline ≡ plan_by_lengths payload c.read_at read write reply) → read ≡ entry_lengths c.offered.read → write ≡ write_lengths c.offered.write → reply ≡ option_map segment_lengths c.offered.reply →
+    outline_plan (head ++ args) outline ≡ plan_again (stored_view c) call
+planned_again c call head args outline read write reply le head_is args_are is r w y =
+    let payload : head ++ args ≡ call_payload c.xid call = (λ i. head_is i ++ args_are i) ∙ payload_again c.xid call le in
+    is (head ++ args)
+    ∙ (λ i. plan_by_lengths (payload i) c.read_at (r i) (w i) (y i))
+    ∙ by_lists (call_payload c.xid call) c.read_at c.offered
+
+-- its read chunk has few segments and is short
+region_len : (payload : List ℕ) (at size : ℕ) → size ≤ length (given_region payload at size)
+region_len payload at size =
+    let front : List ℕ = take size (drop at payload) in
+    omega (arith, length-append front (replicate (size - length front) 0), length-replicate {A = ℕ} (size - length front) 0)
+
+read_fits_by : (payload : List ℕ) (at : Option ℕ) (lists : ChunkLists) → IsPlan (plan_by_lists payload at lists) → IfSome at (λ _. (length (entry_lengths lists.read) < 2 ^ 31) × (sum (entry_lengths lists.read) < 2 ^ 32))
+read_fits_by payload None lists i = tt
+read_fits_by payload (Some at) lists i =
+    let p : Plan = plan_by_lists payload (Some at) lists in
+    let fits : PlanFits p = plan_bounds i.payload i.form i.up i.down p i.is in
+    let region = fits.region in
+    ((few p (plan_fits p i)).read, omega (arith, region, region_len payload at (sum (entry_lengths lists.read))))
+
+pub read_fits : (c : OutstandingCall) (call : Call) (read : List ℕ) → read ≡ entry_lengths c.offered.read → IsPlan (plan_again (stored_view c) call) → IfSome c.read_at (λ _. (length read < 2 ^ 31) × (sum read < 2 ^ 32))
+read_fits c call read is i =
+    subst (λ (xs : List ℕ). IfSome c.read_at (λ _. (length xs < 2 ^ 31) × (sum xs < 2 ^ 32))) (sym is) (read_fits_by (call_payload c.xid call) c.read_at c.offered i)
+
+-- what it offers for the reply, and how many STags it needs
+write_of : (payload : List ℕ) (at : Option ℕ) (lists : ChunkLists) → (plan_by_lists payload at lists).write ≡ write_lengths lists.write
+write_of payload None lists = refl
+write_of payload (Some at) lists = refl
+
+reply_of : (payload : List ℕ) (at : Option ℕ) (lists : ChunkLists) → (plan_by_lists payload at lists).reply ≡ option_map segment_lengths lists.reply
+reply_of payload None lists = refl
+reply_of payload (Some at) lists = refl
+
+pub stags_are : (c : OutstandingCall) (call : Call) (o : Option Call) (r w y : ℕ) → Some call ≡ o → ((payload : List ℕ) → r ≡ one_if (has_segment (Some (plan_by_lists payload c.read_at c.offered).read))) → w ≡ one_if (has_segment (write_lengths c.offered.write)) →
+    y ≡ one_if (has_segment (option_map segment_lengths c.offered.reply)) → r + w + y ≡ stags_for_call (stored_view c) o
+unfolding regions_needed
+stags_are c call o r w y is read write reply =
+    let payload : List ℕ = call_payload c.xid call in
+    let a = read payload in
+    let b : one_if (has_segment (plan_again (stored_view c) call).write) ≡ w = ap (λ (x : Option (List ℕ)). one_if (has_segment x)) (write_of payload c.read_at c.offered) ∙ sym write in
+    let d : one_if (has_segment (plan_again (stored_view c) call).reply) ≡ y = ap (λ (x : Option (List ℕ)). one_if (has_segment x)) (reply_of payload c.read_at c.offered) ∙ sym reply in
+    let all : r + w + y ≡ regions_needed (plan_again (stored_view c) call) = omega (arith, a, b, d) in
+    all ∙ ap (λ (x : Option Call). stags_for_call (stored_view c) x) is
 
 -- ---- The side once a message was held back
 

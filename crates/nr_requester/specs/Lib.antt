@@ -24,3 +24,5 @@ pub mod ReopenedLinks
 pub mod Resends
 pub mod private
 pub mod KeptOn
+pub mod KeptLaw
+pub mod EarlierLinks

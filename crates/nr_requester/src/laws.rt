@@ -3,6 +3,8 @@
 ghost use Rattle.nr_requester.specs.Reopening.{CallsGoOn, NextBegins};
 ghost use Rattle.nr_requester.specs.ReopenedLinks.{FirstLinksAreKept};
 ghost use Rattle.nr_requester.specs.Resends.{FeedIsMarks, FirstLinksResendNone};
+ghost use Rattle.nr_requester.specs.EarlierLinks.{EarlierGoes, EarlierCounts, EarlierStays};
+ghost use Rattle.nr_requester.specs.KeptLaw.{SubmitLaw, DrainLaw, QueueLaw, OpenLaw, AwaitedLaw, RevokeLaw, ForgetLaw, DoneLaw, LostLaw};
 ghost use Rattle.nr_requester.specs.KeptOn.{SubmitKeepsOn, DrainKeepsOn, RevokeKeepsOn, ForgetKeepsOn, DoneKeepsOn, LostKeepsOn, OthersKeepOn, AnswersAsKept, BuffersAreKept, FirstIsKept};
 ghost use Rattle.nr_requester.specs.Laws.{Begins, AnswersAsClient, AgreesAsClient, AgreesOut, CountsAsClient, CountsMarks, SubmitIsAMark, PieceIsAMark, PieceRunsOut, DrainIsAMark, RevokeIsAMark, RevokeStaysOut, ForgetIsAMark, DoneIsAMark, AnswersAreDue, AnswersOut, EndAsClient, FirstIsDueFirst, FirstOut, OthersLeaveIt, MemoryAsClient, MemoryOut, CountsOut, CountsMarksOut, RefusesOut, PieceStaysOut, OthersStayOut, LawBegins, OthersKeepLaw, RevokeKeepsLaw, BuffersArePlaced, RevokedOut, SubmitKeepsLaw, DrainKeepsLaw, DrainOutKeepsLaw, QueueIsAllDue, RefusedKeepsLaw, PieceKeepsLaw, DrainKeepsGrant, OpenIsAwaited, OpenOut, AwaitedIsOpen, AwaitedOut, ForgetKeepsLaw, ForgetOutKeepsLaw, DoneKeepsLaw, DoneOutKeepsLaw, LostKeepsLaw, NamedRegionIsNotCounted};
 
@@ -99,8 +101,31 @@ pub fn reopened_links_go_on()
     ensures first { FirstIsKept }
 {}
 
+/// On such a link it keeps the client's law and the last grant, from mark to mark: by a call that it accepts, a drain, a revoke, an answer that is
+/// given up or handed over, and a call that is lost. All that it may write is all that is due, and a ticket of the link is open if and only if
+/// its call is awaited or waits to be sent again.
+pub fn reopened_links_keep_their_law()
+    ensures submit { SubmitLaw }
+    ensures drain { DrainLaw }
+    ensures queue { QueueLaw }
+    ensures open { OpenLaw }
+    ensures awaited { AwaitedLaw }
+    ensures revoke { RevokeLaw }
+    ensures forget { ForgetLaw }
+    ensures done { DoneLaw }
+    ensures lost { LostLaw }
+{}
+
 /// A requester that stands for the marks of its first link keeps what one keeps of a link that may be one of several, and sends nothing again.
 pub fn first_links_are_kept()
     ensures kept { FirstLinksAreKept }
     ensures none { FirstLinksResendNone }
+{}
+
+/// What a requester keeps of a link that it left stays through marks of other links, and through an answer of that link that is handed over, given up
+/// or revoked. The present link counts such a mark with those before it.
+pub fn earlier_links_are_kept()
+    ensures goes { EarlierGoes }
+    ensures counts { EarlierCounts }
+    ensures stays { EarlierStays }
 {}

@@ -12,7 +12,7 @@ ghost use Rattle.nr_requester.specs.OpenCalls.{KeepsTickets};
 ghost use Rattle.nr_requester.specs.RequesterState.{awaited_call};
 ghost use Rattle.nr_requester.specs.Reopening.{stags_for_call, stags_for_calls, reopen_refusal, after_reopen, ReopenStands};
 ghost use Rattle.nr_requester.specs.Views.{stored_view};
-ghost use Rattle.nr_requester.specs.private.Resuming.{AreLeft, AreResuming, IsMadeAgain, IsNextLink, awaited_calls, with_calls};
+ghost use Rattle.nr_requester.specs.private.Resuming.{AreLeft, AreResuming, IsMadeAgain, IsNextLink, RiseBy, awaited_calls, with_calls};
 
 use crate::again::resume_call;
 use crate::outstanding::{OutstandingCall, given_by};
@@ -126,7 +126,7 @@ fn resume_one(
         room,
     } = resume_call(alloc, endpoint, credit, receive_length, call, stored)?;
     let given = given_by(&claims);
-    let send = made.len() as u64;
+    let send = made.as_slice().len() as u64;
     made.push(OutstandingCall {
         xid: stored.xid,
         send,
@@ -197,15 +197,10 @@ fn next_link(
     requires stags { left.now.link.state.memory.next + stags_for_calls (map stored_view calls.now) ≤ 2 ^ 32 }
     ensures { IfOk result (λ r. (next : ℕ) → AreLeft left.now.link.state.receive_queue.receive_length next calls.now → IsNextLink credit left.now.link.state next r.0 calls.now r.1.items) }
 {
-    let mut endpoint = Endpoint::open_again(
-        alloc,
-        1,
-        NUMBERS_END - left.regions().stags_left(),
-        left.terms(),
-        left.last_agreed(),
-    )?;
-    let mut made = Vec::new(alloc);
+    let first = NUMBERS_END - left.regions().stags_left();
     let receive_length = left.receive_length() as u32;
+    let mut endpoint = Endpoint::open_again(alloc, 1, first, left.terms(), left.last_agreed())?;
+    let mut made = Vec::new(alloc);
     match resume_all(
         alloc,
         &mut endpoint,
@@ -243,8 +238,9 @@ impl Requester {
 
     /// Begins the next connection, unless memory runs out.
     fn begin_next(&mut self) -> Result<(), Memory>
-        requires stags { self.old.state.side.memory.next + stags_for_calls self.old.state.outstanding ≤ 2 ^ 32 }
+        requires { self.old.state.side.memory.next + stags_for_calls self.old.state.outstanding ≤ 2 ^ 32 }
         ensures state { OnOk result (self.new ≡ after_reopen self.old self.new.staging) }
+        ensures rising { RiseBy self.old.state.outstanding }
         ensures err { OnErr result (self.new ≡ self.old) }
     {
         let (endpoint, mut made) = next_link(

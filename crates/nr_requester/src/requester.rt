@@ -18,6 +18,7 @@ ghost use Rattle.nr_reduce.specs.Run.{client};
 ghost use Rattle.nr_requester.specs.RequesterState.{queue_of};
 ghost use Rattle.nr_requester.specs.Standing.{RequesterRepresents, StandsOn, StaysOut};
 ghost use Rattle.nr_requester.specs.Fed.{fed_bytes};
+ghost use Rattle.nr_requester.specs.ReopenedLinks.{KeepsOn};
 ghost use Rattle.nr_requester.specs.KeptLists.{ListsFit};
 ghost use Rattle.nr_requester.specs.OpenCalls.{found_call, found_answer, IsFresh, KeepsTickets};
 ghost use Rattle.nr_endpoint.specs.LinkState.{has_ended};
@@ -316,7 +317,8 @@ impl Requester {
             × (self.new ≡ after_drain n self.old)
             × StandsOn self.old (λ link. marks.Wrote link Initiator (take n (queue_of self.old.state))) self.new
             × StaysOut self.old (λ link. marks.Wrote link Initiator (take n (queue_of self.old.state))) self.new
-            × OnOk result (n ≡ length (queue_of self.old.state)) }
+            × OnOk result (n ≡ length (queue_of self.old.state))
+            × KeepsOn self.old (λ link. marks.Wrote link Initiator (take n (queue_of self.old.state))) self.new }
         ensures tickets { KeepsTickets self.old.state self.new.state }
         ensures fed { fed_bytes self.new ≡ fed_bytes self.old }
         ensures counted { MatchResult result

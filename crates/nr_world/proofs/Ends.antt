@@ -69,7 +69,7 @@ requester_quiet o link run h n none before after =
     record {
       keeps = record {
         wished = k.wished;
-        first = k.first;
+        resumes = k.resumes;
         kept = record {
           keeps = subst (λ (e : EndState ClientState). ClientKeeps o (kept_client (after_drain n h).state) e (length (bytes_received link Initiator run))) same
               (subst (λ (bytes : List ℕ). ClientKeeps o (kept_client (after_drain n h).state) (client o link (run ++ mark ∷ [])) (length bytes)) received k.kept.keeps);
@@ -79,6 +79,7 @@ requester_quiet o link run h n none before after =
         sent = k.sent;
         side = λ live. subst (λ (e : EndState ClientState). LinkKeeps o (after_drain n h).state.side e.state) same (k.side live);
       };
+      first = after.first;
       answers = same_answered o link run h n before.answers;
       counted = drained_count h n none ∙ before.counted;
     }

@@ -21,8 +21,7 @@ use Rattle.nr_reduce.specs.EndRules.{EndState, end_state_after}
 use Rattle.nr_reduce.specs.ClientState.{ClientState}
 use Rattle.nr_reduce.specs.Client.{client_rules, client_end}
 use Rattle.nr_reduce.specs.History.{AcceptedCall, bytes_received}
-use Rattle.nr_reduce.specs.Limits.{numbers_end}
-use Rattle.nr_reduce.specs.Plans.{TooLarge, regions_needed}
+use Rattle.nr_reduce.specs.Plans.{TooLarge}
 use Rattle.nr_reduce.specs.Run.{client}
 use Rattle.nr_reduce.specs.SubmitAnswer.{submit_answer, unless_dropped, submit_answer_after}
 use Rattle.nr_reduce.proofs.Standing.{itself}
@@ -36,6 +35,7 @@ use Rattle.nr_requester.specs.Standing.{RequesterRepresents}
 use Rattle.nr_requester.proofs.Accepting.{answers_as_client}
 use Rattle.nr_requester.proofs.AllMarks.{others_leave_it}
 use Rattle.nr_requester.proofs.AnswerSteps.{due_same}
+use Rattle.nr_requester.proofs.MaySubmit.{answer_cases}
 use Rattle.nr_drill.specs.Drill.{Setting, Drill, with_mark, settled, after_submit, is_sent_again}
 use Rattle.nr_drill.specs.InBytes.{RepliedInBytes}
 use Rattle.nr_drill.proofs.Carried.{same_dropped}
@@ -98,18 +98,18 @@ false_true e = absurd cc
 refused_apart : (why : Refused) (xid : ℕ) → submissions.Refused why ≢ submissions.Accepted xid
 refused_apart why xid e = false_true (ap is_accepted e)
 
-last_answer : (a b c : Bool) (x y z : Refused) (next xid : ℕ) →
-    cond a (submissions.Refused x) (cond b (submissions.Refused y) (cond c (submissions.Refused z) (submissions.Accepted next))) ≡ submissions.Accepted xid → xid ≡ next
-last_answer true b c x y z next xid e = absurd (refused_apart x xid e)
-last_answer false true c x y z next xid e = absurd (refused_apart y xid e)
-last_answer false false true x y z next xid e = absurd (refused_apart z xid e)
-last_answer false false false x y z next xid e = sym (ap accepted_xid e)
+-- an accepted call has the next xid
+abbrev AcceptsNext : ℕ → Submission → Type 0
+AcceptsNext next answer = (xid : ℕ) → answer ≡ submissions.Accepted xid → xid ≡ next
 
 next_by_plan : (r : RequesterState) (p : Result Plan TooLarge) (xid : ℕ) → answer_by_plan r p ≡ submissions.Accepted xid → xid ≡ r.next_xid
 next_by_plan r (Err large) xid e = absurd (refused_apart (refusals.TooLarge large.need large.room) xid e)
 next_by_plan r (Ok plan) xid e =
-    last_answer (leb r.grant (length r.outstanding)) (ltb (numbers_end - r.next_xid) 1) (ltb (numbers_end - r.side.memory.next) (regions_needed plan))
-    (refusals.NoCredit (length r.outstanding) r.grant) (refusals.Spent (numbers_end - r.next_xid) 1) (refusals.Spent (numbers_end - r.side.memory.next) (regions_needed plan)) r.next_xid xid e
+    answer_cases (AcceptsNext r.next_xid) r plan
+    (λ x f. absurd (refused_apart (refusals.NoCredit (length r.outstanding) r.grant) x f))
+    (λ oldest x f. absurd (refused_apart (refusals.Window oldest r.next_xid) x f))
+    (λ left need x f. absurd (refused_apart (refusals.Spent left need) x f))
+    (λ x f. sym (ap accepted_xid f)) xid e
 
 next_if : (r : RequesterState) (call : Call) (form : Form) (ended : Option End) (xid : ℕ) → answer_if r call form ended ≡ submissions.Accepted xid → (ended ≡ None) × (xid ≡ r.next_xid)
 next_if r call form (Some end) xid e = absurd (refused_apart (refusals.Ended end) xid e)

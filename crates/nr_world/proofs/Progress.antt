@@ -184,7 +184,7 @@ some_ready s link d call e =
 work_more : (s : Setting) → AnswersCalls s → (link : ℕ) (d : Drill) (call : ReadyCall) → HeardNone s link d.marks → waiting_call s link d.marks ≡ Some call → IsMore d (after_work s link d)
 unfolding after_work
 work_more s answers link d call heard e =
-    let (reply, is) = answers link d call (is_next s link d call e) in
+    let (reply, is) = answers s.opened link d call (is_next s link d call e) in
     let place = length (journal_of s d.marks) in
     subst (λ (c : Option ReadyCall). IsMore d (after_execution s link c d)) (sym e)
     (subst (λ (new : Drill). IsMore d new) (sym (new_called s link d call heard))

@@ -14,7 +14,7 @@ use Rattle.nr_reduce.specs.Plans.{Buffer, buffers, call_message, given_region, t
 use Rattle.nr_reduce.specs.KeptClient.{registered_all}
 use Rattle.nr_requester.specs.declared.outstanding.OutstandingCall.{OutstandingCall}
 use Rattle.nr_requester.specs.AfterCalls.{stored_call}
-use Rattle.nr_requester.specs.RequesterState.{awaited_call}
+use Rattle.nr_requester.specs.RequesterState.{StoredCall, awaited_call}
 use Rattle.nr_requester.specs.Reopening.{CallsAgain, calls_again_from, plan_again, stags_for_calls}
 use Rattle.nr_requester.specs.Views.{stored_view, HasRoom, AreRising}
 use Rattle.nr_requester.specs.HeldClaims.{all_claims, OffersOwn, IsOfferOf, SentHeld}
@@ -134,3 +134,8 @@ pub record IsNextLink (credit : ℕ) (left : LinkState) (next : ℕ) (e : Endpoi
 abbrev pub first_message : List (List ℕ) → List ℕ
 first_message [] = []
 first_message (message ∷ messages) = message
+
+-- the xids of some calls rise
+abbrev pub RiseBy : List StoredCall → Type 0
+RiseBy [] = Unit {0}
+RiseBy (c ∷ cs) = AllByRecursion (λ (d : StoredCall). c.xid < d.xid) cs × RiseBy cs

@@ -2,19 +2,19 @@ use Rattle.std.proofs.Common.{Some, Err, refl, sym, ap, take, ◌∙◌}
 use Rattle.nr_link.specs.declared.end.End.TheVariants as ends
 use Rattle.nr_requester.specs.RequesterState.{RequesterSide, RequesterState, feeding_of}
 use Rattle.nr_shared.proofs.Calls.{none_some}
-use Rattle.nr_shared.proofs.NextXid.{next_piece}
+use Rattle.nr_shared.proofs.NextXid.{next_feed, next_piece}
 use Rattle.nr_shared.proofs.Pieces.{end_not_out, err_not_out, feeds, feeds_out, going, ok_not_out, was_live}
 use Rattle.nr_shared.proofs.requester_with_sink.RequesterWithSink.feed.Goals as goal
 
 pub returns-in-Ok-clause-fed : goal.returns-in-Ok-clause-fed
 returns-in-Ok-clause-fed g c = let f = c.in-Ok.ensures in λ history last st is_last room out.
     feeds g.O.Sink.taken g.O.Sink.faults g.C.CallRule.allows c.args.self.now _ c.args.piece.now history last refl refl refl refl refl c.requires.goes c.requires.flushed (λ bad. none_some ends.Memory (f.ended ∙ bad)) (f.stands ok_not_out) f.tickets
-    (ap (λ (x : RequesterSide). x.state.next_xid) (f.state ok_not_out) ∙ next_piece (feeding_of c.args.self.now.requester) c.args.piece.now) f.within c.requires.some room is_last out st
+    (ap (λ (x : RequesterSide). x.state.next_xid) (f.state ok_not_out) ∙ next_feed c.args.self.now.requester c.args.piece.now c.feed.new.self.staging) f.within c.requires.some room is_last out st
 
 pub returns-in_default-clause-fed : goal.returns-in_default-clause-fed
 returns-in_default-clause-fed g c = let f = c.in-Err.ensures in let differs = err_not_out c.in_default.not-Memory in λ history last st is_last room out.
     feeds g.O.Sink.taken g.O.Sink.faults g.C.CallRule.allows c.args.self.now _ c.args.piece.now history last refl refl refl refl refl c.requires.goes c.requires.flushed (end_not_out c.in-Err.end _ f.ended c.in_default.not-Memory) (f.stands differs) f.tickets
-    (ap (λ (x : RequesterSide). x.state.next_xid) (f.state differs) ∙ next_piece (feeding_of c.args.self.now.requester) c.args.piece.now) f.within c.requires.some room is_last out st
+    (ap (λ (x : RequesterSide). x.state.next_xid) (f.state differs) ∙ next_feed c.args.self.now.requester c.args.piece.now c.feed.new.self.staging) f.within c.requires.some room is_last out st
 
 pub returns-in-Memory-clause-fed : goal.returns-in-Memory-clause-fed
 returns-in-Memory-clause-fed g c = let f = c.in-Err.ensures in let m = c.args.self.now in λ history last st is_last room out.
