@@ -15,7 +15,7 @@ use crate::call_end::CallEnd;
 use crate::call_rule::CallRule;
 use crate::requester_with_sink::MainTurn;
 use crate::turns::{drain_under, forget_under, submit_under, try_take_under};
-use nr_outside::Sink;
+use nr_links::LinkSink;
 use nr_reduce::{Call, Form};
 use nr_requester::{Done, Take, Ticket};
 
@@ -64,14 +64,14 @@ pub enum CreditState {
 }
 
 /// Takes the answer of a call of the pass's own, if it is there. If none comes any more, writes the output that is due, and forgets the call.
-pub(crate) fn poll_under<O: Sink, C: CallRule>(
+pub(crate) fn poll_under<O: LinkSink, C: CallRule>(
     turn: &mut MainTurn<'_, O, C>,
     ticket: Ticket,
 ) -> PollTurn
-    requires ready { IsReady O.taken O.faults C.allows turn.old }
+    requires ready { IsReady O.link O.taken O.faults C.allows turn.old }
     requires has_call { HasOpenCall (pass_of turn.old) ticket }
     ensures same { IsSameTurn turn.old turn.new }
-    ensures ready { IsReady O.taken O.faults C.allows turn.new }
+    ensures ready { IsReady O.link O.taken O.faults C.allows turn.new }
     ensures polled { IsPollTurn (pass_of turn.old) (pass_of turn.new) ticket result }
 {
     let with_sink = turn.value();
@@ -95,10 +95,10 @@ pub(crate) fn poll_under<O: Sink, C: CallRule>(
 }
 
 /// Whether a call may be submitted, or the link has ended.
-fn credit_state_under<O: Sink, C: CallRule>(turn: &mut MainTurn<'_, O, C>) -> CreditState
-    requires ready { IsReady O.taken O.faults C.allows turn.old }
+fn credit_state_under<O: LinkSink, C: CallRule>(turn: &mut MainTurn<'_, O, C>) -> CreditState
+    requires ready { IsReady O.link O.taken O.faults C.allows turn.old }
     ensures same { IsSameTurn turn.old turn.new }
-    ensures ready { IsReady O.taken O.faults C.allows turn.new }
+    ensures ready { IsReady O.link O.taken O.faults C.allows turn.new }
     ensures seen { seen_by (pass_of turn.new) ≡ seen_by (pass_of turn.old) }
     ensures mine { mine_of (pass_of turn.new) ≡ mine_of (pass_of turn.old) }
     ensures found { IsCreditState turn.new result }
@@ -115,16 +115,16 @@ fn credit_state_under<O: Sink, C: CallRule>(turn: &mut MainTurn<'_, O, C>) -> Cr
 }
 
 /// Writes the output that is due. Then, if a call may be submitted, submits this one and writes it.
-pub(crate) fn submit_if_credit_under<O: Sink, C: CallRule>(
+pub(crate) fn submit_if_credit_under<O: LinkSink, C: CallRule>(
     turn: &mut MainTurn<'_, O, C>,
     call: Call,
     form: Form,
 ) -> SubmitTurn
     requires writable { CanWriteCred call.cred }
     requires allowed { C.allows call form }
-    requires ready { IsReady O.taken O.faults C.allows turn.old }
+    requires ready { IsReady O.link O.taken O.faults C.allows turn.old }
     ensures same { IsSameTurn turn.old turn.new }
-    ensures ready { IsReady O.taken O.faults C.allows turn.new }
+    ensures ready { IsReady O.link O.taken O.faults C.allows turn.new }
     ensures submitted { IsSubmitTurn (pass_of turn.old) (pass_of turn.new) call form result }
 {
     drain_under(turn);
@@ -146,13 +146,13 @@ pub(crate) fn submit_if_credit_under<O: Sink, C: CallRule>(
 }
 
 /// What is needed: nothing, if the link has ended, no call is outstanding, the answer of the call is there, or one may be submitted.
-pub(crate) fn need_under<O: Sink, C: CallRule>(
+pub(crate) fn need_under<O: LinkSink, C: CallRule>(
     turn: &mut MainTurn<'_, O, C>,
     ticket: Option<&Ticket>,
 ) -> Need
-    requires ready { IsReady O.taken O.faults C.allows turn.old }
+    requires ready { IsReady O.link O.taken O.faults C.allows turn.old }
     ensures same { IsSameTurn turn.old turn.new }
-    ensures ready { IsReady O.taken O.faults C.allows turn.new }
+    ensures ready { IsReady O.link O.taken O.faults C.allows turn.new }
     ensures seen { seen_by (pass_of turn.new) ≡ seen_by (pass_of turn.old) }
     ensures mine { mine_of (pass_of turn.new) ≡ mine_of (pass_of turn.old) }
     ensures need { IsNeeded result (seen_by (pass_of turn.old)) }
@@ -178,10 +178,10 @@ pub(crate) fn need_under<O: Sink, C: CallRule>(
 }
 
 /// Whether a call may be submitted.
-pub(crate) fn credit_under<O: Sink, C: CallRule>(turn: &mut MainTurn<'_, O, C>) -> bool
-    requires ready { IsReady O.taken O.faults C.allows turn.old }
+pub(crate) fn credit_under<O: LinkSink, C: CallRule>(turn: &mut MainTurn<'_, O, C>) -> bool
+    requires ready { IsReady O.link O.taken O.faults C.allows turn.old }
     ensures same { IsSameTurn turn.old turn.new }
-    ensures ready { IsReady O.taken O.faults C.allows turn.new }
+    ensures ready { IsReady O.link O.taken O.faults C.allows turn.new }
     ensures seen { seen_by (pass_of turn.new) ≡ seen_by (pass_of turn.old) }
     ensures mine { mine_of (pass_of turn.new) ≡ mine_of (pass_of turn.old) }
     ensures credit { SaysCredit result (seen_by (pass_of turn.old)) }

@@ -86,9 +86,9 @@ where
     O: Drop,
     D: Drop,
     requires source_history { record { source = _source.now; dialer = _dialer.now; pass = _pass.now; read = reader.read } ∷ [] ≡ K.source_history }
-    requires feeds { FeedsFor I.left I.given I.faults D.ended D.faults (record { source = _source.now; dialer = _dialer.now; pass = _pass.now; read = reader.read }) reader }
+    requires feeds { FeedsFor I.link I.left I.given I.faults D.ended D.faults (record { source = _source.now; dialer = _dialer.now; pass = _pass.now; read = reader.read }) reader }
     ensures ok { IfOk result (λ t. Rests t.0 t.1 × (seen_by t.1 ≡ record { source = _source.now; dialer = _dialer.now; pass = _pass.now; read = reader.read } ∷ [])) }
-    ensures err { IfErr result (FeedsFor I.left I.given I.faults D.ended D.faults (record { source = _source.now; dialer = _dialer.now; pass = _pass.now; read = reader.read })) }
+    ensures err { IfErr result (FeedsFor I.link I.left I.given I.faults D.ended D.faults (record { source = _source.now; dialer = _dialer.now; pass = _pass.now; read = reader.read })) }
 {
     match Turnstile::new_or_value::<SourceHistoryOf<K>>(alloc, reader) {
         Ok(pair) => Ok(pair),
@@ -105,8 +105,8 @@ fn take_back<R: Wait, I: LinkSource, O: LinkSink, C: CallRule, D: Dialer<Source 
 ) -> (Requester, Option<(I, O)>, D)
     requires rests { Rests main caller }
     requires caller { IsCaller caller }
-    requires feeds { (b : InitialSource I O C D) × (FeedsFor I.left I.given I.faults D.ended D.faults b reader × (home_of b.pass.value ≡ id_of main)) }
-    ensures { (b : InitialSource I O C D) → FeedsFor I.left I.given I.faults D.ended D.faults b reader → GivesBack I.left I.given I.faults O.taken O.faults D.ended D.faults C.allows (seen_by caller) (mine_of caller) b.source.value b.dialer.value b.read result.0 result.1 result.2 }
+    requires feeds { (b : InitialSource I O C D) × (FeedsFor I.link I.left I.given I.faults D.ended D.faults b reader × (home_of b.pass.value ≡ id_of main)) }
+    ensures { (b : InitialSource I O C D) → FeedsFor I.link I.left I.given I.faults D.ended D.faults b reader → GivesBack I.link I.left I.given I.faults O.link O.taken O.faults D.ended D.faults C.allows (seen_by caller) (mine_of caller) b.source.value b.dialer.value b.read result.0 result.1 result.2 }
 {
     let SourceReader {
         source,
@@ -154,7 +154,7 @@ where
     ensures rests { IfOk result (λ t. SharedRests t.0 t.1) }
     ensures seen { IfOk result (λ t. (seen_by t.1.main ≡ H.history) × (mine_of t.1.main ≡ [])) }
     ensures source { IfOk result (λ t. (b : InitialSource I O C D) × ((seen_by t.1.source ≡ b ∷ []) × ((b.source.value ≡ link.0) × ((b.dialer.value ≡ dialer) × (b.read ≡ read))))) }
-    ensures err { IfErr result (λ back. GivesBack I.left I.given I.faults O.taken O.faults D.ended D.faults C.allows H.history [] link.0 dialer read back.0 back.1 back.2) }
+    ensures err { IfErr result (λ back. GivesBack I.link I.left I.given I.faults O.link O.taken O.faults D.ended D.faults C.allows H.history [] link.0 dialer read back.0 back.1 back.2) }
 {
     let (source, sink) = link;
     let with_sink = RequesterWithSink::of_parts(requester, sink, tries);
@@ -239,7 +239,7 @@ impl<I: LinkSource, O: LinkSink, C: CallRule> SharedRequester<I, O, C, NoDialer<
         ensures rests { IfOk result (λ t. SharedRests t.0 t.1) }
         ensures seen { IfOk result (λ t. (seen_by t.1.main ≡ H.history) × (mine_of t.1.main ≡ [])) }
         ensures source { IfOk result (λ t. (b : InitialSource I O C (NoDialer I O)) × ((seen_by t.1.source ≡ b ∷ []) × ((b.source.value ≡ source) × (b.read ≡ read)))) }
-        ensures err { IfErr result (λ back. GivesBack I.left I.given I.faults O.taken O.faults NoDialer.ended NoDialer.faults C.allows H.history [] source back.2 read back.0 back.1 back.2) }
+        ensures err { IfErr result (λ back. GivesBack I.link I.left I.given I.faults O.link O.taken O.faults NoDialer.ended NoDialer.faults C.allows H.history [] source back.2 read back.0 back.1 back.2) }
     {
         share::<H, R, I, O, C, NoDialer<I, O>>(
             rt,
@@ -305,7 +305,7 @@ impl<I: LinkSource, O: LinkSink, C: CallRule, D: Dialer<Source = I, Sink = O>> S
     /// Waits until both turns are free, and gives the requester, the link and the dialer back. There is no link if the last dial failed.
     pub fn close<R: Wait>(self, rt: &R, pass: Pass<I, O, C, D>) -> (Requester, Option<(I, O)>, D)
         requires { SharedRests self pass }
-        ensures { (b : InitialSource I O C D) × ((seen_by pass.source ≡ b ∷ []) × GivesBack I.left I.given I.faults O.taken O.faults D.ended D.faults C.allows (seen_by pass.main) (mine_of pass.main) b.source.value b.dialer.value b.read result.0 result.1 result.2) }
+        ensures { (b : InitialSource I O C D) × ((seen_by pass.source ≡ b ∷ []) × GivesBack I.link I.left I.given I.faults O.link O.taken O.faults D.ended D.faults C.allows (seen_by pass.main) (mine_of pass.main) b.source.value b.dialer.value b.read result.0 result.1 result.2) }
     {
         let SharedRequester { main, source } = self;
         let Pass {

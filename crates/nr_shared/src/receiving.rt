@@ -56,8 +56,8 @@ impl<I: LinkSource, O: LinkSink, C: CallRule, D: Dialer<Source = I, Sink = O>> S
         reader: &mut SourceReader<I, O, C, D>,
         ticket: Option<&Ticket>,
     ) -> Result<(), CallEnd>
-        requires { (b : InitialSource I O C D) × (FeedsFor I.left I.given I.faults b reader.old × (home_of b.pass.value ≡ id_of self.now.main)) }
-        ensures { (b : InitialSource I O C D) → FeedsFor I.left I.given I.faults b reader.old → home_of b.pass.value ≡ id_of self.now.main → FeedsFor I.left I.given I.faults b reader.new }
+        requires { (b : InitialSource I O C D) × (FeedsFor I.link I.left I.given I.faults D.ended D.faults b reader.old × (home_of b.pass.value ≡ id_of self.now.main)) }
+        ensures { (b : InitialSource I O C D) → FeedsFor I.link I.left I.given I.faults D.ended D.faults b reader.old → home_of b.pass.value ≡ id_of self.now.main → FeedsFor I.link I.left I.given I.faults D.ended D.faults b reader.new }
     {
         match self.need(rt, &mut reader.pass, ticket) {
             Need::Nothing => return Ok(()),

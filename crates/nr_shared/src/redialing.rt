@@ -63,12 +63,12 @@ fn redial_under<O: LinkSink, C: CallRule, I: LinkSource, D: Dialer<Source = I, S
     dialer: &mut D,
     addr: &str,
 ) -> Result<(), CallEnd>
-    requires ready { IsReady O.taken O.faults C.allows turn.old }
+    requires ready { IsReady O.link O.taken O.faults C.allows turn.old }
     requires feeding { IsFeeding (pass_of turn.old) }
     requires lost { is_lost (seen_by (pass_of turn.old)) ≡ true }
     requires link { HasLink I.link D.ended (seen_by (pass_of turn.old)) source.old dialer.old }
     ensures same { IsSameTurn turn.old turn.new }
-    ensures ready { IsReady O.taken O.faults C.allows turn.new }
+    ensures ready { IsReady O.link O.taken O.faults C.allows turn.new }
     ensures feeding { IsFeeding (pass_of turn.new) }
     ensures rejoined { OnOk result (Redials (pass_of turn.old) (pass_of turn.new) source.old source.new dialer.old dialer.new addr.now) }
     ensures err { IfErr result (λ end. CannotReopen end (seen_by (pass_of turn.old))) }
@@ -107,9 +107,9 @@ impl<I: LinkSource, O: LinkSink, C: CallRule, D: Dialer<Source = I, Sink = O>> S
         rt: &R,
         reader: &mut SourceReader<I, O, C, D>,
     ) -> Result<(), CallEnd>
-        requires reads { (b : InitialSource I O C D) × (FeedsFor I.left I.given I.faults b reader.old × (home_of b.pass.value ≡ id_of self.now.main)) }
+        requires reads { (b : InitialSource I O C D) × (FeedsFor I.link I.left I.given I.faults D.ended D.faults b reader.old × (home_of b.pass.value ≡ id_of self.now.main)) }
         requires lost { is_lost (seen_by reader.old.pass) ≡ true }
-        ensures reads { (b : InitialSource I O C D) → FeedsFor I.left I.given I.faults b reader.old → home_of b.pass.value ≡ id_of self.now.main → FeedsFor I.left I.given I.faults b reader.new }
+        ensures reads { (b : InitialSource I O C D) → FeedsFor I.link I.left I.given I.faults D.ended D.faults b reader.old → home_of b.pass.value ≡ id_of self.now.main → FeedsFor I.link I.left I.given I.faults D.ended D.faults b reader.new }
         ensures err { IfErr result (λ end. CannotReopen end (seen_by reader.new.pass)) }
     {
         let SourceReader {

@@ -16,7 +16,7 @@ use std::snapshot::Snapshot;
 
 /// The source of a link, with the one pass that feeds what it gives, and what dials the next link.
 #[derive(Drop)]
-pub struct SourceReader<I, O: Sink, C: CallRule, D> {
+pub struct SourceReader<I, O: LinkSink, C: CallRule, D> {
     // There is none once a dial failed.
     pub(crate) source: Option<I>,
     pub(crate) dialer: D,
@@ -30,7 +30,7 @@ pub struct SourceReader<I, O: Sink, C: CallRule, D> {
 }
 
 /// The source and the dialer when they were shared, and the first pass that fed. No value of it is made.
-pub struct InitialSource<I, O: Sink, C: CallRule, D> {
+pub struct InitialSource<I, O: LinkSink, C: CallRule, D> {
     /// The source.
     pub source: Snapshot<I>,
     /// The dialer.
@@ -41,12 +41,12 @@ pub struct InitialSource<I, O: Sink, C: CallRule, D> {
     pub read: u64,
 }
 
-impl<I: Source, O: Sink, C: CallRule> Machine for SourceReader<I, O, C> {
+impl<I: Source, O: LinkSink, C: CallRule> Machine for SourceReader<I, O, C> {
     ghost use Rattle.nr_shared.specs.Feeding.{Feeds, closes_none};
 
     type Entry = InitialSource<I, O, C>;
 
-    ghost stands = { Feeds I.left I.given I.faults };
+    ghost stands = { Feeds I.link I.left I.given I.faults D.ended D.faults };
 
     ghost closes = { closes_none };
 
@@ -55,7 +55,7 @@ impl<I: Source, O: Sink, C: CallRule> Machine for SourceReader<I, O, C> {
     }
 }
 
-impl<I: Source, O: Sink, C: CallRule> SourceReader<I, O, C> {
+impl<I: Source, O: LinkSink, C: CallRule> SourceReader<I, O, C> {
     ghost use Rattle.nr_shared.specs.Feeding.{StopHolds};
     ghost use Rattle.nr_shared.specs.declared.entry.Stop.TheVariants as causes;
 
