@@ -4,7 +4,12 @@ use Rattle.std.specs.Io.KnownBytes.{IsAtEnd}
 use Rattle.nr_outside.specs.Content.{HandsOut}
 use Rattle.nr_outside.specs.Faults.{Rises}
 use Rattle.nr_links.specs.Limits.{piece_max, read_max}
-use Rattle.nr_links.specs.Links.{EndedLink, HasOpenLink, LinkLog}
+use Rattle.nr_links.specs.Asked.{Asks}
+use Rattle.nr_links.specs.Links.{EndedLink, HasOpenLink, IsNewLink, LinkLog}
+use Rattle.nr_turnstile.specs.declared.turnstile.Pass.{Pass}
+use Rattle.nr_shared.specs.declared.requester_with_sink.RequesterWithSink.{RequesterWithSink}
+use Rattle.nr_shared.specs.Adding.{Adds}
+use Rattle.nr_shared.specs.Draining.{rejoined_after}
 use Rattle.nr_turnstile.specs.Rule.{Lies}
 use Rattle.nr_turnstile.specs.Passes.{IsOutside, home_of, seen_by, mine_of}
 use Rattle.nr_shared.specs.declared.entry.Entry.{Entry}
@@ -88,3 +93,26 @@ pub record FeedsFor {I O C D : Type 0} (link : I → ℕ) (left given : I → Op
 -- it has one entry: the source and the dialer when they were shared, and the pass that fed first
 abbrev pub Feeds : {I O C D : Type 0} → (I → ℕ) → (I → Option (List ℕ)) → (I → Option (List ℕ)) → (I → ℕ) → (D → Option LinkLog) → (D → ℕ) → SourceReader I O C D → List (InitialSource I O C D) → Type 0
 Feeds {I} {O} {C} {D} link left given faults ended dialer_faults s history = (b : InitialSource I O C D) × (history ≡ b ∷ []) × FeedsFor link left given faults ended dialer_faults b s
+
+-- ---- A redial
+
+-- A lost link can be hung up: its source has the number of its sink, and one more was made than hung up.
+abbrev pub HasLink : {I D : Type 0} → (link : I → ℕ) → (ended : D → Option LinkLog) → List Entry → Option I → D → Type 0
+HasLink link ended history source dialer = IfSome source (λ s. IfSome (sink_of history) (λ sink. link s ≡ sink.link) × HasOpenLink (ended dialer))
+
+-- The next link, if its dial succeeded, is new, and both halves have one number.
+abbrev pub IsNext : {I : Type 0} → (link : I → ℕ) → (given : I → Option (List ℕ)) → (faults : I → ℕ) → Option I → Option InitialSink → Type 0
+IsNext link given faults (Some source) (Some sink) = (link source ≡ sink.link) × IsNewLink (given source) sink.taken (faults source) sink.faults
+IsNext link given faults None None = Unit {0}
+IsNext link given faults source sink = ⊥
+
+-- The pass adds the Rejoin, and no other entry. The link that is left was hung up, and the address was dialled once: the dialer's count rose if and only if that failed.
+pub record Redials {I O C D : Type 0} (link : I → ℕ) (given : I → Option (List ℕ)) (faults : I → ℕ) (ended : D → Option LinkLog) (asked : D → Option (List (List ℕ))) (dialer_faults : D → ℕ)
+    (p q : Pass (RequesterWithSink O C) Entry) (source' : Option I) (dialer dialer' : D) (addr : List ℕ) : Type 0 where
+  pub sink : Option InitialSink
+  pub adds : Adds p q (rejoined_after (seen_by p) sink ∷ [])
+  pub seen : seen_by q ≡ seen_by p ++ rejoined_after (seen_by p) sink ∷ []
+  pub next : IsNext link given faults source' sink
+  pub dialled : is_some sink ≡ true → (Asks (asked dialer) (asked dialer') addr) × (dialer_faults dialer' ≡ dialer_faults dialer)
+  pub failed : is_some sink ≡ false → Rises (dialer_faults dialer) (dialer_faults dialer')
+  pub hung_up : HungUp (ended dialer) (ended dialer') 1

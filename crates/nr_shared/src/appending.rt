@@ -6,7 +6,7 @@ ghost use Rattle.nr_turnstile.specs.Turns.{pass_of, Has, IsSameTurn};
 ghost use Rattle.nr_shared.specs.declared.entry.Entry.TheVariants as entries;
 ghost use Rattle.nr_shared.specs.declared.requester_with_sink.RequesterWithSink.{RequesterWithSink};
 ghost use Rattle.nr_shared.specs.Histories.{closes_of, done_by, forget_by, revoke_by};
-ghost use Rattle.nr_shared.specs.Draining.{fed_after, stopped_after, taken_between};
+ghost use Rattle.nr_shared.specs.Draining.{fed_after, initial_sink, rejoined_after, stopped_after, taken_between};
 ghost use Rattle.nr_requester.specs.Buffers.{bytes_of_buffers};
 ghost use Rattle.nr_shared.specs.HandedBack.{lost_by};
 
@@ -181,6 +181,21 @@ pub(crate) fn append_stopped<O: LinkSink, C: CallRule, K: Appended>(
     ensures same { IsSameTurn turn.old turn.new }
     ensures held { (y : RequesterWithSink O C) → Has turn.old y → Has turn.new y }
     ensures step { Steps (pass_of turn.old) (pass_of turn.new) (stopped_after (seen_by (pass_of turn.old)) _cause) }
+{
+    turn.step::<EntryOf<K>>();
+}
+
+/// Appends the Rejoin of a requester that left its link, with the sink of the next one, or none.
+pub(crate) fn append_rejoin<O: LinkSink, C: CallRule, K: Appended>(
+    turn: &mut MainTurn<'_, O, C>,
+    _sink: &Snapshot<Option<O>>,
+)
+    requires entry { rejoined_after (seen_by (pass_of turn.old)) (initial_sink O.link O.taken O.faults _sink.now.value) ≡ K.entry }
+    requires value { (y : RequesterWithSink O C) × Has turn.old y }
+    requires may { MayStep closes_of (pass_of turn.old) (rejoined_after (seen_by (pass_of turn.old)) (initial_sink O.link O.taken O.faults _sink.now.value)) }
+    ensures same { IsSameTurn turn.old turn.new }
+    ensures held { (y : RequesterWithSink O C) → Has turn.old y → Has turn.new y }
+    ensures step { Steps (pass_of turn.old) (pass_of turn.new) (rejoined_after (seen_by (pass_of turn.old)) (initial_sink O.link O.taken O.faults _sink.now.value)) }
 {
     turn.step::<EntryOf<K>>();
 }

@@ -6,6 +6,7 @@ ghost use Rattle.nr_turnstile.specs.Passes.{seen_by, mine_of};
 ghost use Rattle.nr_turnstile.specs.Turns.{pass_of, IsSameTurn};
 ghost use Rattle.nr_shared.specs.Callers.{HasOpenCall, IsReady};
 ghost use Rattle.nr_shared.specs.private.CreditState.{IsCreditState};
+ghost use Rattle.nr_shared.specs.private.Needs.{IsNeeded};
 ghost use Rattle.nr_shared.specs.Histories.{stop_of};
 ghost use Rattle.nr_shared.specs.Output.{IsCallOutstanding};
 ghost use Rattle.nr_shared.specs.Sharing.{SaysCredit, SaysCreditOutOfMemory};

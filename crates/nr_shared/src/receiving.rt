@@ -8,6 +8,7 @@ ghost use Rattle.nr_shared.specs.declared.entry.Stop.TheVariants as causes;
 ghost use Rattle.nr_shared.specs.declared.source_reader.InitialSource.{InitialSource};
 ghost use Rattle.nr_shared.specs.Callers.{IsFeeding};
 ghost use Rattle.nr_shared.specs.Feeding.{FeedsFor};
+ghost use Rattle.nr_shared.specs.private.Needs.{IsNeeded};
 ghost use Rattle.nr_shared.specs.Histories.{bytes_fed, stop_of};
 ghost use Rattle.nr_shared.specs.Output.{IsCallOutstanding};
 

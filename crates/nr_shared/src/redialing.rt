@@ -70,7 +70,7 @@ fn redial_under<O: LinkSink, C: CallRule, I: LinkSource, D: Dialer<Source = I, S
     ensures same { IsSameTurn turn.old turn.new }
     ensures ready { IsReady O.link O.taken O.faults C.allows turn.new }
     ensures feeding { IsFeeding (pass_of turn.new) }
-    ensures rejoined { OnOk result (Redials (pass_of turn.old) (pass_of turn.new) source.old source.new dialer.old dialer.new addr.now) }
+    ensures rejoined { OnOk result (Redials I.link I.given I.faults D.ended D.asked D.faults (pass_of turn.old) (pass_of turn.new) source.new dialer.old dialer.new addr.now) }
     ensures err { IfErr result (λ end. CannotReopen end (seen_by (pass_of turn.old))) }
     ensures unchanged { OnErr result ((seen_by (pass_of turn.new) ≡ seen_by (pass_of turn.old)) × ((source.new ≡ source.old) × (dialer.new ≡ dialer.old))) }
 {

@@ -154,7 +154,10 @@ pub(crate) fn revoke_under<O: LinkSink, C: CallRule>(
 }
 
 /// Feeds a piece that was read, after a drain. Answers whether memory ran out for a frame of it.
-pub(crate) fn feed_under<O: LinkSink, C: CallRule>(turn: &mut MainTurn<'_, O, C>, piece: &[u8]) -> bool
+pub(crate) fn feed_under<O: LinkSink, C: CallRule>(
+    turn: &mut MainTurn<'_, O, C>,
+    piece: &[u8],
+) -> bool
     requires ready { IsReady O.link O.taken O.faults C.allows turn.old }
     requires feeding { IsFeeding (pass_of turn.old) }
     requires goes { (y : RequesterWithSink O C) → Has turn.old y → y.stopped ≡ None }
