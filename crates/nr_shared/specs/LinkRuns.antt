@@ -100,13 +100,17 @@ client_at numbers l = client l.opened (numbers l.index) l.run
 
 -- ---- What its first link was opened with
 
+-- the links have different numbers
+abbrev pub AreApart : (ℕ → ℕ) → Type 0
+AreApart numbers = (j k : ℕ) → j ≢ k → numbers j ≢ numbers k
+
 -- The first link was opened with these parameters, and the requester stood for these marks when it was shared, which keep the law of its side. The links have
 -- different numbers, and these marks are none of a later one.
 pub record FitsInitialState (initial : InitialState) (opened : LinkParameters) (numbers : ℕ → ℕ) (before : List Mark) : Type 0 where
   pub opens : IsOpened opened
   pub first : IsFirstLink opened
   pub live : IsLive opened (numbers 0) initial.requester before
-  pub apart : (j k : ℕ) → j ≢ k → numbers j ≢ numbers k
+  pub apart : AreApart numbers
   pub new : (k : ℕ) → 0 < k → HasNoMark (numbers k) before
 
 abbrev pub FitsHistory : List Entry → LinkParameters → (ℕ → ℕ) → List Mark → Type 0
