@@ -5,7 +5,7 @@ use Rattle.nr_reduce.specs.declared.mark.Mark.{Mark}
 use Rattle.nr_reduce.specs.Asked.{AskedSoFar}
 use Rattle.nr_reduce.specs.Credits.{KeepsGrant}
 use Rattle.nr_requester.specs.RequesterState.{RequesterSide}
-use Rattle.nr_requester.specs.ReopenedLinks.{KeepsEarlier, RequesterKeeps}
+use Rattle.nr_requester.specs.ReopenedLinks.{KeepsEarlier, RequesterKeeps, RequesterStops}
 use Rattle.nr_shared.specs.LinkRuns.{LeftLink, LinkRun, has_outcome_on, is_own}
 
 -- the law of the client's side, and the last grant, on one link
@@ -22,7 +22,7 @@ abbrev pub AreLeft : RequesterSide → List Mark → List LeftLink → Type 0
 AreLeft h run [] = Unit {0}
 AreLeft h run (l ∷ left) = KeepsEarlier (is_left_own run l) l.opened l.link h run × (KeepsLinkLaw l.opened l.link run × AreLeft h run left)
 
--- The same of one that ran out of memory: the general form of `RequesterRunsOut` is to come with nr_requester's.
+-- The same of one that ran out of memory.
 pub record IsOutOn (link : ℕ) (l : LinkRun) (h : RequesterSide) : Type 0 where
   pub earlier : ℕ
   pub stopped : List Mark
