@@ -1,5 +1,5 @@
 -- Why a call has no answer, by the history of the shared requester.
-use Rattle.std.specs.Prelude.{◌≡◌, ◌≢◌, ⊤, ◌⊎◌, ℕ, ◌-◌, ◌<◌, true, List, Option, None, Some}
+use Rattle.std.specs.Prelude.{◌≡◌, ◌≢◌, ⊤, ◌⊎◌, ℕ, ◌-◌, ◌+◌, ◌<◌, true, List, [], ◌∷◌, Option, None, Some}
 use Rattle.nr_link.specs.declared.end.End.{End}
 use Rattle.nr_link.specs.declared.end.End.TheVariants as ends
 use Rattle.nr_links.specs.Limits.{read_max}
@@ -10,7 +10,10 @@ use Rattle.nr_reduce.specs.declared.call.Refused.TheVariants as refusals
 use Rattle.nr_reduce.specs.declared.call.Submission.TheVariants as submissions
 use Rattle.nr_reduce.specs.declared.mark.LinkParameters.{LinkParameters}
 use Rattle.nr_reduce.specs.declared.mark.Mark.{Mark}
+use Rattle.nr_reduce.specs.declared.mark.ResumedCall.{ResumedCall}
 use Rattle.nr_reduce.specs.Limits.{numbers_end}
+use Rattle.nr_reduce.specs.Plans.{regions_needed}
+use Rattle.nr_reduce.specs.Reopening.{reopened}
 use Rattle.nr_reduce.specs.Run.{client}
 use Rattle.nr_reduce.specs.SubmitAnswer.{submit_answer}
 use Rattle.nr_shared.specs.declared.call_end.CallEnd.{CallEnd}
@@ -58,10 +61,15 @@ LinkEnded calls.DialFault history = stop_of history ≡ Some causes.DialFault
 LinkEnded (calls.Budget read) history = (read ≡ read_max) × (stop_of history ≡ Some causes.Budget)
 LinkEnded end history = ⊥
 
+-- how many regions some calls have that are sent again
+abbrev pub stags_for : List ResumedCall → ℕ
+stags_for [] = 0
+stags_for (r ∷ calls) = regions_needed r.plan + stags_for calls
+
 -- The client of the run is left with fewer STags than its calls need, which would be sent again.
 abbrev pub SpentAtReopening : (left need : ℕ) → List Entry → Type 0
 SpentAtReopening left need history = (n : ℕ) × OnLink n history (λ opened link run.
-    (left ≡ numbers_end - (client opened link run).state.stag) × ((need ≡ stags_again (client opened link run).state) × (left < need)))
+    (left ≡ numbers_end - (client opened link run).state.stag) × ((need ≡ stags_for (reopened opened link run).resumed) × (left < need)))
 
 -- A lost link can't be left: too few STags are left, or memory ran out.
 abbrev pub CannotReopen : CallEnd → List Entry → Type 0
