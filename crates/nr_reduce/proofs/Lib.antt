@@ -58,6 +58,7 @@ pub mod ReadChunks
 pub mod BadMessages
 pub mod ReadyCalls
 pub mod Readings
+pub mod EntriesApart
 pub mod AnswerMessages
 pub mod Submitting
 pub mod Calls
