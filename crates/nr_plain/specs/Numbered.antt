@@ -20,7 +20,7 @@ use Rattle.nr_plain.specs.Replies.{Answer, call_by_cred, cred_refusal, program_c
 use Rattle.nr_plain.specs.ReplyLaws.{plain_server}
 use Rattle.nr_plain.specs.Stands.{PlainServerState, RepresentsJournal}
 use Rattle.nr_plain.specs.History.{AddsOne, entries_added, xid_in}
-use Rattle.nr_reduce.specs.NumberedJournal.{Standing, IsReplyOf, entries_alone, standing_for}
+use Rattle.nr_reduce.specs.NumberedJournal.{HasNoEntryTwice, Standing, IsReplyOf, entries_alone, standing_for}
 use Rattle.nr_reduce.specs.NumberedJournal.Standing.{Old, Kept, New}
 use Rattle.nr_reduce.specs.declared.mark.TaggedEntry.{TaggedEntry}
 use Rattle.nr_plain.specs.declared.fault.Fault.{Fault}
@@ -148,17 +148,10 @@ abbrev pub journal_after : Setup → List TaggedEntry → List NumberedCall → 
 journal_after s T [] = T
 journal_after s T (c ∷ calls) = journal_after s (T ++ added_for s T c) calls
 
--- no two entries have the same client other than 0 and the same xid
-abbrev pub IsOther : TaggedEntry → TaggedEntry → Type 0
-IsOther t u = u.client ≡ t.client → u.xid ≢ t.xid
-
-abbrev pub NoEntryTwice : List TaggedEntry → Type 0
-NoEntryTwice [] = ⊤
-NoEntryTwice (t ∷ T) = (t.client ≢ 0 → All (IsOther t) T) × NoEntryTwice T
-
--- Over every list of calls, whatever they are and whatever their replies say: so over those that a server answered, one after the other.
+-- No two entries are of one call of a client with a number, over every list of calls, whatever they are and whatever their replies say: so over those
+-- that a server answered, one after the other.
 abbrev pub ChangesOnce : Type 0
-ChangesOnce = (s : Setup) (calls : List NumberedCall) → NoEntryTwice (journal_after s [] calls)
+ChangesOnce = (s : Setup) (calls : List NumberedCall) → HasNoEntryTwice (journal_after s [] calls)
 
 -- ---- The reply of a kept call
 

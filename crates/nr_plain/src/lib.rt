@@ -46,7 +46,7 @@ pub use journal_laws::{
 };
 pub use laws::{
     auto_offers_hold_their_replies, changes_fit_every_offer, replies_are_within_their_limit,
-    replies_begin_with_the_xid, server_is_plain, server_keeps_calls,
+    replies_begin_with_the_xid, server_fits_changes, server_is_plain, server_keeps_calls,
 };
 pub use numbered::{changes_once, finding_is_standing, first_replies_are_kept};
 pub use server::{Reply, Server};
