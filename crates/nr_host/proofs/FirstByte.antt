@@ -178,8 +178,7 @@ module _ (left given left' given' : Option (List ℕ)) (sink : SinkState) (gave 
       writes = e.runs.writes;
       frames = e.runs.frames;
       turns = e.runs.turns;
-      answered = e.runs.answered;
-      refused = e.runs.refused;
+      handled = e.runs.handled;
       over = e.runs.over;
       greeted = e.runs.greeted;
       gave = e.runs.gave;
