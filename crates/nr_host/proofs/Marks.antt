@@ -37,7 +37,7 @@ gives_more before now (Some after) given moment all one =
     let (first, begun, all_is) = all' in
     (first, begun, is ∙ ap (λ (l : List Moment). l ++ moment ∷ []) all_is ∙ append_assoc first given (moment ∷ []))
 
-handled_more : (run : List Mark) (mark : Mark) → handled_in (run ++ mark ∷ []) ≡ handled_in run ++ handled_by mark
+pub handled_more : (run : List Mark) (mark : Mark) → handled_in (run ++ mark ∷ []) ≡ handled_in run ++ handled_by mark
 unfolding handled_in
 handled_more run mark = one_more handled_by run mark
 

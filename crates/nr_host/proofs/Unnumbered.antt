@@ -17,7 +17,7 @@ use Rattle.nr_plain.specs.Journal.{state_of}
 use Rattle.nr_plain.specs.Replies.{Answer, plain_answer, plain_reply}
 use Rattle.nr_plain.specs.Setup.{Setup}
 use Rattle.nr_plain.proofs.Histories.{tagged_alone}
-use Rattle.nr_host.specs.Connections.{Outside, Runs, answer_of, answers_of, handled_by, handled_in}
+use Rattle.nr_host.specs.Connections.{Outside, Runs, answer_of, answers_of, handled_by, handled_in, refusal_of, refusals_of}
 use Rattle.nr_host.specs.Turns.{AreTurns, Handled, IsAnsweredAt, Taken, Turn, added_at, answered_at, answered_in, given_for, handled_at}
 use Rattle.nr_host.specs.Turns.Turn.{Answers, Refuses}
 use Rattle.nr_host.specs.declared.connection_limits.ConnectionLimits.{ConnectionLimits}
@@ -123,6 +123,34 @@ of_marks (marks.Revoke l xid bytes ∷ run) = of_marks run
 of_marks (marks.Drop l ∷ run) = of_marks run
 of_marks (marks.Told l (Granted credits) ∷ run) = of_marks run
 of_marks (marks.Told l (Old xid at) ∷ run) = of_marks run
+
+abbrev refusal_in : Handled → List ℕ
+refusal_in (inl a) = []
+refusal_in (inr xid) = xid ∷ []
+
+refused_marks : (run : List Mark) → flat_map refusal_in (flat_map handled_by run) ≡ flat_map refusal_of run
+refused_marks [] = refl
+refused_marks (marks.Submit l call form answer ∷ run) = refused_marks run
+refused_marks (marks.Wrote l side bytes ∷ run) = refused_marks run
+refused_marks (marks.Fed l side bytes ∷ run) = refused_marks run
+refused_marks (marks.Execute l xid moment payload place reply ∷ run) = refused_marks run
+refused_marks (marks.Done l xid outcome ∷ run) = refused_marks run
+refused_marks (marks.Lost l xid ∷ run) = refused_marks run
+refused_marks (marks.Forget l xid ∷ run) = refused_marks run
+refused_marks (marks.Revoke l xid bytes ∷ run) = refused_marks run
+refused_marks (marks.Drop l ∷ run) = refused_marks run
+refused_marks (marks.Told l (Granted credits) ∷ run) = refused_marks run
+refused_marks (marks.Told l (Old xid at) ∷ run) = ap (λ (xids : List ℕ). xid ∷ xids) (refused_marks run)
+
+-- no call of a client without a number is refused as old
+refuses_none : (s : Setup) (T : List TaggedEntry) (n : ℕ) (turns : List Turn) (mine : List ℕ) → AreTurns s 0 T n turns mine → flat_map refusal_in (map handled_at turns) ≡ []
+refuses_none s T n [] mine h = refl
+refuses_none s T n (Answers given a ∷ turns) mine (k, (from, (is, (later, (mine_is, rest))))) = refuses_none s T (k + length (added_at 0 (take k T) given a)) turns later rest
+refuses_none s T n (Refuses given xid ∷ turns) mine (k, (from, (old, rest))) = absurd old
+
+pub none_refused : (s : Setup) (T : List TaggedEntry) (n : ℕ) (turns : List Turn) (mine : List ℕ) (run : List Mark) → AreTurns s 0 T n turns mine → map handled_at turns ≡ handled_in run → refusals_of run ≡ []
+unfolding refusals_of handled_in
+none_refused s T n turns mine run h handled = sym (refused_marks run) ∙ sym (ap (flat_map refusal_in) handled) ∙ refuses_none s T n turns mine h
 
 pub answers_handled : (turns : List Turn) (run : List Mark) → map handled_at turns ≡ handled_in run → answered_in turns ≡ answers_of run
 unfolding answered_in answers_of handled_in

@@ -93,8 +93,9 @@ not_records (byte ∷ rest) left end hello (inr never) = absurd never
 module _ (limits : ConnectionLimits) (first : Opening) (J : List Entry) (before after : Outside) (stream : List ℕ) (held : Option ℕ) where
   all_read : (end : ConnEnd) → Completes limits first J before (holding held after) stream end → Completes limits first J before after stream end
   all_read end (inl memory) = inl memory
-  all_read end (inr (closed, serves)) =
-      inr (closed, λ link. subst (λ (o : Outside). ServesStream limits first J link before o stream) (unheld held after (none_held held after.left (serves link).left)) (serves link))
+  all_read end (inr (inr old)) = ?
+  all_read end (inr (inl (closed, serves))) =
+      inr (inl (closed, λ link. subst (λ (o : Outside). ServesStream limits first J link before o stream) (unheld held after (none_held held after.left (serves link).left)) (serves link))
 
 looked_completes : (limits : ConnectionLimits) (before after : Outside) (end : LinkEnd) (source source' : ℕ) (first : Opening) (J : List Entry) (stream : List ℕ)
     → LooksAndServes limits before after end → LinkSourceCount end source source' → LinkSinkCount end before.sink.faults after.sink.faults

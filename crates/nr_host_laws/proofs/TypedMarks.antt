@@ -196,7 +196,7 @@ connections_are_typed_lem limits read link before after end first J left ended i
       own = ended.runs.own;
       served = ended.runs.served opened (refl, refl, refl, refl);
       fed = IsBytes_left (flat_map (fed_at link Responder) ended.run) ended.ahead all;
-      replies = replies_of (setup_in first) (number_heard ended.run link) (T ++ over.more) (length T) ended.runs.turns over.mine ended.run ended.runs.answered is.tree entries over.turned;
+      replies = replies_of (setup_in first) (number_heard ended.run link) (T ++ over.more) (length T) ended.runs.turns over.mine ended.run (answers_handled ended.runs.turns ended.run ended.runs.handled) is.tree entries over.turned;
     })
 
 -- so is the stream of a connection that served all of it
@@ -214,7 +214,7 @@ stream_is_typed limits first J link before after stream served opened same bytes
       own = (served.made opened same).own;
       served = (served.made opened same).served;
       fed = subst IsBytes (sym served.fed) bytes;
-      replies = replies_of (setup_in first) (number_heard served.run link) (T ++ over.more) (length T) served.turns over.mine served.run served.answers tree all over.turned;
+      replies = replies_of (setup_in first) (number_heard served.run link) (T ++ over.more) (length T) served.turns over.mine served.run (answers_handled served.turns served.run served.handled) tree all over.turned;
     })).0
 
 -- ---- A run of both sides
