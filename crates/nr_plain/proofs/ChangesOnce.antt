@@ -3,7 +3,7 @@
 use Rattle.std.proofs.Common.{◌<◌, List, [], ◌∷◌, ◌++◌, length, arith, sym, subst}
 use Rattle.nr_reduce.specs.declared.mark.TaggedEntry.{TaggedEntry}
 use Rattle.nr_reduce.specs.NumberedJournal.{HasNoEntryTwice}
-use Rattle.nr_reduce.proofs.EntriesApart.{added_apart, none_twice}
+use Rattle.nr_plain.proofs.EntriesApart.{added_apart, none_twice}
 use Rattle.nr_plain.specs.Added.{entries_of_call}
 use Rattle.nr_plain.specs.History.{xid_in}
 use Rattle.nr_plain.specs.Numbered.{ChangesOnce, NumberedCall, added_for, journal_after}

@@ -15,7 +15,7 @@ use Rattle.nr_plain.specs.declared.history_entry.HistoryEntry.{HistoryEntry}
 use Rattle.nr_plain.specs.declared.history_entry.HistoryEntry.TheVariants.{Opened, Added}
 use Rattle.nr_reduce.specs.declared.mark.TaggedEntry.{TaggedEntry}
 use Rattle.nr_reduce.specs.NumberedJournal.{HasNoEntryTwice, tagged, entries_alone}
-use Rattle.nr_reduce.proofs.EntriesApart.{none_twice}
+use Rattle.nr_plain.proofs.EntriesApart.{none_twice}
 use Rattle.nr_plain.specs.History.{Opening, setup_in, additions, history, HasNoCallTwice, IsHistory, closes_none, AreOfCalls, PassView, OnlyOthersAdded}
 use Rattle.nr_plain.proofs.OfCalls.{later_of_calls}
 

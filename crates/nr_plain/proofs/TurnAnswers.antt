@@ -20,7 +20,7 @@ use Rattle.nr_plain.specs.Replies.{plain_reply}
 use Rattle.nr_plain.specs.ReplyLaws.{plain_server}
 use Rattle.nr_plain.specs.Stands.{PlainServerState, IsCause, RepresentsJournal}
 use Rattle.nr_plain.specs.History.{Opening, setup_in, additions, history, AreOfCalls, Executes, HasNoCallTwice, IsHistory, OnlyOthersAdded, PassView, entries_added, entry_to_append, first_added, xid_in}
-use Rattle.nr_plain.specs.Numbered.{AnswersFor, FoundAs, HasCall, IsAnswerBy, IsNumberedCause, LeavesServer, NumberedCall, RepresentsTagged, added_for, added_if, finding}
+use Rattle.nr_plain.specs.Numbered.{AnswersAreThoseOfRuns, AnswersFor, FoundAs, HasCall, IsAnswerBy, IsNumberedCause, LeavesServer, NumberedCall, OldCallsAreOld, RepresentsTagged, added_for, added_if, finding}
 use Rattle.nr_plain.specs.Turns.{Answers, AnswersAt, FindsOldAt, IsCauseFor, StandsAfter, StandsFor, added_to}
 use Rattle.nr_plain.specs.private.Executing.{IsOne}
 use Rattle.nr_plain.specs.declared.fault.Fault.{Fault}
@@ -188,6 +188,19 @@ runs_by s T client m payload reply place before after New f all h a =
     let at : place ≡ length (entries_alone T) = own.1 ∙ sym (length-map T (λ (t : TaggedEntry). t.entry)) in
     (m, ((own.1, subst (λ (n : ℕ). plain_reply s (entries_alone T) n m payload ≡ Some reply) at own.0), λ new. refl))
 
+pub answered_as_run : AnswersAreThoseOfRuns
+answered_as_run s T client now payload reply place before after all bytes x =
+    let r = runs_by s T client now payload reply place before after (standing_for T client (xid_in payload)) (finding s T client (xid_in payload)) all
+    (finding_is_standing s T client (xid_in payload)) x.answer in
+    record {
+      moment = r.0;
+      executed = r.1.0;
+      moment_is = r.1.1;
+      added = added_same s T (call_made client now payload reply);
+      have_calls = All-append HasCall T (added_for s T (call_made client now payload reply)) all
+          (have_calls_by s T client now payload reply place before after (finding s T client (xid_in payload)) bytes);
+    }
+
 -- ===== what the pass sees
 
 module _ (before at after : PassView) (kept kept' : PlainServerState) (client : ℕ) (m : Moment) (payload reply : List ℕ) (place : ℕ) (begins : Begins before.seen at.seen) (own : at.mine ≡ before.mine) (stood : StandsFor kept at.seen)
@@ -304,6 +317,9 @@ old_standing New f s T top h is = absurd (new_not_old top (sym h ∙ is))
   where
     new_not_old : (top : ℕ) → NewCall ≡ OldCall top → ⊥
     new_not_old top e = absurd cc
+
+pub old_calls : OldCallsAreOld
+old_calls s T client xid top old = old_standing (standing_for T client xid) (finding s T client xid) s T top (finding_is_standing s T client xid) old
 
 module _ (before at after : PassView) (kept : PlainServerState) (client : ℕ) (payload : List ℕ) (begins : Begins before.seen at.seen) (own : at.mine ≡ before.mine) (stood : StandsFor kept at.seen)
     (same : after.seen ≡ at.seen) (same_own : after.mine ≡ at.mine) where

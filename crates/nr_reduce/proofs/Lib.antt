@@ -58,7 +58,6 @@ pub mod ReadChunks
 pub mod BadMessages
 pub mod ReadyCalls
 pub mod Readings
-pub mod EntriesApart
 pub mod AnswerMessages
 pub mod Submitting
 pub mod Calls

@@ -128,8 +128,6 @@ pub record JournaledByNumber (plain : PlainServer) (number : ℕ → ℕ) (T : L
   pub is : tagged_journal plain number run ≡ T
   pub each : AtEachMark (NumberedMark plain number) [] run
 
--- ---- Each call once
-
 -- no two entries are of one call of a client that has a number
 abbrev pub HasNoEntryTwice : List TaggedEntry → Type 0
 HasNoEntryTwice T = (place other : ℕ) (t u : TaggedEntry) → slice_get T place ≡ Some t → slice_get T other ≡ Some u →
