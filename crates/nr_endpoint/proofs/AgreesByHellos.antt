@@ -29,7 +29,7 @@ use Rattle.nr_endpoint.specs.Judging.{after_frame, with_agreement, segment_end, 
 use Rattle.nr_endpoint.specs.SendQueue.{SendQueue, written}
 use Rattle.nr_endpoint.specs.ReceiveQueue.{delivered, posted}
 use Rattle.nr_endpoint.specs.Calls.{Call, after_call, after_calls, ended_link, with_state}
-use Rattle.nr_endpoint.specs.Calls.Call.{Feed, FeedOne, NextEvent, Post, Stop, OutOfMemory, Send, SendInvalidate, WriteRemote, ReadRemote, Drain, Register, Release, Invalidate}
+use Rattle.nr_endpoint.specs.Calls.Call.{Feed, FeedOne, NextEvent, Post, Stop, OutOfMemory, Send, SendInvalidate, Hold, SendHeld, WriteRemote, ReadRemote, Drain, Register, Release, Invalidate}
 use Rattle.nr_endpoint.specs.Laws.{bytes_fed, bytes_in_call}
 use Rattle.nr_endpoint.specs.AgreedLaws.{BeginsWith, HasAgreed, IsAgreed, AgreesByHellos}
 use Rattle.nr_endpoint.proofs.Agreed.{agreed_fits}
@@ -278,6 +278,8 @@ module _ (terms : SideTerms) (side : Side) where
   call_knows fed link OutOfMemory k = stop_knows fed link (has_ended link.state) _ refl link.state.send_queue k
   call_knows fed link (Send message) k = queued_knows fed link (has_ended link.state) _ link.state.reads k
   call_knows fed link (SendInvalidate stag message) k = queued_knows fed link (has_ended link.state) _ link.state.reads k
+  call_knows fed link (Hold message) k = queued_knows fed link (has_ended link.state) _ link.state.reads k
+  call_knows fed link (SendHeld message) k = queued_knows fed link (has_ended link.state) _ link.state.reads k
   call_knows fed link (WriteRemote stag to bytes) k = queued_knows fed link (has_ended link.state) _ link.state.reads k
   call_knows fed link (ReadRemote sink at stag to len) k = queued_knows fed link (has_ended link.state) _ _ k
   call_knows fed link (Drain count) k = same_knows fed (with_state (record link.state { send_queue = written count link.state.send_queue }) link) k

@@ -25,7 +25,7 @@ use Rattle.nr_endpoint.specs.LinkState.{LinkState, LinkSide, has_ended, initial_
 use Rattle.nr_endpoint.specs.Judging.{segment_end, next_frame, with_frame, with_segment_by, with_fpdu, with_peer_hello, with_effect, with_read_request, with_read_response, reads_after, fetch_access, next_segment}
 use Rattle.nr_endpoint.specs.SegmentEnds.{RequestIsFine, SendIsFine}
 use Rattle.nr_endpoint.specs.Calls.{Call, after_call, after_calls}
-use Rattle.nr_endpoint.specs.Calls.Call.{Feed, FeedOne, NextEvent, Post, Stop, OutOfMemory, Send, WriteRemote, ReadRemote, Drain, Register, Release, SendInvalidate, Invalidate}
+use Rattle.nr_endpoint.specs.Calls.Call.{Feed, FeedOne, NextEvent, Post, Stop, OutOfMemory, Send, WriteRemote, ReadRemote, Drain, Register, Release, SendInvalidate, Hold, SendHeld, Invalidate}
 use Rattle.nr_endpoint.specs.OutputLaws.{IsAllowedCall, AreAllowedCalls, IsBounded, SidesStayBounded}
 use Rattle.nr_endpoint.proofs.AlongFrames.{feed_keeps, feed_one_keeps}
 use Rattle.nr_endpoint.proofs.Alive.{alive_request, alive_any_send}
@@ -205,6 +205,10 @@ call_bounded opened link OutOfMemory may is =
 call_bounded opened link (Send message) may is =
     either_bounded opened link.state _ (has_ended link.state) is (record { reads = is.reads; responses = is.responses; sum = is.sum; same = is.same })
 call_bounded opened link (SendInvalidate stag message) may is =
+    either_bounded opened link.state _ (has_ended link.state) is (record { reads = is.reads; responses = is.responses; sum = is.sum; same = is.same })
+call_bounded opened link (Hold message) may is =
+    either_bounded opened link.state _ (has_ended link.state) is (record { reads = is.reads; responses = is.responses; sum = is.sum; same = is.same })
+call_bounded opened link (SendHeld message) may is =
     either_bounded opened link.state _ (has_ended link.state) is (record { reads = is.reads; responses = is.responses; sum = is.sum; same = is.same })
 call_bounded opened link (WriteRemote stag to bytes) may is =
     either_bounded opened link.state _ (has_ended link.state) is (record { reads = is.reads; responses = is.responses; sum = is.sum; same = is.same })

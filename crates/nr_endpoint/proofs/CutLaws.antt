@@ -11,7 +11,7 @@ use Rattle.nr_link.specs.declared.agreement.SideTerms.{SideTerms}
 use Rattle.nr_endpoint.specs.LinkState.{LinkSide, LinkState, has_ended, initial_link}
 use Rattle.nr_endpoint.specs.Judging.{with_frame}
 use Rattle.nr_endpoint.specs.Calls.{Call, after_call, after_calls, unless_ended}
-use Rattle.nr_endpoint.specs.Calls.Call.{Feed, FeedOne, NextEvent, Post, Stop, OutOfMemory, Send, WriteRemote, ReadRemote, Drain, Register, Release, SendInvalidate, Invalidate}
+use Rattle.nr_endpoint.specs.Calls.Call.{Feed, FeedOne, NextEvent, Post, Stop, OutOfMemory, Send, WriteRemote, ReadRemote, Drain, Register, Release, SendInvalidate, Hold, SendHeld, Invalidate}
 use Rattle.nr_endpoint.specs.Laws.{PiecesJoin, StepsReach, EndStays, KeepsLessThanFrame, EndedKeepsNothing}
 
 pub pieces_join : PiecesJoin
@@ -41,6 +41,8 @@ partial_call link (Stop reason) p = partial_nil link.awaited
 partial_call link OutOfMemory p = partial_nil link.awaited
 partial_call link (Send message) p = p
 partial_call link (SendInvalidate stag message) p = p
+partial_call link (Hold message) p = p
+partial_call link (SendHeld message) p = p
 partial_call link (WriteRemote stag to bytes) p = p
 partial_call link (ReadRemote sink at stag to len) p = p
 partial_call link (Drain count) p = p
@@ -110,6 +112,8 @@ empty_call link (Stop reason) p = λ ended. refl
 empty_call link OutOfMemory p = λ ended. refl
 empty_call link (Send message) p = unless_kept link.state _ link.rest refl p
 empty_call link (SendInvalidate stag message) p = unless_kept link.state _ link.rest refl p
+empty_call link (Hold message) p = unless_kept link.state _ link.rest refl p
+empty_call link (SendHeld message) p = unless_kept link.state _ link.rest refl p
 empty_call link (WriteRemote stag to bytes) p = unless_kept link.state _ link.rest refl p
 empty_call link (ReadRemote sink at stag to len) p = unless_kept link.state _ link.rest refl p
 empty_call link (Drain count) p = p

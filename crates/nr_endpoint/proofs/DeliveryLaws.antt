@@ -26,7 +26,7 @@ use Rattle.nr_endpoint.specs.ReceiveQueue.DeliveredEvent.{ReadDone}
 use Rattle.nr_endpoint.specs.LinkState.{LinkState, LinkSide, has_ended}
 use Rattle.nr_endpoint.specs.Judging.{segment_end, next_frame, with_frame, with_segment_by, with_fpdu, with_peer_hello, with_effect, with_read_response, next_segment}
 use Rattle.nr_endpoint.specs.Calls.{Call, after_call, after_calls}
-use Rattle.nr_endpoint.specs.Calls.Call.{Feed, FeedOne, NextEvent, Post, Stop, OutOfMemory, Send, WriteRemote, ReadRemote, Drain, Register, Release, SendInvalidate, Invalidate}
+use Rattle.nr_endpoint.specs.Calls.Call.{Feed, FeedOne, NextEvent, Post, Stop, OutOfMemory, Send, WriteRemote, ReadRemote, Drain, Register, Release, SendInvalidate, Hold, SendHeld, Invalidate}
 use Rattle.nr_endpoint.specs.DeliveryLaws.{QueuedEvent, made_at, segment_deliveries, fpdu_deliveries, frame_deliveries, deliveries_of_frames, call_deliveries, deliveries_made, call_delivers, events_delivered, EventsAreDelivered, DeliveriesRise, EventsAreInOrder, EventsFollowAccesses, OneFrameDeliversAtItsEnd}
 use Rattle.nr_endpoint.specs.Laws.{frames_made_whole, memory_events}
 use Rattle.nr_endpoint.proofs.MemoryLaws.{memory_follows_events, events_append}
@@ -204,6 +204,8 @@ call_makes link (Stop reason) = unless_made link.state _ (has_ended link.state) 
 call_makes link OutOfMemory = unless_made link.state _ (has_ended link.state) refl refl
 call_makes link (Send message) = unless_made link.state _ (has_ended link.state) refl refl
 call_makes link (SendInvalidate stag message) = unless_made link.state _ (has_ended link.state) refl refl
+call_makes link (Hold message) = unless_made link.state _ (has_ended link.state) refl refl
+call_makes link (SendHeld message) = unless_made link.state _ (has_ended link.state) refl refl
 call_makes link (WriteRemote stag to bytes) = unless_made link.state _ (has_ended link.state) refl refl
 call_makes link (ReadRemote sink at stag to len) = unless_made link.state _ (has_ended link.state) refl refl
 call_makes link (Drain count) = (sym (append-nil link.state.receive_queue.deliveries), omega arith)

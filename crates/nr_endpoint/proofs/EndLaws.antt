@@ -25,7 +25,7 @@ use Rattle.nr_link.specs.declared.agreement.SideTerms.{SideTerms}
 use Rattle.nr_endpoint.specs.LinkState.{LinkState, LinkSide, has_ended, initial_link}
 use Rattle.nr_endpoint.specs.Judging.{readiness, missing_access, segment_end, next_frame, with_frame, with_segment_by, with_fpdu, with_peer_hello, with_effect, with_read_response, next_segment}
 use Rattle.nr_endpoint.specs.Calls.{Call, IsStopReason, after_call, after_calls}
-use Rattle.nr_endpoint.specs.Calls.Call.{Feed, FeedOne, NextEvent, Post, Stop, OutOfMemory, Send, WriteRemote, ReadRemote, Drain, Register, Release, SendInvalidate, Invalidate}
+use Rattle.nr_endpoint.specs.Calls.Call.{Feed, FeedOne, NextEvent, Post, Stop, OutOfMemory, Send, WriteRemote, ReadRemote, Drain, Register, Release, SendInvalidate, Hold, SendHeld, Invalidate}
 use Rattle.nr_endpoint.specs.Laws.{IsFrameReason, IsFrameEnd, FramesEndForThese, NoFrameStops, OthersComeFromStop, MemoryComesFromOutOfMemory}
 use Rattle.nr_endpoint.proofs.AlongFrames.{feed_keeps, feed_one_keeps}
 use Rattle.nr_endpoint.specs.Hellos.{takes_invalidate}
@@ -313,6 +313,8 @@ call_caused done link OutOfMemory is = ended_caused (done ++ OutOfMemory ∷ [])
 call_caused done link (Send message) is = unless_caused (done ++ Send message ∷ []) link.state _ (has_ended link.state) refl (caused_stays done (Send message ∷ []) link.state.ended is)
 call_caused done link (SendInvalidate stag message) is =
     unless_caused (done ++ SendInvalidate stag message ∷ []) link.state _ (has_ended link.state) refl (caused_stays done (SendInvalidate stag message ∷ []) link.state.ended is)
+call_caused done link (Hold message) is = unless_caused (done ++ Hold message ∷ []) link.state _ (has_ended link.state) refl (caused_stays done (Hold message ∷ []) link.state.ended is)
+call_caused done link (SendHeld message) is = unless_caused (done ++ SendHeld message ∷ []) link.state _ (has_ended link.state) refl (caused_stays done (SendHeld message ∷ []) link.state.ended is)
 call_caused done link (WriteRemote stag to bytes) is = unless_caused (done ++ WriteRemote stag to bytes ∷ []) link.state _ (has_ended link.state) refl (caused_stays done (WriteRemote stag to bytes ∷ []) link.state.ended is)
 call_caused done link (ReadRemote sink at stag to len) is =
     unless_caused (done ++ ReadRemote sink at stag to len ∷ []) link.state _ (has_ended link.state) refl (caused_stays done (ReadRemote sink at stag to len ∷ []) link.state.ended is)

@@ -11,7 +11,7 @@ use Rattle.nr_link.specs.declared.agreement.SideTerms.{SideTerms}
 use Rattle.nr_endpoint.specs.LinkState.{LinkState, LinkSide, has_ended, initial_link}
 use Rattle.nr_endpoint.specs.Judging.{next_frame, with_frame, with_fpdu, with_peer_hello, next_segment}
 use Rattle.nr_endpoint.specs.Calls.{Call, after_call, after_calls}
-use Rattle.nr_endpoint.specs.Calls.Call.{Feed, FeedOne, NextEvent, Post, Stop, OutOfMemory, Send, WriteRemote, ReadRemote, Drain, Register, Release, SendInvalidate, Invalidate}
+use Rattle.nr_endpoint.specs.Calls.Call.{Feed, FeedOne, NextEvent, Post, Stop, OutOfMemory, Send, WriteRemote, ReadRemote, Drain, Register, Release, SendInvalidate, Hold, SendHeld, Invalidate}
 use Rattle.nr_endpoint.specs.OutputLaws.{AllowedCallsJoin, FpdusFollowHello}
 use Rattle.nr_endpoint.proofs.AlongFrames.{feed_keeps, feed_one_keeps}
 use Rattle.nr_endpoint.proofs.HelloLaws.{SameSide, fpdu_side}
@@ -60,6 +60,8 @@ call_greeted link OutOfMemory greeted =
     either_greeted link.awaited link.state _ (has_ended link.state) greeted (λ live is. absurd (let h : true ≡ false = live in cc))
 call_greeted link (Send message) greeted = either_greeted link.awaited link.state _ (has_ended link.state) greeted greeted
 call_greeted link (SendInvalidate stag message) greeted = either_greeted link.awaited link.state _ (has_ended link.state) greeted greeted
+call_greeted link (Hold message) greeted = either_greeted link.awaited link.state _ (has_ended link.state) greeted greeted
+call_greeted link (SendHeld message) greeted = either_greeted link.awaited link.state _ (has_ended link.state) greeted greeted
 call_greeted link (WriteRemote stag to bytes) greeted = either_greeted link.awaited link.state _ (has_ended link.state) greeted greeted
 call_greeted link (ReadRemote sink at stag to len) greeted = either_greeted link.awaited link.state _ (has_ended link.state) greeted greeted
 call_greeted link (Drain count) greeted = greeted

@@ -21,7 +21,7 @@ use Rattle.nr_link.specs.Ending.{rejection}
 use Rattle.nr_endpoint.specs.LinkState.{LinkState, LinkSide, has_ended, initial_link}
 use Rattle.nr_endpoint.specs.Judging.{segment_end, next_frame, with_frame, with_segment_by, with_fpdu, with_peer_hello, with_effect, with_read_response, next_segment}
 use Rattle.nr_endpoint.specs.Calls.{Call, after_call, after_calls}
-use Rattle.nr_endpoint.specs.Calls.Call.{Feed, FeedOne, NextEvent, Post, Stop, OutOfMemory, Send, WriteRemote, ReadRemote, Drain, Register, Release, SendInvalidate, Invalidate}
+use Rattle.nr_endpoint.specs.Calls.Call.{Feed, FeedOne, NextEvent, Post, Stop, OutOfMemory, Send, WriteRemote, ReadRemote, Drain, Register, Release, SendInvalidate, Hold, SendHeld, Invalidate}
 use Rattle.nr_endpoint.specs.Laws.{MayBeCalled, MayAllBeCalled, bytes_drained, bytes_written, IsHelloAlone, NoFpduBeforeHello}
 use Rattle.nr_endpoint.proofs.AlongFrames.{feed_keeps, feed_one_keeps}
 
@@ -162,6 +162,8 @@ call_early side terms out link OutOfMemory may early = no_more_lem side terms ou
 ))
 call_early side terms out link (Send message) may early = no_more_lem side terms out link.awaited _ (unless_early side terms out link.awaited link.state _ (has_ended link.state) refl refl refl refl refl early)
 call_early side terms out link (SendInvalidate stag message) may early = no_more_lem side terms out link.awaited _ (unless_early side terms out link.awaited link.state _ (has_ended link.state) refl refl refl refl refl early)
+call_early side terms out link (Hold message) may early = no_more_lem side terms out link.awaited _ (unless_early side terms out link.awaited link.state _ (has_ended link.state) refl refl refl refl refl early)
+call_early side terms out link (SendHeld message) may early = no_more_lem side terms out link.awaited _ (unless_early side terms out link.awaited link.state _ (has_ended link.state) refl refl refl refl refl early)
 call_early side terms out link (WriteRemote stag to bytes) may early = no_more_lem side terms out link.awaited _ (unless_early side terms out link.awaited link.state _ (has_ended link.state) refl refl refl refl refl early)
 call_early side terms out link (ReadRemote sink at stag to len) may early = no_more_lem side terms out link.awaited _ (unless_early side terms out link.awaited link.state _ (has_ended link.state) refl refl refl refl refl early)
 call_early side terms out link (Drain count) may early = drained_early side terms out link.awaited link.state count early

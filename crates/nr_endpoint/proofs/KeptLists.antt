@@ -27,7 +27,7 @@ use Rattle.nr_endpoint.specs.ReceiveQueue.{receives_kept}
 use Rattle.nr_endpoint.specs.LinkState.{LinkState, LinkSide, has_ended, initial_link}
 use Rattle.nr_endpoint.specs.Judging.{segment_end, next_frame, with_frame, with_segment_by, with_fpdu, with_peer_hello, with_effect, with_read_request, with_read_response, fetch_access, next_segment}
 use Rattle.nr_endpoint.specs.Calls.{Call, after_call, after_calls}
-use Rattle.nr_endpoint.specs.Calls.Call.{Feed, FeedOne, NextEvent, Post, Stop, OutOfMemory, Send, WriteRemote, ReadRemote, Drain, Register, Release, SendInvalidate, Invalidate}
+use Rattle.nr_endpoint.specs.Calls.Call.{Feed, FeedOne, NextEvent, Post, Stop, OutOfMemory, Send, WriteRemote, ReadRemote, Drain, Register, Release, SendInvalidate, Hold, SendHeld, Invalidate}
 use Rattle.nr_endpoint.specs.KeptLists.{ListsFit, WaitingSendsHaveBytes, registered, released, count_calls, IsHeldRelease, AreHeldReleases, HeldRegionsAreRegistered}
 use Rattle.nr_endpoint.proofs.AlongFrames.{feed_keeps, feed_one_keeps}
 use Rattle.nr_endpoint.proofs.ItemEnds.{left_gone, left_twice}
@@ -176,6 +176,8 @@ call_sends link (Stop reason) fit = either (λ s. SendsFit s.send_queue) link.st
 call_sends link OutOfMemory fit = either (λ s. SendsFit s.send_queue) link.state _ (has_ended link.state) fit fit
 call_sends link (Send message) fit = either (λ s. SendsFit s.send_queue) link.state _ (has_ended link.state) fit (sent None message link.state.send_queue fit)
 call_sends link (SendInvalidate stag message) fit = either (λ s. SendsFit s.send_queue) link.state _ (has_ended link.state) fit (sent (Some stag) message link.state.send_queue fit)
+call_sends link (Hold message) fit = either (λ s. SendsFit s.send_queue) link.state _ (has_ended link.state) fit fit
+call_sends link (SendHeld message) fit = either (λ s. SendsFit s.send_queue) link.state _ (has_ended link.state) fit (sent None message link.state.send_queue fit)
 call_sends link (WriteRemote stag to bytes) fit =
     either (λ s. SendsFit s.send_queue) link.state _ (has_ended link.state) fit
     (longer link.state.send_queue (with_write stag to bytes link.state.send_queue) refl (omega (arith, length-append link.state.send_queue.fpdus (write stag to bytes))) fit)
@@ -235,6 +237,8 @@ call_counts link (Stop reason) n may counts = still link (Stop reason) n (either
 call_counts link OutOfMemory n may counts = still link OutOfMemory n (either (λ s. Counts n s.memory) link.state _ (has_ended link.state) counts counts) refl refl
 call_counts link (Send message) n may counts = still link (Send message) n (either (λ s. Counts n s.memory) link.state _ (has_ended link.state) counts counts) refl refl
 call_counts link (SendInvalidate stag message) n may counts = still link (SendInvalidate stag message) n (either (λ s. Counts n s.memory) link.state _ (has_ended link.state) counts counts) refl refl
+call_counts link (Hold message) n may counts = still link (Hold message) n (either (λ s. Counts n s.memory) link.state _ (has_ended link.state) counts counts) refl refl
+call_counts link (SendHeld message) n may counts = still link (SendHeld message) n (either (λ s. Counts n s.memory) link.state _ (has_ended link.state) counts counts) refl refl
 call_counts link (WriteRemote stag to bytes) n may counts = still link (WriteRemote stag to bytes) n (either (λ s. Counts n s.memory) link.state _ (has_ended link.state) counts counts) refl refl
 call_counts link (ReadRemote sink at stag to k) n may counts = still link (ReadRemote sink at stag to k) n (either (λ s. Counts n s.memory) link.state _ (has_ended link.state) counts counts) refl refl
 call_counts link (Drain count) n may counts = still link (Drain count) n counts refl refl

@@ -27,7 +27,7 @@ use Rattle.nr_endpoint.specs.LinkState.{LinkState, LinkSide, has_ended}
 use Rattle.nr_endpoint.specs.Judging.{segment_end, next_frame, with_frame, with_segment_by, with_fpdu, with_peer_hello, with_effect, with_read_response, next_segment}
 use Rattle.nr_endpoint.specs.SegmentEnds.{denied_if, tagged_end}
 use Rattle.nr_endpoint.specs.Calls.{Call, after_call, after_calls}
-use Rattle.nr_endpoint.specs.Calls.Call.{Feed, FeedOne, NextEvent, Post, Stop, OutOfMemory, Send, WriteRemote, ReadRemote, Drain, Register, Release, SendInvalidate, Invalidate}
+use Rattle.nr_endpoint.specs.Calls.Call.{Feed, FeedOne, NextEvent, Post, Stop, OutOfMemory, Send, WriteRemote, ReadRemote, Drain, Register, Release, SendInvalidate, Hold, SendHeld, Invalidate}
 use Rattle.nr_endpoint.specs.Laws.{segment_arrivals, fpdu_arrivals, frame_arrivals, arrivals, frames_made_whole, call_events, memory_events, NoneIsDenied, MemoryFollowsEvents, PlacesAreAllowed, OpenRegionHolds, ReleasedBufferHolds, ReleasedStaysClosed}
 use Rattle.nr_endpoint.proofs.Alive.{alive_tagged}
 
@@ -165,6 +165,8 @@ call_memory link (Stop reason) = (unless_memory link.state _ (has_ended link.sta
 call_memory link OutOfMemory = (unless_memory link.state _ (has_ended link.state) refl, tt)
 call_memory link (Send message) = (unless_memory link.state _ (has_ended link.state) refl, tt)
 call_memory link (SendInvalidate stag message) = (unless_memory link.state _ (has_ended link.state) refl, tt)
+call_memory link (Hold message) = (unless_memory link.state _ (has_ended link.state) refl, tt)
+call_memory link (SendHeld message) = (unless_memory link.state _ (has_ended link.state) refl, tt)
 call_memory link (WriteRemote stag to bytes) = (unless_memory link.state _ (has_ended link.state) refl, tt)
 call_memory link (ReadRemote sink at stag to len) = (unless_memory link.state _ (has_ended link.state) refl, tt)
 call_memory link (Drain count) = (refl, tt)

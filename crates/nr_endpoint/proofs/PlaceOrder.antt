@@ -19,7 +19,7 @@ use Rattle.nr_link.specs.Frames.{Frame}
 use Rattle.nr_endpoint.specs.LinkState.{LinkState, LinkSide, has_ended}
 use Rattle.nr_endpoint.specs.Judging.{segment_end, next_frame, with_frame, with_segment_by, with_fpdu, with_peer_hello, next_segment}
 use Rattle.nr_endpoint.specs.Calls.{Call, after_call, after_calls}
-use Rattle.nr_endpoint.specs.Calls.Call.{Feed, FeedOne, NextEvent, Post, Stop, OutOfMemory, Send, WriteRemote, ReadRemote, Drain, Register, Release, SendInvalidate, Invalidate}
+use Rattle.nr_endpoint.specs.Calls.Call.{Feed, FeedOne, NextEvent, Post, Stop, OutOfMemory, Send, WriteRemote, ReadRemote, Drain, Register, Release, SendInvalidate, Hold, SendHeld, Invalidate}
 use Rattle.nr_endpoint.specs.Laws.{segment_arrivals, fpdu_arrivals, frame_arrivals, arrivals, frames_made_whole, call_events, memory_events, EndsWithin, PlacesAreInOrder, EndsRise, ArrivalsRise}
 use Rattle.nr_endpoint.proofs.MemoryLaws.{ended_arrivals, one_arrival}
 
@@ -132,6 +132,8 @@ call_between link (Stop reason) = no_arrival link.state.place _ [] refl (unless_
 call_between link OutOfMemory = no_arrival link.state.place _ [] refl (unless_place link.state _ (has_ended link.state) refl)
 call_between link (Send message) = no_arrival link.state.place _ [] refl (unless_place link.state _ (has_ended link.state) refl)
 call_between link (SendInvalidate stag message) = no_arrival link.state.place _ [] refl (unless_place link.state _ (has_ended link.state) refl)
+call_between link (Hold message) = no_arrival link.state.place _ [] refl (unless_place link.state _ (has_ended link.state) refl)
+call_between link (SendHeld message) = no_arrival link.state.place _ [] refl (unless_place link.state _ (has_ended link.state) refl)
 call_between link (WriteRemote stag to bytes) = no_arrival link.state.place _ [] refl (unless_place link.state _ (has_ended link.state) refl)
 call_between link (ReadRemote sink at stag to len) = no_arrival link.state.place _ [] refl (unless_place link.state _ (has_ended link.state) refl)
 call_between link (Drain count) = stands link.state.place

@@ -24,12 +24,12 @@ use Rattle.nr_link.specs.ReceiveState.{ReadRequest, read_request_of}
 use Rattle.nr_link.specs.Ending.{rejection}
 use Rattle.nr_link.specs.OutputItem.{OutputItem}
 use Rattle.nr_link.specs.OutputItem.OutputItem.{SendItem, SendInvalidateItem, WriteItem, ReadRequestItem, ReadResponseItem, LastItem}
-use Rattle.nr_endpoint.specs.SendQueue.{SendQueue, with_end, with_response, with_send, with_send_by, with_write, with_request, next_number, writable}
+use Rattle.nr_endpoint.specs.SendQueue.{SendQueue, with_end, with_response, with_send, with_send_by, with_held, with_held_sent, with_write, with_request, next_number, writable}
 use Rattle.nr_endpoint.specs.Hellos.{own_private, first_private}
 use Rattle.nr_endpoint.specs.LinkState.{LinkState, LinkSide, has_ended, initial_link}
 use Rattle.nr_endpoint.specs.Judging.{segment_end, next_frame, with_frame, with_segment_by, with_fpdu, with_peer_hello, with_effect, with_read_request, with_read_response, reply_hello, fetch_access, next_segment}
 use Rattle.nr_endpoint.specs.Calls.{Call, IsStopReason, after_call, after_calls}
-use Rattle.nr_endpoint.specs.Calls.Call.{Feed, FeedOne, NextEvent, Post, Stop, OutOfMemory, Send, WriteRemote, ReadRemote, Drain, Register, Release, SendInvalidate, Invalidate}
+use Rattle.nr_endpoint.specs.Calls.Call.{Feed, FeedOne, NextEvent, Post, Stop, OutOfMemory, Send, WriteRemote, ReadRemote, Drain, Register, Release, SendInvalidate, Hold, SendHeld, Invalidate}
 use Rattle.nr_endpoint.specs.Laws.{IsFrameReason, IsFrameEnd, frames_made_whole, bytes_drained, bytes_written}
 use Rattle.nr_endpoint.specs.OutputLaws.{response_items, segment_items, fpdu_items, hello_items, frame_items, items_of_frames, call_items, items_queued, rejection_by, hello_queued, own_output_hello, IsAllowedCall, AreAllowedCalls, OutputIsItems, SendsGoByItems, SendsWaitByItems, ResponsesGoByItems}
 use Rattle.nr_endpoint.proofs.EndLaws.{segment_end_is, fpdu_reason}
@@ -52,6 +52,9 @@ send_item q message = record { hello = refl; fpdus = refl; sends = refl; respons
 
 send_invalidate_item : (q : SendQueue) (stag : ℕ) (message : List ℕ) → HasItem q (SendInvalidateItem (next_number q.last_send) stag message) (with_send_by (Some stag) message q)
 send_invalidate_item q stag message = record { hello = refl; fpdus = refl; sends = refl; responses = sym (append-nil q.response_ends); left = refl }
+
+held_item : (q : SendQueue) (message : List ℕ) → HasItem q (SendItem (next_number q.last_send) message) (with_held_sent message q)
+held_item q message = record { hello = refl; fpdus = refl; sends = refl; responses = sym (append-nil q.response_ends); left = refl }
 
 write_item : (q : SendQueue) (stag to : ℕ) (bytes : List ℕ) → HasItem q (WriteItem stag to bytes) (with_write stag to bytes q)
 write_item q stag to bytes = record { hello = refl; fpdus = refl; sends = sym (append-nil q.send_ends); responses = sym (append-nil q.response_ends); left = refl }
@@ -338,6 +341,26 @@ no_item_lem false = refl
 quiet : (out : List ℕ) (items : List OutputItem) (a : Awaited) (s after : LinkState) → OutputIs out items a after → OutputIs out (items ++ []) a after
 quiet out items a s after is = subst (λ (list : List OutputItem). OutputIs out list a after) (sym (append-nil items)) is
 
+-- a message that is held back
+held_queue : (all : List ℕ) (has_hello : Bool) (out : List ℕ) (items : List OutputItem) (q : SendQueue) (message : List ℕ) → QueueIs all has_hello out items q → QueueIs all has_hello out items (with_held message q)
+held_queue all has_hello out items q message is = record {
+  greeted = is.greeted;
+  gone = is.gone;
+  hello = is.hello;
+  fpdus = is.fpdus;
+  written = is.written;
+  within = is.within;
+  order = is.order;
+  early = is.early;
+  sends = is.sends;
+  responses = is.responses;
+  left = is.left;
+}
+
+held_output : (out : List ℕ) (items : List OutputItem) (a : Awaited) (s : LinkState) (message : List ℕ) (b : Bool) → OutputIs out items a s → OutputIs out items a (cond b s (record s { send_queue = with_held message s.send_queue }))
+held_output out items a s message true is = is
+held_output out items a s message false is = record { awaits = is.awaits; queue = held_queue (own_output_hello s) s.has_hello out items s.send_queue message is.queue }
+
 call_keeps : (out : List ℕ) (items : List OutputItem) (link : LinkSide) (call : Call) → IsAllowedCall link call → Along out items link →
     Along (out ++ bytes_drained link call) (items ++ call_items link call) (after_call link call)
 unfolding after_call
@@ -364,6 +387,11 @@ call_keeps out items link (Send message) may is =
 call_keeps out items link (SendInvalidate stag message) may is =
     subst (λ (xs : List ℕ). Along xs (items ++ call_items link (SendInvalidate stag message)) (after_call link (SendInvalidate stag message))) (sym (append-nil out))
     (unless_queues out items link.awaited link.state _ (SendInvalidateItem (next_number link.state.send_queue.last_send) stag message) (has_ended link.state) refl refl refl (send_invalidate_item link.state.send_queue stag message) is)
+call_keeps out items link (Hold message) may is =
+    subst (λ (xs : List ℕ). Along xs (items ++ []) (after_call link (Hold message))) (sym (append-nil out)) (quiet out items link.awaited link.state _ (held_output out items link.awaited link.state message (has_ended link.state) is))
+call_keeps out items link (SendHeld message) may is =
+    subst (λ (xs : List ℕ). Along xs (items ++ call_items link (SendHeld message)) (after_call link (SendHeld message))) (sym (append-nil out))
+    (unless_queues out items link.awaited link.state _ (SendItem (next_number link.state.send_queue.last_send) message) (has_ended link.state) refl refl refl (held_item link.state.send_queue message) is)
 call_keeps out items link (WriteRemote stag to bytes) may is =
     subst (λ (xs : List ℕ). Along xs (items ++ call_items link (WriteRemote stag to bytes)) (after_call link (WriteRemote stag to bytes))) (sym (append-nil out))
     (unless_queues out items link.awaited link.state _ (WriteItem stag to bytes) (has_ended link.state) refl refl refl (write_item link.state.send_queue stag to bytes) is)

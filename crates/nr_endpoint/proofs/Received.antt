@@ -23,7 +23,7 @@ use Rattle.nr_wire.specs.Hello.{peer}
 use Rattle.nr_endpoint.specs.LinkState.{LinkState, LinkSide, has_ended, initial_link}
 use Rattle.nr_endpoint.specs.Judging.{segment_end, next_frame, with_frame, next_segment}
 use Rattle.nr_endpoint.specs.Calls.{Call, after_call, after_calls}
-use Rattle.nr_endpoint.specs.Calls.Call.{Feed, FeedOne, NextEvent, Post, Stop, OutOfMemory, Send, WriteRemote, ReadRemote, Drain, Register, Release, SendInvalidate, Invalidate}
+use Rattle.nr_endpoint.specs.Calls.Call.{Feed, FeedOne, NextEvent, Post, Stop, OutOfMemory, Send, WriteRemote, ReadRemote, Drain, Register, Release, SendInvalidate, Hold, SendHeld, Invalidate}
 use Rattle.nr_endpoint.specs.Laws.{segment_arrivals, fpdu_arrivals, frame_arrivals, arrivals, frames_made_whole, call_events, memory_events, bytes_in_call, bytes_fed, KeepsInput}
 use Rattle.nr_endpoint.specs.ReceivedLaws.{ReceivedBytes}
 use Rattle.nr_endpoint.proofs.MemoryLaws.{ended_arrivals}
@@ -174,6 +174,8 @@ call_above from link bytes (Stop reason) fed = tt
 call_above from link bytes OutOfMemory fed = tt
 call_above from link bytes (Send message) fed = tt
 call_above from link bytes (SendInvalidate stag message) fed = tt
+call_above from link bytes (Hold message) fed = tt
+call_above from link bytes (SendHeld message) fed = tt
 call_above from link bytes (WriteRemote stag to payload) fed = tt
 call_above from link bytes (ReadRemote sink at stag to len) fed = tt
 call_above from link bytes (Drain count) fed = tt

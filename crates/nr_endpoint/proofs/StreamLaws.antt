@@ -18,7 +18,7 @@ use Rattle.nr_link.specs.declared.agreement.SideTerms.{SideTerms}
 use Rattle.nr_endpoint.specs.LinkState.{LinkState, LinkSide, has_ended, initial_link}
 use Rattle.nr_endpoint.specs.Judging.{segment_end, next_frame, with_frame, with_segment_by, with_fpdu, with_peer_hello, next_segment}
 use Rattle.nr_endpoint.specs.Calls.{Call, after_call, after_calls}
-use Rattle.nr_endpoint.specs.Calls.Call.{Feed, FeedOne, NextEvent, Post, Stop, OutOfMemory, Send, WriteRemote, ReadRemote, Drain, Register, Release, SendInvalidate, Invalidate}
+use Rattle.nr_endpoint.specs.Calls.Call.{Feed, FeedOne, NextEvent, Post, Stop, OutOfMemory, Send, WriteRemote, ReadRemote, Drain, Register, Release, SendInvalidate, Hold, SendHeld, Invalidate}
 use Rattle.nr_endpoint.specs.Laws.{bytes_in_call, bytes_fed, KeepsInput, StreamIsKept, PlaceIsFed}
 use Rattle.nr_endpoint.proofs.Pieces.{step_taken, frame_place}
 
@@ -180,6 +180,8 @@ call_fed from link bytes (Stop reason) fed = ended_fed_lem from link bytes _ (ha
 call_fed from link bytes OutOfMemory fed = ended_fed_lem from link bytes _ (has_ended link.state) refl refl refl fed
 call_fed from link bytes (Send message) fed = unless_fed from link bytes _ (has_ended link.state) refl refl fed
 call_fed from link bytes (SendInvalidate stag message) fed = unless_fed from link bytes _ (has_ended link.state) refl refl fed
+call_fed from link bytes (Hold message) fed = unless_fed from link bytes _ (has_ended link.state) refl refl fed
+call_fed from link bytes (SendHeld message) fed = unless_fed from link bytes _ (has_ended link.state) refl refl fed
 call_fed from link bytes (WriteRemote stag to payload) fed = unless_fed from link bytes _ (has_ended link.state) refl refl fed
 call_fed from link bytes (ReadRemote sink at stag to len) fed = unless_fed from link bytes _ (has_ended link.state) refl refl fed
 call_fed from link bytes (Drain count) fed = nothing_fed from link bytes _ refl refl fed

@@ -117,9 +117,9 @@ receive_queue_code =
 
 abbrev pub send_queue_code : Coded SendQueue
 send_queue_code =
-    code_by (List ℕ × (List ℕ × (List ℕ × (List ℕ × (ℕ × (ℕ × ℕ)))))) (coded× (coded_list coded_ℕ) (coded× (coded_list coded_ℕ) (coded× (coded_list coded_ℕ) (coded× (coded_list coded_ℕ) (coded× coded_ℕ (coded× coded_ℕ coded_ℕ))))))
-    (λ q. (q.hello, (q.fpdus, (q.send_ends, (q.response_ends, (q.sends_left, (q.last_send, q.last_request)))))))
-    (λ p. record { hello = p.0; fpdus = p.1.0; send_ends = p.1.1.0; response_ends = p.1.1.1.0; sends_left = p.1.1.1.1.0; last_send = p.1.1.1.1.1.0; last_request = p.1.1.1.1.1.1 }) (λ _. refl)
+    code_by (List ℕ × (List ℕ × (List ℕ × (List ℕ × (ℕ × (ℕ × (ℕ × List (List ℕ)))))))) (coded× (coded_list coded_ℕ) (coded× (coded_list coded_ℕ) (coded× (coded_list coded_ℕ) (coded× (coded_list coded_ℕ) (coded× coded_ℕ (coded× coded_ℕ (coded× coded_ℕ (coded_list (coded_list coded_ℕ)))))))))
+    (λ q. (q.hello, (q.fpdus, (q.send_ends, (q.response_ends, (q.sends_left, (q.last_send, (q.last_request, q.held))))))))
+    (λ p. record { hello = p.0; fpdus = p.1.0; send_ends = p.1.1.0; response_ends = p.1.1.1.0; sends_left = p.1.1.1.1.0; last_send = p.1.1.1.1.1.0; last_request = p.1.1.1.1.1.1.0; held = p.1.1.1.1.1.1.1 }) (λ _. refl)
 
 abbrev pub read_code : Coded ExpectedResponse
 read_code = code_by (ℕ × (ℕ × ℕ)) (coded× coded_ℕ (coded× coded_ℕ coded_ℕ)) (λ r. (r.sink, (r.at, r.left))) (λ p. record { sink = p.0; at = p.1.0; left = p.1.1 }) (λ _. refl)

@@ -28,7 +28,7 @@ use Rattle.nr_wire.specs.Hello.{peer}
 use Rattle.nr_endpoint.specs.LinkState.{LinkState, LinkSide, has_ended, initial_link}
 use Rattle.nr_endpoint.specs.Judging.{readiness, segment_end, fetch_access, next_frame, next_segment, with_frame}
 use Rattle.nr_endpoint.specs.Calls.{Call, IsStopReason, after_call, after_calls}
-use Rattle.nr_endpoint.specs.Calls.Call.{Feed, FeedOne, NextEvent, Post, Stop, OutOfMemory, Send, SendInvalidate, WriteRemote, ReadRemote, Drain, Register, Release, Invalidate}
+use Rattle.nr_endpoint.specs.Calls.Call.{Feed, FeedOne, NextEvent, Post, Stop, OutOfMemory, Send, SendInvalidate, Hold, SendHeld, WriteRemote, ReadRemote, Drain, Register, Release, Invalidate}
 
 -- ---- However the stream is cut
 
@@ -72,6 +72,8 @@ bytes_in_call link (Stop reason) = []
 bytes_in_call link OutOfMemory = []
 bytes_in_call link (Send message) = []
 bytes_in_call link (SendInvalidate stag message) = []
+bytes_in_call link (Hold message) = []
+bytes_in_call link (SendHeld message) = []
 bytes_in_call link (WriteRemote stag to bytes) = []
 bytes_in_call link (ReadRemote sink at stag to len) = []
 bytes_in_call link (Drain count) = []
@@ -135,6 +137,8 @@ call_events link (Stop reason) = []
 call_events link OutOfMemory = []
 call_events link (Send message) = []
 call_events link (SendInvalidate stag message) = []
+call_events link (Hold message) = []
+call_events link (SendHeld message) = []
 call_events link (WriteRemote stag to bytes) = []
 call_events link (ReadRemote sink at stag to len) = []
 call_events link (Drain count) = []
@@ -266,6 +270,8 @@ MayBeCalled link (Stop reason) = 0 < link.state.place
 MayBeCalled link OutOfMemory = Unit {0}
 MayBeCalled link (Send message) = Unit {0}
 MayBeCalled link (SendInvalidate stag message) = Unit {0}
+MayBeCalled link (Hold message) = Unit {0}
+MayBeCalled link (SendHeld message) = Unit {0}
 MayBeCalled link (WriteRemote stag to bytes) = Unit {0}
 MayBeCalled link (ReadRemote sink at stag to len) = Unit {0}
 MayBeCalled link (Drain count) = Unit {0}
@@ -287,6 +293,8 @@ bytes_drained link (Stop reason) = []
 bytes_drained link OutOfMemory = []
 bytes_drained link (Send message) = []
 bytes_drained link (SendInvalidate stag message) = []
+bytes_drained link (Hold message) = []
+bytes_drained link (SendHeld message) = []
 bytes_drained link (WriteRemote stag to bytes) = []
 bytes_drained link (ReadRemote sink at stag to len) = []
 bytes_drained link (Drain count) = take count (writable link.state.has_hello link.state.send_queue)
@@ -367,6 +375,8 @@ queue_drained (Stop reason) q = q
 queue_drained OutOfMemory q = q
 queue_drained (Send message) q = q
 queue_drained (SendInvalidate stag message) q = q
+queue_drained (Hold message) q = q
+queue_drained (SendHeld message) q = q
 queue_drained (WriteRemote stag to bytes) q = q
 queue_drained (ReadRemote sink at stag to len) q = q
 queue_drained (Drain count) q = written count q

@@ -24,7 +24,7 @@ use Rattle.nr_endpoint.specs.Hellos.{first_private}
 use Rattle.nr_endpoint.specs.LinkState.{LinkState, LinkSide, has_ended, initial_link}
 use Rattle.nr_endpoint.specs.Judging.{segment_end, fetch_access, next_frame, next_segment, with_frame}
 use Rattle.nr_endpoint.specs.Calls.{Call, IsStopReason, after_call, after_calls}
-use Rattle.nr_endpoint.specs.Calls.Call.{Feed, FeedOne, NextEvent, Post, Stop, OutOfMemory, Send, SendInvalidate, WriteRemote, ReadRemote, Drain, Register, Release, Invalidate}
+use Rattle.nr_endpoint.specs.Calls.Call.{Feed, FeedOne, NextEvent, Post, Stop, OutOfMemory, Send, SendInvalidate, Hold, SendHeld, WriteRemote, ReadRemote, Drain, Register, Release, Invalidate}
 use Rattle.nr_endpoint.specs.Laws.{frames_made_whole, bytes_written}
 
 -- ---- The items that are queued
@@ -65,6 +65,8 @@ call_items link (Stop reason) = if has_ended link.state then [] else LastItem (e
 call_items link OutOfMemory = []
 call_items link (Send message) = if has_ended link.state then [] else SendItem (next_number link.state.send_queue.last_send) message ∷ []
 call_items link (SendInvalidate stag message) = if has_ended link.state then [] else SendInvalidateItem (next_number link.state.send_queue.last_send) stag message ∷ []
+call_items link (Hold message) = []
+call_items link (SendHeld message) = if has_ended link.state then [] else SendItem (next_number link.state.send_queue.last_send) message ∷ []
 call_items link (WriteRemote stag to bytes) = if has_ended link.state then [] else WriteItem stag to bytes ∷ []
 call_items link (ReadRemote sink at stag to len) =
     if has_ended link.state then [] else ReadRequestItem (next_number link.state.send_queue.last_request) sink at len stag to ∷ []
@@ -105,6 +107,8 @@ IsAllowedCall link (Stop reason) = IsStopReason reason
 IsAllowedCall link OutOfMemory = Unit {0}
 IsAllowedCall link (Send message) = Unit {0}
 IsAllowedCall link (SendInvalidate stag message) = Unit {0}
+IsAllowedCall link (Hold message) = Unit {0}
+IsAllowedCall link (SendHeld message) = Unit {0}
 IsAllowedCall link (WriteRemote stag to bytes) = Unit {0}
 IsAllowedCall link (ReadRemote sink at stag to len) = length link.state.reads < open_reads_max
 IsAllowedCall link (Drain count) = count ≤ length (writable link.state.has_hello link.state.send_queue)

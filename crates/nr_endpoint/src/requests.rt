@@ -72,6 +72,7 @@ pub fn append_request(out: &mut Output, msn: u32, read: &RemoteRead)
     requires room { REQUEST_ROOM ≤ out.old.spare }
     ensures bytes { out.new.items ≡ out.old.items ++ read_request msn read.now.sink read.now.at read.now.len read.now.stag read.now.to }
     ensures spare { out.old.spare ≤ out.new.spare + REQUEST_ROOM }
+    ensures kept { out.new.kept ≡ out.old.kept }
 {
     let payload = request_payload(read);
     let segment = Segment::Untagged {
@@ -91,6 +92,7 @@ pub fn append_requests(out: &mut Output, last: u32, reads: &[RemoteRead]) -> u32
     requires room { REQUEST_ROOM * length reads.now ≤ out.old.spare }
     ensures bytes { out.new.items ≡ out.old.items ++ requests_output last reads.now }
     ensures last { result ≡ last_request_after last reads.now }
+    ensures kept { out.new.kept ≡ out.old.kept }
 {
     let mut msn = last;
     for read in reads {

@@ -1,7 +1,8 @@
 //! What a side has to write.
 
-ghost use Rattle.std.specs.Prelude.{◌≡◌, ℕ, ◌+◌, ◌-◌, ◌^◌, ◌<◌, ◌≤◌, [], ◌++◌, if◌then◌else◌, length, take, drop, All, IfOk, OnOk, OnErr, MatchResult, min};
+ghost use Rattle.std.specs.Prelude.{◌≡◌, ℕ, List, ◌∷◌, ◌+◌, ◌-◌, ◌^◌, ◌<◌, ◌≤◌, [], ◌++◌, if◌then◌else◌, length, take, drop, All, IfOk, OnOk, OnErr, MatchResult, min};
 ghost use Rattle.std.specs.Io.KnownBytes.{Appends};
+ghost use Rattle.std.specs.VecDeque.{deque_capacity};
 ghost use Rattle.nr_wire.specs.Constants.{PRIVATE_MAX};
 ghost use Rattle.nr_wire.specs.Hello.{hello_encoding};
 ghost use Rattle.nr_link.specs.Output.{refusing_hello};
@@ -9,7 +10,7 @@ ghost use Rattle.nr_endpoint.specs.Judging.{reply_hello};
 ghost use Rattle.nr_outside.specs.Faults.{Rises};
 ghost use Rattle.nr_endpoint.specs.Requesting.{with_read_requests};
 ghost use Rattle.nr_endpoint.specs.Offering.{FitsRegion, FitsSharedRegion, shared_output, writes_output};
-ghost use Rattle.nr_endpoint.specs.SendQueue.{initial_queue, output_len, with_hello, with_fpdus, with_send, with_send_by, with_write, with_request, with_response, with_end, writable, written, ends_left, ends_passed};
+ghost use Rattle.nr_endpoint.specs.SendQueue.{initial_queue, output_len, with_hello, with_fpdus, with_send, with_send_by, with_held, with_held_sent, with_write, with_request, with_response, with_end, writable, written, ends_left, ends_passed};
 
 use crate::constants::{OPEN_READS_MAX, SEGMENT_MAX};
 use crate::ending::{is_rejection, terminate_word};
@@ -25,7 +26,7 @@ use nr_link::End;
 use nr_outside::{Failed, Sink};
 use nr_wire::constants::FLAG_REJECT;
 use nr_wire::{Hello, Side, write_hello};
-use nr_xdr::Memory;
+use nr_xdr::{Memory, Octets};
 use std::alloc::Global;
 use std::collections::VecDeque;
 use std::marker::Model;
@@ -41,6 +42,8 @@ pub struct SendQueue {
     sends_left: u64,
     last_send: u32,
     last_request: u32,
+    // The messages of Sends that are held back. There is room for their FPDUs, and for the ends of their Sends.
+    held: VecDeque<Octets>,
 }
 
 impl Model for SendQueue {
@@ -51,7 +54,11 @@ impl Model for SendQueue {
 
     ghost coded = { send_queue_code };
 
-    ghost view = { λ q. record { hello = q.hello.items; fpdus = q.fpdus.items; send_ends = q.send_ends.items; response_ends = q.response_ends.items; sends_left = q.sends_left; last_send = q.last_send; last_request = q.last_request } };
+    ghost view = { λ q. record { hello = q.hello.items; fpdus = q.fpdus.items; send_ends = q.send_ends.items; response_ends = q.response_ends.items; sends_left = q.sends_left; last_send = q.last_send; last_request = q.last_request; held = q.held.items } };
+
+    ghost use Rattle.nr_endpoint.specs.private.HeldSends.{HasRoomFor};
+
+    ghost invariant = { λ q. HasRoomFor q.held.items q.fpdus.kept q.send_ends.items (deque_capacity q.send_ends) };
 }
 
 /// Puts a side's hello at the end. An `Err` leaves the bytes as they were.
@@ -82,6 +89,7 @@ fn push_hello(
 fn retire_first(ends: &mut VecDeque<usize>, n: usize) -> usize
     ensures left { ends.new.items ≡ drop 1 ends.old.items ++ ends_left n (take 1 ends.old.items) }
     ensures passed { result ≡ ends_passed n (take 1 ends.old.items) }
+    ensures capacity { deque_capacity ends.new ≡ deque_capacity ends.old }
 {
     match ends.pop_front() {
         None => 0,
@@ -100,12 +108,26 @@ fn retire_first(ends: &mut VecDeque<usize>, n: usize) -> usize
 fn retire_ends(ends: &mut VecDeque<usize>, n: usize) -> usize
     ensures left { ends.new.items ≡ ends_left n ends.old.items }
     ensures passed { result ≡ ends_passed n ends.old.items }
+    ensures capacity { deque_capacity ends.new ≡ deque_capacity ends.old }
 {
     let mut passed = 0;
     for _i in 0..ends.len() {
         passed += retire_first(ends, n);
     }
     passed
+}
+
+/// Makes room for one end more, beside those of some Sends that are held back.
+fn reserve_ends(ends: &mut VecDeque<usize>, held: usize) -> Result<(), Memory>
+    ensures items { ends.new.items ≡ ends.old.items }
+    ensures room { OnOk result (length ends.old.items + (held + 1) ≤ deque_capacity ends.new) }
+    ensures never_falls { deque_capacity ends.old ≤ deque_capacity ends.new }
+{
+    let Some(more) = held.checked_add(1) else {
+        return Err(Memory);
+    };
+    ends.reserve(more)?;
+    Ok(())
 }
 
 /// Writes a hello to a sink, and after it FPDUs if these may be written, and drops from the front what the sink took. It answers
@@ -152,6 +174,7 @@ impl SendQueue {
             sends_left: 0,
             last_send: 0,
             last_request: 0,
+            held: VecDeque::new(alloc),
         })
     }
 
@@ -178,7 +201,7 @@ impl SendQueue {
         ensures err { OnErr result (self.new ≡ self.old) }
     {
         let msn = self.last_send.wrapping_add(1);
-        self.send_ends.reserve(1)?;
+        reserve_ends(&mut self.send_ends, self.held.len())?;
         push_cut(&mut self.fpdus, sender(named, msn), message)?;
         self.send_ends.push_back_reserved(self.fpdus.len());
         self.last_send = msn;
@@ -211,11 +234,47 @@ impl SendQueue {
         ensures err { OnErr result (self.new ≡ self.old) }
     {
         let msn = self.last_send.wrapping_add(1);
-        self.send_ends.reserve(1)?;
+        reserve_ends(&mut self.send_ends, self.held.len())?;
         push_send(&mut self.fpdus, named, msn, front, stream)?;
         self.send_ends.push_back_reserved(self.fpdus.len());
         self.last_send = msn;
         Ok(())
+    }
+
+    /// Holds a Send back: there will be room for it. An `Err` changes nothing.
+    pub fn hold(&mut self, message: Octets) -> Result<(), Memory>
+        requires { length message < 2 ^ 32 }
+        ensures ok { OnOk result (self.new ≡ with_held message self.old) }
+        ensures err { OnErr result (self.new ≡ self.old) }
+    {
+        self.held.reserve(1)?;
+        reserve_ends(&mut self.send_ends, self.held.len())?;
+        self.fpdus.keep(cut_room(message.as_slice()))?;
+        self.held.push_back_reserved(message);
+        Ok(())
+    }
+
+    /// Queues the first Send that is held back; nothing if none is. Takes no memory.
+    #[tactic(auto, using(crate::proofs::Cuts::carried_send))]
+    pub fn send_held(&mut self)
+        ensures first { (message : List ℕ) (others : List (List ℕ)) → self.old.held ≡ message ∷ others → self.new ≡ with_held_sent message self.old }
+        ensures none { self.old.held ≡ [] → self.new ≡ self.old }
+    {
+        let Some(message) = self.held.pop_front() else {
+            return;
+        };
+        let msn = self.last_send.wrapping_add(1);
+        self.fpdus.use_kept(cut_room(message.as_slice()));
+        append_segments(&mut self.fpdus, Operation::Send { msn }, message.as_slice());
+        self.send_ends.push_back_reserved(self.fpdus.len());
+        self.last_send = msn;
+    }
+
+    /// How many Sends are held back.
+    pub fn sends_held(&self) -> usize
+        ensures { result ≡ length self.now.held }
+    {
+        self.held.len()
     }
 
     /// An RDMA Write. An `Err` changes nothing.
@@ -263,7 +322,7 @@ impl SendQueue {
         ensures err { OnErr result (self.new ≡ self.old) }
     {
         let msn = self.last_send.wrapping_add(1);
-        self.send_ends.reserve(1)?;
+        reserve_ends(&mut self.send_ends, self.held.len())?;
         push_answer(&mut self.fpdus, writes, named, msn, front, stream)?;
         self.send_ends.push_back_reserved(self.fpdus.len());
         self.last_send = msn;
@@ -284,7 +343,7 @@ impl SendQueue {
         ensures err { OnErr result (self.new ≡ self.old) }
     {
         let msn = self.last_send.wrapping_add(1);
-        self.send_ends.reserve(1)?;
+        reserve_ends(&mut self.send_ends, self.held.len())?;
         push_long_answer(&mut self.fpdus, writes, named, msn, message)?;
         self.send_ends.push_back_reserved(self.fpdus.len());
         self.last_send = msn;
@@ -306,7 +365,7 @@ impl SendQueue {
         ensures err { OnErr result (self.new ≡ self.old) }
     {
         let msn = self.last_send.wrapping_add(1);
-        self.send_ends.reserve(1)?;
+        reserve_ends(&mut self.send_ends, self.held.len())?;
         push_shared_answer(
             &mut self.fpdus,
             self.alloc,
@@ -357,7 +416,7 @@ impl SendQueue {
         ensures err { OnErr result (self.new ≡ self.old) }
     {
         let msn = self.last_send.wrapping_add(1);
-        self.send_ends.reserve(1)?;
+        reserve_ends(&mut self.send_ends, self.held.len())?;
         self.fpdus
             .reserve(cut_room(message) + REQUEST_ROOM * reads.len())?;
         append_segments(&mut self.fpdus, Operation::Send { msn }, message);

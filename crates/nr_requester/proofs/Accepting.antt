@@ -1,5 +1,5 @@
 -- A call is accepted: a requester stands for the marks with that Submit; and what it answers to a call is what its client answers.
-use Rattle.std.proofs.Common.{◌≡◌, ℕ, ◌+◌, ◌-◌, ◌≤◌, cond, leb, List, [], ◌∷◌, ◌++◌, length, Option, None, Some, Result, Ok, Err, refl, sym, ap, subst, ◌∙◌, arith, append-nil}
+use Rattle.std.proofs.Common.{◌≡◌, ℕ, ◌+◌, ◌-◌, ◌≤◌, cond, leb, List, [], ◌∷◌, ◌++◌, length, map, Option, None, Some, Result, Ok, Err, refl, sym, ap, subst, ◌∙◌, arith, append-nil}
 use Rattle.std.proofs.lemmas.List.{length-map}
 use Rattle.nr_wire.specs.declared.hello.Side.TheVariants.{Initiator, Responder}
 use Rattle.nr_link.specs.declared.end.End.{End}
@@ -26,15 +26,17 @@ use Rattle.nr_reduce.specs.Written as reduce
 use Rattle.nr_reduce.specs.ClientState.{WaitingCall, ClientState, first_of, call_payload, plan_unless, plan_for}
 use Rattle.nr_reduce.specs.Client.{client_rules, client_end, client_output}
 use Rattle.nr_reduce.specs.Run.{client}
-use Rattle.nr_reduce.specs.Credits.{calls_outstanding, credits_granted}
-use Rattle.nr_reduce.specs.SubmitAnswer.{unless_spent}
+use Rattle.nr_reduce.specs.Credits.{credits_granted}
+use Rattle.nr_reduce.specs.SubmitAnswer.{unless_spent, unless_far_by}
 use Rattle.nr_reduce.specs.KeptClient.{KeptClient, ClientKeeps, kept_submitted}
 use Rattle.nr_reduce.specs.Standing.{input_events}
-use Rattle.nr_reduce.specs.StandingLaws.{GoesOn, kept_answer_by_plan, kept_answer_if}
+use Rattle.nr_reduce.specs.StandingLaws.{GoesOn, least_kept, kept_answer_by_plan, kept_answer_if}
 use Rattle.nr_reduce.proofs.Standing.{client_stands}
 use Rattle.nr_reduce.proofs.Submits.{kept_submits}
 use Rattle.nr_reduce.proofs.Keeping.{kept_answers, kept_counts}
-use Rattle.nr_requester.specs.RequesterState.{RequesterState, RequesterSide, kept_call, queue_of, kept_client, input_kept}
+use Rattle.nr_reduce.proofs.Unresumed.{none_waits}
+use Rattle.nr_requester.specs.RequesterState.{RequesterState, RequesterSide, StoredCall, kept_call, kept_calls, queue_of, kept_client, input_kept}
+use Rattle.nr_requester.specs.Sending.{least_stored}
 use Rattle.nr_requester.specs.Standing.{LinkKeeps, KeepsClient}
 use Rattle.nr_requester.specs.AfterCalls.{submitted, after_submit}
 use Rattle.nr_requester.specs.Answers.{plan_under, answer_by_plan, answer_if, answer_of}
@@ -70,6 +72,9 @@ module _ (opened : LinkParameters) (link : ℕ) (h : RequesterSide) (run : List 
   abbrev pub event : RunEvent
   event = CallSubmitted count a
 
+  unwaited : k.waiting ≡ []
+  unwaited = none_waits opened link run s.first.resumed
+
   stays : (client opened link run).ended ≡ None
   stays = lives opened link h run s none
 
@@ -93,13 +98,13 @@ module _ (opened : LinkParameters) (link : ℕ) (h : RequesterSide) (run : List 
   kept_next =
       subst (λ (x : KeptClient). ClientKeeps opened x (next_end_state (client_rules opened) (client opened link run) event) count) (kept_accepted h call plan sent_few)
       (subst (λ (e : EndState ClientState). ClientKeeps opened (kept_submitted (kept_client h.state) call plan) (next_end_state (client_rules opened) e event) count) (sym (lives_as (client opened link run) stays))
-      (kept_submits opened (kept_client h.state) k count a plan (subst (λ (e : EndState ClientState). ClientKeeps opened (kept_client h.state) e count) (lives_as (client opened link run) stays) s.kept.keeps) refl is (omega (arith, due)) left_few))
+      (kept_submits opened (kept_client h.state) k count a plan (subst (λ (e : EndState ClientState). ClientKeeps opened (kept_client h.state) e count) (lives_as (client opened link run) stays) s.kept.keeps) unwaited refl is (omega (arith, due)) left_few))
 
   side_is : (after_submit h call plan).state.side ≡ submitted h.state.side (call_message a.xid opened.wished k.stag plan) (buffers k.stag plan)
   side_is = λ i. submitted h.state.side (call_message a.xid (s.wished i) (stag i) plan) (buffers (stag i) plan)
 
   queue_next : queue_of (after_submit h call plan).state ≡ queue_of h.state ++ client_output opened k event
-  queue_next = ap (λ (x : LinkState). writable x.has_hello x.send_queue) side_is ∙ queue_submitted opened h.state.side k count a plan keeps is due s.kept.keeps.first.0
+  queue_next = ap (λ (x : LinkState). writable x.has_hello x.send_queue) side_is ∙ queue_submitted opened h.state.side k count a plan keeps is due unwaited
 
   output_next : output_for (client_rules opened) (client opened link run) event ≡ client_output opened k event
   unfolding client_end
@@ -128,7 +133,7 @@ module _ (opened : LinkParameters) (link : ℕ) (h : RequesterSide) (run : List 
       subst (λ (x : LinkState). LinkKeeps opened x (state_of opened link (run ++ mark ∷ []))) (sym side_is)
       (subst (λ (x : ClientState). LinkKeeps opened (submitted h.state.side (call_message a.xid opened.wished k.stag plan) (buffers k.stag plan)) x)
       (sym (state_next opened link run mark event stays (own_events link (event ∷ [])) refl))
-      (link_submitted opened h.state.side k count a plan keeps is due s.kept.keeps.first.0))
+      (link_submitted opened h.state.side k count a plan keeps is due unwaited))
 
   pub submit_keeps : KeepsClient opened link (after_submit h call plan) (run ++ mark ∷ [])
   submit_keeps = record {
@@ -142,14 +147,22 @@ module _ (opened : LinkParameters) (link : ℕ) (h : RequesterSide) (run : List 
 
 -- ---- What is answered to a call
 
+least_same : (sent : ℕ) (calls : List StoredCall) → least_stored calls ≡ least_kept (map (kept_call sent) calls)
+least_same sent [] = refl
+least_same sent (c ∷ calls) = refl
+
 answer_same : (r : RequesterState) (p : Result Plan TooLarge) → answer_by_plan r p ≡ kept_answer_by_plan (kept_client r) p
 answer_same r (Err large) = refl
-answer_same r (Ok plan) = ap (λ (n : ℕ). cond (leb r.grant n) (submissions.Refused (refusals.NoCredit n r.grant)) (accepting plan)) (sym (length-map r.outstanding (kept_call r.sent)))
+answer_same r (Ok plan) =
+    λ i. cond (leb r.grant (count i)) (submissions.Refused (refusals.NoCredit (count i) r.grant)) (unless_far_by r.side.terms.number r.next_xid (least_same r.sent r.outstanding i) answer)
   where
-    accepting : Plan → Submission
-    accepting plan =
+    answer : Submission
+    answer =
         unless_spent (numbers_end - r.next_xid) 1
         (unless_spent (numbers_end - r.side.memory.next) (regions_needed plan) (submissions.Accepted r.next_xid))
+
+    count : length r.outstanding ≡ length (kept_calls r)
+    count = sym (length-map r.outstanding (kept_call r.sent))
 
 answer_kept : (r : RequesterState) (call : Call) (form : Form) (x : Option End) → answer_if r call form x ≡ kept_answer_if (kept_client r) call form x
 answer_kept r call form (Some end) = refl
@@ -161,7 +174,7 @@ answers_as_client opened link h run call form s =
     answer_kept h.state call form h.state.side.ended ∙ kept_answers opened (kept_client h.state) (client opened link run) (length (bytes_received link Initiator run)) call form s.keeps.kept.keeps
 
 pub counts_as_client : CountsAsClient
-unfolding calls_outstanding credits_granted
+unfolding credits_granted
 counts_as_client opened link h run s =
     (let c = kept_counts opened (kept_client h.state) (client opened link run) (length (bytes_received link Initiator run)) s.keeps.kept.keeps in (c.0, c.1.0))
 
@@ -178,7 +191,7 @@ unfolding plan_for
 plan_same opened link h run call form s =
     let k : ClientState = state_of opened link run in
     (λ i. plan_of (call_payload h.state.next_xid call) form (s.kept.keeps.up i) (s.kept.keeps.down i))
-    ∙ sym (ap (λ (ws : List WaitingCall). plan_unless (first_of ws h.state.next_xid) (plan_of (call_payload h.state.next_xid call) form k.up_max k.down_max)) s.kept.keeps.first.0)
+    ∙ sym (ap (λ (ws : List WaitingCall). plan_unless (first_of ws h.state.next_xid) (plan_of (call_payload h.state.next_xid call) form k.up_max k.down_max)) (none_waits opened link run s.first.resumed))
 
 pub submit_client : (opened : LinkParameters) (link : ℕ) (h : RequesterSide) (run : List Mark) (call : Call) (form : Form) (plan : Plan) → h.state.side.ended ≡ None → plan_under h.state call form ≡ Ok plan → KeepsClient opened link h run →
     KeepsClient opened link (after_submit h call plan) (run ++ marks.Submit link call form (submissions.Accepted h.state.next_xid) ∷ [])

@@ -21,6 +21,7 @@ use Rattle.nr_reduce.specs.KeptClient.{KeptClient, ClientKeeps}
 use Rattle.nr_reduce.specs.Standing.{ClientRepresents, ClientRunsOut}
 use Rattle.nr_reduce.proofs.Steps.{client_one, end_state_after_append}
 use Rattle.nr_reduce.proofs.Standing.{itself, received_one, client_stays_out_lem}
+use Rattle.nr_reduce.proofs.Unresumed.{none_waits}
 use Rattle.nr_requester.specs.declared.answer.AnsweredCall.{AnsweredCall}
 use Rattle.nr_requester.specs.RequesterState.{StoredCall, RequesterState, RequesterFeeding, RequesterSide, feeding_of, kept_call, kept_client, queue_of, input_kept}
 use Rattle.nr_requester.specs.KeptAnswers.{is_due, client_by, StillHolds, KeepsAnswers}
@@ -55,8 +56,8 @@ answers_begin any link staging =
 
 pub begins : Begins
 unfolding opened_as marks_of
-begins opened link staging first number = record {
-  keeps = begins_client opened link staging first number;
+begins opened link staging first = record {
+  keeps = begins_client opened link staging first;
   answers =
       (let same : first_link opened ≡ opened = (λ i. record opened { resumed = sym first.resumed i; agreed = sym first.agreed i }) in
       subst (λ (p : LinkParameters). AnswersAfter p link (opened_as p.first_xid p.first_stag p.wished p.client staging) []) same (answers_begin opened link staging));
@@ -80,12 +81,12 @@ submit_answers opened link h run call form plan s k =
     let outs = quiet_outcomes opened es (event ∷ []) (tt, tt) in
     let e : EndState ClientState = client_by opened es in
     let xid_is : h.state.next_xid ≡ e.state.next_xid = s.kept.keeps.xid in
-    let regions : Offers opened (next_end_state (client_rules opened) e event).state = submit_offers opened e.state e.ended (length (bytes_received link Initiator run)) a s.kept.keeps.first.0 xid_is k.regions in
+    let regions : Offers opened (next_end_state (client_rules opened) e event).state = submit_offers opened e.state e.ended (length (bytes_received link Initiator run)) a (none_waits opened link run s.first.resumed) xid_is k.regions in
     let next : KeepsAnswers opened (es ++ event ∷ []) due2 (asked ++ a ∷ []) (after_submit h call plan).state = record {
       outcomes = k.outcomes ∙ (λ i. Rattle.std.specs.List.filter (λ (x : Rattle.nr_reduce.specs.History.CompletedCall). sym (same x.xid) i) (sym outs i));
       hands_back = all_as h.state.answered (back_more opened es (event ∷ [])) k.hands_back;
       holds = all_as h.state.answered (λ (x : AnsweredCall) g. subst (λ (d : EndState ClientState). StillHolds d.state.next_xid d.state x) (sym (end_state_after_append (client_rules opened) (initial_client opened) es (event ∷ [])))
-          (submit_still opened e.state e.ended (length (bytes_received link Initiator run)) a x s.kept.keeps.first.0 xid_is g)) k.holds;
+          (submit_still opened e.state e.ended (length (bytes_received link Initiator run)) a x (none_waits opened link run s.first.resumed) xid_is g)) k.holds;
       calls = all_as h.state.answered (λ (x : AnsweredCall) g. asked_more asked (a ∷ []) x.xid x.call g) k.calls;
       awaited = all_append _ h.state.outstanding (c ∷ []) (all_as h.state.outstanding (λ (x : StoredCall) g. g ∙ sym (same x.xid)) k.awaited) (sym (same h.state.next_xid ∙ k.to_come h.state.next_xid (omega arith)), tt);
       submitted = all_append _ h.state.outstanding (c ∷ []) (all_as h.state.outstanding (λ (x : StoredCall) g. some_asked asked (a ∷ []) x.xid x.call g) k.submitted) ((form, Contains-push asked a), tt);
@@ -169,7 +170,7 @@ drain_is_a_mark h n le fits = (
 -- what it keeps of its client, but for why it ended
 kept_out : (before after : RequesterFeeding) → before.state.side.ended ≡ None → RanOut before after → kept_client before.state ≡ record (kept_client after.state) { ended = None }
 kept_out before after lives out =
-    (λ i. record (kept_client before.state) { ended = lives i; memory = sym out.memory i; up_max = (sym out.agreed i).up; down_max = (sym out.agreed i).down; invalidates = (sym out.agreed i).invalidates })
+    (λ i. record (kept_client before.state) { ended = lives i; memory = sym out.memory i; up_max = (sym out.agreed i).up; down_max = (sym out.agreed i).down; invalidates = (sym out.agreed i).invalidates; number = (sym out.terms i).number })
     ∙ (λ i. record (kept_client (sym out.same i)) { ended = None; memory = after.state.side.memory })
 
 same_answers : (opened : LinkParameters) (es : List RunEvent) (due : ℕ → Bool) (asked : List AcceptedCall) (r r2 : RequesterState) → KeepsAnswers opened es due asked r → r2.answered ≡ r.answered → r2.outstanding ≡ r.outstanding → r2.next_xid ≡ r.next_xid → KeepsAnswers opened es due asked r2

@@ -212,7 +212,7 @@ quiet_more opened es more due due2 asked added r r2 k still outcomes regions sam
 abbrev pub IsQuiet : ℕ → List Mark → Mark → Type 0
 IsQuiet link run mark = AreNoFrames (events_at link Initiator run mark) × SubmitNothing (events_at link Initiator run mark)
 
-accepted_one : (link : ℕ) (run : List Mark) (mark : Mark) → accepted_calls link (run ++ mark ∷ []) ≡ accepted_calls link run ++ accepted_at link mark
+pub accepted_one : (link : ℕ) (run : List Mark) (mark : Mark) → accepted_calls link (run ++ mark ∷ []) ≡ accepted_calls link run ++ accepted_at link mark
 unfolding accepted_calls
 accepted_one link run mark = one_more (accepted_at link) run mark
 

@@ -30,6 +30,7 @@ use Rattle.nr_reduce.specs.StandingLaws.{GoesByInput}
 use Rattle.nr_reduce.proofs.Standing.{itself, client_stands, client_by_input_lem, events_input}
 use Rattle.nr_reduce.proofs.Steps.{ended_stays}
 use Rattle.nr_link.specs.Frames.{frames_completed}
+use Rattle.nr_reduce.proofs.Unresumed.{none_waits}
 use Rattle.nr_requester.specs.RequesterState.{RequesterState, RequesterFeeding, RequesterSide, feeding_of, queue_of, kept_client, input_kept}
 use Rattle.nr_requester.specs.Standing.{LinkKeeps, KeepsClient, AnswersAfter}
 use Rattle.nr_requester.specs.KeptAnswers.{is_due, client_by, KeepsAnswers}
@@ -131,6 +132,7 @@ module _ (opened : LinkParameters) (link : ℕ) (h : RequesterSide) (run : List 
         sent = s.sent side_live;
         wished = s.wished;
         due = due_is opened link h run s none;
+        unwaited = none_waits opened link run s.first.resumed;
       } in
       let is : input ≡ input_of Responder stream = s.kept.received none in
       let frames : List (List ℕ) = (input_split input piece).frames in

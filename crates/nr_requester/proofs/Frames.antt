@@ -40,6 +40,9 @@ use Rattle.nr_reduce.specs.KeptClient.{KeptClient, ClientKeeps, bytes_under, rel
 use Rattle.nr_regions.proofs.Holding.{live_held}
 use Rattle.nr_reduce.proofs.Keeping.{kept_judges, kept_responds}
 use Rattle.nr_reduce.proofs.Taking.{kept_takes}
+use Rattle.nr_reduce.proofs.Numbered.{waits_for_none}
+use Rattle.nr_reduce.specs.Written.{ends_written}
+use Rattle.nr_requester.proofs.Links.{sent_is}
 use Rattle.nr_requester.specs.RequesterState.{RequesterState, kept_calls, queue_of, kept_client}
 use Rattle.nr_requester.specs.Standing.{LinkKeeps}
 use Rattle.nr_requester.specs.AfterCalls.{stags_for}
@@ -59,12 +62,16 @@ module _ (opened : LinkParameters) (r : RequesterState) (k : ClientState) (count
   hello : r.side.has_hello ≡ true
   hello = keeps.side.has_hello ∙ has_greeted opened r.side k keeps.side later
 
+  -- no more Sends have left than have a number
+  few : ends_written k.written k.send_ends ≤ k.sends
+  few = (let due = keeps.due in let sent = sent_is opened r.side k keeps.side (omega (arith, due)) in let left = keeps.side.left in omega (arith, sent, left))
+
   -- what the client keeps after a frame that doesn't end it
   client_next : (segment : Segment) (after : RequesterState) → Reads opened k f segment → client_end k (FrameReceived f) ≡ None → kept_received (kept_client r) k.received f segment ≡ kept_client after →
       ClientKeeps opened (kept_client after) (next_end_state (client_rules opened) (live k) (FrameReceived f)) f.end
   client_next segment after said none is =
       subst (λ (x : KeptClient). ClientKeeps opened x (next_end_state (client_rules opened) (live k) (FrameReceived f)) f.end) is
-      (kept_takes opened (kept_client r) k count f segment keeps.client lt said.later said.is_segment none)
+      (kept_takes opened (kept_client r) k count f segment keeps.client lt said.later said.is_segment none (waits_for_none k (message_completed k.received segment) keeps.unwaited))
 
   tagged_taken : (last : Bool) (opcode stag to : ℕ) (payload : List ℕ) → segment_end r.side f (Tagged last opcode stag to payload) ≡ None → Reads opened k f (Tagged last opcode stag to payload) →
       FrameTaken opened r k f (record r { side = after_frame f (with_effect (Tagged last opcode stag to payload) r.side) })
@@ -146,7 +153,7 @@ module _ (opened : LinkParameters) (r : RequesterState) (k : ClientState) (count
       at = message_at (receive_length_for opened.client) k.received segment message whole fits
 
       same_verdict : kept_message_verdict (kept_calls r) (bytes_under r.side.memory) named message ≡ message_verdict k f.end named message
-      same_verdict = kept_judges opened (kept_client r) k count f.end named message keeps.client (omega (arith, lt))
+      same_verdict = kept_judges opened (kept_client r) k count f.end named message keeps.client (omega (arith, lt)) few
 
       end_is : client_end k (FrameReceived f) ≡ end_of_verdict f (kept_message_verdict (kept_calls r) (bytes_under r.side.memory) named message)
       end_is = said.end ∙ ap (client_message_end k f named) whole ∙ ap (end_of_verdict f) (sym same_verdict)
@@ -171,7 +178,7 @@ module _ (opened : LinkParameters) (r : RequesterState) (k : ClientState) (count
           let after : RequesterState = judged r s2 message (GivesOutcome xid outcome) in
           let stays : client_end k (FrameReceived f) ≡ None = end_is ∙ ap (end_of_verdict f) is in
           let kept : kept_received (kept_client r) k.received f segment ≡ kept_client after =
-          ap (λ (m : Option (List ℕ)). kept_by_message (kept_client r) m) whole ∙ completed_is r message xid outcome s2 refl gone refl in
+          ap (λ (m : Option (List ℕ)). kept_by_message (kept_client r) m) whole ∙ completed_is r message xid outcome s2 refl gone refl refl in
           taken_live opened r k count f after keeps stays (client_next segment after said stays kept)
           (subst (λ (x : ClientState). LinkKeeps opened after.side x) (sym said.state)
           (link_message opened r.side k f last opcode w queue msn offset payload message (released_all dead (stags_for (word_at 0 message) r.outstanding)) keeps.side later (omega (arith, lt)) whole at))

@@ -36,7 +36,7 @@ forget_leaves c = refl
 
 -- any call: these have one
 pub given : (calls : List OutstandingCall) (at : ℕ) → OutstandingCall
-given calls at = get_or calls at (record { xid = 0; send = 0; call = None; is_forgotten = false; offered = record { read = []; write = []; reply = None }; given = record { read = None; write = None; reply = None }; claims = no_claims; room = record { bytes = []; len = 0 } })
+given calls at = get_or calls at (record { xid = 0; send = 0; call = None; is_forgotten = false; read_at = None; offered = record { read = []; write = []; reply = None }; given = record { read = None; write = None; reply = None }; claims = no_claims; room = record { bytes = []; len = 0 } })
 
 -- ---- The regions of a call are released
 

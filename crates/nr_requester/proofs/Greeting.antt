@@ -91,6 +91,7 @@ link_greeted opened s k f private agreed most number is le keeps some none =
       responses = subst (λ (h : List ℕ). HasEnds k.written (length h) k.response_ends s.send_queue.response_ends) hello keeps.responses;
       left = keeps.left;
       numbered = ap (λ (xs : List ℕ). length xs) (sym same) ∙ keeps.numbered;
+      held = keeps.held;
       greeted = sym (ap not (ne_eqb f.end 0 (λ e. (let h = e in omega (arith, h, some)))));
     }
 
@@ -128,7 +129,7 @@ hello_taken opened r k count frame keeps lt first = by (hello_of Responder frame
     end_is : (x : Result Hello ℕ) → hello_of Responder frame ≡ x → client_end k (FrameReceived f) ≡ hello_end x
     end_is x e =
         (λ i. cond (is_first i) (or_other_sizes k f (hello_end (e i))) (or_message_end k f (frame_end_by (client_readiness k) (region_grants f.end k.regions) f (client_segment k f))))
-        ∙ same_sizes k f (hello_end x) keeps.client.first.1.0
+        ∙ same_sizes k f (hello_end x) (sym keeps.client.opening.1)
 
     output_is : client_output opened k (FrameReceived f) ≡ calls_output opened 1 k.outstanding
     output_is = ap (λ (b : Bool). cond b (calls_output opened 1 k.outstanding) (response_output k f.end (segment_request (client_segment k f)))) is_first

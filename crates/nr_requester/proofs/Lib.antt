@@ -66,3 +66,12 @@ pub mod KeptLists
 pub mod NamedRegions
 pub mod DeadRegions
 pub mod CountedReleases
+pub mod Reopening
+pub mod ReopenedLinks
+pub mod NextLinks
+pub mod NextAnswers
+pub mod NextBegins
+pub mod Resent
+pub mod ResentAnswers
+pub mod ResendStands
+pub mod AllResent

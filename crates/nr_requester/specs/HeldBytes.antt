@@ -52,7 +52,7 @@ segments_offered lists = length lists.read + (sum_by (λ chunk. length chunk) li
 -- The size of an item of each list, in bytes: of a call that is outstanding, of one that was answered, of a segment of a read list, of a write chunk, of a
 -- segment of that or of a reply chunk, and of the end of a Send.
 abbrev pub call_size : ℕ
-call_size = 392
+call_size = 400
 
 abbrev pub answer_size : ℕ
 answer_size = 288

@@ -18,3 +18,6 @@ pub mod KeptLists
 pub mod Takes
 pub mod Judged
 pub mod Fed
+pub mod Reopening
+pub mod ReopenedLinks
+pub mod Resends

@@ -1,5 +1,5 @@
 -- The marks that a requester stands for.
-use Rattle.std.specs.Prelude.{◌≡◌, ℕ, ◌+◌, ◌≤◌, Bool, true, false, not, ◌==◌, List, [], ◌∷◌, ◌++◌, length, None}
+use Rattle.std.specs.Prelude.{◌≡◌, ℕ, ◌+◌, ◌≤◌, Bool, true, false, not, ◌==◌, List, [], ◌∷◌, ◌++◌, length, map, None}
 use Rattle.nr_wire.specs.declared.hello.Side.TheVariants.{Initiator}
 use Rattle.nr_link.specs.Output.{msn_word}
 use Rattle.nr_link.specs.KeptSends.{received_within}
@@ -11,7 +11,8 @@ use Rattle.nr_reduce.specs.declared.mark.LinkParameters.{LinkParameters}
 use Rattle.nr_reduce.specs.declared.mark.Mark.{Mark}
 use Rattle.nr_reduce.specs.declared.mark.Mark.TheVariants as marks
 use Rattle.nr_reduce.specs.Written.{ends_waiting}
-use Rattle.nr_reduce.specs.ClientState.{ClientState}
+use Rattle.nr_reduce.specs.ClientState.{ClientState, WaitingCall}
+use Rattle.nr_reduce.specs.Plans.{call_message}
 use Rattle.nr_reduce.specs.Client.{calls_output, call_ends}
 use Rattle.nr_reduce.specs.History.{accepted_calls, bytes_received}
 use Rattle.nr_reduce.specs.Events.{events}
@@ -34,9 +35,13 @@ abbrev pub sends_ends : Bool → LinkParameters → ClientState → List ℕ
 sends_ends true opened k = k.send_ends
 sends_ends false opened k = call_ends opened k.due 1 k.outstanding
 
+-- the message of a call that waits to be sent again
+abbrev pub waiting_message : LinkParameters → WaitingCall → List ℕ
+waiting_message opened w = call_message w.xid opened.wished w.stag w.plan
+
 -- The side of the link of a client in this state, which hasn't ended. It never reads; its one receive is free, or has a Send that is begun, and
 -- what is agreed for the server's Sends fits it.
--- Sends of calls that were accepted before the server's hello wait in the queue.
+-- Sends of calls that were accepted before the server's hello wait in the queue, and those of calls that wait to be sent again are held back.
 pub record LinkKeeps (opened : LinkParameters) (s : LinkState) (k : ClientState) : Type 0 where
   pub side : s.side ≡ Initiator
   pub has_hello : s.has_hello ≡ k.has_hello
@@ -56,6 +61,7 @@ pub record LinkKeeps (opened : LinkParameters) (s : LinkState) (k : ClientState)
   pub responses : HasEnds k.written (length s.send_queue.hello) k.response_ends s.send_queue.response_ends
   pub left : s.send_queue.sends_left + length s.send_queue.send_ends ≡ k.sends
   pub numbered : length (sends_ends k.has_hello opened k) ≡ k.sends
+  pub held : s.send_queue.held ≡ map (waiting_message opened) k.waiting
   pub greeted : k.has_hello ≡ not (s.place == 0)
 
 -- A requester that hasn't run out of memory keeps the client of these marks: what that client asks for; its input is what they fed to it,

@@ -17,9 +17,9 @@ use nr_xdr::Octets;
 use std::mem::size_of;
 
 /// The sizes of an outstanding call, of an answer, and of the end of a Send.
-const CALL_SIZE: u128 = 392;
+const CALL_SIZE: u128 = 400;
 
-const _: () = prove!(size_of::<OutstandingCall>() == 392);
+const _: () = prove!(size_of::<OutstandingCall>() == 400);
 
 const ANSWER_SIZE: u128 = 288;
 

@@ -6,11 +6,13 @@ ghost use Rattle.nr_endpoint.specs.Offering.{claims_of};
 ghost use Rattle.nr_reduce.specs.Plans.{regions_needed, lists_of, total};
 ghost use Rattle.nr_reduce.specs.CallOutlines.{outline_plan, OutlineAnswers};
 ghost use Rattle.nr_reduce.specs.declared.call.Refused.TheVariants as refusals;
+ghost use Rattle.nr_reduce.specs.declared.call.Submission.{Submission};
 ghost use Rattle.nr_reduce.specs.declared.call.Submission.TheVariants as submissions;
+ghost use Rattle.nr_reduce.specs.SubmitAnswer.{unless_far_by};
 ghost use Rattle.nr_reduce.specs.declared.mark.Mark.TheVariants as marks;
 ghost use Rattle.nr_requester.specs.AfterCalls.{with_submitted, after_submit};
 ghost use Rattle.nr_requester.specs.Answers.{answer_of, plan_under, WasSent};
-ghost use Rattle.nr_requester.specs.Sending.{IsPlan, HasNumbers, answer_for, offered_of, xid_word, target_under, head_under, call_plan};
+ghost use Rattle.nr_requester.specs.Sending.{IsPlan, HasNumbers, least_stored, unless_refused, answer_for, offered_of, xid_word, target_under, head_under, call_plan};
 ghost use Rattle.nr_requester.specs.HeldClaims.{SentHeld, IsOfferOf};
 ghost use Rattle.nr_requester.specs.HeldBytes.{call_bytes, call_max, receive_max, NothingOutside};
 ghost use Rattle.nr_requester.specs.Standing.{StandsOn};
@@ -18,7 +20,9 @@ ghost use Rattle.nr_requester.specs.Fed.{fed_bytes};
 ghost use Rattle.nr_requester.specs.OpenCalls.{OpensTicket};
 
 use crate::answer::AnsweredCall;
-use crate::messages::{PlannedCall, lists_of, message_of, offered_of, regions_needed, reply_room};
+use crate::messages::{
+    PlannedCall, lists_of, message_of, offered_of, read_position, regions_needed, reply_room,
+};
 use crate::offered::OfferedLists;
 use crate::outstanding::{OutstandingCall, given_by};
 use crate::requester::{Requester, marks_if};
@@ -31,6 +35,9 @@ use std::alloc::Global;
 
 /// How many numbers there are.
 const NUMBERS_END: u64 = 4294967296;
+
+/// The xids of a client's outstanding calls, and the next one, are fewer than this apart.
+const WINDOW: u64 = 64;
 
 /// What is kept of a call that went out: its lists and its regions.
 #[derive(Drop)]
@@ -167,7 +174,35 @@ fn make_room(
 }
 
 impl Requester {
-    /// Why a call with this many regions isn't accepted, if it isn't: without credit, or without numbers.
+    /// The least xid of a call that is outstanding.
+    fn oldest(&self) -> Option<u32>
+        ensures { result ≡ least_stored self.now.state.outstanding }
+    {
+        match self.outstanding.as_slice().first() {
+            Some(call) => Some(call.xid),
+            None => None,
+        }
+    }
+
+    /// Why the next xid is too far above the least one, if it is: only that of a client with a number can be.
+    fn beyond_window(&self) -> Option<Refused>
+        ensures { (answer : Submission) → unless_far_by self.now.state.side.terms.number self.now.state.next_xid (least_stored self.now.state.outstanding) answer ≡ unless_refused result answer }
+    {
+        if self.endpoint.terms().number == 0 {
+            return None;
+        }
+        match self.oldest() {
+            Some(oldest) if self.next_xid.saturating_sub(u64::from(oldest)) >= WINDOW => {
+                Some(Refused::Window {
+                    oldest,
+                    next: self.next_xid,
+                })
+            }
+            _ => None,
+        }
+    }
+
+    /// Why a call with this many regions isn't accepted, if it isn't: without credit, beyond its window, or without numbers.
     fn refusal(&self, needed: u64) -> Option<Refused>
         ensures answer { MatchOption result (answer_for self.now.state needed ≡ submissions.Accepted self.now.state.next_xid) (λ r. answer_for self.now.state needed ≡ submissions.Refused r) }
         ensures numbers { result ≡ None → HasNumbers self.now.state needed }
@@ -178,6 +213,9 @@ impl Requester {
                 out,
                 grant: self.grant,
             });
+        }
+        if let Some(refused) = self.beyond_window() {
+            return Some(refused);
         }
         let left = NUMBERS_END - self.next_xid;
         if left < 1 {
@@ -224,6 +262,7 @@ impl Requester {
             Ok(sent) => sent,
             Err(_) => return Err(call),
         };
+        let read_at = read_position(outline);
         let given = given_by(&claims);
         let send = self.sends;
         self.sends += 1;
@@ -234,6 +273,7 @@ impl Requester {
             send,
             call: Some(call),
             is_forgotten: false,
+            read_at,
             offered: lists,
             given,
             claims,
@@ -361,8 +401,8 @@ impl Requester {
         }
     }
 
-    /// Submits a call in a form. Refused, in this order: the link has ended; the call is too large; no credit is left; too few xids or
-    /// STags are left. Or memory ran out. A refused call comes back, and nothing changes.
+    /// Submits a call in a form. Refused, in this order: the link has ended; the call is too large; no credit is left; the client has a
+    /// number, and the next xid is 64 or more above the least one of an outstanding call; too few xids or STags are left. Or memory ran out. A refused call comes back, and nothing changes.
     pub fn submit(&mut self, call: Call, form: Form) -> Result<Ticket, (Call, Refused)>
         requires { CanWriteCred call.cred }
         ensures accepted { IfOk result (λ xid. answer_of self.old.state call form ≡ submissions.Accepted xid) }

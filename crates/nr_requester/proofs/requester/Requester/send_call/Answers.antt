@@ -42,7 +42,7 @@ invariant_of-self-2 c =
     let credit = c.requires.numbers.credit in
     let len = length-map c.self.inside.outstanding.items stored_view in
     let queue : c.send_with_room.new.endpoint.link.state.receive_queue ≡ c.self.inside.endpoint.link.state.receive_queue = ap (λ (l : LinkSide). l.state.receive_queue) c.in-Ok.ensures.link in
-    let o : OutstandingCall = record { xid = c.self.inside.next_xid; send = c.self.inside.sends; call = Some c.args.call; is_forgotten = false; offered = c.in-Ok.sent.sent.lists; given = c.given_by-given.result; claims = c.in-Ok.sent.sent.claims; room = c.in-Ok.sent.room } in
+    let o : OutstandingCall = record { xid = c.self.inside.next_xid; send = c.self.inside.sends; call = Some c.args.call; is_forgotten = false; read_at = c.read_position-read_at.result; offered = c.in-Ok.sent.sent.lists; given = c.given_by-given.result; claims = c.in-Ok.sent.sent.claims; room = c.in-Ok.sent.room } in
     let plan : Plan = outline_plan (c.args.head.now ++ c.args.call.args) c.args.outline in
     let same : outline_plan (c.args.head.now ++ c.as_slice.result.now) c.args.outline ≡ plan = ap (λ (args : List ℕ). outline_plan (c.args.head.now ++ args) c.args.outline) c.as_slice.ensures in
     let planned : IsPlan plan = c.requires.planned in
@@ -71,10 +71,10 @@ invariant_of-self-2 c =
 pub returns-clause-state : goal.returns-clause-state
 returns-clause-state c =
     let plan : Plan = outline_plan (c.args.head.now ++ c.as_slice.result.now) c.args.outline in
-    let o : OutstandingCall = record { xid = c.self.inside.next_xid; send = c.self.inside.sends; call = Some c.args.call; is_forgotten = false; offered = c.in-Ok.sent.sent.lists; given = c.given_by-given.result; claims = c.in-Ok.sent.sent.claims; room = c.in-Ok.sent.room } in
+    let o : OutstandingCall = record { xid = c.self.inside.next_xid; send = c.self.inside.sends; call = Some c.args.call; is_forgotten = false; read_at = c.read_position-read_at.result; offered = c.in-Ok.sent.sent.lists; given = c.given_by-given.result; claims = c.in-Ok.sent.sent.claims; room = c.in-Ok.sent.room } in
     let m = c.self.inside.endpoint.link.state.memory in
     let given : given_stags c.given_by-given.result ≡ map (λ b. b.stag) (buffers m.next plan) = c.given_by-given.ensures ∙ ap (λ (x : Claims). stags_of x) c.in-Ok.ensures.claims ∙ stags_are_lem m plan in
     sent_view c.args.self.now c.self.inside.endpoint.link c.send_with_room.new.endpoint.link c.self.inside.sent c.self.inside.wished c.self.inside.sends c.self.inside.next_xid c.self.inside.grant c.self.inside.local_releases c.self.inside.outstanding.items c.push_reserved.new.self.items
     c.self.inside.answered.items c.make_room.new.answered.items c.args.call plan o c.self.inside.endpoint.staging c.send_with_room.new.endpoint.staging c.self.inside.marks c.marks_if-self-inside.result c.self.view_is c.in-Ok.ensures.link (c.push_reserved.ensures.items ∙ ap (λ (xs : List OutstandingCall). xs ++ o ∷ []) c.make_room.ensures.outstanding) c.make_room.ensures.answered
-    (λ i. record { xid = c.self.inside.next_xid; send = c.self.inside.sends; call = Some c.args.call; is_forgotten = false; offered = c.in-Ok.ensures.lists i; given = given i; claims = c.in-Ok.ensures.claims i }) c.send_with_room.ensures.staging c.marks_if-self-inside.ensures
+    (λ i. record { xid = c.self.inside.next_xid; send = c.self.inside.sends; call = Some c.args.call; is_forgotten = false; read_at = c.read_position-read_at.ensures (c.args.head.now ++ c.as_slice.result.now) i; offered = c.in-Ok.ensures.lists i; given = given i; claims = c.in-Ok.ensures.claims i }) c.send_with_room.ensures.staging c.marks_if-self-inside.ensures
     ∙ ap (λ (args : List ℕ). after_submit c.args.self.now c.args.call (outline_plan (c.args.head.now ++ args) c.args.outline)) c.as_slice.ensures
