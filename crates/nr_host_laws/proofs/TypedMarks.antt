@@ -37,6 +37,7 @@ use Rattle.nr_host.specs.Connections.{IsOwn, Outside, answer_of, answers_of, IsO
 use Rattle.nr_host.specs.Turns.{AreTurns, Turn, added_at, answered_at, answered_in}
 use Rattle.nr_host.specs.Turns.Turn.{Answers, Refuses}
 use Rattle.nr_host.proofs.Turning.{alone_more}
+use Rattle.nr_host.proofs.Unnumbered.{answers_handled}
 use Rattle.nr_host.specs.declared.connection_limits.ConnectionLimits.{ConnectionLimits}
 use Rattle.nr_host_laws.specs.OwnMarks.{is_own, other_marks, own_marks}
 use Rattle.nr_host_laws.specs.Streams.{ServesStream}

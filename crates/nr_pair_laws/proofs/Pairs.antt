@@ -44,7 +44,7 @@ use Rattle.nr_host.specs.declared.connection_limits.ConnectionLimits.{Connection
 use Rattle.nr_host.specs.declared.conn_end.ConnEnd.{ConnEnd}
 use Rattle.nr_host.specs.Steps.{with_failed}
 use Rattle.nr_host.proofs.Turning.{alone_more}
-use Rattle.nr_host.proofs.Unnumbered.{over_of_marks}
+use Rattle.nr_host.proofs.Unnumbered.{answers_handled, over_of_marks}
 use Rattle.nr_host_laws.specs.OwnMarks.{own_marks}
 use Rattle.nr_host_laws.proofs.Lawful.{keep_the_law}
 use Rattle.nr_host_laws.proofs.OwnMarks.{same_server}

@@ -57,7 +57,14 @@ fn served<R: Abort + Wait>(
     let mut sink = MemSink::new(alloc, Vec::new(alloc));
     let mut clock = MemClock::new(&MOMENTS);
     let got = serve_connection(
-        rt, alloc, &mut source, &mut sink, shared, pass, &mut clock, ONE_CALL,
+        rt,
+        alloc,
+        &mut source,
+        &mut sink,
+        shared,
+        pass,
+        &mut clock,
+        ONE_CALL,
     );
     let text = format!(in alloc; "{got:?}").expect(rt, "memory");
     same(rt, row, text.as_str(), end);
