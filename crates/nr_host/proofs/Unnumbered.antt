@@ -1,5 +1,5 @@
 -- The turns of a client without a number: each of its calls is executed, at the moment that the clock gave, at the end of the journal.
-use Rattle.std.proofs.Common.{◌≡◌, ℕ, zero, suc, ◌+◌, ◌≤◌, arith, List, [], ◌∷◌, ◌++◌, length, take, drop, Some, inl, inr, refl, sym, ap, subst, ◌∙◌}
+use Rattle.std.proofs.Common.{◌≡◌, ℕ, zero, suc, ◌+◌, ◌≤◌, arith, List, [], ◌∷◌, ◌++◌, length, take, drop, Some, refl, sym, ap, subst, ◌∙◌}
 use Rattle.std.proofs.lemmas.List.{drop-map, length-append, length-map, length-take, map-append, take-append-drop, take-append-le, take-map}
 use Rattle.std.specs.Prelude.{map, option_map}
 use Rattle.std.specs.List.{flat_map}
@@ -19,6 +19,7 @@ use Rattle.nr_plain.specs.Setup.{Setup}
 use Rattle.nr_plain.proofs.Histories.{tagged_alone}
 use Rattle.nr_host.specs.Connections.{Outside, Runs, answer_of, answers_of, handled_by, handled_in, refusal_of, refusals_of}
 use Rattle.nr_host.specs.Turns.{AreTurns, Handled, IsAnsweredAt, Taken, Turn, added_at, answered_at, answered_in, given_for, handled_at}
+use Rattle.nr_host.specs.Turns.Handled.{AnsweredCall, RefusedCall}
 use Rattle.nr_host.specs.Turns.Turn.{Answers, Refuses}
 use Rattle.nr_host.specs.declared.connection_limits.ConnectionLimits.{ConnectionLimits}
 use Rattle.nr_host.proofs.Turning.{alone_more, turns_within}
@@ -101,8 +102,8 @@ turns_placed s T n (Refuses given xid ∷ turns) mine (k, (from, (old, rest))) =
 -- ---- The calls that were answered, by those that were handled
 
 abbrev answer_in : Handled → List Answered
-answer_in (inl a) = a ∷ []
-answer_in (inr xid) = []
+answer_in (AnsweredCall a) = a ∷ []
+answer_in (RefusedCall xid) = []
 
 of_turns : (turns : List Turn) → flat_map answer_in (map handled_at turns) ≡ flat_map answered_at turns
 of_turns [] = refl
@@ -125,8 +126,8 @@ of_marks (marks.Told l (Granted credits) ∷ run) = of_marks run
 of_marks (marks.Told l (Old xid at) ∷ run) = of_marks run
 
 abbrev refusal_in : Handled → List ℕ
-refusal_in (inl a) = []
-refusal_in (inr xid) = xid ∷ []
+refusal_in (AnsweredCall a) = []
+refusal_in (RefusedCall xid) = xid ∷ []
 
 refused_marks : (run : List Mark) → flat_map refusal_in (flat_map handled_by run) ≡ flat_map refusal_of run
 refused_marks [] = refl

@@ -1,5 +1,5 @@
 -- What one connection of a server did: its marks, and what they say of the link, of the journal and of the clock.
-use Rattle.std.specs.Prelude.{◌≡◌, ◌≢◌, ⊤, ℕ, ◌+◌, ◌⊎◌, inl, inr, Bool, true, false, List, [], ◌∷◌, ◌++◌, length, map, Option, None, Some, is_some}
+use Rattle.std.specs.Prelude.{◌≡◌, ◌≢◌, ⊤, ℕ, ◌+◌, ◌⊎◌, Bool, true, false, List, [], ◌∷◌, ◌++◌, length, map, Option, None, Some, is_some}
 use Rattle.std.specs.List.{flat_map}
 use Rattle.std.specs.Io.KnownBytes.{Appends}
 use Rattle.nr_outside.specs.Content.{HandsOut}
@@ -22,6 +22,7 @@ use Rattle.nr_reduce.specs.Served.{ServedSoFar, next_call}
 use Rattle.nr_reduce.specs.NumberedJournal.{number_heard}
 use Rattle.nr_plain.specs.History.{Answered, PassView}
 use Rattle.nr_host.specs.Turns.{Handled, Taken, Turn, given_for, handled_at}
+use Rattle.nr_host.specs.Turns.Handled.{AnsweredCall, RefusedCall}
 use Rattle.nr_host.specs.declared.connection_limits.ConnectionLimits.{ConnectionLimits}
 
 -- a link's server was opened with these limits
@@ -46,8 +47,8 @@ answers_of run = flat_map answer_of run
 
 -- what was made of the calls whose turn came, in order: they were answered, or refused since they are old
 abbrev pub handled_by : Mark → List Handled
-handled_by (marks.Execute l xid moment payload place reply) = inl (record { moment = moment; payload = payload; place = place; reply = reply }) ∷ []
-handled_by (marks.Told l (Old xid at)) = inr xid ∷ []
+handled_by (marks.Execute l xid moment payload place reply) = AnsweredCall (record { moment = moment; payload = payload; place = place; reply = reply }) ∷ []
+handled_by (marks.Told l (Old xid at)) = RefusedCall xid ∷ []
 handled_by mark = []
 
 unfoldable pub handled_in : List Mark → List Handled

@@ -1,5 +1,5 @@
 -- The turns that a connection took at the server, one for each call whose turn came: it is answered, or refused since it is old.
-use Rattle.std.specs.Prelude.{◌≡◌, ℕ, suc, ◌+◌, ◌≤◌, List, [], ◌∷◌, ◌++◌, length, take, drop, ◌⊎◌, inl, inr}
+use Rattle.std.specs.Prelude.{◌≡◌, ℕ, suc, ◌+◌, ◌≤◌, List, [], ◌∷◌, ◌++◌, length, take, drop}
 use Rattle.std.specs.List.{flat_map}
 use Rattle.nr_outside.specs.declared.moment.Moment.{Moment}
 use Rattle.nr_reduce.specs.NumberedJournal.{entries_alone, standing_for, IsExecutedBy, IsOld}
@@ -21,12 +21,13 @@ given_for (Answers given a) = given
 given_for (Refuses given xid) = given
 
 -- what was made of a call at its turn: it was answered, or refused under its xid
-abbrev pub Handled : Type 0
-Handled = Answered ⊎ ℕ
+pub data Handled : Type 0 where
+  AnsweredCall : Answered → Handled
+  RefusedCall : (xid : ℕ) → Handled
 
 abbrev pub handled_at : Turn → Handled
-handled_at (Answers given a) = inl a
-handled_at (Refuses given xid) = inr xid
+handled_at (Answers given a) = AnsweredCall a
+handled_at (Refuses given xid) = RefusedCall xid
 
 -- the calls that were answered, in order
 abbrev pub answered_at : Turn → List Answered
