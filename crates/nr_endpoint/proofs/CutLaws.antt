@@ -1,5 +1,5 @@
 -- A link is the same however its stream is cut, and what a link keeps of its input.
-use Rattle.std.proofs.Common.{◌≡◌, ℕ, Bool, true, false, cond, List, [], ◌∷◌, ◌++◌, refl, sym, subst, ◌∙◌}
+use Rattle.std.proofs.Common.{◌≡◌, ℕ, Bool, true, false, cond, List, [], ◌∷◌, ◌++◌, refl, sym, subst, ◌∙◌, Option}
 use Rattle.nr_wire.specs.declared.hello.Side.{Side}
 use Rattle.nr_wire.specs.declared.stream.Awaited.{Awaited}
 use Rattle.nr_wire.specs.declared.stream.Awaited.TheVariants.{Fpdu}
@@ -8,6 +8,7 @@ use Rattle.nr_wire.specs.Feeding.{feeding_after, feeding_after_step, feeding_aft
 use Rattle.nr_wire.proofs.Frames.{partial_nil}
 use Rattle.nr_wire.proofs.Feedings.{feeding_after-append, feeding_after_step-rest, feeding_after-partial, feeding_after_step-partial_rest, feeding-ended, feeding_after_step-ended, feeding_after_step-whole, feeding_after_step-partial}
 use Rattle.nr_link.specs.declared.agreement.SideTerms.{SideTerms}
+use Rattle.nr_link.specs.declared.agreement.Agreement.{Agreement}
 use Rattle.nr_endpoint.specs.LinkState.{LinkSide, LinkState, has_ended, initial_link}
 use Rattle.nr_endpoint.specs.Judging.{with_frame}
 use Rattle.nr_endpoint.specs.Calls.{Call, after_call, after_calls, unless_ended}
@@ -55,12 +56,12 @@ unfolding after_calls
 partial_calls link [] p = p
 partial_calls link (call ∷ calls) p = partial_calls (after_call link call) calls (partial_call link call p)
 
-partial_initial : (side : Side) (receives first_stag : ℕ) (terms : SideTerms) → IsPartialLink (initial_link side receives first_stag terms)
+partial_initial : (side : Side) (receives first_stag : ℕ) (terms : SideTerms) (earlier : Option Agreement) → IsPartialLink (initial_link side receives first_stag terms earlier)
 unfolding initial_link
-partial_initial side receives first_stag terms = partial_nil _
+partial_initial side receives first_stag terms earlier = partial_nil _
 
 pub keeps_less_than_frame : KeepsLessThanFrame
-keeps_less_than_frame side receives first_stag terms calls = partial_calls (initial_link side receives first_stag terms) calls (partial_initial side receives first_stag terms)
+keeps_less_than_frame side receives first_stag terms earlier calls = partial_calls (initial_link side receives first_stag terms earlier) calls (partial_initial side receives first_stag terms earlier)
 
 -- ---- A side that has ended keeps no input
 
@@ -126,9 +127,9 @@ unfolding after_calls
 empty_calls link [] p = p
 empty_calls link (call ∷ calls) p = empty_calls (after_call link call) calls (empty_call link call p)
 
-empty_initial : (side : Side) (receives first_stag : ℕ) (terms : SideTerms) → IsEmptyIfEnded (initial_link side receives first_stag terms)
+empty_initial : (side : Side) (receives first_stag : ℕ) (terms : SideTerms) (earlier : Option Agreement) → IsEmptyIfEnded (initial_link side receives first_stag terms earlier)
 unfolding initial_link
-empty_initial side receives first_stag terms = λ ended. refl
+empty_initial side receives first_stag terms earlier = λ ended. refl
 
 pub ended_keeps_nothing : EndedKeepsNothing
-ended_keeps_nothing side receives first_stag terms calls = empty_calls (initial_link side receives first_stag terms) calls (empty_initial side receives first_stag terms)
+ended_keeps_nothing side receives first_stag terms earlier calls = empty_calls (initial_link side receives first_stag terms earlier) calls (empty_initial side receives first_stag terms earlier)

@@ -31,6 +31,7 @@ use Rattle.nr_endpoint.specs.DeliveryLaws.{QueuedEvent, made_at, segment_deliver
 use Rattle.nr_endpoint.specs.Laws.{frames_made_whole, memory_events}
 use Rattle.nr_endpoint.proofs.MemoryLaws.{memory_follows_events, events_append}
 use Rattle.nr_endpoint.proofs.PlaceOrder.{Between, calls_between}
+use Rattle.nr_endpoint.proofs.HellosFrom.{hello_from}
 
 abbrev names : List QueuedEvent → List DeliveredEvent
 names made = map (λ (m : QueuedEvent). m.delivery) made
@@ -132,7 +133,9 @@ hello_makes s f (Ok hello) longer = ((sym (append-nil s.receive_queue.deliveries
 hello_makes s f (Err reason) longer = ((sym (append-nil s.receive_queue.deliveries), (omega arith)), tt)
 
 frame_makes : (s : LinkState) (a : Awaited) (frame : List ℕ) → IsFrame a frame → MakesAt s (frame_deliveries s a frame) (with_frame s a frame)
-frame_makes s (HelloFrom side) frame is = hello_makes s (next_frame s frame) (hello_of side frame) (omega (arith, is.fields))
+frame_makes s (HelloFrom side) frame is =
+    hello_from (MakesAt s []) side (next_frame s frame) (hello_of side frame) s (hello_makes s (next_frame s frame) (hello_of side frame) (omega (arith, is.fields)))
+    ((sym (append-nil s.receive_queue.deliveries), (omega arith)), tt)
 frame_makes s Fpdu frame is = fpdu_makes s (next_frame s frame) (next_segment s frame) (omega (arith, is.fields))
 
 -- ---- Frames

@@ -14,6 +14,7 @@ use Rattle.nr_wire.proofs.Feedings.{feeding_after_step-whole, feeding_after_step
 use Rattle.nr_link.specs.declared.end.End.{End}
 use Rattle.nr_link.specs.Frames.{Frame}
 use Rattle.nr_link.specs.declared.agreement.SideTerms.{SideTerms}
+use Rattle.nr_link.specs.declared.agreement.Agreement.{Agreement}
 use Rattle.nr_endpoint.specs.FedBytes.{fed_bytes}
 use Rattle.nr_endpoint.specs.ReceiveQueue.{DeliveredEvent, lent_for}
 use Rattle.nr_endpoint.specs.ReceiveQueue.DeliveredEvent.{MessageReceived}
@@ -23,6 +24,7 @@ use Rattle.nr_endpoint.specs.LinkState.{initial_link, LinkState, LinkSide, has_e
 use Rattle.nr_endpoint.specs.Judging.{with_frame, with_fpdu, with_peer_hello, with_segment_by, segment_end, next_frame, next_segment}
 use Rattle.nr_endpoint.specs.Calls.{StandsOn, after_call, after_calls}
 use Rattle.nr_endpoint.specs.Calls.Call.{Feed, FeedOne, NextEvent, Post, Send, WriteRemote, ReadRemote, Drain, Register}
+use Rattle.nr_endpoint.proofs.HellosFrom.{hello_from}
 
 -- ---- A frame
 
@@ -41,7 +43,8 @@ hello_place f (Ok hello) s le = omega arith
 hello_place f (Err reason) s le = le
 
 frame_place : (s : LinkState) (a : Awaited) (bytes : List ℕ) → (with_frame s a bytes).place ≤ s.place + length bytes
-frame_place s (HelloFrom side) bytes = hello_place (next_frame s bytes) (hello_of side bytes) s (omega arith)
+frame_place s (HelloFrom side) bytes =
+    hello_from (λ t. t.place ≤ s.place + length bytes) side (next_frame s bytes) (hello_of side bytes) s (hello_place (next_frame s bytes) (hello_of side bytes) s (omega arith)) (omega arith)
 frame_place s Fpdu bytes = fpdu_place (next_frame s bytes) (next_segment s bytes) s (omega arith)
 
 -- ---- Frames
@@ -139,9 +142,9 @@ message_lent before after number invalidated bytes first is =
     let one : lent_for before.state.receive_queue.deliveries ≡ 1 = ap (λ (n : List DeliveredEvent). lent_for n) first in
     omega (arith, lent, one)
 
-pub open_fed : (l : LinkSide) (side : Side) (receives stag : ℕ) (terms : SideTerms) → l ≡ initial_link side receives stag terms → fed_bytes l ≡ 0
+pub open_fed : (l : LinkSide) (side : Side) (receives stag : ℕ) (terms : SideTerms) (earlier : Option Agreement) → l ≡ initial_link side receives stag terms earlier → fed_bytes l ≡ 0
 unfolding initial_link
-open_fed l side receives stag terms is = ap (λ (x : LinkSide). fed_bytes x) is
+open_fed l side receives stag terms earlier is = ap (λ (x : LinkSide). fed_bytes x) is
 
 pub register_fed : (before after : LinkSide) (buf : List ℕ) (right : Right) → after ≡ after_call before (Register buf right) → fed_bytes after ≡ fed_bytes before
 unfolding after_call

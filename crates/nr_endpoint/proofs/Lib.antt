@@ -18,6 +18,9 @@ pub mod CutLaws
 pub mod MemoryLaws
 pub mod ReadLaws
 pub mod Agreed
+pub mod HellosFrom
+mod FreshRegions
+mod HeldSends
 pub mod AlongFrames
 pub mod HelloLaws
 pub mod HelloFirst
@@ -38,6 +41,7 @@ pub mod QueuedItems
 pub mod Bounds
 pub mod KeptLists
 pub mod AgreesByHellos
+pub mod KeptSizes
 pub mod Received
 pub mod OneDelivery
 pub mod ReceivedEvents

@@ -30,6 +30,7 @@ use Rattle.nr_endpoint.specs.Calls.{Call, after_call, after_calls}
 use Rattle.nr_endpoint.specs.Calls.Call.{Feed, FeedOne, NextEvent, Post, Stop, OutOfMemory, Send, WriteRemote, ReadRemote, Drain, Register, Release, SendInvalidate, Hold, SendHeld, Invalidate}
 use Rattle.nr_endpoint.specs.Laws.{segment_arrivals, fpdu_arrivals, frame_arrivals, arrivals, frames_made_whole, call_events, memory_events, NoneIsDenied, MemoryFollowsEvents, PlacesAreAllowed, OpenRegionHolds, ReleasedBufferHolds, ReleasedStaysClosed}
 use Rattle.nr_endpoint.proofs.Alive.{alive_tagged}
+use Rattle.nr_endpoint.proofs.HellosFrom.{hello_from}
 
 -- the memory after some events, none of which it denies
 abbrev Follows : RegisteredMemory → List MemoryEvent → RegisteredMemory → Type 0
@@ -96,7 +97,8 @@ hello_memory s f (Ok hello) = refl
 hello_memory s f (Err reason) = refl
 
 frame_memory : (s : LinkState) (a : Awaited) (frame : List ℕ) → Follows s.memory (frame_arrivals s a frame) (with_frame s a frame).memory
-frame_memory s (HelloFrom side) frame = (hello_memory s (next_frame s frame) (hello_of side frame), tt)
+frame_memory s (HelloFrom side) frame =
+    (hello_from (λ t. t.memory ≡ s.memory) side (next_frame s frame) (hello_of side frame) s (hello_memory s (next_frame s frame) (hello_of side frame)) refl, tt)
 frame_memory s Fpdu frame = fpdu_memory s (next_frame s frame) (next_segment s frame) refl
 
 -- ---- Frames

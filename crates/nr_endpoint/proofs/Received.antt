@@ -192,9 +192,9 @@ calls_above from link bytes (call ∷ calls) fed =
     (calls_above from (after_call link call) more calls (call_fed from link bytes call fed)))
 
 pub received_bytes : ReceivedBytes
-received_bytes side receives first_stag terms before after =
-    let start : LinkSide = initial_link side receives first_stag terms in
-    let fed : IsFed (peer side) (after_calls start before) (bytes_fed start before) = stream_fed side receives first_stag terms before in (
+received_bytes side receives first_stag terms earlier before after =
+    let start : LinkSide = initial_link side receives first_stag terms earlier in
+    let fed : IsFed (peer side) (after_calls start before) (bytes_fed start before) = stream_fed side receives first_stag terms earlier before in (
       all_below start.state.place (after_calls start before).state.place (length (bytes_fed start before)) (memory_events start before) (omega (arith, fed.within)) (calls_between start before),
       all_above_lem (length (bytes_fed start before)) (memory_events (after_calls start before) after) (calls_above (peer side) (after_calls start before) (bytes_fed start before) after fed),
     )

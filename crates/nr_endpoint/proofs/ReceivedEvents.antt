@@ -130,9 +130,9 @@ calls_above from link bytes (call ∷ calls) fed =
     (calls_above from (after_call link call) more calls (call_fed from link bytes call fed)))
 
 pub events_of_received_bytes : EventsOfReceivedBytes
-events_of_received_bytes side receives first_stag terms before after =
-    let start : LinkSide = initial_link side receives first_stag terms in
-    let fed : IsFed (peer side) (after_calls start before) (bytes_fed start before) = stream_fed side receives first_stag terms before in (
+events_of_received_bytes side receives first_stag terms earlier before after =
+    let start : LinkSide = initial_link side receives first_stag terms earlier in
+    let fed : IsFed (peer side) (after_calls start before) (bytes_fed start before) = stream_fed side receives first_stag terms earlier before in (
       all_below start.state.place (after_calls start before).state.place (length (bytes_fed start before)) (deliveries_made start before) (omega (arith, fed.within)) (events_are_in_order start before),
       all_above_lem (length (bytes_fed start before)) (deliveries_made (after_calls start before) after) (calls_above (peer side) (after_calls start before) (bytes_fed start before) after fed),
     )

@@ -20,6 +20,11 @@ pub record SendQueue : Type 0 where
   pub last_request : ℕ
   pub held : List (List ℕ)
 
+-- how many bytes the messages have that are held back
+abbrev pub held_len : List (List ℕ) → ℕ
+held_len [] = 0
+held_len (message ∷ held) = length message + held_len held
+
 -- how many bytes of output it has
 abbrev pub output_len : SendQueue → ℕ
 output_len q = length q.hello + length q.fpdus

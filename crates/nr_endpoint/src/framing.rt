@@ -1,6 +1,6 @@
 //! FPDUs at the end of some bytes: segments, and messages and accesses cut into segments.
 
-ghost use Rattle.std.specs.Prelude.{◌≡◌, ◌+◌, ◌*◌, ◌^◌, ◌<◌, ◌≤◌, ◌++◌, if◌then◌else◌, length, All, IfOk, OnOk, OnErr};
+ghost use Rattle.std.specs.Prelude.{◌≡◌, ◌+◌, ◌*◌, ◌^◌, ◌<◌, ◌≤◌, ◌++◌, if◌then◌else◌, length, true, All, IfOk, OnOk, OnErr};
 ghost use Rattle.nr_wire.specs.Segment.{IsWritable, encoding, payload_in};
 ghost use Rattle.nr_wire.specs.Segment.Segment.{Untagged};
 ghost use Rattle.nr_wire.specs.View.{segment as plain};
@@ -324,6 +324,21 @@ pub fn joined(alloc: Global, front: &[u8], stream: &[u8]) -> Result<Octets, Memo
     Ok(Octets::from_vec(message))
 }
 
+/// The Terminate with this payload (RFC 5040 section 4.8).
+pub fn terminate(payload: &[u8]) -> Segment<'_>
+    ensures { plain result ≡ Untagged true OPCODE_TERMINATE 0 QUEUE_TERMINATE 1 0 payload.now }
+{
+    Segment::Untagged {
+        last: true,
+        opcode: OPCODE_TERMINATE,
+        word: 0,
+        queue: QUEUE_TERMINATE,
+        msn: 1,
+        offset: 0,
+        payload,
+    }
+}
+
 /// Puts a Terminate with this word at the end (RFC 5040 section 4.8). An `Err` leaves the bytes as they were.
 #[tactic(auto, unfolding(nr_link::specs::Output::terminate_message, nr_xdr::specs::Item::word))]
 pub fn push_terminate(out: &mut Output, word: u32) -> Result<(), Memory>
@@ -332,14 +347,5 @@ pub fn push_terminate(out: &mut Output, word: u32) -> Result<(), Memory>
     ensures kept { out.new.kept ≡ out.old.kept }
 {
     let payload = word.to_be_bytes();
-    let segment = Segment::Untagged {
-        last: true,
-        opcode: OPCODE_TERMINATE,
-        word: 0,
-        queue: QUEUE_TERMINATE,
-        msn: 1,
-        offset: 0,
-        payload: &payload,
-    };
-    push_segment(out, &segment)
+    push_segment(out, &terminate(&payload))
 }
