@@ -32,7 +32,7 @@ IsCause (calls.TooLarge need room) left read h call = answer_of h.state call for
 IsCause calls.Memory left read h call = ⊤
 IsCause end left read h call = LinkCause end left read h
 
--- a refusal of a call while a credit is left, by a client without a number, and the end of the call then
+-- a refusal of a call that may be submitted, and the end of the call then
 abbrev pub HasCredit : Refused → Type 0
 HasCredit (refusals.NoCredit out grant) = ⊥
 HasCredit (refusals.Window oldest next) = ⊥

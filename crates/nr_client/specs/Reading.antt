@@ -28,7 +28,7 @@ use Rattle.nr_client.specs.Following.{Next, Unanswered}
 use Rattle.nr_client.specs.Following.Next.{Calls, Returns}
 use Rattle.nr_client.specs.Listing.{no_progress}
 use Rattle.nr_client.specs.Requests.{client_call, getattr_call, getattr_result, nfs_reads}
-use Rattle.nr_client.specs.Steps.{HasCreditLeft}
+use Rattle.nr_client.specs.Steps.{HasCreditLeft, LacksCredit}
 use Rattle.nr_client.specs.Transfers.{LinkBytes}
 
 -- ---- READ (RFC 1813 section 3.3.6)
@@ -168,14 +168,14 @@ IsMadeAlone uid gid file s call = (reading uid gid file s.outcomes ≡ Calls cal
 abbrev pub reads_max : ℕ
 reads_max = 2
 
--- The READ of a piece is submitted while fewer than the maximum are outstanding, if a credit is left. If none is outstanding, it waits for a credit.
+-- The READ of a piece is submitted while fewer than the maximum are outstanding, if a call may be submitted. If none is outstanding, it waits for that.
 abbrev pub IsMadeAhead : (uid gid : ℕ) → (file : List ℕ) → ReadingAt → Call → Type 0
 IsMadeAhead uid gid file s call =
     (is_at_piece (file_read s.outcomes) ≡ true) × ((read_ahead uid gid file (file_read s.outcomes) s.waiting ≡ Some call) × ((s.waiting ≡ []) ⊎ (HasCreditLeft s.side × (length s.waiting < reads_max))))
 
--- no credit is left, or a READ of each piece up to the size is outstanding, or the maximum of READs is
+-- no call may be submitted, or a READ of each piece up to the size is outstanding, or the maximum of READs is
 abbrev pub NoneIsMadeAhead : (uid gid : ℕ) → (file : List ℕ) → ReadingAt → Type 0
-NoneIsMadeAhead uid gid file s = (read_ahead uid gid file (file_read s.outcomes) s.waiting ≡ None) ⊎ ((s.side.state.grant ≤ length s.side.state.outstanding) ⊎ (reads_max ≤ length s.waiting))
+NoneIsMadeAhead uid gid file s = (read_ahead uid gid file (file_read s.outcomes) s.waiting ≡ None) ⊎ (LacksCredit s.side ⊎ (reads_max ≤ length s.waiting))
 
 -- A step: a call was made alone; or a READ was submitted ahead; or, when none is, the oldest READ was answered, which is the one that follows from
 -- the replies before.

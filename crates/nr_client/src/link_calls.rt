@@ -1,9 +1,10 @@
 //! The calls that a session makes over a link.
 
-ghost use Rattle.std.specs.Prelude.{◌≡◌, ◌≢◌, ◌≤◌, true, is_some, nat_lt, length, Some, IfOk, IfErr, OnOk, OnErr};
+ghost use Rattle.std.specs.Prelude.{◌≡◌, ◌≢◌, ◌≤◌, true, is_some, Some, IfOk, IfErr, OnOk, OnErr};
 ghost use Rattle.nr_rpc.specs.Credential.{CanWriteCred};
 ghost use Rattle.nr_link.specs.declared.end.End.TheVariants as ends;
 ghost use Rattle.nr_links.specs.Limits.{read_max};
+ghost use Rattle.nr_requester.specs.MaySubmit.{may_submit};
 ghost use Rattle.nr_requester.specs.OpenCalls.{ClosesTicket, KeepsTickets, OpensTicket, open_call};
 ghost use Rattle.nr_client.specs.Calls.{Answers, Completes, Forgets, ForgetsCall, GivesUp, RefusesToSubmit, Submits};
 ghost use Rattle.nr_client.specs.Ending.{IsCause, LinkCause, SinkCount, SourceCount};
@@ -19,7 +20,7 @@ pub trait Calls {
     /// The link as contracts see it.
     ghost at: { Self → LinkView };
 
-    /// Makes a call in the form that fits it best, and waits for its outcome. It is submitted once a credit is left. All that is due is written
+    /// Makes a call in the form that fits it best, and waits for its outcome. It is submitted once it can be. All that is due is written
     /// before each read.
     fn call(&mut self, call: Call) -> Result<Outcome, CallEnd>
         requires { CanWriteCred call.cred }
@@ -32,7 +33,7 @@ pub trait Calls {
         ensures sink_count { SinkCount result (at self.old).sink_faults (at self.new).sink_faults }
         ensures within { (at self.new).bytes.read ≤ read_max };
 
-    /// Submits a call once a credit is left, as `call` does. Its outcome is waited for, or it is forgotten, by its ticket.
+    /// Submits a call once it can be, as `call` does. Its outcome is waited for, or it is forgotten, by its ticket.
     fn submit(&mut self, call: Call) -> Result<Ticket, CallEnd>
         requires { CanWriteCred call.cred }
         ensures ok { IfOk result (λ xid. Submits (at self.old).bytes (at self.new).bytes (at self.old).requester (at self.new).requester call xid) }
@@ -62,7 +63,8 @@ pub trait Calls {
         ensures source_count { (at self.new).source_faults ≡ (at self.old).source_faults }
         ensures sink_count { (at self.new).sink_faults ≡ (at self.old).sink_faults };
 
-    /// Whether a call can be submitted at once, if its link has not ended.
+    /// Whether a call can be submitted at once, if its link has not ended: a credit is left, and the next xid isn't 64 or more above the least
+    /// one of an outstanding call of a client with a number.
     fn has_credit(&self) -> bool
-        ensures { result ≡ nat_lt (length (at self.now).requester.state.outstanding) (at self.now).requester.state.grant };
+        ensures { result ≡ may_submit (at self.now).requester.state };
 }

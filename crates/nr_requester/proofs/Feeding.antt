@@ -42,7 +42,6 @@ keeps_later opened r e count later le keeps = record {
     sent = k.sent;
     wished = k.wished;
     due = k.due;
-    unwaited = k.unwaited;
   });
 }
 

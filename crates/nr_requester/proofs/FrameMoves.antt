@@ -37,21 +37,19 @@ use Rattle.nr_reduce.proofs.Touches.{AreNone, all_none, no_flaw}
 use Rattle.nr_reduce.proofs.WholeWrotes.{client_due}
 use Rattle.nr_reduce.proofs.Releasing.{kept_stays}
 use Rattle.nr_reduce.proofs.Taking.{kept_ends}
-use Rattle.nr_reduce.proofs.Unresumed.{none_after}
 use Rattle.nr_requester.specs.RequesterState.{StoredCall, RequesterState, kept_call, kept_calls, queue_of, kept_client}
 use Rattle.nr_requester.specs.Standing.{LinkKeeps}
 use Rattle.nr_requester.specs.AfterCalls.{stags_for}
 use Rattle.nr_requester.specs.AfterPiece.{without_call, answer_to, call_of, judged}
 use Rattle.nr_requester.proofs.KeptCalls.{stags_alike}
 
--- A requester that hasn't ended keeps this client, after `count` bytes were received. No call waits to be sent again.
+-- A requester that hasn't ended keeps this client, after `count` bytes were received.
 pub record KeepsLiveClient (opened : LinkParameters) (r : RequesterState) (k : ClientState) (count : ℕ) : Type 0 where
   pub client : ClientKeeps opened (kept_client r) (live k) count
   pub side : LinkKeeps opened r.side k
   pub sent : r.sent ≡ r.side.send_queue.sends_left
   pub wished : r.wished ≡ opened.wished
   pub due : k.due ≡ k.written + length (queue_of r)
-  pub unwaited : k.waiting ≡ []
 
 -- it keeps an end of a client
 pub record KeptEnd (opened : LinkParameters) (r : RequesterState) (e : EndState ClientState) (count : ℕ) : Type 0 where
@@ -190,7 +188,6 @@ taken_live opened r k count f after keeps is client side sent left wished queue 
       sent = sent ∙ keeps.sent ∙ sym left;
       wished = wished ∙ keeps.wished;
       due = omega (arith, due, still, was, long);
-      unwaited = none_after opened k (FrameReceived f) keeps.unwaited;
     } in
     record {
       keeps = record {
@@ -324,9 +321,9 @@ without_alike sent xid (c ∷ cs) = by (eqb c.xid xid) (without_alike sent xid c
     by true rest = rest
     by false rest = ap (λ (xs : List KeptCall). kept_call sent c ∷ xs) rest
 
-pub completed_is : (r : RequesterState) (message : List ℕ) (xid : ℕ) (outcome : Option Outcome) (s : LinkState) → s.ended ≡ r.side.ended → released_all s.memory (stags_for (word_at 0 message) r.outstanding) ≡ released_all r.side.memory (stags_for (word_at 0 message) r.outstanding) → s.agreed ≡ r.side.agreed → s.terms ≡ r.side.terms → kept_completed (kept_client r) message ≡ kept_client (judged r s message (GivesOutcome xid outcome))
+pub completed_is : (r : RequesterState) (message : List ℕ) (xid : ℕ) (outcome : Option Outcome) (s : LinkState) → s.ended ≡ r.side.ended → released_all s.memory (stags_for (word_at 0 message) r.outstanding) ≡ released_all r.side.memory (stags_for (word_at 0 message) r.outstanding) → s.agreed ≡ r.side.agreed → s.terms ≡ r.side.terms → s.earlier ≡ r.side.earlier → kept_completed (kept_client r) message ≡ kept_client (judged r s message (GivesOutcome xid outcome))
 unfolding kept_completed
-completed_is r message xid outcome s ended memory agreed terms =
+completed_is r message xid outcome s ended memory agreed terms earlier =
     let x : ℕ = word_at 0 message in
     let calls = without_alike r.sent x r.outstanding in
     let count : length (without x (kept_calls r)) ≡ length (without_call x r.outstanding) = ap (λ (xs : List KeptCall). length xs) calls ∙ length-map (without_call x r.outstanding) (kept_call r.sent) in
@@ -343,5 +340,5 @@ completed_is r message xid outcome s ended memory agreed terms =
       down_max = (sym agreed i).down;
       invalidates = (sym agreed i).invalidates;
       number = (sym terms i).number;
-      agreed = None;
+      agreed = (sym earlier i);
     }

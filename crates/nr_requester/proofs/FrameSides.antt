@@ -83,6 +83,8 @@ link_tagged opened s k f last opcode stag to payload keeps fine later some =
       number = keeps.number;
       waiting = λ none. not_greeted k greeted none;
       none_due = λ none. not_greeted k greeted none;
+      granted = λ none. not_greeted k greeted none;
+      client_terms = keeps.client_terms;
       sends = subst (λ (xs : List ℕ). HasEnds k.written (length s.send_queue.hello) xs s.send_queue.send_ends) (sym (same k.has_hello)) keeps.sends;
       responses = keeps.responses;
       left = keeps.left;
@@ -105,10 +107,11 @@ record SameButResponses (k k2 : ClientState) : Type 0 where
   pub sends : k2.sends ≡ k.sends
   pub down_max : k2.down_max ≡ k.down_max
   pub waiting : k2.waiting ≡ k.waiting
+  pub terms : k2.terms ≡ k.terms
 
 same_request_lem : (k : ClientState) (due : ℕ) (req : Option ReadRequest) → SameButResponses k (with_request k due req)
-same_request_lem k due None = record { has_hello = refl; written = refl; send_ends = refl; sends = refl; down_max = refl; waiting = refl }
-same_request_lem k due (Some r) = record { has_hello = refl; written = refl; send_ends = refl; sends = refl; down_max = refl; waiting = refl }
+same_request_lem k due None = record { has_hello = refl; written = refl; send_ends = refl; sends = refl; down_max = refl; waiting = refl; terms = refl }
+same_request_lem k due (Some r) = record { has_hello = refl; written = refl; send_ends = refl; sends = refl; down_max = refl; waiting = refl; terms = refl }
 
 -- what the queue has more for it is what is due, by what the memory holds
 pub record RequestFine (s : LinkState) (k : ClientState) (end : ℕ) (req : Option ReadRequest) : Type 0 where
@@ -158,6 +161,8 @@ link_untagged opened s k f last opcode w queue msn offset payload keeps later so
       number = left.last_send ∙ keeps.number ∙ ap msn_word (sym same.sends);
       waiting = λ e. not_greeted k greeted (sym same.has_hello ∙ e);
       none_due = λ e. not_greeted k greeted (sym same.has_hello ∙ e);
+      granted = λ e. not_greeted k greeted (sym same.has_hello ∙ e);
+      client_terms = same.terms ∙ keeps.client_terms;
       sends = sends_are;
       responses = subst (λ (n : ℕ). HasEnds n (length (with_read_request req s.memory s.send_queue).hello) (with_request k more req).response_ends (with_read_request req s.memory s.send_queue).response_ends) (sym same.written)
           (request_ends s k f.end req keeps.responses (due ∙ queue_len) fine);
@@ -258,6 +263,8 @@ link_message opened s k f last opcode w queue msn offset payload message m keeps
       number = keeps.number;
       waiting = λ e. not_greeted k greeted e;
       none_due = λ e. not_greeted k greeted e;
+      granted = λ e. not_greeted k greeted e;
+      client_terms = keeps.client_terms;
       sends = subst (λ (xs : List ℕ). HasEnds k.written (length s.send_queue.hello) xs s.send_queue.send_ends) (sym sends_same) keeps.sends;
       responses = keeps.responses;
       left = keeps.left;

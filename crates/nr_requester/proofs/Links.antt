@@ -89,6 +89,8 @@ link_drained opened s k n le few keeps =
       numbered = ap (λ (xs : List ℕ). length xs) (sends_same opened k n k.has_hello) ∙ keeps.numbered;
       held = keeps.held;
       greeted = keeps.greeted;
+      granted = keeps.granted;
+      client_terms = keeps.client_terms;
     }
 
 -- ---- A call is accepted
@@ -194,6 +196,8 @@ module _ (opened : LinkParameters) (s : LinkState) (k : ClientState) (count : �
         numbered = ap (λ (xs : List ℕ). length xs) ends_are ∙ (let n = keeps.numbered in omega (arith, n, length-append (all_ends k.has_hello) ((k.written + length s.send_queue.hello + length s.send_queue.fpdus + length out) ∷ [])));
         held = left;
         greeted = keeps.greeted;
+        granted = keeps.granted;
+        client_terms = keeps.client_terms;
       }
     where
       same : (b : Bool) → sends_ends b opened (client_state_after opened k (CallSubmitted count a)) ≡ sends_ends b opened (record k { due = k.due + length (cond k.has_hello out []); send_ends = k.send_ends ++ cond k.has_hello ((k.due + length (cond k.has_hello out [])) ∷ []) []; outstanding = k.outstanding ++ o ∷ [] })
@@ -291,6 +295,8 @@ link_revoked opened s k count xid m keeps = record {
   numbered = ap (λ (xs : List ℕ). length xs) (same k.has_hello) ∙ keeps.numbered;
   held = keeps.held ∙ messages_stay opened xid k.waiting;
   greeted = keeps.greeted;
+  granted = keeps.granted;
+  client_terms = keeps.client_terms;
 }
   where
     same : (b : Bool) → sends_ends b opened (client_state_after opened k (MemoryRevoked count xid)) ≡ sends_ends b opened k

@@ -81,6 +81,17 @@ state_next opened link run mark event none is goes_on =
     ∙ ap (λ (x : Option End). next_end_state (client_rules opened) (ended_as (client opened link run) x) event) none
     ∙ ap (λ (x : Option End). next_end_state_by (client_rules opened) (state_of opened link run) event x) goes_on)
 
+-- ---- How many Sends have a number
+
+few_above : (r : ResumedCall) (rs : List ResumedCall) (next : ℕ) → CanResume (r ∷ rs) next → r.xid + 1 + length rs ≤ next
+few_above r [] next can = (let lt = can.1.0 in omega (arith, lt))
+few_above r (q ∷ rs) next can = (let later = few_above q rs next can.1.1.1 in let lt = can.1.1.0.0 in omega (arith, later, lt))
+
+-- the xids of the calls that are sent again are below the first new one, and no two are the same
+resumed_few : (rs : List ResumedCall) (next : ℕ) → CanResume rs next → length rs ≤ next
+resumed_few [] next can = omega arith
+resumed_few (r ∷ rs) next can = (let few = few_above r rs next can in omega (arith, few))
+
 -- ---- A drain
 
 pub wrote_state : (opened : LinkParameters) (link : ℕ) (run : List Mark) (bytes : List ℕ) → (client opened link run).ended ≡ None →
@@ -123,7 +134,7 @@ pub drain_stands : (h : RequesterSide) (n : ℕ) → n ≤ length (queue_of h.st
     KeepsClient opened link (after_drain n h) (run ++ marks.Wrote link Initiator (take n (queue_of h.state)) ∷ [])
 drain_stands h n le fits opened link run s = record {
   wished = drain_wished h n ∙ s.wished;
-  first = s.first;
+  resumes = s.resumes;
   kept = subst (λ (k : KeptClient). ClientRepresents opened link k (input_kept (after_drain n h)) (queue_of (after_drain n h).state) (run ++ mark ∷ [])) (kept_drained h n)
       (subst (λ (i : InputState). ClientRepresents opened link (kept_sent (sent_after n h) (kept_client h.state)) i (queue_of (after_drain n h).state) (run ++ mark ∷ [])) (sym (drain_input h n))
       (subst (λ (q : List ℕ). ClientRepresents opened link (kept_sent (sent_after n h) (kept_client h.state)) (input_kept h) q (run ++ mark ∷ [])) (sym (drain_queue h n))
@@ -145,7 +156,7 @@ drain_stands h n le fits opened link run s = record {
     parts = subst (λ (q : List ℕ). ClientRepresents opened link (kept_client h.state) (input_kept h) q run) (sym (take-append-drop n queue)) s.kept
 
     few : k.sends ≤ 2 ^ 32
-    few = (let number = s.kept.keeps.xid in let follows = next_xid_follows opened link run in let none = ap (λ (rs : List ResumedCall). length rs) s.first.resumed in omega (arith, number, follows, none, fits))
+    few = (let number = s.kept.keeps.xid in let follows = next_xid_follows opened link run in let count = resumed_few opened.resumed opened.first_xid s.resumes in omega (arith, number, follows, count, fits))
 
     next : h.state.side.ended ≡ None → LinkKeeps opened (drained n h.state.side) (record k { written = k.written + n })
     next none = link_drained opened h.state.side k n le few (s.side none)
@@ -210,7 +221,7 @@ revoke_stands opened link h run xid bytes s =
     let mark : Mark = marks.Revoke link xid bytes in
     record {
       wished = l.wished ∙ s.wished;
-      first = s.first;
+      resumes = s.resumes;
       kept = subst (λ (k : KeptClient). ClientRepresents opened link k (input_kept (after_revoke h xid)) (queue_of (after_revoke h xid).state) (run ++ mark ∷ [])) (kept_after_revoke h xid)
           (subst (λ (i : InputState). ClientRepresents opened link (kept_revoked (kept_client h.state) xid) i (queue_of (after_revoke h xid).state) (run ++ mark ∷ [])) (sym l.input)
           (subst (λ (q : List ℕ). ClientRepresents opened link (kept_revoked (kept_client h.state) xid) (input_kept h) q (run ++ mark ∷ [])) (sym l.queue)
@@ -240,7 +251,7 @@ others_leave_client opened link h run mark s no_events no_write no_feed =
     ap (λ (e : EndState ClientState). e.state) (client_one opened link run mark ∙ ap (λ (es : List RunEvent). end_state_after (client_rules opened) (client opened link run) es) no_events) in
     record {
       wished = s.wished;
-      first = s.first;
+      resumes = s.resumes;
       kept = other_stands opened link (kept_client h.state) (input_kept h) (queue_of h.state) run mark s.kept no_events no_write no_feed;
       sent = s.sent;
       side = λ none. subst (λ (x : ClientState). LinkKeeps opened h.state.side x) (sym same) (s.side none);
@@ -286,6 +297,8 @@ link_opened opened link staging first = record {
   numbered = refl;
   held = sym (ap (λ (resumed : List ResumedCall). map (waiting_message opened) (waiting_from opened.first_stag resumed)) first.resumed);
   greeted = refl;
+  granted = λ e. refl;
+  client_terms = refl;
 }
 
 -- its queue is its hello
@@ -297,7 +310,7 @@ pub begins_client : (opened : LinkParameters) (link : ℕ) (staging : List ℕ) 
 unfolding opened_as
 begins_client opened link staging first = record {
   wished = refl;
-  first = first;
+  resumes = none_rise opened.resumed opened.first_xid first.resumed;
   kept = subst (λ (k : KeptClient). ClientRepresents opened link k (initial_input Responder) (queue_of (opened_as opened.first_xid opened.first_stag opened.wished opened.client staging).state) []) (kept_opened opened staging first)
       (subst (λ (q : List ℕ). ClientRepresents opened link (opened_client opened) (initial_input Responder) q []) (queue_opened opened staging) (client_begins_lem opened link (none_rise opened.resumed opened.first_xid first.resumed)));
   sent = λ none. refl;

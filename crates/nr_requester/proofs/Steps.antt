@@ -120,6 +120,7 @@ message_told link0 link1 link2 sent wished sends next grant releases grant2 rele
               hello = ap (λ (x : LinkSide). x.state.has_hello) l;
               agreed = ap (λ (x : LinkSide). x.state.agreed) l;
               terms = ap (λ (x : LinkSide). x.state.terms) l;
+              earlier = ap (λ (x : LinkSide). x.state.earlier) l;
               place = ap (λ (x : LinkSide). x.state.place) l;
               same = ap (λ (h : RequesterFeeding). h.state) same_calls;
             })
@@ -247,6 +248,7 @@ module _ (h : RequesterFeeding) (piece : List ℕ) (lives : h.state.side.ended �
           hello = out.hello ∙ d.hello;
           agreed = out.agreed ∙ d.agreed;
           terms = out.terms ∙ d.terms;
+          earlier = out.earlier ∙ d.earlier;
           same = out.same;
         };
         whole = w.1;
@@ -285,6 +287,7 @@ module _ (h : RequesterFeeding) (piece : List ℕ) (lives : h.state.side.ended �
           hello = ap (λ (x : RequesterFeeding). x.state.side.has_hello) a;
           agreed = ap (λ (x : RequesterFeeding). x.state.side.agreed) a;
           terms = ap (λ (x : RequesterFeeding). x.state.side.terms) a;
+          earlier = ap (λ (x : RequesterFeeding). x.state.side.earlier) a;
           same = ap (λ (x : RequesterFeeding). x.state) is ∙ ap (λ (t : LinkState). record h.state { side = t }) (sym (ap (λ (x : RequesterFeeding). x.state.side) is));
         };
         whole = whole;

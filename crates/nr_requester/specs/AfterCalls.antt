@@ -27,7 +27,7 @@ unfoldable pub opened_as : (first_xid first_stag wished : ℕ) → SideTerms →
 opened_as first_xid first_stag wished terms staging = record {
   awaited = HelloFrom Responder;
   rest = [];
-  state = record { side = initial_state Initiator 1 first_stag terms; sent = 0; wished = wished; sends = 0; next_xid = first_xid; grant = 1; outstanding = []; answered = []; local_releases = 0 };
+  state = record { side = initial_state Initiator 1 first_stag terms None; sent = 0; wished = wished; sends = 0; next_xid = first_xid; grant = 1; outstanding = []; answered = []; local_releases = 0 };
   staging = staging;
   marks = 0;
 }

@@ -124,4 +124,5 @@ pub record RanOut (before after : RequesterFeeding) : Type 0 where
   pub hello : after.state.side.has_hello ≡ before.state.side.has_hello
   pub agreed : after.state.side.agreed ≡ before.state.side.agreed
   pub terms : after.state.side.terms ≡ before.state.side.terms
+  pub earlier : after.state.side.earlier ≡ before.state.side.earlier
   pub same : after.state ≡ record before.state { side = after.state.side }

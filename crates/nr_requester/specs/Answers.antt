@@ -1,5 +1,5 @@
 -- What a requester answers to a call that it is given, by what it keeps.
-use Rattle.std.specs.Prelude.{◌≡◌, ℕ, ◌-◌, ◌^◌, ◌<◌, nat_le, if◌then◌else◌, length, Option, None, Some, Result, Ok, Err}
+use Rattle.std.specs.Prelude.{◌≡◌, ℕ, ◌-◌, ◌^◌, ◌<◌, if◌then◌else◌, length, Option, None, Some, Result, Ok, Err}
 use Rattle.nr_link.specs.declared.end.End.{End}
 use Rattle.nr_reduce.specs.declared.call.Call.{Call}
 use Rattle.nr_reduce.specs.declared.call.Form.{Form}
@@ -12,7 +12,7 @@ use Rattle.nr_reduce.specs.Plans.{TooLarge, regions_needed, plan_of}
 use Rattle.nr_reduce.specs.ClientState.{call_payload}
 use Rattle.nr_reduce.specs.SubmitAnswer.{unless_spent, unless_far_by}
 use Rattle.nr_requester.specs.RequesterState.{RequesterState, RequesterSide}
-use Rattle.nr_requester.specs.Sending.{least_stored}
+use Rattle.nr_requester.specs.Sending.{has_credit, least_stored}
 use Rattle.nr_requester.specs.AfterCalls.{after_submit}
 
 -- the plan of a call under the next xid, by what is agreed
@@ -22,10 +22,11 @@ plan_under r call form = plan_of (call_payload r.next_xid call) form r.side.agre
 abbrev pub answer_by_plan : RequesterState → Result Plan TooLarge → Submission
 answer_by_plan r (Err large) = submissions.Refused (refusals.TooLarge large.need large.room)
 answer_by_plan r (Ok plan) =
-    if nat_le r.grant (length r.outstanding) then submissions.Refused (refusals.NoCredit (length r.outstanding) r.grant)
-    else unless_far_by r.side.terms.number r.next_xid (least_stored r.outstanding)
+    if has_credit r then
+    unless_far_by r.side.terms.number r.next_xid (least_stored r.outstanding)
     (unless_spent (numbers_end - r.next_xid) 1
     (unless_spent (numbers_end - r.side.memory.next) (regions_needed plan) (submissions.Accepted r.next_xid)))
+    else submissions.Refused (refusals.NoCredit (length r.outstanding) r.grant)
 
 abbrev pub answer_if : RequesterState → Call → Form → Option End → Submission
 answer_if r call form (Some end) = submissions.Refused (refusals.Ended end)

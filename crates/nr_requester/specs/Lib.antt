@@ -7,6 +7,7 @@ pub mod AfterCalls
 pub mod AfterPiece
 pub mod Answers
 pub mod Sending
+pub mod MaySubmit
 pub mod HeldClaims
 pub mod Buffers
 pub mod OpenCalls
@@ -21,3 +22,7 @@ pub mod Fed
 pub mod Reopening
 pub mod ReopenedLinks
 pub mod Resends
+pub mod private
+pub mod KeptOn
+pub mod KeptLaw
+pub mod EarlierLinks

@@ -1,29 +1,31 @@
 -- A requester leaves its link and begins the next one: its calls go on, with their buffers under new STags, and their Sends wait to be sent again.
-use Rattle.std.specs.Prelude.{◌≡◌, ℕ, ◌+◌, ◌-◌, nat_lt, Bool, if◌then◌else◌, List, [], ◌∷◌, ◌++◌, length, map, Option, None, Some, is_some}
+use Rattle.std.specs.Prelude.{◌≡◌, ◌≢◌, ℕ, ◌+◌, ◌-◌, nat_lt, Bool, if◌then◌else◌, List, [], ◌∷◌, ◌++◌, length, map, Option, None, Some, is_some}
+use Rattle.std.specs.List.{AllByRecursion}
 use Rattle.nr_regions.specs.RegisteredMemory.{RegisteredMemory, initial_memory}
 use Rattle.nr_link.specs.declared.end.End.{End}
 use Rattle.nr_wire.specs.declared.hello.Side.TheVariants.{Initiator, Responder}
 use Rattle.nr_wire.specs.declared.stream.Awaited.TheVariants.{Hello as HelloFrom}
 use Rattle.nr_endpoint.specs.Hellos.{first_private}
-use Rattle.nr_endpoint.specs.LinkState.{LinkState, initial_state}
+use Rattle.nr_endpoint.specs.LinkState.{LinkState, initial_state, last_agreed}
 use Rattle.nr_endpoint.specs.SendQueue.{initial_queue}
 use Rattle.nr_reduce.specs.declared.call.Call.{Call}
 use Rattle.nr_reduce.specs.declared.call.Refused.{Refused}
 use Rattle.nr_reduce.specs.declared.call.Refused.TheVariants as refusals
 use Rattle.nr_reduce.specs.declared.mark.Mark.{Mark}
+use Rattle.nr_reduce.specs.declared.mark.Mark.TheVariants as marks
 use Rattle.nr_reduce.specs.declared.mark.LinkParameters.{LinkParameters}
 use Rattle.nr_reduce.specs.declared.outline.Plan.{Plan}
 use Rattle.nr_reduce.specs.Limits.{numbers_end}
 use Rattle.nr_reduce.specs.Plans.{buffers, call_message, regions_needed}
 use Rattle.nr_reduce.specs.PlansByLists.{plan_by_lists}
 use Rattle.nr_reduce.specs.ClientState.{WaitingCall, call_payload, waiting_from}
-use Rattle.nr_reduce.specs.KeptClient.{CanResume, registered_all, resumed_kept, resumed_memory}
+use Rattle.nr_reduce.specs.KeptClient.{registered_all, resumed_kept, resumed_memory}
 use Rattle.nr_reduce.specs.Reopening.{reopened}
 use Rattle.nr_reduce.specs.Asked.{AskedSoFar}
 use Rattle.nr_reduce.specs.Opening.{IsOpened}
 use Rattle.nr_requester.specs.RequesterState.{StoredCall, RequesterState, RequesterSide, awaited_call, kept_call}
 use Rattle.nr_requester.specs.AfterCalls.{stored_call}
-use Rattle.nr_requester.specs.ReopenedLinks.{KeepsLink, RequesterKeeps, KeepsEarlier}
+use Rattle.nr_requester.specs.ReopenedLinks.{RequesterKeeps, KeepsEarlier, next_own, earlier_own}
 
 -- the plan of a call, made again of what is kept of it
 abbrev pub plan_again : StoredCall → Call → Plan
@@ -89,26 +91,18 @@ pub record OpensNext (next : LinkParameters) (r : RequesterState) (a : CallsAgai
   pub xid : r.next_xid ≡ next.first_xid
   pub wished : r.wished ≡ next.wished
   pub terms : r.side.terms ≡ next.client
+  pub agreed : last_agreed r.side ≡ next.agreed
 
 -- A requester that stands for the marks of its link, which has kept the client's law and hasn't ended, keeps what its next link is opened with.
 abbrev pub CallsGoOn : Type 0
-CallsGoOn = (opened : LinkParameters) (link : ℕ) (h : RequesterSide) (run : List Mark) → IsOpened opened → AskedSoFar opened link run → RequesterKeeps opened link h run → h.state.side.ended ≡ None →
-    OpensNext (reopened opened link run) h.state (calls_again h.state)
-
--- with the calls that go on
-abbrev pub with_calls_again : RequesterSide → RequesterSide
-with_calls_again h = record h { state = record h.state { outstanding = (calls_again h.state).calls } }
-
--- Once its calls have gone on to the next link, it keeps the answers of the one that it left.
-abbrev pub AnswersStay : Type 0
-AnswersStay = (opened : LinkParameters) (link : ℕ) (h : RequesterSide) (run : List Mark) → IsOpened opened → AskedSoFar opened link run → RequesterKeeps opened link h run → h.state.side.ended ≡ None →
-    KeepsEarlier opened link (with_calls_again h) run
+CallsGoOn = (is_own : ℕ → Bool) (earlier : ℕ) (opened : LinkParameters) (link : ℕ) (h : RequesterSide) (run : List Mark) → IsOpened opened → AskedSoFar opened link run →
+    RequesterKeeps is_own earlier opened link h run → h.state.side.ended ≡ None → OpensNext (reopened opened link run) h.state (calls_again h.state)
 
 -- ---- The next link
 
--- Its side: a hello waits, and the Sends of its calls are held back.
+-- Its side: a hello waits, and the Sends of its calls are held back. A hello of the server's has to agree on what the last one did.
 abbrev pub next_side : RequesterState → LinkState
-next_side r = record (initial_state Initiator 1 r.side.memory.next r.side.terms) {
+next_side r = record (initial_state Initiator 1 r.side.memory.next r.side.terms (last_agreed r.side)) {
   memory = (calls_again r).memory;
   send_queue = record (initial_queue Initiator (first_private r.side.terms Initiator)) { held = (calls_again r).messages };
 }
@@ -123,11 +117,28 @@ after_reopen h staging = record {
   marks = h.marks;
 }
 
--- It keeps the client of its next link, as that is opened.
-abbrev pub NextLinkBegins : Type 0
-NextLinkBegins = (next : LinkParameters) (link : ℕ) (h : RequesterSide) (staging : List ℕ) → CanResume next.resumed next.first_xid → OpensNext next h.state (calls_again h.state) → KeepsLink next link (after_reopen h staging) []
+-- the link of a mark
+abbrev pub link_of : Mark → ℕ
+link_of (marks.Submit link call form answer) = link
+link_of (marks.Wrote link side bytes) = link
+link_of (marks.Fed link side bytes) = link
+link_of (marks.Execute link xid moment payload place reply) = link
+link_of (marks.Done link xid outcome) = link
+link_of (marks.Lost link xid) = link
+link_of (marks.Forget link xid) = link
+link_of (marks.Revoke link xid bytes) = link
+link_of (marks.Drop link) = link
+link_of (marks.Told link what) = link
+
+-- these marks have none of a link
+abbrev pub HasNoMark : (link : ℕ) → List Mark → Type 0
+HasNoMark link run = AllByRecursion (λ mark. link_of mark ≢ link) run
 
 -- So a requester that leaves its link, if the next one can be opened, stands for no marks of that, and keeps the answers of the one that it left.
+abbrev pub ReopenStands : RequesterSide → RequesterSide → Type 0
+ReopenStands before after = (is_own : ℕ → Bool) (earlier : ℕ) (opened : LinkParameters) (link next : ℕ) (run : List Mark) → IsOpened opened → AskedSoFar opened link run →
+    RequesterKeeps is_own earlier opened link before run → IsOpened (reopened opened link run) → HasNoMark next run →
+    RequesterKeeps (next_own before.state) before.marks (reopened opened link run) next after run × KeepsEarlier (earlier_own is_own before.state) opened link after run
+
 abbrev pub NextBegins : Type 0
-NextBegins = (opened : LinkParameters) (link next : ℕ) (h : RequesterSide) (run : List Mark) (staging : List ℕ) → IsOpened opened → AskedSoFar opened link run → RequesterKeeps opened link h run → h.state.side.ended ≡ None →
-    IsOpened (reopened opened link run) → RequesterKeeps (reopened opened link run) next (after_reopen h staging) [] × KeepsEarlier opened link (after_reopen h staging) run
+NextBegins = (h : RequesterSide) (staging : List ℕ) → h.state.side.ended ≡ None → ReopenStands h (after_reopen h staging)

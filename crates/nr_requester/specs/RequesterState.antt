@@ -102,7 +102,7 @@ kept_client r = record {
   down_max = r.side.agreed.down;
   invalidates = r.side.agreed.invalidates;
   number = r.side.terms.number;
-  agreed = None;
+  agreed = r.side.earlier;
 }
 
 abbrev pub input_kept : RequesterSide → InputState

@@ -1,13 +1,15 @@
 -- A requester of a link that was reopened sends its calls again, in their order, as its grant allows.
-use Rattle.std.specs.Prelude.{◌≡◌, ℕ, ◌+◌, ◌-◌, nat_lt, Bool, ◌&&◌, if◌then◌else◌, List, [], ◌∷◌, ◌++◌, length, None}
+use Rattle.std.specs.Prelude.{◌≡◌, ℕ, ◌+◌, ◌-◌, nat_lt, Bool, ◌&&◌, if◌then◌else◌, List, [], ◌∷◌, ◌++◌, length, Option, None, Some}
+use Rattle.nr_wire.specs.declared.hello.Side.TheVariants.{Initiator}
+use Rattle.nr_link.specs.declared.end.End.{End}
 use Rattle.nr_endpoint.specs.SendQueue.{with_held_sent}
 use Rattle.nr_reduce.specs.declared.mark.Mark.{Mark}
 use Rattle.nr_reduce.specs.declared.mark.LinkParameters.{LinkParameters}
-use Rattle.nr_reduce.specs.ClientState.{WaitingCall}
-use Rattle.nr_reduce.specs.Resending.{resend_mark, resends_after}
-use Rattle.nr_reduce.specs.Run.{client}
+use Rattle.nr_reduce.specs.declared.mark.Mark.TheVariants as marks
+use Rattle.nr_reduce.specs.Resending.{resends_after}
 use Rattle.nr_requester.specs.RequesterState.{RequesterState, RequesterSide}
-use Rattle.nr_requester.specs.Standing.{waiting_message}
+use Rattle.nr_requester.specs.AfterPiece.{after_fed}
+use Rattle.nr_requester.specs.Standing.{RequesterRepresents}
 use Rattle.nr_requester.specs.ReopenedLinks.{RequesterKeeps}
 use Rattle.nr_requester.specs.CountedMarks.{one_mark_more}
 
@@ -33,12 +35,24 @@ resent_from (message ∷ messages) h = if may_resend h.state then resent_from me
 unfoldable pub with_resends : RequesterSide → RequesterSide
 with_resends h = resent_from h.state.side.send_queue.held h
 
--- So it stands for the Submit of the first call that waits.
-abbrev pub ResendIsAMark : Type 0
-ResendIsAMark = (opened : LinkParameters) (link : ℕ) (h : RequesterSide) (run : List Mark) (w : WaitingCall) (others : List WaitingCall) → RequesterKeeps opened link h run → h.state.side.ended ≡ None →
-    (client opened link run).state.waiting ≡ w ∷ others → RequesterKeeps opened link (after_resend h (waiting_message opened w)) (run ++ resend_mark link w ∷ [])
+-- A piece of the server's stream is taken, and then, if the requester hasn't ended, all calls are sent again that can be.
+abbrev pub resent_unless : Option End → RequesterSide → RequesterSide
+resent_unless (Some end) h = h
+resent_unless None h = with_resends h
 
--- And it stands for those of all calls that can be sent again then.
-abbrev pub ResendsAreMarks : Type 0
-ResendsAreMarks = (opened : LinkParameters) (link : ℕ) (h : RequesterSide) (run : List Mark) → RequesterKeeps opened link h run → h.state.side.ended ≡ None →
-    RequesterKeeps opened link (with_resends h) (run ++ resends_after opened link run)
+unfoldable pub after_feed : RequesterSide → (piece staging : List ℕ) → RequesterSide
+after_feed h piece staging = resent_unless (after_fed h piece staging).state.side.ended (after_fed h piece staging)
+
+-- For every list of marks that the first one stood for, the second stands for that list with a Fed of a piece, and with the Submits of all calls that
+-- can be sent again then.
+abbrev pub KeepsPiece : RequesterSide → (piece : List ℕ) → RequesterSide → Type 0
+KeepsPiece before piece after = (is_own : ℕ → Bool) (earlier : ℕ) (opened : LinkParameters) (link : ℕ) (run : List Mark) → RequesterKeeps is_own earlier opened link before run →
+    RequesterKeeps is_own earlier opened link after (run ++ marks.Fed link Initiator piece ∷ resends_after opened link (run ++ marks.Fed link Initiator piece ∷ []))
+
+-- So it is after a feed.
+abbrev pub FeedIsMarks : Type 0
+FeedIsMarks = (h : RequesterSide) (piece staging : List ℕ) → KeepsPiece h piece (after_feed h piece staging)
+
+-- On a link that wasn't reopened none waits.
+abbrev pub FirstLinksResendNone : Type 0
+FirstLinksResendNone = (opened : LinkParameters) (link : ℕ) (h : RequesterSide) (run : List Mark) (piece staging : List ℕ) → RequesterRepresents opened link h run → after_feed h piece staging ≡ after_fed h piece staging

@@ -4,6 +4,8 @@ ghost use Rattle.std.specs.Prelude.{◌≡◌, ◌≢◌, ◌+◌, ◌^◌, ◌<
 ghost use Rattle.nr_rpc.specs.Credential.{CanWriteCred};
 ghost use Rattle.nr_endpoint.specs.Offering.{claims_of};
 ghost use Rattle.nr_reduce.specs.Plans.{regions_needed, lists_of, total};
+ghost use Rattle.nr_reduce.specs.PlansByLists.{plan_by_lists};
+ghost use Rattle.nr_reduce.specs.ClientState.{call_payload};
 ghost use Rattle.nr_reduce.specs.CallOutlines.{outline_plan, OutlineAnswers};
 ghost use Rattle.nr_reduce.specs.declared.call.Refused.TheVariants as refusals;
 ghost use Rattle.nr_reduce.specs.declared.call.Submission.{Submission};
@@ -12,10 +14,11 @@ ghost use Rattle.nr_reduce.specs.SubmitAnswer.{unless_far_by};
 ghost use Rattle.nr_reduce.specs.declared.mark.Mark.TheVariants as marks;
 ghost use Rattle.nr_requester.specs.AfterCalls.{with_submitted, after_submit};
 ghost use Rattle.nr_requester.specs.Answers.{answer_of, plan_under, WasSent};
-ghost use Rattle.nr_requester.specs.Sending.{IsPlan, HasNumbers, least_stored, unless_refused, answer_for, offered_of, xid_word, target_under, head_under, call_plan};
+ghost use Rattle.nr_requester.specs.Sending.{IsPlan, HasNumbers, has_credit, least_stored, unless_refused, answer_for, offered_of, xid_word, target_under, head_under, call_plan};
 ghost use Rattle.nr_requester.specs.HeldClaims.{SentHeld, IsOfferOf};
 ghost use Rattle.nr_requester.specs.HeldBytes.{call_bytes, call_max, receive_max, NothingOutside};
 ghost use Rattle.nr_requester.specs.Standing.{StandsOn};
+ghost use Rattle.nr_requester.specs.ReopenedLinks.{KeepsOn};
 ghost use Rattle.nr_requester.specs.Fed.{fed_bytes};
 ghost use Rattle.nr_requester.specs.OpenCalls.{OpensTicket};
 
@@ -34,7 +37,7 @@ use nr_xdr::{Memory, Octets};
 use std::alloc::Global;
 
 /// How many numbers there are.
-const NUMBERS_END: u64 = 4294967296;
+pub(crate) const NUMBERS_END: u64 = 4294967296;
 
 /// The xids of a client's outstanding calls, and the next one, are fewer than this apart.
 const WINDOW: u64 = 64;
@@ -175,7 +178,7 @@ fn make_room(
 
 impl Requester {
     /// The least xid of a call that is outstanding.
-    fn oldest(&self) -> Option<u32>
+    pub(crate) fn oldest(&self) -> Option<u32>
         ensures { result ≡ least_stored self.now.state.outstanding }
     {
         match self.outstanding.as_slice().first() {
@@ -185,7 +188,7 @@ impl Requester {
     }
 
     /// Why the next xid is too far above the least one, if it is: only that of a client with a number can be.
-    fn beyond_window(&self) -> Option<Refused>
+    pub(crate) fn beyond_window(&self) -> Option<Refused>
         ensures { (answer : Submission) → unless_far_by self.now.state.side.terms.number self.now.state.next_xid (least_stored self.now.state.outstanding) answer ≡ unless_refused result answer }
     {
         if self.endpoint.terms().number == 0 {
@@ -202,15 +205,21 @@ impl Requester {
         }
     }
 
+    /// Whether a credit is left for a new call: none is while a Send is held back.
+    pub(crate) fn has_credit(&self) -> bool
+        ensures { result ≡ has_credit self.now.state }
+    {
+        self.endpoint.sends_held() == 0 && (self.outstanding.len() as u32) < self.grant
+    }
+
     /// Why a call with this many regions isn't accepted, if it isn't: without credit, beyond its window, or without numbers.
     fn refusal(&self, needed: u64) -> Option<Refused>
         ensures answer { MatchOption result (answer_for self.now.state needed ≡ submissions.Accepted self.now.state.next_xid) (λ r. answer_for self.now.state needed ≡ submissions.Refused r) }
         ensures numbers { result ≡ None → HasNumbers self.now.state needed }
     {
-        let out = self.outstanding.len() as u32;
-        if out >= self.grant {
+        if !self.has_credit() {
             return Some(Refused::NoCredit {
-                out,
+                out: self.outstanding.len() as u32,
                 grant: self.grant,
             });
         }
@@ -235,6 +244,8 @@ impl Requester {
         requires planned { IsPlan (outline_plan (head.now ++ call.args) outline) }
         requires numbers { HasNumbers self.old.state (regions_needed (outline_plan (head.now ++ call.args) outline)) }
         requires small { call_bytes call ≤ call_max }
+        requires cred { CanWriteCred call.cred }
+        requires again { IsPlan (plan_by_lists (call_payload self.old.state.next_xid call) (outline_plan (head.now ++ call.args) outline).read_at (lists_of self.old.state.side.memory.next (outline_plan (head.now ++ call.args) outline))) }
         ensures xid { IfOk result (λ xid. xid ≡ self.old.state.next_xid) }
         ensures state { OnOk result (self.new ≡ after_submit self.old call (outline_plan (head.now ++ call.args) outline.entry)) }
         ensures returned { IfErr result (λ c. c ≡ call) }
@@ -294,7 +305,7 @@ fn free_xid(next_xid: u64) -> u32
 }
 
 /// What a call asks for under the next xid.
-fn target_under(next_xid: u64, call: &Call) -> CallTarget
+pub(crate) fn target_under(next_xid: u64, call: &Call) -> CallTarget
     ensures { result ≡ target_under next_xid call.now }
 {
     CallTarget {
@@ -317,6 +328,8 @@ impl Requester {
         requires live { self.old.state.side.ended ≡ None }
         requires planned { IsPlan (outline_plan (head.now ++ call.args) outline) }
         requires small { call_bytes call ≤ call_max }
+        requires cred { CanWriteCred call.cred }
+        requires again { IsPlan (plan_by_lists (call_payload self.old.state.next_xid call) (outline_plan (head.now ++ call.args) outline).read_at (lists_of self.old.state.side.memory.next (outline_plan (head.now ++ call.args) outline))) }
         ensures accepted { IfOk result (λ xid. (answer_for self.old.state (regions_needed (outline_plan (head.now ++ call.args) outline.entry)) ≡ submissions.Accepted xid) × (xid ≡ self.old.state.next_xid)) }
         ensures state { OnOk result ((self.new ≡ after_submit self.old call (outline_plan (head.now ++ call.args) outline.entry)) × (self.old.state.next_xid < 2 ^ 32)) }
         ensures refused { IfErr result (λ e. e.1 ≢ refusals.Memory → answer_for self.old.state (regions_needed (outline_plan (head.now ++ call.args) outline.entry)) ≡ submissions.Refused e.1) }
@@ -402,7 +415,8 @@ impl Requester {
     }
 
     /// Submits a call in a form. Refused, in this order: the link has ended; the call is too large; no credit is left; the client has a
-    /// number, and the next xid is 64 or more above the least one of an outstanding call; too few xids or STags are left. Or memory ran out. A refused call comes back, and nothing changes.
+    /// number, and the next xid is 64 or more above the least one of an outstanding call; too few xids or STags are left. Or memory ran out. A
+    /// refused call comes back, and nothing changes. While Sends are held back no credit is left: calls that are outstanding use all of them.
     pub fn submit(&mut self, call: Call, form: Form) -> Result<Ticket, (Call, Refused)>
         requires { CanWriteCred call.cred }
         ensures accepted { IfOk result (λ xid. answer_of self.old.state call form ≡ submissions.Accepted xid) }
@@ -411,6 +425,7 @@ impl Requester {
         ensures returned { IfErr result (λ e. e.0 ≡ call) }
         ensures err { OnErr result (self.new ≡ self.old) }
         ensures stands { IfOk result (λ xid. StandsOn self.old (λ link. marks.Submit link call form (submissions.Accepted xid)) self.new) }
+        ensures keeps { IfOk result (λ xid. KeepsOn self.old (λ link. marks.Submit link call form (submissions.Accepted xid)) self.new) }
         ensures tickets { IfOk result (λ xid. OpensTicket xid call self.old.state self.new.state) }
         ensures fed { fed_bytes self.new ≡ fed_bytes self.old }
     {

@@ -1,6 +1,6 @@
 -- A frame that ends a responder for the rules of the link, and the client's hello.
 use Rattle.std.proofs.Common.{◌≡◌, ◌≢◌, ℕ, ◌+◌, ◌<◌, ◌≤◌, Bool, true, false, eqb, cond, List, [], ◌++◌, length, take, drop, Option, Some, None, Result, Ok, Err, refl, sym, ap, subst, ◌∙◌, arith, inl, inr, is_some}
-use Rattle.std.specs.Prelude.{IfSome, map}
+use Rattle.std.specs.Prelude.{◌⊎◌, IfSome, map}
 use Rattle.std.proofs.lemmas.Bool.{ne_eqb, eq-eqb, lt-ltb}
 use Rattle.nr_wire.specs.declared.hello.Side.{Side}
 use Rattle.nr_wire.specs.declared.hello.Side.TheVariants.{Initiator, Responder}
@@ -111,19 +111,19 @@ flags_first l frame end live (AfterHello place awaited hello) ended at is =
     absurd (no_flags l.state.place at end fpdu is)
 
 -- what a hello ends the side with is no FPDU
-no_final : (side : Side) (place : ℕ) (end : End) → IsFrameEnd (HelloFrom side) place end → final_output end ≡ []
+no_final : (place : ℕ) (end : End) → IsFrameEnd (HelloFrom Initiator) place end → final_output end ≡ []
 unfolding final_output
-no_final side place (ends.Bad at reason) h = ap (λ (b : Bool). cond b [] (terminate_message reason)) (lt-ltb reason 5 (let few = h.1.1 in omega (arith, few)))
-no_final side place (ends.Denied stag offset why) h = absurd cc
-no_final side place (ends.NoBuffer msn) h = absurd cc
-no_final side place (ends.Terminated reason) h = refl
-no_final side place ends.Memory h = refl
+no_final place (ends.Bad at reason) h = ap (λ (b : Bool). cond b [] (terminate_message reason)) (lt-ltb reason 5 (let few = h.1.1 in omega (arith, few)))
+no_final place (ends.Denied stag offset why) h = absurd cc
+no_final place (ends.NoBuffer msn) h = absurd cc
+no_final place (ends.Terminated reason) h = refl
+no_final place ends.Memory h = refl
 
 first_end : (l : LinkSide) (frame : List ℕ) (end : End) → l.state.ended ≡ None → Begins l → (with_frame l.state l.awaited frame).ended ≡ Some end → l.state.has_hello ≡ false → (l.state.send_queue.fpdus ≡ []) × (final_output end ≡ [])
 first_end l frame end live (BeforeHello place awaited hello none) ended greeted =
     let ends : IfSome (with_frame l.state l.awaited frame).ended (IsFrameEnd l.awaited l.state.place) = frames_end_for_these l.state l.awaited frame live in
     let end_is : IsFrameEnd l.awaited l.state.place end = subst (λ (e : Option End). IfSome e (IsFrameEnd l.awaited l.state.place)) ended ends in
-    (none, no_final Initiator l.state.place end (subst (λ (a : Awaited). IsFrameEnd a l.state.place end) awaited end_is))
+    (none, no_final l.state.place end (subst (λ (a : Awaited). IsFrameEnd a l.state.place end) awaited end_is))
 first_end l frame end live (AfterHello place awaited hello) ended greeted = absurd (let two : true ≡ false = sym hello ∙ greeted in cc)
 
 -- why the frame ends the server

@@ -17,12 +17,11 @@ use Rattle.nr_reduce.specs.declared.mark.LinkParameters.{LinkParameters}
 use Rattle.nr_reduce.specs.declared.mark.Mark.{Mark}
 use Rattle.nr_reduce.specs.declared.mark.Mark.TheVariants as marks
 use Rattle.nr_reduce.specs.ClientState.{ClientState}
-use Rattle.nr_reduce.specs.Credits.{calls_outstanding}
 use Rattle.nr_reduce.specs.EndRules.{EndState}
 use Rattle.nr_reduce.specs.History.{bytes_sent}
 use Rattle.nr_reduce.specs.Opening.{IsOpened}
 use Rattle.nr_reduce.specs.Run.{output_due}
-use Rattle.nr_reduce.specs.SubmitAnswer.{submit_answer}
+use Rattle.nr_reduce.specs.SubmitAnswer.{calls_counted, submit_answer}
 use Rattle.nr_requester.specs.RequesterState.{RequesterSide, queue_of}
 use Rattle.nr_requester.specs.Answers.{answer_of}
 use Rattle.nr_requester.proofs.Accepting.{answers_as_client, counts_as_client}
@@ -208,13 +207,12 @@ keeps_ended opened link run h i (xid ∷ xids) live (j, (forgets, rest)) =
 -- as many calls stay outstanding
 keeps_waiting : (opened : LinkParameters) (link : ℕ) (run : List Mark) (h i : RequesterSide) (xids : List ℕ) → IsLive opened link h run → ForgetsCalls xids h i
     → length i.state.outstanding ≡ length h.state.outstanding
-unfolding calls_outstanding
 keeps_waiting opened link run h i [] live same = ap (λ (x : RequesterSide). length x.state.outstanding) same
 keeps_waiting opened link run h i (xid ∷ xids) live (j, (forgets, rest)) =
     let next = forgets.0 opened link run live in
     keeps_waiting opened link (run ++ marks.Forget link xid ∷ []) j i xids next rest
     ∙ (counts_as_client opened link j (run ++ marks.Forget link xid ∷ []) next.stands).0
-    ∙ ap (λ e. length e.state.outstanding) (client_still opened link xid run)
+    ∙ ap (λ (e : EndState ClientState). calls_counted e.state) (client_still opened link xid run)
     ∙ sym (counts_as_client opened link h run live.stands).0
 
 -- if all that may be written is written, it stays so

@@ -12,7 +12,7 @@ use Rattle.nr_client.specs.declared.client_end.ClientEnd.TheVariants as client
 use Rattle.nr_client.specs.Reading.{EndsReading, LeadsBy, OpenRead, ReadingAt, file_read, piece_left, read_call, read_result, reads_max, xids_of}
 use Rattle.nr_client.specs.Reading.FileRead.{SizeKnown}
 use Rattle.nr_client.specs.Results.{Gives}
-use Rattle.nr_client.specs.Steps.{HasCreditLeft}
+use Rattle.nr_client.specs.Steps.{HasCreditLeft, LacksCredit}
 use Rattle.nr_client.specs.Transfers.{LinkBytes}
 
 -- calls of all these xids, which differ, are open
@@ -44,12 +44,12 @@ pub record ReadsAhead (h : RequesterSide) (size at next : ℕ) (xids : List ℕ)
   pub next_is : next ≡ next_offset size at xids
   pub open_all : AreOpen h.state xids
 
--- the next piece is asked for; or it is not, since all are, or no credit is left, or the maximum of READs is outstanding
+-- the next piece is asked for; or it is not, since all are, or no call may be submitted, or the maximum of READs is outstanding
 abbrev pub MayAsk : (size next : ℕ) → List ℕ → RequesterSide → Type 0
 MayAsk size next xids h = (next < size) × ((xids ≡ []) ⊎ (HasCreditLeft h × (length xids < reads_max)))
 
 abbrev pub IsFull : (size next : ℕ) → List ℕ → RequesterSide → Type 0
-IsFull size next xids h = (size ≤ next) ⊎ ((0 < length xids) × ((h.state.grant ≤ length h.state.outstanding) ⊎ (reads_max ≤ length xids)))
+IsFull size next xids h = (size ≤ next) ⊎ ((0 < length xids) × (LacksCredit h ⊎ (reads_max ≤ length xids)))
 
 -- the size is known, these bytes came and were written, and READs are outstanding
 pub record ReadSoFar (uid gid : ℕ) (file : List ℕ) (size : ℕ) (first : ReadingAt) (taken : Option (List ℕ)) (at from : ℕ) (xids : List ℕ) (b : LinkBytes) (h : RequesterSide) (taken' : Option (List ℕ)) : Type 0 where
