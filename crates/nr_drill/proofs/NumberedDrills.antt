@@ -170,7 +170,7 @@ module _ (server : SerialServer) (script : ScriptLines) (run : List Mark) (is : 
 
   pub at_places : KeepsCalls server.reply_to server.adds → (link : ℕ) → IsLink follows.last link → IsKnown link → AtPlacesOn (plain_of server) (entries_alone T) link run
   at_places keeps link within known =
-      numbered_links_are_at_places server.reply_to server.adds t.opened link T run typed journaled keeps one_each (λ some. client_matched link within (known (λ none. some (numbers link within ∙ none))) some)
+      numbered_links_are_at_places server.reply_to server.adds t.opened link T run typed journaled keeps (λ other numbered same. one_each link other numbered (sym same)) (λ some. client_matched link within (known (λ none. some (numbers link within ∙ none))) some)
 
   pub plainly : KeepsCalls server.reply_to server.adds → (link : ℕ) → IsLink follows.last link → IsKnown link → HasPlainReplies (plain_of server) link run
   plainly keeps link within known = placed_links_have_plain_replies server.reply_to server.adds (entries_alone T) link run (at_places keeps link within known)
@@ -205,5 +205,5 @@ module _ (server : SerialServer) (script : ScriptLines) (run : List Mark) (is : 
 
   pub entries : KeepsCalls server.reply_to server.adds → (link : ℕ) → IsLink follows.last link → (t.opened link).client.number ≢ 0 → LinksAreMatched t run link → ChangesHaveEntries server T t.opened link run
   entries keeps link within numbered matched before xid call form moment payload reply asked at conveyed adds =
-      completed_changes_have_entries server.reply_to server.adds t.opened link T run before xid call form moment payload reply typed journaled keeps one_each (opens_with link within) (matched_with link within matched)
+      completed_changes_have_entries server.reply_to server.adds t.opened link T run before xid call form moment payload reply typed journaled keeps (λ other numbered same. one_each link other numbered (sym same)) (opens_with link within) (matched_with link within matched)
       numbered (held.links link within).terms.terms.2 asked at conveyed adds

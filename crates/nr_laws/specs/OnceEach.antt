@@ -77,7 +77,8 @@ AskedWithEarlier opened run link = (earlier : ℕ) → IsEarlier opened run earl
 abbrev pub ClientIsMatched : (ℕ → LinkParameters) → List Mark → (number : ℕ) → Type 0
 ClientIsMatched opened run number = (link : ℕ) → number_heard run link ≡ number → OpenedWithEarlier opened run link × MatchedWithEarlier opened run link
 
--- One number names one client: of two links whose servers heard the same number, one goes on from the other.
+-- One number names one client: of two links whose servers heard the same number, one goes on from the other. Then each link is one of its client's
+-- (`IsLinkOf`), which is all that the laws ask, of the link at hand.
 abbrev pub OneClientEach : (ℕ → LinkParameters) → List Mark → Type 0
 OneClientEach opened run = (link other : ℕ) → number_heard run link ≢ 0 → number_heard run link ≡ number_heard run other →
     IsEarlier opened run link other ⊎ IsEarlier opened run other link
@@ -143,7 +144,7 @@ abbrev pub CompletedChangesHaveEntries : Type 0
 CompletedChangesHaveEntries = (reply_to : List Entry → Moment → List ℕ → Option (List ℕ)) (adds : Moment → List ℕ → List ℕ → List Entry)
     (opened : ℕ → LinkParameters) (link : ℕ) (T : List TaggedEntry) (run before : List Mark) (xid : ℕ) (call : Call) (form : Form) (moment : Moment) (payload reply : List ℕ) →
     IsTyped run → JournaledByNumber (server_with reply_to adds) (number_heard run) T run → KeepsCalls reply_to adds →
-    OneClientEach opened run → OpenedWithEarlier opened run link → MatchedWithEarlier opened run link → (opened link).client.number ≢ 0 → (opened link).client.number < 2 ^ 64 →
+    IsLinkOf opened run (number_heard run link) link → OpenedWithEarlier opened run link → MatchedWithEarlier opened run link → (opened link).client.number ≢ 0 → (opened link).client.number < 2 ^ 64 →
     IsAskedFor opened link run xid call form →
     MarkAt run before (marks.Done link xid (outcomes.Reply reply)) → form_conveyed form (call_payload xid call) ≡ Some payload → adds moment payload reply ≢ [] →
     HasEntry (server_with reply_to adds) T (opened link).client.number xid payload reply
@@ -153,7 +154,7 @@ CompletedChangesHaveEntries = (reply_to : List Entry → Moment → List ℕ →
 abbrev pub NumberedLinksAreAtPlaces : Type 0
 NumberedLinksAreAtPlaces = (reply_to : List Entry → Moment → List ℕ → Option (List ℕ)) (adds : Moment → List ℕ → List ℕ → List Entry)
     (opened : ℕ → LinkParameters) (link : ℕ) (T : List TaggedEntry) (run : List Mark) →
-    IsTyped run → JournaledByNumber (server_with reply_to adds) (number_heard run) T run → KeepsCalls reply_to adds → OneClientEach opened run →
+    IsTyped run → JournaledByNumber (server_with reply_to adds) (number_heard run) T run → KeepsCalls reply_to adds → IsLinkOf opened run (number_heard run link) link →
     (number_heard run link ≢ 0 → ClientIsMatched opened run (number_heard run link)) → AtPlacesOn (server_with reply_to adds) (entries_alone T) link run
 
 -- The same of a link that is matched with its earlier ones, whatever comes on the later ones, if its server executes no call once its client has
@@ -161,7 +162,7 @@ NumberedLinksAreAtPlaces = (reply_to : List Entry → Moment → List ℕ → Op
 abbrev pub LinksAreAtPlacesUntilLeft : Type 0
 LinksAreAtPlacesUntilLeft = (reply_to : List Entry → Moment → List ℕ → Option (List ℕ)) (adds : Moment → List ℕ → List ℕ → List Entry)
     (opened : ℕ → LinkParameters) (link : ℕ) (T : List TaggedEntry) (run : List Mark) →
-    IsTyped run → JournaledByNumber (server_with reply_to adds) (number_heard run) T run → KeepsCalls reply_to adds → OneClientEach opened run →
+    IsTyped run → JournaledByNumber (server_with reply_to adds) (number_heard run) T run → KeepsCalls reply_to adds → IsLinkOf opened run (number_heard run link) link →
     OpenedWithEarlier opened run link → MatchedWithEarlier opened run link → ExecutesUntilLeft opened run link → AtPlacesOn (server_with reply_to adds) (entries_alone T) link run
 
 -- On matched links a call is submitted for the first time after the outcome of another was handed over. If both are executed, the call on whichever
@@ -171,7 +172,8 @@ PlacesFollowByNumber = (reply_to : List Entry → Moment → List ℕ → Option
     (opened : ℕ → LinkParameters) (link other executing : ℕ) (T : List TaggedEntry) (run before between before_first before_second : List Mark)
     (call : Call) (form : Form) (xid other_xid : ℕ) (outcome : Outcome)
     (moment other_moment : Moment) (payload other_payload : List ℕ) (place other_place : ℕ) (reply other_reply : List ℕ) →
-    IsTyped run → JournaledByNumber (server_with reply_to adds) (number_heard run) T run → AddsOneAtMost adds → OneClientEach opened run → IsLinkOf opened run (number_heard run executing) other →
+    IsTyped run → JournaledByNumber (server_with reply_to adds) (number_heard run) T run → AddsOneAtMost adds →
+    IsLinkOf opened run (number_heard run executing) executing → IsLinkOf opened run (number_heard run executing) other →
     MatchedSoFar (opened link) link run → IsEarlier opened run other executing → OpenedWithEarlier opened run executing → MatchedWithEarlier opened run executing →
     (opened other).first_xid ≤ other_xid →
     MarkAt run (before ++ marks.Done link xid outcome ∷ between) (marks.Submit other call form (submissions.Accepted other_xid)) →
@@ -189,7 +191,7 @@ NoOutcomeTwice = (opened : ℕ → LinkParameters) (link other : ℕ) (run befor
 abbrev pub NoCallIsOld : Type 0
 NoCallIsOld = (reply_to : List Entry → Moment → List ℕ → Option (List ℕ)) (adds : Moment → List ℕ → List ℕ → List Entry)
     (opened : ℕ → LinkParameters) (first link : ℕ) (T : List TaggedEntry) (run before : List Mark) (xid at : ℕ) →
-    IsTyped run → JournaledByNumber (server_with reply_to adds) (number_heard run) T run → AddsOneAtMost adds → OneClientEach opened run →
+    IsTyped run → JournaledByNumber (server_with reply_to adds) (number_heard run) T run → AddsOneAtMost adds → IsLinkOf opened run (number_heard run link) link →
     IsFirstOf opened run (number_heard run link) first → OpenedWithEarlier opened run link → MatchedWithEarlier opened run link → AcceptsWithEarlier opened run link →
     (opened link).client.number < 2 ^ 64 → MarkAt run before (marks.Told link (Old xid at)) → IsLeft opened run link before
 
@@ -207,13 +209,13 @@ NumberedChangesAreAnswered = (reply_to : List Entry → Moment → List ℕ → 
 pub record EachChangeOnce (plain : PlainServer) (T : List TaggedEntry) (opened : ℕ → LinkParameters) (run : List Mark) : Type 0 where
   pub once : HasNoEntryTwice T
   pub completed : (link : ℕ) (before : List Mark) (xid : ℕ) (call : Call) (form : Form) (moment : Moment) (payload reply : List ℕ) →
-      OpenedWithEarlier opened run link → MatchedWithEarlier opened run link → (opened link).client.number ≢ 0 → (opened link).client.number < 2 ^ 64 →
+      IsLinkOf opened run (number_heard run link) link → OpenedWithEarlier opened run link → MatchedWithEarlier opened run link → (opened link).client.number ≢ 0 → (opened link).client.number < 2 ^ 64 →
       IsAskedFor opened link run xid call form → MarkAt run before (marks.Done link xid (outcomes.Reply reply)) →
       form_conveyed form (call_payload xid call) ≡ Some payload → plain.adds moment payload reply ≢ [] →
       HasEntry plain T (opened link).client.number xid payload reply
 
--- Its premises: the server keeps calls, and one number names one client.
+-- Its premise: the server keeps calls.
 abbrev pub ChangesTakeEffectOnce : Type 0
 ChangesTakeEffectOnce = (reply_to : List Entry → Moment → List ℕ → Option (List ℕ)) (adds : Moment → List ℕ → List ℕ → List Entry)
     (opened : ℕ → LinkParameters) (T : List TaggedEntry) (run : List Mark) → IsTyped run → JournaledByNumber (server_with reply_to adds) (number_heard run) T run →
-    KeepsCalls reply_to adds → OneClientEach opened run → EachChangeOnce (server_with reply_to adds) T opened run
+    KeepsCalls reply_to adds → EachChangeOnce (server_with reply_to adds) T opened run
