@@ -7,7 +7,6 @@ use Rattle.nr_nfs_base.specs.declared.attributes.Attributes.{Attributes}
 use Rattle.nr_nfs_res.specs.declared.bytes.ReadOk.{ReadOk}
 use Rattle.nr_reduce.specs.declared.call.Call.{Call}
 use Rattle.nr_reduce.specs.declared.call.Outcome.{Outcome}
-use Rattle.nr_requester.specs.OpenCalls.{OpensTicket}
 use Rattle.nr_client.specs.declared.client_end.ClientEnd.{ClientEnd}
 use Rattle.nr_client.specs.Following.Next.{Calls}
 use Rattle.nr_client.specs.Reading.{FileRead, IsMadeAlone, OpenRead, after_reply, file_read, is_at_piece, next_read, piece_left, read_ahead, read_call, read_result, reading, reads_max, starts_at, with_data, with_size, ReadingOver, IsMadeAheadOver, NoneIsMadeAheadOver}

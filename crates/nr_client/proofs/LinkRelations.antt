@@ -2,11 +2,11 @@
 use Rattle.std.proofs.Common.{◌≡◌, ℕ, Result, Ok, Err, IfOk, IfErr, OnOk, OnErr, ap, inl, inr}
 use Rattle.nr_reduce.specs.declared.call.Call.{Call}
 use Rattle.nr_reduce.specs.declared.call.Outcome.{Outcome}
-use Rattle.nr_requester.specs.OpenCalls.{ClosesTicket, KeepsTickets, OpensTicket}
+use Rattle.nr_requester.specs.OpenCalls.{KeepsTickets, OpensTicket}
 use Rattle.nr_client.specs.declared.call_end.CallEnd.{CallEnd}
 use Rattle.nr_client.specs.declared.client_end.ClientEnd.{ClientEnd}
 use Rattle.nr_client.specs.declared.client_end.ClientEnd.TheVariants as client
-use Rattle.nr_client.specs.Calls.{Answers, Forgets, GivesUp, HasMemory, RefusesToSubmit, link_relations}
+use Rattle.nr_client.specs.Calls.{Answers, Forgets, GivesUp, HasMemory, LinkFaults, RefusesToSubmit, faults_of, link_relations}
 use Rattle.nr_client.specs.Ending.{IsCauseIn, LinkCause, SinkCount, SourceCount}
 use Rattle.nr_client.specs.Relations.{CountsEnd, KeepsOpen, OpensCall}
 use Rattle.nr_client.specs.Requests.{Asks, CountsFaultsOver, SinkFaults, SourceFaults}

@@ -19,7 +19,6 @@ use Rattle.nr_requester.proofs.DueAnswers.{Among, from_among, to_among, in_filte
 use Rattle.nr_requester.proofs.OpenTickets.{open_is_awaited}
 use Rattle.nr_client.specs.declared.call_end.CallEnd.{CallEnd}
 use Rattle.nr_client.specs.Steps.{AnswersNone, LacksAnswer}
-use Rattle.nr_client.specs.Calls.{Answers}
 
 abbrev none_of : AnsweredCall → Option AnsweredCall
 none_of a = None

@@ -1,5 +1,4 @@
 use Rattle.std.proofs.Common.{◌≡◌, ◌-◌, List, ℕ}
-use Rattle.nr_requester.specs.OpenCalls.{KeepsTickets}
 use Rattle.nr_client.specs.private.OpenReads.{IsInPiece, ReadsOn}
 use Rattle.nr_client.specs.Relations.{KeepsOpen}
 use Rattle.nr_client.proofs.read_file.read_rest.Given as goal
