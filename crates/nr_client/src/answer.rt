@@ -1,7 +1,6 @@
 //! A call, and its outcome.
 
-ghost use Rattle.std.specs.Prelude.{◌≡◌, ◌≢◌, Some, IfOk, IfErr, OnOk};
-ghost use Rattle.nr_link.specs.declared.end.End.TheVariants as ends;
+ghost use Rattle.std.specs.Prelude.{◌≡◌, IfOk, IfErr};
 ghost use Rattle.nr_reduce.specs.declared.call.Call.{Call};
 ghost use Rattle.nr_rpc.specs.Credential.{CanWriteCred};
 ghost use Rattle.nr_client.specs.Following.{UnansweredOver};

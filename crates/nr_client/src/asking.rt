@@ -1,9 +1,8 @@
 //! Requests over a link: a call, and what its answer is read as.
 
-ghost use Rattle.std.specs.Prelude.{◌≡◌, ◌≢◌, Some, IfOk, IfErr, OnOk};
+ghost use Rattle.std.specs.Prelude.{◌≡◌, IfOk, IfErr};
 ghost use Rattle.nr_client.specs.Results.{IsOfCall};
 ghost use Rattle.nr_client.specs.Requests.{CountsFaultsOver, AsksOver, mnt_call, mnt_result, nfs_reads};
-ghost use Rattle.nr_link.specs.declared.end.End.TheVariants as ends;
 ghost use Rattle.nr_reduce.specs.declared.call.Call.{Call};
 ghost use Rattle.nr_rpc.specs.Credential.{CanWriteCred};
 
