@@ -14,7 +14,7 @@ use Rattle.nr_client.specs.Reading.FileRead.{NothingKnown, SizeKnown}
 use Rattle.nr_client.specs.Reading.ReadStepOver.{MakesAlone, AsksAhead, TakesOldest}
 use Rattle.nr_client.specs.Requests.{getattr_call, getattr_result, AsksOver}
 use Rattle.nr_client.specs.private.OpenReads.{GivesData, IsFull, IsInPiece, MayAsk, ReadSoFar, ReadsAhead, reads_from}
-use Rattle.nr_client.specs.Relations.{CallRelations, OpensCall}
+use Rattle.nr_client.specs.Relations.{CallRelations, OpensTicketOver}
 use Rattle.nr_client.proofs.FilePieces.{asks_next, asks_none, next_after_last, not_at_piece, now_at_piece, reads_with_last}
 use Rattle.nr_client.proofs.Tickets.{open_with_last}
 
@@ -180,13 +180,13 @@ asked_from {V} rel uid gid file size at next count xids ys xid call first t u b 
     (asked_more rel uid gid file size at next xids xid first t u b c below ahead may
     (subst (λ (a : Call). rel.submits b c a xid) (call_is uid gid file size next count call is same) submits) so_far)
 
-pub ahead_from : {V : Type 0} (rel : CallRelations V) (size at next count : ℕ) (xids ys : List ℕ) (xid : ℕ) (v w : V)
-    → ys ≡ xids ++ xid ∷ [] → count ≡ piece_left size next → OpensCall rel xid v w → ReadsAhead rel v size at next xids → ReadsAhead rel w size at (next + count) ys
-ahead_from {V} rel size at next count xids ys xid v w all same opens ahead =
+pub ahead_from : {V : Type 0} (rel : CallRelations V) (size at next count : ℕ) (xids ys : List ℕ) (xid : ℕ) (call : Call) (v w : V)
+    → ys ≡ xids ++ xid ∷ [] → count ≡ piece_left size next → OpensTicketOver rel xid call v w → ReadsAhead rel v size at next xids → ReadsAhead rel w size at (next + count) ys
+ahead_from {V} rel size at next count xids ys xid call v w all same opens ahead =
     subst (λ (l : List ℕ). ReadsAhead rel w size at (next + count) l) (sym all)
     (record {
       piece = ahead.piece;
       next_is =
           ap (λ (n : ℕ). next + n) same ∙ ap (λ (n : ℕ). n + piece_left size n) ahead.next_is ∙ sym (next_after_last size at xids xid);
-      open_all = open_with_last rel xid v w xids opens ahead.open_all;
+      open_all = open_with_last rel xid call v w xids opens ahead.open_all;
     })

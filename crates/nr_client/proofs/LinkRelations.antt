@@ -1,17 +1,17 @@
 -- A call over a link that one caller has, by the relations of such a link.
-use Rattle.std.proofs.Common.{◌≡◌, ℕ, Result, Ok, Err, IfOk, IfErr, OnOk, OnErr, ap, inl, inr}
+use Rattle.std.proofs.Common.{◌≡◌, ℕ, Result, Ok, Err, IfOk, IfErr, OnOk, ap, inl, inr}
 use Rattle.nr_reduce.specs.declared.call.Call.{Call}
 use Rattle.nr_reduce.specs.declared.call.Outcome.{Outcome}
-use Rattle.nr_requester.specs.OpenCalls.{KeepsTickets, OpensTicket}
+use Rattle.nr_requester.specs.OpenCalls.{OpensTicket}
 use Rattle.nr_client.specs.declared.call_end.CallEnd.{CallEnd}
 use Rattle.nr_client.specs.declared.client_end.ClientEnd.{ClientEnd}
 use Rattle.nr_client.specs.declared.client_end.ClientEnd.TheVariants as client
 use Rattle.nr_client.specs.Calls.{Answers, Forgets, GivesUp, HasMemory, LinkFaults, RefusesToSubmit, faults_of, link_relations}
 use Rattle.nr_client.specs.Ending.{IsCauseIn, LinkCause, SinkCount, SourceCount}
-use Rattle.nr_client.specs.Relations.{CountsEnd, KeepsOpen, OpensCall}
+use Rattle.nr_client.specs.Relations.{CountsEnd, OpensTicketOver}
 use Rattle.nr_client.specs.Requests.{Asks, CountsFaultsOver, SinkFaults, SourceFaults}
 use Rattle.nr_client.specs.Views.{LinkView}
-use Rattle.nr_client.proofs.Tickets.{keeps_open, opens_call}
+use Rattle.nr_client.proofs.Tickets.{opens_call}
 
 pub answered : (result : Result Outcome CallEnd) (v w : LinkView) (call : Call) → IfOk result (λ outcome. Answers v w call outcome) → OnOk result (HasMemory w)
     → IfOk result (λ outcome. link_relations.answers v w call outcome)
@@ -39,15 +39,11 @@ pub counted : {A : Type 0} (result : Result A CallEnd) (v w : LinkView) → Sour
 counted (Ok value) v w source sink = λ i. record { source = source i; sink = sink i }
 counted (Err end) v w source sink = (source, sink)
 
--- what it opens and keeps open
+-- what it opens
 pub opened : (result : Result ℕ CallEnd) (v w : LinkView) (call : Call) → IfOk result (λ xid. OpensTicket xid call v.requester.state w.requester.state)
-    → IfOk result (λ xid. OpensCall link_relations xid v w)
+    → IfOk result (λ xid. OpensTicketOver link_relations xid call v w)
 opened (Ok xid) v w call opens = opens_call xid call v w opens
 opened (Err end) v w call opens = tt
-
-pub kept : (result : Result ℕ CallEnd) (v w : LinkView) → OnErr result (KeepsTickets v.requester.state w.requester.state) → OnErr result (KeepsOpen link_relations v w)
-kept (Ok xid) v w keeps = tt
-kept (Err end) v w keeps = keeps_open v w keeps
 
 -- the counts of its source and of its sink
 same_counts : (v w : LinkView) → faults_of w ≡ faults_of v → (w.source_faults ≡ v.source_faults) × (w.sink_faults ≡ v.sink_faults)

@@ -1,5 +1,5 @@
 -- What a call over a link makes of the marks that its requester stands for.
-use Rattle.std.specs.Prelude.{◌≡◌, ◌≢◌, ◌≤◌, Contains, ℕ, ◌⊎◌, List, [], ◌∷◌, ◌++◌, length, None, Some, is_some, true}
+use Rattle.std.specs.Prelude.{◌≡◌, ◌≢◌, ◌≤◌, Contains, ℕ, ◌⊎◌, List, [], ◌∷◌, ◌++◌, length, None, Some}
 use Rattle.nr_wire.specs.declared.hello.Side.TheVariants.{Initiator}
 use Rattle.nr_reduce.specs.declared.call.Call.{Call}
 use Rattle.nr_reduce.specs.declared.call.Outcome.{Outcome}
@@ -13,6 +13,7 @@ use Rattle.nr_reduce.specs.History.{CompletedCall, bytes_received}
 use Rattle.nr_reduce.specs.Run.{client}
 use Rattle.nr_client.specs.declared.call_end.CallEnd.TheVariants as calls
 use Rattle.nr_reduce.specs.Opening.{IsOpened}
+use Rattle.nr_links.specs.Limits.{read_max}
 use Rattle.nr_requester.specs.RequesterState.{RequesterSide}
 use Rattle.nr_requester.specs.Answers.{answer_of}
 use Rattle.nr_requester.specs.OpenCalls.{open_call}
@@ -168,5 +169,6 @@ link_relations = record {
   counts = CountsAt;
   has_credit = λ v. HasCreditLeft v.requester;
   lacks_credit = λ v. v.requester.state.grant ≤ length v.requester.state.outstanding;
-  is_open = λ v xid. is_some (open_call xid v.requester.state) ≡ true;
+  open_call = λ v xid. open_call xid v.requester.state;
+  is_within = λ v. v.bytes.read ≤ read_max;
 }

@@ -1,5 +1,5 @@
 -- What contracts say of the calls that are made over a link, whichever kind of link it is.
-use Rattle.std.specs.Prelude.{◌≡◌, ◌≢◌, ℕ, Result, Ok, Err}
+use Rattle.std.specs.Prelude.{◌≡◌, ◌≢◌, ℕ, Option, None, Some, Result, Ok, Err}
 use Rattle.nr_reduce.specs.declared.call.Call.{Call}
 use Rattle.nr_reduce.specs.declared.call.Outcome.{Outcome}
 use Rattle.nr_client.specs.declared.call_end.CallEnd.{CallEnd}
@@ -24,18 +24,25 @@ pub record CallRelations (V : Type 0) : Type 1 where
   -- a credit is left; none is
   pub has_credit : V → Type 0
   pub lacks_credit : V → Type 0
-  -- a call of this xid was submitted, and neither handed over nor forgotten
-  pub is_open : V → ℕ → Type 0
+  -- the call of this xid, if one was submitted and was neither handed over nor forgotten
+  pub open_call : V → ℕ → Option Call
+  -- no more was read of it than may be
+  pub is_within : V → Type 0
 
--- What is open stays open; what is open stays so but for the call of this xid, whose ticket was used; the call of this xid is open, and was not.
-abbrev pub KeepsOpen : {V : Type 0} → CallRelations V → (v w : V) → Type 0
-KeepsOpen rel v w = (xid : ℕ) → rel.is_open v xid → rel.is_open w xid
+-- every ticket is as it was
+abbrev pub KeepsTicketsOver : {V : Type 0} → CallRelations V → (v w : V) → Type 0
+KeepsTicketsOver rel v w = (xid : ℕ) → rel.open_call w xid ≡ rel.open_call v xid
 
-abbrev pub KeepsOthers : {V : Type 0} → CallRelations V → ℕ → (v w : V) → Type 0
-KeepsOthers rel closed v w = (xid : ℕ) → xid ≢ closed → rel.is_open v xid → rel.is_open w xid
+-- the ticket of this call is open, and none was under its xid; all others are as they were
+pub record OpensTicketOver {V : Type 0} (rel : CallRelations V) (xid : ℕ) (call : Call) (v w : V) : Type 0 where
+  pub fresh : rel.open_call v xid ≡ None
+  pub own : rel.open_call w xid ≡ Some call
+  pub others : (x : ℕ) → x ≢ xid → rel.open_call w x ≡ rel.open_call v x
 
-abbrev pub OpensCall : {V : Type 0} → CallRelations V → ℕ → (v w : V) → Type 0
-OpensCall rel xid v w = rel.is_open w xid × ((rel.is_open v xid → ⊥) × KeepsOpen rel v w)
+-- the ticket of an xid is closed; all others are as they were
+pub record ClosesTicketOver {V : Type 0} (rel : CallRelations V) (xid : ℕ) (v w : V) : Type 0 where
+  pub own : rel.open_call w xid ≡ None
+  pub others : (x : ℕ) → x ≢ xid → rel.open_call w x ≡ rel.open_call v x
 
 -- the fault counts are as before if a call was answered or submitted, and count the fault of an end
 abbrev pub CountsEnd : {A V : Type 0} → (rel : CallRelations V) → Result A CallEnd → (v w : V) → Type 0

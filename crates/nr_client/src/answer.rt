@@ -4,7 +4,7 @@ ghost use Rattle.std.specs.Prelude.{◌≡◌, IfOk, IfErr};
 ghost use Rattle.nr_reduce.specs.declared.call.Call.{Call};
 ghost use Rattle.nr_rpc.specs.Credential.{CanWriteCred};
 ghost use Rattle.nr_client.specs.Following.{UnansweredOver};
-ghost use Rattle.nr_client.specs.Relations.{KeepsOpen};
+ghost use Rattle.nr_client.specs.Relations.{KeepsTicketsOver};
 ghost use Rattle.nr_client.specs.Requests.{CountsFaultsOver};
 ghost use Rattle.nr_client.specs.Results.{IsOfCall};
 
@@ -24,7 +24,7 @@ pub(crate) fn outcome_of<L: Calls>(
     ensures err { (asked : Call) → IfOk call (λ c. c ≡ asked) → IfErr result (λ end. UnansweredOver L.relations asked
         (L.at link.old) (L.at link.new) end) }
     ensures of_call { IfErr result IsOfCall }
-    ensures tickets { KeepsOpen L.relations (L.at link.old) (L.at link.new) }
+    ensures tickets { KeepsTicketsOver L.relations (L.at link.old) (L.at link.new) }
     ensures faults { CountsFaultsOver L.relations result (L.at link.old) (L.at link.new) }
 {
     let call = match call {

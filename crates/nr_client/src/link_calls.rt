@@ -1,8 +1,8 @@
 //! The calls that a session makes over a link.
 
-ghost use Rattle.std.specs.Prelude.{◌≡◌, true, false, IfOk, IfErr, OnErr};
+ghost use Rattle.std.specs.Prelude.{◌≡◌, true, false, is_some, IfOk, IfErr, OnErr};
 ghost use Rattle.nr_rpc.specs.Credential.{CanWriteCred};
-ghost use Rattle.nr_client.specs.Relations.{CountsEnd, KeepsOpen, KeepsOthers, OpensCall};
+ghost use Rattle.nr_client.specs.Relations.{ClosesTicketOver, CountsEnd, KeepsTicketsOver, OpensTicketOver};
 
 use crate::call_end::CallEnd;
 use nr_reduce::{Call, Outcome};
@@ -28,31 +28,32 @@ pub trait Calls {
         requires { CanWriteCred call.cred }
         ensures ok { IfOk result (λ outcome. relations.answers (at self.old) (at self.new) call outcome) }
         ensures err { IfErr result (λ end. relations.gives_up (at self.old) (at self.new) call end) }
-        ensures keeps { KeepsOpen relations (at self.old) (at self.new) }
-        ensures faults { CountsEnd relations result (at self.old) (at self.new) };
+        ensures tickets { KeepsTicketsOver relations (at self.old) (at self.new) }
+        ensures faults { CountsEnd relations result (at self.old) (at self.new) }
+        ensures within { relations.is_within (at self.new) };
 
     /// Submits a call once a credit is left, as `call` does. Its outcome is waited for, or it is forgotten, by its ticket.
     fn submit(&mut self, call: Call) -> Result<Ticket, CallEnd>
         requires { CanWriteCred call.cred }
         ensures ok { IfOk result (λ xid. relations.submits (at self.old) (at self.new) call xid) }
         ensures err { IfErr result (λ end. relations.refuses (at self.old) (at self.new) call end) }
-        ensures opens { IfOk result (λ xid. OpensCall relations xid (at self.old) (at self.new)) }
-        ensures keeps { OnErr result (KeepsOpen relations (at self.old) (at self.new)) }
+        ensures opens { IfOk result (λ xid. OpensTicketOver relations xid call (at self.old) (at self.new)) }
+        ensures keeps { OnErr result (KeepsTicketsOver relations (at self.old) (at self.new)) }
         ensures faults { CountsEnd relations result (at self.old) (at self.new) };
 
     /// Waits for the outcome of a call that was submitted. If there is none, the call is forgotten.
     fn wait(&mut self, ticket: Ticket) -> Result<Outcome, CallEnd>
-        requires { relations.is_open (at self.old) ticket }
+        requires { is_some (relations.open_call (at self.old) ticket) ≡ true }
         ensures ok { IfOk result (λ outcome. relations.completes ticket outcome (at self.old) (at self.new)) }
         ensures err { IfErr result (λ end. relations.forgets ticket end (at self.old) (at self.new)) }
-        ensures others { KeepsOthers relations ticket (at self.old) (at self.new) }
+        ensures tickets { ClosesTicketOver relations ticket (at self.old) (at self.new) }
         ensures faults { CountsEnd relations result (at self.old) (at self.new) };
 
     /// Forgets a call that was submitted, whether or not its answer has come.
     fn forget(&mut self, ticket: Ticket)
-        requires { relations.is_open (at self.old) ticket }
+        requires { is_some (relations.open_call (at self.old) ticket) ≡ true }
         ensures forgets { relations.forgets_call ticket (at self.old) (at self.new) }
-        ensures others { KeepsOthers relations ticket (at self.old) (at self.new) }
+        ensures tickets { ClosesTicketOver relations ticket (at self.old) (at self.new) }
         ensures faults { relations.faults (at self.new) ≡ relations.faults (at self.old) };
 
     /// Whether a call can be submitted at once, if its link has not ended.

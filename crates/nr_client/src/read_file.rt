@@ -2,7 +2,7 @@
 
 ghost use Rattle.std.specs.Prelude.{◌≡◌, ◌<◌, ◌≤◌, ◌+◌, ℕ, List, [], Ok, OnOk, IfErr};
 ghost use Rattle.nr_client.specs.Reading.{OutputFaults, ReadsFileOver, piece_left};
-ghost use Rattle.nr_client.specs.Relations.{KeepsOpen};
+ghost use Rattle.nr_client.specs.Relations.{KeepsTicketsOver};
 ghost use Rattle.nr_client.specs.Requests.{CountsFaultsOver};
 ghost use Rattle.nr_client.specs.private.OpenReads.{AreOpen, EndsSo, IsInPiece, ReadsAhead, ReadsOn};
 
@@ -37,7 +37,7 @@ fn read_on<L: Calls, K: Sink>(
         (L.at link.old) (L.at link.new) (K.taken out.old) (K.taken out.new)) }
     ensures err { IfErr result (λ why. (from : ℕ) (xids : List ℕ) → EndsSo L.relations file.now.uid file.now.gid file.now.handle.now file.now.size at.old from xids xids
         (L.at link.old) (L.at link.new) (K.taken out.old) (K.taken out.new) (Err why)) }
-    ensures tickets { KeepsOpen L.relations (L.at link.old) (L.at link.new) }
+    ensures tickets { KeepsTicketsOver L.relations (L.at link.old) (L.at link.new) }
     ensures out_faults { OutputFaults result (K.faults out.old) (K.faults out.new) }
     ensures faults { CountsFaultsOver L.relations result (L.at link.old) (L.at link.new) }
 {
@@ -72,7 +72,7 @@ fn read_rest<L: Calls, K: Sink>(
         (L.at link.old) (L.at link.new) (K.taken out.old) (K.taken out.new)) }
     ensures err { IfErr result (λ why. (from : ℕ) (xids : List ℕ) → EndsSo L.relations file.now.uid file.now.gid file.now.handle.now file.now.size at.old from xids xids
         (L.at link.old) (L.at link.new) (K.taken out.old) (K.taken out.new) (Err why)) }
-    ensures tickets { KeepsOpen L.relations (L.at link.old) (L.at link.new) }
+    ensures tickets { KeepsTicketsOver L.relations (L.at link.old) (L.at link.new) }
     ensures out_faults { OutputFaults result (K.faults out.old) (K.faults out.new) }
     ensures faults { CountsFaultsOver L.relations result (L.at link.old) (L.at link.new) }
 {

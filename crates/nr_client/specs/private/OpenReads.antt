@@ -1,5 +1,5 @@
 -- A file that is being read, by the tickets of the READs that are outstanding.
-use Rattle.std.specs.Prelude.{◌≡◌, ◌≢◌, ⊤, ℕ, ◌+◌, ◌%◌, ◌<◌, ◌≤◌, ◌⊎◌, if◌then◌else◌, List, [], ◌∷◌, length, take, Option, Result, Ok, Err}
+use Rattle.std.specs.Prelude.{◌≡◌, ◌≢◌, ⊤, ℕ, ◌+◌, ◌%◌, ◌<◌, ◌≤◌, ◌⊎◌, true, if◌then◌else◌, List, [], ◌∷◌, length, take, Option, is_some, Result, Ok, Err}
 use Rattle.std.specs.List.{AllByRecursion}
 use Rattle.std.specs.Io.KnownBytes.{Appends}
 use Rattle.nr_nfs_base.specs.Limits.{transfer_max}
@@ -15,7 +15,7 @@ use Rattle.nr_client.specs.Results.{Gives}
 -- calls of all these xids, which differ, are open
 abbrev pub AreOpen : {V : Type 0} → CallRelations V → V → List ℕ → Type 0
 AreOpen rel v [] = ⊤
-AreOpen rel v (xid ∷ xids) = rel.is_open v xid × (AllByRecursion (λ x. x ≢ xid) xids × AreOpen rel v xids)
+AreOpen rel v (xid ∷ xids) = (is_some (rel.open_call v xid) ≡ true) × (AllByRecursion (λ x. x ≢ xid) xids × AreOpen rel v xids)
 
 -- the READs of the pieces from an offset on, under these xids, and the offset after these
 abbrev pub reads_from : (uid gid : ℕ) → (file : List ℕ) → (size from : ℕ) → List ℕ → List OpenRead

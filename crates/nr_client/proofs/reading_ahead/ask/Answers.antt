@@ -31,13 +31,13 @@ returns-clause-open g c =
     let all : c.push_reserved.new.self.items ≡ c.args.tickets.now.items ++ c.in-Ok-submit.ticket ∷ [] =
     c.push_reserved.ensures.items ∙ ap (λ (l : List ℕ). l ++ c.in-Ok-submit.ticket ∷ []) c.reserve.ensures.items in
     subst (λ (l : List ℕ). AreOpen g.L.Calls.relations (g.L.Calls.at c.submit.new.self) l) (sym all)
-    (open_with_last g.L.Calls.relations c.in-Ok-submit.ticket (g.L.Calls.at c.args.link.now) (g.L.Calls.at c.submit.new.self) c.args.tickets.now.items c.in-Ok-submit.ensures.opens c.requires.open)
+    (open_with_last g.L.Calls.relations c.in-Ok-submit.ticket c.in-Ok.call (g.L.Calls.at c.args.link.now) (g.L.Calls.at c.submit.new.self) c.args.tickets.now.items c.in-Ok-submit.ensures.opens c.requires.open)
 
 pub returns-clause-ahead : goal.returns-clause-ahead
 returns-clause-ahead g c at ahead =
     let all : c.push_reserved.new.self.items ≡ c.args.tickets.now.items ++ c.in-Ok-submit.ticket ∷ [] =
     c.push_reserved.ensures.items ∙ ap (λ (l : List ℕ). l ++ c.in-Ok-submit.ticket ∷ []) c.reserve.ensures.items in
-    ahead_from g.L.Calls.relations c.args.file.now.size at c.args.next.now c.piece_left-count.result c.args.tickets.now.items c.push_reserved.new.self.items c.in-Ok-submit.ticket (g.L.Calls.at c.args.link.now) (g.L.Calls.at c.submit.new.self)
+    ahead_from g.L.Calls.relations c.args.file.now.size at c.args.next.now c.piece_left-count.result c.args.tickets.now.items c.push_reserved.new.self.items c.in-Ok-submit.ticket c.in-Ok.call (g.L.Calls.at c.args.link.now) (g.L.Calls.at c.submit.new.self)
     all c.piece_left-count.ensures.is c.in-Ok-submit.ensures.opens ahead
 
 pub returns-clause-ok : goal.returns-clause-ok

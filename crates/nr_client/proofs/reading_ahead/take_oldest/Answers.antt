@@ -6,15 +6,15 @@ use Rattle.nr_client.proofs.reading_ahead.take_oldest.Goals as goal
 
 pub returns-in-Err-clause-open : goal.returns-in-Err-clause-open
 returns-in-Err-clause-open g c =
-    rest_open g.L.Calls.relations c.remove.result (g.L.Calls.at c.args.link.now) (g.L.Calls.at c.wait.new.self) c.args.tickets.now.items c.remove.new.self.items (front c.args.tickets.now.items c.remove.new.self.items c.remove.result c.requires.some c.remove.ensures.value c.remove.ensures.items) c.wait.ensures.others c.requires.open
+    rest_open g.L.Calls.relations c.remove.result (g.L.Calls.at c.args.link.now) (g.L.Calls.at c.wait.new.self) c.args.tickets.now.items c.remove.new.self.items (front c.args.tickets.now.items c.remove.new.self.items c.remove.result c.requires.some c.remove.ensures.value c.remove.ensures.items) c.wait.ensures.tickets c.requires.open
 
 pub returns-in-Err-write_data-clause-open : goal.returns-in-Err-write_data-clause-open
 returns-in-Err-write_data-clause-open g c =
-    rest_open g.L.Calls.relations c.remove.result (g.L.Calls.at c.args.link.now) (g.L.Calls.at c.wait.new.self) c.args.tickets.now.items c.remove.new.self.items (front c.args.tickets.now.items c.remove.new.self.items c.remove.result c.requires.some c.remove.ensures.value c.remove.ensures.items) c.wait.ensures.others c.requires.open
+    rest_open g.L.Calls.relations c.remove.result (g.L.Calls.at c.args.link.now) (g.L.Calls.at c.wait.new.self) c.args.tickets.now.items c.remove.new.self.items (front c.args.tickets.now.items c.remove.new.self.items c.remove.result c.requires.some c.remove.ensures.value c.remove.ensures.items) c.wait.ensures.tickets c.requires.open
 
 pub returns-clause-open : goal.returns-clause-open
 returns-clause-open g c =
-    rest_open g.L.Calls.relations c.remove.result (g.L.Calls.at c.args.link.now) (g.L.Calls.at c.wait.new.self) c.args.tickets.now.items c.remove.new.self.items (front c.args.tickets.now.items c.remove.new.self.items c.remove.result c.requires.some c.remove.ensures.value c.remove.ensures.items) c.wait.ensures.others c.requires.open
+    rest_open g.L.Calls.relations c.remove.result (g.L.Calls.at c.args.link.now) (g.L.Calls.at c.wait.new.self) c.args.tickets.now.items c.remove.new.self.items (front c.args.tickets.now.items c.remove.new.self.items c.remove.result c.requires.some c.remove.ensures.value c.remove.ensures.items) c.wait.ensures.tickets c.requires.open
 
 pub returns-in-Err-clause-err : goal.returns-in-Err-clause-err
 returns-in-Err-clause-err g c uid gid next file ahead full first taken so_far =

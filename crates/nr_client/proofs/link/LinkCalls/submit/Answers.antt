@@ -1,6 +1,6 @@
 use Rattle.std.proofs.Common.{sym}
 use Rattle.nr_client.specs.Views.{link_view}
-use Rattle.nr_client.proofs.LinkRelations.{counted, kept, opened, refused}
+use Rattle.nr_client.proofs.LinkRelations.{counted, opened, refused}
 use Rattle.nr_client.proofs.link.LinkCalls.submit.Goals as goal
 
 pub returns-clause-err : goal.returns-clause-err
@@ -14,12 +14,6 @@ returns-clause-opens g c =
     rw (sym c.self.view_is) (opened c.submit_over.result
     (link_view (g.I.Source.left c.self.inside.source) (g.I.Source.given c.self.inside.source) (g.O.Sink.taken c.self.inside.sink) c.self.inside.read c.self.inside.requester (g.I.Source.faults c.self.inside.source) (g.O.Sink.faults c.self.inside.sink))
     (link_view (g.I.Source.left c.submit_over.new.source) (g.I.Source.given c.submit_over.new.source) (g.O.Sink.taken c.submit_over.new.sink) c.submit_over.new.read c.submit_over.new.requester (g.I.Source.faults c.submit_over.new.source) (g.O.Sink.faults c.submit_over.new.sink)) c.args.call c.submit_over.ensures.opens)
-
-pub returns-clause-keeps : goal.returns-clause-keeps
-returns-clause-keeps g c =
-    rw (sym c.self.view_is) (kept c.submit_over.result
-    (link_view (g.I.Source.left c.self.inside.source) (g.I.Source.given c.self.inside.source) (g.O.Sink.taken c.self.inside.sink) c.self.inside.read c.self.inside.requester (g.I.Source.faults c.self.inside.source) (g.O.Sink.faults c.self.inside.sink))
-    (link_view (g.I.Source.left c.submit_over.new.source) (g.I.Source.given c.submit_over.new.source) (g.O.Sink.taken c.submit_over.new.sink) c.submit_over.new.read c.submit_over.new.requester (g.I.Source.faults c.submit_over.new.source) (g.O.Sink.faults c.submit_over.new.sink)) c.submit_over.ensures.keeps)
 
 pub returns-clause-faults : goal.returns-clause-faults
 returns-clause-faults g c =
