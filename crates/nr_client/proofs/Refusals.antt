@@ -1,7 +1,6 @@
--- What a requester that has a credit left answers to a call.
-use Rattle.std.proofs.Common.{◌≡◌, ◌≢◌, ℕ, ◌-◌, ◌<◌, Bool, true, false, if◌then◌else◌, length, Option, Some, None, Result, Ok, Err, List, refl, sym, ap, subst}
-use Rattle.std.specs.Prelude.{⊤, nat_le, nat_lt}
-use Rattle.std.proofs.lemmas.Bool.{lt-leb}
+-- What a requester answers to a call that may be submitted.
+use Rattle.std.proofs.Common.{◌≡◌, ◌≢◌, ℕ, ◌-◌, Bool, true, false, if◌then◌else◌, Option, Some, None, Result, Ok, Err, List, refl, sym, ap, subst}
+use Rattle.std.specs.Prelude.{⊤, nat_lt}
 use Rattle.nr_link.specs.declared.end.End.{End}
 use Rattle.nr_link.specs.declared.end.End.TheVariants as ends
 use Rattle.nr_reduce.specs.declared.call.Call.{Call}
@@ -16,6 +15,8 @@ use Rattle.nr_reduce.specs.SubmitAnswer.{unless_spent}
 use Rattle.nr_reduce.specs.Plans.{TooLarge, regions_needed}
 use Rattle.nr_requester.specs.RequesterState.{RequesterSide, RequesterState}
 use Rattle.nr_requester.specs.Answers.{answer_by_plan, answer_if, answer_of, plan_under}
+use Rattle.nr_requester.specs.MaySubmit.{may_submit}
+use Rattle.nr_requester.proofs.MaySubmit.{answer_in_window}
 use Rattle.nr_client.specs.Ending.{HasCredit, IsCause, IsEndOf, LinkCause, SinkCountAt, SourceCountAt}
 use Rattle.nr_client.specs.declared.call_end.CallEnd.{CallEnd}
 use Rattle.nr_client.specs.declared.call_end.CallEnd.TheVariants as calls
@@ -38,39 +39,30 @@ record Fine (end : Option End) (s : Submission) : Type 0 where
   credited : Credited s
   ended : end_in s ≡ end
 
-true_false : true ≡ false → ⊥
-true_false e = absurd cc
-
 unless : (P : Submission → Type 0) (b : Bool) (x y : Submission) → P x → P y → P (if b then x else y)
 unless P true x y px py = px
 unless P false x y px py = py
-
-passes : (P : Submission → Type 0) (b : Bool) (x y : Submission) → b ≡ false → P y → P (if b then x else y)
-passes P true x y never py = absurd (true_false never)
-passes P false x y never py = py
 
 spent : (left need : ℕ) (s : Submission) → Fine None s → Fine None (unless_spent left need s)
 spent left need s is_fine =
     unless (Fine None) (nat_lt left need) (submissions.Refused (refusals.Spent left need)) s (record { credited = tt; ended = refl }) is_fine
 
-by_plan : (r : RequesterState) (p : Result Plan TooLarge) → length r.outstanding < r.grant → Fine None (answer_by_plan r p)
-by_plan r (Err large) credit = record { credited = tt; ended = refl }
-by_plan r (Ok plan) credit =
+by_plan : (r : RequesterState) (p : Result Plan TooLarge) → r.side.ended ≡ None → may_submit r ≡ true → Fine None (answer_by_plan r p)
+by_plan r (Err large) none may = record { credited = tt; ended = refl }
+by_plan r (Ok plan) none may =
     let last = spent (numbers_end - r.side.memory.next) (regions_needed plan) (submissions.Accepted r.next_xid) (record { credited = tt; ended = refl }) in
-    passes (Fine None) (nat_le r.grant (length r.outstanding)) (submissions.Refused (refusals.NoCredit (length r.outstanding) r.grant))
-    (unless_spent (numbers_end - r.next_xid) 1 (unless_spent (numbers_end - r.side.memory.next) (regions_needed plan) (submissions.Accepted r.next_xid)))
-    (lt-leb r.grant (length r.outstanding) credit)
+    subst (Fine None) (sym (answer_in_window r plan none may))
     (spent (numbers_end - r.next_xid) 1 (unless_spent (numbers_end - r.side.memory.next) (regions_needed plan) (submissions.Accepted r.next_xid)) last)
 
-by_end : (r : RequesterState) (call : Call) (end : Option End) → length r.outstanding < r.grant → Fine end (answer_if r call forms.Auto end)
-by_end r call (Some end) credit = record { credited = tt; ended = refl }
-by_end r call None credit = by_plan r (plan_under r call forms.Auto) credit
+by_end : (r : RequesterState) (call : Call) (end : Option End) → r.side.ended ≡ end → may_submit r ≡ true → Fine end (answer_if r call forms.Auto end)
+by_end r call (Some end) is may = record { credited = tt; ended = refl }
+by_end r call None is may = by_plan r (plan_under r call forms.Auto) is may
 
-fine : (r : RequesterState) (call : Call) → length r.outstanding < r.grant → Fine r.side.ended (answer_of r call forms.Auto)
+fine : (r : RequesterState) (call : Call) → may_submit r ≡ true → Fine r.side.ended (answer_of r call forms.Auto)
 unfolding answer_of
-fine r call credit = by_end r call r.side.ended credit
+fine r call may = by_end r call r.side.ended refl may
 
--- it has a credit
+-- it may be submitted
 abbrev NotMemory : Refused → Type 0
 NotMemory refusals.Memory = ⊥
 NotMemory why = ⊤
@@ -78,10 +70,10 @@ NotMemory why = ⊤
 abbrev SaysSo : RequesterState → Call → Refused → Type 0
 SaysSo r call why = why ≢ refusals.Memory → answer_of r call forms.Auto ≡ submissions.Refused why
 
-by_answer : (r : RequesterState) (call : Call) (why : Refused) → length r.outstanding < r.grant → answer_of r call forms.Auto ≡ submissions.Refused why → Fine r.side.ended (submissions.Refused why)
+by_answer : (r : RequesterState) (call : Call) (why : Refused) → may_submit r ≡ true → answer_of r call forms.Auto ≡ submissions.Refused why → Fine r.side.ended (submissions.Refused why)
 by_answer r call why credit is = subst (Fine r.side.ended) is (fine r call credit)
 
-pub has_credit : (r : RequesterState) (call : Call) (why : Refused) → length r.outstanding < r.grant → SaysSo r call why → HasCredit why
+pub has_credit : (r : RequesterState) (call : Call) (why : Refused) → may_submit r ≡ true → SaysSo r call why → HasCredit why
 has_credit r call refusals.Memory credit says = tt
 has_credit r call (refusals.Ended end) credit says = tt
 has_credit r call (refusals.TooLarge need room) credit says = tt
@@ -92,7 +84,7 @@ has_credit r call (refusals.Window oldest next) credit says =
     (by_answer r call (refusals.Window oldest next) credit (says (λ same. subst NotMemory same tt))).credited
 
 -- the cause of its end
-pub cause_of : (h : RequesterSide) (call : Call) (why : Refused) (end : CallEnd) (left : Option (List ℕ)) (read : ℕ) → length h.state.outstanding < h.state.grant
+pub cause_of : (h : RequesterSide) (call : Call) (why : Refused) (end : CallEnd) (left : Option (List ℕ)) (read : ℕ) → may_submit h.state ≡ true
     → SaysSo h.state call why → IsEndOf why end → IsCause end left read h call
 cause_of h call refusals.Memory end left read credit says is = subst (λ (e : CallEnd). IsCause e left read h call) (sym is) tt
 cause_of h call (refusals.Ended ended) end left read credit says is =

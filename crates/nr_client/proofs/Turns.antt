@@ -1,5 +1,5 @@
 -- One step of a call after another.
-use Rattle.std.proofs.Common.{◌≡◌, ◌≤◌, ◌⊎◌, ℕ, ◌+◌, arith, None, List, [], ◌∷◌, ◌++◌, length, take, drop, Option, inl, inr, refl, sym, ap, subst, ◌∙◌, append_assoc, append-nil, take-append-drop}
+use Rattle.std.proofs.Common.{◌≡◌, ◌≤◌, ◌⊎◌, ℕ, ◌+◌, arith, true, false, None, List, [], ◌∷◌, ◌++◌, length, take, drop, Option, inl, inr, refl, sym, ap, subst, ◌∙◌, append_assoc, append-nil, take-append-drop}
 use Rattle.std.proofs.Math.Seq.{drop-length}
 use Rattle.nr_link.specs.declared.end.End.TheVariants as ends
 use Rattle.nr_wire.specs.declared.hello.Side.TheVariants.{Initiator}
@@ -14,7 +14,9 @@ use Rattle.nr_reduce.specs.Asked.{IsAll}
 use Rattle.nr_reduce.specs.Run.{HasWritten, output_due}
 use Rattle.nr_reduce.specs.Standing.{ClientRepresents}
 use Rattle.nr_reduce.proofs.Standing.{client_queue_lem}
+use Rattle.nr_endpoint.specs.SendQueue.{written}
 use Rattle.nr_requester.specs.AfterCalls.{after_drain}
+use Rattle.nr_requester.specs.MaySubmit.{may_submit}
 use Rattle.nr_requester.specs.RequesterState.{RequesterSide, queue_of, kept_client, input_kept}
 use Rattle.nr_requester.proofs.Queues.{written_writable}
 use Rattle.nr_requester.specs.Standing.{StandsOn}
@@ -22,7 +24,7 @@ use Rattle.nr_requester.proofs.OwnLaw.{drain_keeps_law, drain_keeps_grant, piece
 use Rattle.nr_client.specs.declared.call_end.CallEnd.{CallEnd}
 use Rattle.nr_client.specs.declared.call_end.CallEnd.TheVariants as calls
 use Rattle.nr_client.specs.Ending.{SinkCountAt, SourceCountAt}
-use Rattle.nr_client.specs.Steps.{FeedsOut, GoesOn, GoesTo, HasCreditLeft, HasWrittenAt, IsCutShort, IsDrained, IsLeft, IsLive, Reads, ReadsTo, WholeIfWrote, Writes, WritesFirst, WritesInFull, WritesInFullTo, WritesTo, WrittenIfFed}
+use Rattle.nr_client.specs.Steps.{FeedsOut, GoesOn, GoesTo, HasCreditLeft, HasWrittenAt, IsCutShort, IsDrained, IsLeft, IsLive, LacksCredit, Reads, ReadsTo, WholeIfWrote, Writes, WritesFirst, WritesInFull, WritesInFullTo, WritesTo, WrittenIfFed}
 use Rattle.nr_client.specs.Transfers.{LinkBytes, link_bytes}
 use Rattle.nr_client.proofs.Moves.{moves_both, moves_fed, moves_none, moves_wrote, stays}
 
@@ -173,9 +175,9 @@ pub drained_end : (h i : RequesterSide) (n : ℕ) → i ≡ after_drain n h → 
 unfolding after_drain
 drained_end h i n is = sym (ap (λ (x : RequesterSide). x.state.side.ended) is)
 
-pub drained_credit : (h i : RequesterSide) (n : ℕ) → i ≡ after_drain n h → (length i.state.outstanding ≡ length h.state.outstanding) × (i.state.grant ≡ h.state.grant)
-unfolding after_drain
-drained_credit h i n is = (ap (λ (x : RequesterSide). length x.state.outstanding) is, ap (λ (x : RequesterSide). x.state.grant) is)
+pub drained_credit : (h i : RequesterSide) (n : ℕ) → i ≡ after_drain n h → (length i.state.outstanding ≡ length h.state.outstanding) × (may_submit i.state ≡ may_submit h.state)
+unfolding after_drain may_submit written
+drained_credit h i n is = (ap (λ (x : RequesterSide). length x.state.outstanding) is, ap (λ (x : RequesterSide). may_submit x.state) is)
 
 -- nothing is read
 pub reads_none : (left given left' given' : Option (List ℕ)) (read : ℕ) (h : RequesterSide) → HandsOut left given left' given' [] → Reads left given left' given' read read h h
@@ -230,12 +232,11 @@ pub reads_out_at : (end : CallEnd) → end ≡ calls.Ended ends.Memory → (left
 reads_out_at end is left given left' given' read read' piece h i none hands counts out =
     subst (λ (e : CallEnd). ReadsTo e left given left' given' read read' h i) (sym is) (reads_out left given left' given' read read' piece h i none hands counts out)
 
--- a call never waits while a credit is left
-pub never_waits : (h i : RequesterSide) → i ≡ h → HasCreditLeft h → i.state.grant ≤ length i.state.outstanding → ⊥
-never_waits h i same credit none =
-    let outs = ap (λ (x : RequesterSide). length x.state.outstanding) same in
-    let grants = ap (λ (x : RequesterSide). x.state.grant) same in
-    omega (arith, credit, none, outs, grants)
+-- a call never waits while it may be submitted
+pub never_waits : (h i : RequesterSide) → i ≡ h → HasCreditLeft h → LacksCredit i → ⊥
+never_waits h i same credit lacks = true_false (sym (ap (λ (x : RequesterSide). may_submit x.state) same ∙ credit) ∙ lacks) where
+  true_false : true ≡ false → ⊥
+  true_false e = absurd cc
 
 -- the side of the link had not ended at first
 pub started_with : (h i : RequesterSide) → (i ≡ h) ⊎ (h.state.side.ended ≡ None) → i.state.side.ended ≡ None → h.state.side.ended ≡ None

@@ -1,5 +1,5 @@
 -- What a call over a link makes of the marks that its requester stands for.
-use Rattle.std.specs.Prelude.{◌≡◌, ◌≢◌, ◌≤◌, Contains, ℕ, ◌⊎◌, List, [], ◌∷◌, ◌++◌, length, None, Some}
+use Rattle.std.specs.Prelude.{◌≡◌, ◌≢◌, ◌≤◌, Contains, ℕ, ◌⊎◌, List, [], ◌∷◌, ◌++◌, None, Some}
 use Rattle.nr_wire.specs.declared.hello.Side.TheVariants.{Initiator}
 use Rattle.nr_reduce.specs.declared.call.Call.{Call}
 use Rattle.nr_reduce.specs.declared.call.Outcome.{Outcome}
@@ -20,7 +20,7 @@ use Rattle.nr_requester.specs.OpenCalls.{open_call}
 use Rattle.nr_requester.specs.Standing.{StandsOn}
 use Rattle.nr_client.specs.Ending.{IsCauseIn, LinkCause, SinkCountAt, SourceCountAt}
 use Rattle.nr_client.specs.Relations.{CallRelations}
-use Rattle.nr_client.specs.Steps.{GoesTo, HasCreditLeft, HasWrittenAt, IsLeft, IsLive, IsOut, ReadsNone, WritesFirst, WritesInFull, WritesInFullTo}
+use Rattle.nr_client.specs.Steps.{GoesTo, HasCreditLeft, HasWrittenAt, IsLeft, IsLive, IsOut, LacksCredit, ReadsNone, WritesFirst, WritesInFull, WritesInFullTo}
 use Rattle.nr_client.specs.Transfers.{LinkBytes, Moves}
 use Rattle.nr_client.specs.Views.{LinkView}
 use Rattle.nr_client.specs.declared.call_end.CallEnd.{CallEnd}
@@ -168,7 +168,7 @@ link_relations = record {
   faults = faults_of;
   counts = CountsAt;
   has_credit = λ v. HasCreditLeft v.requester;
-  lacks_credit = λ v. v.requester.state.grant ≤ length v.requester.state.outstanding;
+  lacks_credit = λ v. LacksCredit v.requester;
   open_call = λ v xid. open_call xid v.requester.state;
   is_within = λ v. v.bytes.read ≤ read_max;
 }

@@ -37,7 +37,7 @@ IsCause end left read h call = LinkCause end left read h
 abbrev pub IsCauseIn : CallEnd → LinkView → Call → Type 0
 IsCauseIn end v call = IsCause end v.bytes.left v.bytes.read v.requester call
 
--- a refusal of a call while a credit is left, by a client without a number, and the end of the call then
+-- a refusal of a call that may be submitted, and the end of the call then
 abbrev pub HasCredit : Refused → Type 0
 HasCredit (refusals.NoCredit out grant) = ⊥
 HasCredit (refusals.Window oldest next) = ⊥

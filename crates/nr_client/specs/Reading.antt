@@ -165,12 +165,12 @@ IsMadeAlone uid gid file s call = (reading uid gid file s.outcomes ≡ Calls cal
 abbrev pub reads_max : ℕ
 reads_max = 2
 
--- The READ of a piece is submitted while fewer than the maximum are outstanding, if a credit is left. If none is outstanding, it waits for a credit.
+-- The READ of a piece is submitted while fewer than the maximum are outstanding, if a call may be submitted. If none is outstanding, it waits for that.
 abbrev pub IsMadeAheadOver : {V : Type 0} → CallRelations V → (uid gid : ℕ) → (file : List ℕ) → ReadingOver V → Call → Type 0
 IsMadeAheadOver rel uid gid file s call =
     (is_at_piece (file_read s.outcomes) ≡ true) × ((read_ahead uid gid file (file_read s.outcomes) s.waiting ≡ Some call) × ((s.waiting ≡ []) ⊎ (rel.has_credit s.link × (length s.waiting < reads_max))))
 
--- no credit is left, or a READ of each piece up to the size is outstanding, or the maximum of READs is
+-- no call may be submitted, or a READ of each piece up to the size is outstanding, or the maximum of READs is
 abbrev pub NoneIsMadeAheadOver : {V : Type 0} → CallRelations V → (uid gid : ℕ) → (file : List ℕ) → ReadingOver V → Type 0
 NoneIsMadeAheadOver rel uid gid file s = (read_ahead uid gid file (file_read s.outcomes) s.waiting ≡ None) ⊎ (rel.lacks_credit s.link ⊎ (reads_max ≤ length s.waiting))
 

@@ -21,7 +21,7 @@ pub record CallRelations (V : Type 0) : Type 1 where
   pub Faults : Type 0
   pub faults : V → Faults
   pub counts : CallEnd → (before after : Faults) → Type 0
-  -- a credit is left; none is
+  -- a call can be submitted at once; none can
   pub has_credit : V → Type 0
   pub lacks_credit : V → Type 0
   -- the call of this xid, if one was submitted and was neither handed over nor forgotten

@@ -1,5 +1,5 @@
 -- What a step of a call makes of the marks that a requester stands for.
-use Rattle.std.specs.Prelude.{◌≡◌, ⊤, ℕ, ◌<◌, ◌≤◌, ◌⊎◌, List, [], ◌∷◌, ◌++◌, length, take, Option, None}
+use Rattle.std.specs.Prelude.{◌≡◌, ⊤, ℕ, ◌<◌, ◌≤◌, ◌⊎◌, true, false, List, [], ◌∷◌, ◌++◌, length, take, Option, None}
 use Rattle.std.specs.List.{AllByRecursion}
 use Rattle.nr_link.specs.declared.end.End.TheVariants as ends
 use Rattle.nr_wire.specs.declared.hello.Side.TheVariants.{Initiator}
@@ -12,6 +12,7 @@ use Rattle.nr_reduce.specs.Credits.{KeepsGrant}
 use Rattle.nr_reduce.specs.History.{bytes_sent}
 use Rattle.nr_reduce.specs.Opening.{IsOpened}
 use Rattle.nr_reduce.specs.Run.{HasWritten, output_due}
+use Rattle.nr_requester.specs.MaySubmit.{may_submit}
 use Rattle.nr_requester.specs.RequesterState.{RequesterSide, queue_of}
 use Rattle.nr_requester.specs.Standing.{RequesterRepresents, RequesterRunsOut}
 use Rattle.nr_requester.specs.Fed.{fed_bytes}
@@ -107,9 +108,13 @@ GoesTo end b b' h h' = (opened : LinkParameters) (link : ℕ) (run : List Mark) 
 abbrev pub ReadsNone : (b b' : LinkBytes) → Type 0
 ReadsNone b b' = (b'.left ≡ b.left) × ((b'.given ≡ b.given) × (b'.read ≡ b.read))
 
--- a credit is left
+-- A call may be submitted: a credit is left, and, if the client has a number, the next xid isn't too far above the least one.
 abbrev pub HasCreditLeft : RequesterSide → Type 0
-HasCreditLeft h = length h.state.outstanding < h.state.grant
+HasCreditLeft h = may_submit h.state ≡ true
+
+-- a credit isn't left, or it is
+abbrev pub LacksCredit : RequesterSide → Type 0
+LacksCredit h = may_submit h.state ≡ false
 
 -- all that may be written is written, unless a write failed
 abbrev pub IsDrained : CallEnd → RequesterSide → Type 0

@@ -8,7 +8,7 @@ ghost use Rattle.nr_requester.specs.OpenCalls.{ClosesTicket, KeepsTickets, Opens
 ghost use Rattle.nr_requester.specs.RequesterState.{queue_of};
 ghost use Rattle.nr_client.specs.Calls.{Answers, Completes, Forgets, GivesUp, HandsOver, IsSent, RefusesToSubmit, Submits};
 ghost use Rattle.nr_client.specs.Ending.{HasCredit, IsCause, IsEndOf, LinkCause, SinkCount, SourceCount};
-ghost use Rattle.nr_client.specs.Steps.{Fits, GoesOn, GoesTo, HasCreditLeft, LacksAnswer, ReadsNone};
+ghost use Rattle.nr_client.specs.Steps.{Fits, GoesOn, GoesTo, HasCreditLeft, LacksAnswer, LacksCredit, ReadsNone};
 ghost use Rattle.nr_client.specs.Transfers.{link_bytes};
 ghost use Rattle.nr_client.specs.Views.{link_view};
 
@@ -18,18 +18,17 @@ use nr_outside::{Sink, Source};
 use nr_reduce::{Call, Form, Outcome, Refused};
 use nr_requester::{Done, Requester, Take, Ticket};
 
-/// Whether no credit is left. Then a call is outstanding.
+/// Whether no credit is left, or the next xid is too far above the least one. Then a call is outstanding.
 fn lacks_credit(requester: &Requester) -> bool
-    ensures lacks { result ≡ true → requester.now.state.grant ≤ length requester.now.state.outstanding }
+    ensures lacks { result ≡ true → LacksCredit requester.now }
     ensures waits { result ≡ true → 0 < length requester.now.state.outstanding }
-    ensures credit { result ≡ false → length requester.now.state.outstanding < requester.now.state.grant }
+    ensures credit { result ≡ false → HasCreditLeft requester.now }
 {
-    requester.facts();
-    requester.outstanding() >= requester.grant() as usize
+    !requester.may_submit()
 }
 
-/// Writes and reads until a credit is left, and writes what is due. If one is left at first, nothing is read. Fails if the client's side has
-/// ended.
+/// Writes and reads until a call may be submitted, and writes what is due. If one may be at first, nothing is read. Fails if the client's
+/// side has ended.
 fn wait_for_credit<I: Source, O: Sink>(
     requester: &mut Requester,
     source: &mut I,
@@ -39,7 +38,7 @@ fn wait_for_credit<I: Source, O: Sink>(
 ) -> Result<(), CallEnd>
     requires fits { Fits requester.old read.old (length buf.old) }
     ensures fits { Fits requester.new read.new (length buf.new) }
-    ensures credit { OnOk result (length requester.new.state.outstanding < requester.new.state.grant) }
+    ensures credit { OnOk result (HasCreditLeft requester.new) }
     ensures started { OnOk result (requester.old.state.side.ended ≡ None) }
     ensures live { OnOk result (requester.new.state.side.ended ≡ None) }
     ensures drained { OnOk result (queue_of requester.new.state ≡ []) }
@@ -99,7 +98,7 @@ fn wait_for_answer<I: Source, O: Sink>(
     Ok(())
 }
 
-/// The end of a call that was refused so while a credit is left, by a client without a number.
+/// The end of a call that was refused so, though it might be submitted.
 fn end_of_refused(refused: Refused) -> CallEnd
     requires { HasCredit refused }
     ensures { IsEndOf refused result }
@@ -113,10 +112,10 @@ fn end_of_refused(refused: Refused) -> CallEnd
     }
 }
 
-/// Submits a call while a credit is left.
+/// Submits a call that may be submitted.
 fn submit(requester: &mut Requester, call: Call) -> Result<Ticket, CallEnd>
     requires writable { CanWriteCred call.cred }
-    requires credit { length requester.old.state.outstanding < requester.old.state.grant }
+    requires credit { HasCreditLeft requester.old }
     ensures sent { IfOk result (λ xid. IsSent xid call requester.old requester.new) }
     ensures live { OnOk result (requester.new.state.side.ended ≡ None) }
     ensures tickets { IfOk result (λ xid. OpensTicket xid call requester.old.state requester.new.state) }

@@ -171,6 +171,6 @@ impl<I: Source, O: Sink> Calls for Link<I, O> {
     }
 
     fn has_credit(&self) -> bool {
-        self.requester.outstanding() < self.requester.grant() as usize
+        self.requester.may_submit()
     }
 }

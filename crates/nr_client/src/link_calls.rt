@@ -22,7 +22,7 @@ pub trait Calls {
     /// What a call, and each part of one, makes of that.
     ghost relations: { CallRelations View };
 
-    /// Makes a call in the form that fits it best, and waits for its outcome. It is submitted once a credit is left. All that is due is written
+    /// Makes a call in the form that fits it best, and waits for its outcome. It is submitted once it can be. All that is due is written
     /// before each read.
     fn call(&mut self, call: Call) -> Result<Outcome, CallEnd>
         requires { CanWriteCred call.cred }
@@ -32,7 +32,7 @@ pub trait Calls {
         ensures faults { CountsEnd relations result (at self.old) (at self.new) }
         ensures within { relations.is_within (at self.new) };
 
-    /// Submits a call once a credit is left, as `call` does. Its outcome is waited for, or it is forgotten, by its ticket.
+    /// Submits a call once it can be, as `call` does. Its outcome is waited for, or it is forgotten, by its ticket.
     fn submit(&mut self, call: Call) -> Result<Ticket, CallEnd>
         requires { CanWriteCred call.cred }
         ensures ok { IfOk result (λ xid. relations.submits (at self.old) (at self.new) call xid) }
@@ -56,7 +56,8 @@ pub trait Calls {
         ensures tickets { ClosesTicketOver relations ticket (at self.old) (at self.new) }
         ensures faults { relations.faults (at self.new) ≡ relations.faults (at self.old) };
 
-    /// Whether a call can be submitted at once, if its link has not ended.
+    /// Whether a call can be submitted at once, if its link has not ended: a credit is left, and the next xid isn't 64 or more above the least
+    /// one of an outstanding call of a client with a number.
     fn has_credit(&self) -> bool
         ensures yes { result ≡ true → relations.has_credit (at self.now) }
         ensures no { result ≡ false → relations.lacks_credit (at self.now) };

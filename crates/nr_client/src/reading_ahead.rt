@@ -16,7 +16,7 @@ use nr_outside::Sink;
 use nr_requester::Ticket;
 use std::alloc::Global;
 
-/// Whether the next piece is asked for: none is outstanding, or fewer than the maximum are and a credit is left.
+/// Whether the next piece is asked for: none is outstanding, or fewer than the maximum are and a call may be submitted.
 fn may_ask<L: Calls>(link: &L, size: u64, next: u64, tickets: &[Ticket]) -> bool
     ensures yes { result ≡ true → MayAsk L.relations size next tickets.now (L.at link.now) }
     ensures no { result ≡ false → IsFull L.relations size next tickets.now (L.at link.now) }
@@ -66,7 +66,7 @@ fn ask<L: Calls>(
     Ok(())
 }
 
-/// Submits READs of the next pieces while a credit is left and fewer than the maximum are outstanding, and at least one if none is.
+/// Submits READs of the next pieces while calls may be submitted and fewer than the maximum are outstanding, and at least one if none is.
 pub(crate) fn fill<L: Calls>(
     link: &mut L,
     file: &FileToRead<'_>,

@@ -8,6 +8,7 @@ ghost use Rattle.nr_link.specs.declared.end.End.TheVariants as ends;
 ghost use Rattle.nr_wire.specs.declared.hello.Side.TheVariants.{Initiator};
 ghost use Rattle.nr_reduce.specs.declared.mark.Mark.TheVariants as marks;
 ghost use Rattle.nr_requester.specs.Fed.{fed_bytes};
+ghost use Rattle.nr_requester.specs.MaySubmit.{may_submit};
 ghost use Rattle.nr_requester.specs.OpenCalls.{KeepsTickets, found_answer};
 ghost use Rattle.nr_requester.specs.RequesterState.{queue_of};
 ghost use Rattle.nr_requester.specs.Standing.{StandsOn};
@@ -43,7 +44,7 @@ pub(crate) fn write_due<O: Sink>(requester: &mut Requester, sink: &mut O) -> Res
     ensures live { OnOk result (requester.new.state.side.ended ≡ None) }
     ensures started { OnOk result (requester.old.state.side.ended ≡ None) }
     ensures drained { MatchResult result (λ _. queue_of requester.new.state ≡ []) (λ end. IsDrained end requester.new) }
-    ensures credit { OnOk result ((length requester.new.state.outstanding ≡ length requester.old.state.outstanding) × (requester.new.state.grant ≡ requester.old.state.grant)) }
+    ensures credit { OnOk result ((length requester.new.state.outstanding ≡ length requester.old.state.outstanding) × (may_submit requester.new.state ≡ may_submit requester.old.state)) }
     ensures writes { MatchResult result (λ _. Writes (O.taken sink.old) (O.taken sink.new) requester.old requester.new)
         (λ end. WritesTo end (O.taken sink.old) (O.taken sink.new) requester.old requester.new) }
     ensures cause { IfErr result (λ end. (left : Option (List ℕ)) (read : ℕ) → LinkCause end left read requester.new) }

@@ -25,16 +25,17 @@ use Rattle.nr_link.specs.Frames.{Frame}
 use Rattle.nr_link.proofs.Agreements.{agreements_bounded}
 use Rattle.nr_endpoint.specs.Hellos.{own_private, received_max, client_heard, receive_length_for, side_agreement}
 use Rattle.nr_endpoint.specs.LinkState.{LinkState, LinkSide, has_ended, initial_link}
-use Rattle.nr_endpoint.specs.Judging.{after_frame, with_agreement, segment_end, next_frame, with_frame, with_segment_by, with_fpdu, with_peer_hello, with_effect, with_read_response, next_segment}
+use Rattle.nr_endpoint.specs.Judging.{after_frame, with_agreement, segment_end, next_frame, with_frame, with_segment_by, with_fpdu, with_peer_hello, with_effect, with_read_response, next_segment, with_other_sizes}
 use Rattle.nr_endpoint.specs.SendQueue.{SendQueue, written}
 use Rattle.nr_endpoint.specs.ReceiveQueue.{delivered, posted}
 use Rattle.nr_endpoint.specs.Calls.{Call, after_call, after_calls, ended_link, with_state}
-use Rattle.nr_endpoint.specs.Calls.Call.{Feed, FeedOne, NextEvent, Post, Stop, OutOfMemory, Send, SendInvalidate, WriteRemote, ReadRemote, Drain, Register, Release, Invalidate}
+use Rattle.nr_endpoint.specs.Calls.Call.{Feed, FeedOne, NextEvent, Post, Stop, OutOfMemory, Send, SendInvalidate, Hold, SendHeld, WriteRemote, ReadRemote, Drain, Register, Release, Invalidate}
 use Rattle.nr_endpoint.specs.Laws.{bytes_fed, bytes_in_call}
 use Rattle.nr_endpoint.specs.AgreedLaws.{BeginsWith, HasAgreed, IsAgreed, AgreesByHellos}
 use Rattle.nr_endpoint.proofs.Agreed.{agreed_fits}
 use Rattle.nr_endpoint.proofs.AlongFrames.{frames_keep, step_by_lem}
 use Rattle.nr_endpoint.proofs.Pieces.{step_taken}
+use Rattle.nr_endpoint.proofs.HellosFrom.{hello_from}
 
 -- ---- More bytes
 
@@ -142,6 +143,16 @@ module _ (terms : SideTerms) (side : Side) where
   limits own peer_private Initiator = agreements_bounded own peer_private
   limits own peer_private Responder = agreements_bounded peer_private own
 
+  sizes_knows : (fed more : List ℕ) (a : Awaited) (rest left : List ℕ) (f : Frame) (frames : List (List ℕ)) (s : LinkState) → SideKnows fed a rest s →
+      LinkKnows (fed ++ more) (feeding_after_frames has_ended with_frame frames left Fpdu (with_other_sizes f s))
+  sizes_knows fed more a rest left f frames s k = ended_frames fed more a Fpdu rest left frames (with_other_sizes f s) refl (record {
+    same_terms = k.same_terms;
+    same_side = k.same_side;
+    is = k.is;
+    before = λ live. absurd (let wrong : true ≡ false = live in cc);
+    after = λ live. absurd (let wrong : true ≡ false = live in cc);
+  })
+
   hello_knows : (fed more : List ℕ) (a : Awaited) (rest left frame : List ℕ) (frames : List (List ℕ)) (s : LinkState) (r : Result Hello ℕ) → hello_of (peer side) frame ≡ r → is_whole (HelloFrom (peer side)) (fed ++ more) ≡ true →
       frame ≡ take (frame_len (HelloFrom (peer side)) (fed ++ more)) (fed ++ more) → SideKnows fed a rest s → LinkKnows (fed ++ more) (feeding_after_frames has_ended with_frame frames left Fpdu (with_peer_hello (next_frame s frame) r s))
   unfolding with_peer_hello
@@ -212,7 +223,9 @@ module _ (terms : SideTerms) (side : Side) where
           subst (λ (x : Split). LinkKnows (fed ++ piece) (after x)) (sym (split_whole (HelloFrom (peer side)) (fed ++ piece) w))
           (subst (λ (b : Bool). LinkKnows (fed ++ piece) (cond b (feeding_in has_ended with_frame (HelloFrom (peer side)) [] s)
           (feeding_after_frames has_ended with_frame later.frames later.rest Fpdu (with_frame s (HelloFrom (peer side)) frame)))) (sym live)
-          (hello_knows fed piece (HelloFrom (peer side)) fed later.rest frame later.frames s (hello_of (peer side) frame) refl w refl k))
+          (hello_from (λ t. LinkKnows (fed ++ piece) (feeding_after_frames has_ended with_frame later.frames later.rest Fpdu t)) (peer side) (next_frame s frame) (hello_of (peer side) frame) s
+          (hello_knows fed piece (HelloFrom (peer side)) fed later.rest frame later.frames s (hello_of (peer side) frame) refl w refl k)
+          (sizes_knows fed piece (HelloFrom (peer side)) fed later.rest (next_frame s frame) later.frames s k)))
 
   feed_knows : (fed piece : List ℕ) (link : LinkSide) → LinkKnows fed link → LinkKnows (fed ++ piece) (feeding_after has_ended with_frame link piece)
   unfolding feeding_after
@@ -278,6 +291,8 @@ module _ (terms : SideTerms) (side : Side) where
   call_knows fed link OutOfMemory k = stop_knows fed link (has_ended link.state) _ refl link.state.send_queue k
   call_knows fed link (Send message) k = queued_knows fed link (has_ended link.state) _ link.state.reads k
   call_knows fed link (SendInvalidate stag message) k = queued_knows fed link (has_ended link.state) _ link.state.reads k
+  call_knows fed link (Hold message) k = queued_knows fed link (has_ended link.state) _ link.state.reads k
+  call_knows fed link (SendHeld message) k = queued_knows fed link (has_ended link.state) _ link.state.reads k
   call_knows fed link (WriteRemote stag to bytes) k = queued_knows fed link (has_ended link.state) _ link.state.reads k
   call_knows fed link (ReadRemote sink at stag to len) k = queued_knows fed link (has_ended link.state) _ _ k
   call_knows fed link (Drain count) k = same_knows fed (with_state (record link.state { send_queue = written count link.state.send_queue }) link) k
@@ -292,9 +307,9 @@ module _ (terms : SideTerms) (side : Side) where
       subst (λ (bytes : List ℕ). LinkKnows bytes (after_calls (after_call link call) calls)) (append_assoc fed (bytes_in_call link call) (bytes_fed (after_call link call) calls))
       (calls_know (fed ++ bytes_in_call link call) (after_call link call) calls (call_knows fed link call k))
 
-  initial_knows : (receives first_stag : ℕ) → LinkKnows [] (initial_link side receives first_stag terms)
+  initial_knows : (receives first_stag : ℕ) (earlier : Option Agreement) → LinkKnows [] (initial_link side receives first_stag terms earlier)
   unfolding initial_link is_whole
-  initial_knows receives first_stag = record {
+  initial_knows receives first_stag earlier = record {
     same_terms = refl;
     same_side = refl;
     is = record {
@@ -315,4 +330,4 @@ module _ (terms : SideTerms) (side : Side) where
       one_unit Responder = refl
 
 pub agrees_by_hellos_lem : AgreesByHellos
-agrees_by_hellos_lem side receives first_stag terms calls = (calls_know terms side [] (initial_link side receives first_stag terms) calls (initial_knows terms side receives first_stag)).is
+agrees_by_hellos_lem side receives first_stag terms earlier calls = (calls_know terms side [] (initial_link side receives first_stag terms earlier) calls (initial_knows terms side receives first_stag earlier)).is

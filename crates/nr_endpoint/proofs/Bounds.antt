@@ -18,6 +18,7 @@ use Rattle.nr_link.specs.Output.{read_response}
 use Rattle.nr_link.specs.ReceiveState.{is_send, begun_bytes, read_request_in, send_continued, stag_invalidated}
 use Rattle.nr_link.specs.SegmentFaults.{ExpectedResponse, is_begun}
 use Rattle.nr_link.specs.declared.agreement.SideTerms.{SideTerms}
+use Rattle.nr_link.specs.declared.agreement.Agreement.{Agreement}
 use Rattle.nr_endpoint.specs.SendQueue.{with_end, written}
 use Rattle.nr_endpoint.specs.ReceiveQueue.{DeliveredEvent, ReceiveQueue, with_segment, with_read_done, lent_for, sends_begun, messages_in, receives_kept, message_deliveries}
 use Rattle.nr_endpoint.specs.ReceiveQueue.DeliveredEvent.{MessageReceived, ReadDone}
@@ -25,12 +26,13 @@ use Rattle.nr_endpoint.specs.LinkState.{LinkState, LinkSide, has_ended, initial_
 use Rattle.nr_endpoint.specs.Judging.{segment_end, next_frame, with_frame, with_segment_by, with_fpdu, with_peer_hello, with_effect, with_read_request, with_read_response, reads_after, fetch_access, next_segment}
 use Rattle.nr_endpoint.specs.SegmentEnds.{RequestIsFine, SendIsFine}
 use Rattle.nr_endpoint.specs.Calls.{Call, after_call, after_calls}
-use Rattle.nr_endpoint.specs.Calls.Call.{Feed, FeedOne, NextEvent, Post, Stop, OutOfMemory, Send, WriteRemote, ReadRemote, Drain, Register, Release, SendInvalidate, Invalidate}
+use Rattle.nr_endpoint.specs.Calls.Call.{Feed, FeedOne, NextEvent, Post, Stop, OutOfMemory, Send, WriteRemote, ReadRemote, Drain, Register, Release, SendInvalidate, Hold, SendHeld, Invalidate}
 use Rattle.nr_endpoint.specs.OutputLaws.{IsAllowedCall, AreAllowedCalls, IsBounded, SidesStayBounded}
 use Rattle.nr_endpoint.proofs.AlongFrames.{feed_keeps, feed_one_keeps}
 use Rattle.nr_endpoint.proofs.Alive.{alive_request, alive_any_send}
 use Rattle.nr_endpoint.proofs.FaultList.{which_send}
 use Rattle.nr_endpoint.proofs.SendQueues.{ends_left_fewer}
+use Rattle.nr_endpoint.proofs.HellosFrom.{hello_from}
 
 -- each receive of a queue is free, in use or lent
 abbrev pub HasReceives : ℕ → ReceiveQueue → Type 0
@@ -177,7 +179,9 @@ hello_bounded opened s f (Ok hello) is = record { reads = is.reads; responses = 
 hello_bounded opened s f (Err reason) is = record { reads = is.reads; responses = is.responses; sum = is.sum; same = is.same }
 
 frame_bounded : (opened : ℕ) (a : Awaited) (s : LinkState) (frame : List ℕ) → has_ended s ≡ false → IsBounded opened s → IsBounded opened (with_frame s a frame)
-frame_bounded opened (HelloFrom side) s frame live is = hello_bounded opened s (next_frame s frame) (hello_of side frame) is
+frame_bounded opened (HelloFrom side) s frame live is =
+    hello_from (IsBounded opened) side (next_frame s frame) (hello_of side frame) s (hello_bounded opened s (next_frame s frame) (hello_of side frame) is)
+    (record { reads = is.reads; responses = is.responses; sum = is.sum; same = is.same })
 frame_bounded opened Fpdu s frame live is = fpdu_bounded opened s (next_frame s frame) (next_segment s frame) refl is
 
 -- ---- A call
@@ -206,6 +210,10 @@ call_bounded opened link (Send message) may is =
     either_bounded opened link.state _ (has_ended link.state) is (record { reads = is.reads; responses = is.responses; sum = is.sum; same = is.same })
 call_bounded opened link (SendInvalidate stag message) may is =
     either_bounded opened link.state _ (has_ended link.state) is (record { reads = is.reads; responses = is.responses; sum = is.sum; same = is.same })
+call_bounded opened link (Hold message) may is =
+    either_bounded opened link.state _ (has_ended link.state) is (record { reads = is.reads; responses = is.responses; sum = is.sum; same = is.same })
+call_bounded opened link (SendHeld message) may is =
+    either_bounded opened link.state _ (has_ended link.state) is (record { reads = is.reads; responses = is.responses; sum = is.sum; same = is.same })
 call_bounded opened link (WriteRemote stag to bytes) may is =
     either_bounded opened link.state _ (has_ended link.state) is (record { reads = is.reads; responses = is.responses; sum = is.sum; same = is.same })
 call_bounded opened link (ReadRemote sink at stag to len) may is =
@@ -223,9 +231,9 @@ unfolding after_calls
 calls_bounded opened link [] may is = is
 calls_bounded opened link (call ∷ calls) may is = calls_bounded opened (after_call link call) calls may.1 (call_bounded opened link call may.0 is)
 
-initial_bounded : (side : Side) (receives first_stag : ℕ) (terms : SideTerms) → IsBounded receives (initial_link side receives first_stag terms).state
+initial_bounded : (side : Side) (receives first_stag : ℕ) (terms : SideTerms) (earlier : Option Agreement) → IsBounded receives (initial_link side receives first_stag terms earlier).state
 unfolding initial_link
-initial_bounded side receives first_stag terms = record { reads = omega arith; responses = omega arith; sum = omega arith; same = refl }
+initial_bounded side receives first_stag terms earlier = record { reads = omega arith; responses = omega arith; sum = omega arith; same = refl }
 
 pub sides_stay_bounded_lem : SidesStayBounded
-sides_stay_bounded_lem side receives first_stag terms calls may = calls_bounded receives (initial_link side receives first_stag terms) calls may (initial_bounded side receives first_stag terms)
+sides_stay_bounded_lem side receives first_stag terms earlier calls may = calls_bounded receives (initial_link side receives first_stag terms earlier) calls may (initial_bounded side receives first_stag terms earlier)

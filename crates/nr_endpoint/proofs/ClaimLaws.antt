@@ -15,7 +15,7 @@ use Rattle.nr_link.specs.Frames.{Frame}
 use Rattle.nr_endpoint.specs.LinkState.{LinkState, LinkSide, has_ended}
 use Rattle.nr_endpoint.specs.Judging.{segment_end, next_frame, with_frame, next_segment}
 use Rattle.nr_endpoint.specs.Calls.{Call, after_call, after_calls}
-use Rattle.nr_endpoint.specs.Calls.Call.{Feed, FeedOne, NextEvent, Post, Stop, OutOfMemory, Send, WriteRemote, ReadRemote, Drain, Register, Release, SendInvalidate, Invalidate}
+use Rattle.nr_endpoint.specs.Calls.Call.{Feed, FeedOne, NextEvent, Post, Stop, OutOfMemory, Send, WriteRemote, ReadRemote, Drain, Register, Release, SendInvalidate, Hold, SendHeld, Invalidate}
 use Rattle.nr_endpoint.specs.Laws.{segment_arrivals, fpdu_arrivals, frame_arrivals, arrivals, frames_made_whole, call_events, memory_events, ClaimsStay, InvalidatedStaysClosed}
 use Rattle.nr_endpoint.proofs.MemoryLaws.{memory_follows_events}
 
@@ -68,6 +68,8 @@ call_none stag link (Stop reason) other = tt
 call_none stag link OutOfMemory other = tt
 call_none stag link (Send message) other = tt
 call_none stag link (SendInvalidate named message) other = tt
+call_none stag link (Hold message) other = tt
+call_none stag link (SendHeld message) other = tt
 call_none stag link (WriteRemote to_stag to bytes) other = tt
 call_none stag link (ReadRemote sink at from_stag to len) other = tt
 call_none stag link (Drain count) other = tt

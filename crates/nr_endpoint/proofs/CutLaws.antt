@@ -1,5 +1,5 @@
 -- A link is the same however its stream is cut, and what a link keeps of its input.
-use Rattle.std.proofs.Common.{◌≡◌, ℕ, Bool, true, false, cond, List, [], ◌∷◌, ◌++◌, refl, sym, subst, ◌∙◌}
+use Rattle.std.proofs.Common.{◌≡◌, ℕ, Bool, true, false, cond, List, [], ◌∷◌, ◌++◌, refl, sym, subst, ◌∙◌, Option}
 use Rattle.nr_wire.specs.declared.hello.Side.{Side}
 use Rattle.nr_wire.specs.declared.stream.Awaited.{Awaited}
 use Rattle.nr_wire.specs.declared.stream.Awaited.TheVariants.{Fpdu}
@@ -8,10 +8,11 @@ use Rattle.nr_wire.specs.Feeding.{feeding_after, feeding_after_step, feeding_aft
 use Rattle.nr_wire.proofs.Frames.{partial_nil}
 use Rattle.nr_wire.proofs.Feedings.{feeding_after-append, feeding_after_step-rest, feeding_after-partial, feeding_after_step-partial_rest, feeding-ended, feeding_after_step-ended, feeding_after_step-whole, feeding_after_step-partial}
 use Rattle.nr_link.specs.declared.agreement.SideTerms.{SideTerms}
+use Rattle.nr_link.specs.declared.agreement.Agreement.{Agreement}
 use Rattle.nr_endpoint.specs.LinkState.{LinkSide, LinkState, has_ended, initial_link}
 use Rattle.nr_endpoint.specs.Judging.{with_frame}
 use Rattle.nr_endpoint.specs.Calls.{Call, after_call, after_calls, unless_ended}
-use Rattle.nr_endpoint.specs.Calls.Call.{Feed, FeedOne, NextEvent, Post, Stop, OutOfMemory, Send, WriteRemote, ReadRemote, Drain, Register, Release, SendInvalidate, Invalidate}
+use Rattle.nr_endpoint.specs.Calls.Call.{Feed, FeedOne, NextEvent, Post, Stop, OutOfMemory, Send, WriteRemote, ReadRemote, Drain, Register, Release, SendInvalidate, Hold, SendHeld, Invalidate}
 use Rattle.nr_endpoint.specs.Laws.{PiecesJoin, StepsReach, EndStays, KeepsLessThanFrame, EndedKeepsNothing}
 
 pub pieces_join : PiecesJoin
@@ -41,6 +42,8 @@ partial_call link (Stop reason) p = partial_nil link.awaited
 partial_call link OutOfMemory p = partial_nil link.awaited
 partial_call link (Send message) p = p
 partial_call link (SendInvalidate stag message) p = p
+partial_call link (Hold message) p = p
+partial_call link (SendHeld message) p = p
 partial_call link (WriteRemote stag to bytes) p = p
 partial_call link (ReadRemote sink at stag to len) p = p
 partial_call link (Drain count) p = p
@@ -53,12 +56,12 @@ unfolding after_calls
 partial_calls link [] p = p
 partial_calls link (call ∷ calls) p = partial_calls (after_call link call) calls (partial_call link call p)
 
-partial_initial : (side : Side) (receives first_stag : ℕ) (terms : SideTerms) → IsPartialLink (initial_link side receives first_stag terms)
+partial_initial : (side : Side) (receives first_stag : ℕ) (terms : SideTerms) (earlier : Option Agreement) → IsPartialLink (initial_link side receives first_stag terms earlier)
 unfolding initial_link
-partial_initial side receives first_stag terms = partial_nil _
+partial_initial side receives first_stag terms earlier = partial_nil _
 
 pub keeps_less_than_frame : KeepsLessThanFrame
-keeps_less_than_frame side receives first_stag terms calls = partial_calls (initial_link side receives first_stag terms) calls (partial_initial side receives first_stag terms)
+keeps_less_than_frame side receives first_stag terms earlier calls = partial_calls (initial_link side receives first_stag terms earlier) calls (partial_initial side receives first_stag terms earlier)
 
 -- ---- A side that has ended keeps no input
 
@@ -110,6 +113,8 @@ empty_call link (Stop reason) p = λ ended. refl
 empty_call link OutOfMemory p = λ ended. refl
 empty_call link (Send message) p = unless_kept link.state _ link.rest refl p
 empty_call link (SendInvalidate stag message) p = unless_kept link.state _ link.rest refl p
+empty_call link (Hold message) p = unless_kept link.state _ link.rest refl p
+empty_call link (SendHeld message) p = unless_kept link.state _ link.rest refl p
 empty_call link (WriteRemote stag to bytes) p = unless_kept link.state _ link.rest refl p
 empty_call link (ReadRemote sink at stag to len) p = unless_kept link.state _ link.rest refl p
 empty_call link (Drain count) p = p
@@ -122,9 +127,9 @@ unfolding after_calls
 empty_calls link [] p = p
 empty_calls link (call ∷ calls) p = empty_calls (after_call link call) calls (empty_call link call p)
 
-empty_initial : (side : Side) (receives first_stag : ℕ) (terms : SideTerms) → IsEmptyIfEnded (initial_link side receives first_stag terms)
+empty_initial : (side : Side) (receives first_stag : ℕ) (terms : SideTerms) (earlier : Option Agreement) → IsEmptyIfEnded (initial_link side receives first_stag terms earlier)
 unfolding initial_link
-empty_initial side receives first_stag terms = λ ended. refl
+empty_initial side receives first_stag terms earlier = λ ended. refl
 
 pub ended_keeps_nothing : EndedKeepsNothing
-ended_keeps_nothing side receives first_stag terms calls = empty_calls (initial_link side receives first_stag terms) calls (empty_initial side receives first_stag terms)
+ended_keeps_nothing side receives first_stag terms earlier calls = empty_calls (initial_link side receives first_stag terms earlier) calls (empty_initial side receives first_stag terms earlier)

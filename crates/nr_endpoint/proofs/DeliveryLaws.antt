@@ -26,11 +26,12 @@ use Rattle.nr_endpoint.specs.ReceiveQueue.DeliveredEvent.{ReadDone}
 use Rattle.nr_endpoint.specs.LinkState.{LinkState, LinkSide, has_ended}
 use Rattle.nr_endpoint.specs.Judging.{segment_end, next_frame, with_frame, with_segment_by, with_fpdu, with_peer_hello, with_effect, with_read_response, next_segment}
 use Rattle.nr_endpoint.specs.Calls.{Call, after_call, after_calls}
-use Rattle.nr_endpoint.specs.Calls.Call.{Feed, FeedOne, NextEvent, Post, Stop, OutOfMemory, Send, WriteRemote, ReadRemote, Drain, Register, Release, SendInvalidate, Invalidate}
+use Rattle.nr_endpoint.specs.Calls.Call.{Feed, FeedOne, NextEvent, Post, Stop, OutOfMemory, Send, WriteRemote, ReadRemote, Drain, Register, Release, SendInvalidate, Hold, SendHeld, Invalidate}
 use Rattle.nr_endpoint.specs.DeliveryLaws.{QueuedEvent, made_at, segment_deliveries, fpdu_deliveries, frame_deliveries, deliveries_of_frames, call_deliveries, deliveries_made, call_delivers, events_delivered, EventsAreDelivered, DeliveriesRise, EventsAreInOrder, EventsFollowAccesses, OneFrameDeliversAtItsEnd}
 use Rattle.nr_endpoint.specs.Laws.{frames_made_whole, memory_events}
 use Rattle.nr_endpoint.proofs.MemoryLaws.{memory_follows_events, events_append}
 use Rattle.nr_endpoint.proofs.PlaceOrder.{Between, calls_between}
+use Rattle.nr_endpoint.proofs.HellosFrom.{hello_from}
 
 abbrev names : List QueuedEvent → List DeliveredEvent
 names made = map (λ (m : QueuedEvent). m.delivery) made
@@ -132,7 +133,9 @@ hello_makes s f (Ok hello) longer = ((sym (append-nil s.receive_queue.deliveries
 hello_makes s f (Err reason) longer = ((sym (append-nil s.receive_queue.deliveries), (omega arith)), tt)
 
 frame_makes : (s : LinkState) (a : Awaited) (frame : List ℕ) → IsFrame a frame → MakesAt s (frame_deliveries s a frame) (with_frame s a frame)
-frame_makes s (HelloFrom side) frame is = hello_makes s (next_frame s frame) (hello_of side frame) (omega (arith, is.fields))
+frame_makes s (HelloFrom side) frame is =
+    hello_from (MakesAt s []) side (next_frame s frame) (hello_of side frame) s (hello_makes s (next_frame s frame) (hello_of side frame) (omega (arith, is.fields)))
+    ((sym (append-nil s.receive_queue.deliveries), (omega arith)), tt)
 frame_makes s Fpdu frame is = fpdu_makes s (next_frame s frame) (next_segment s frame) (omega (arith, is.fields))
 
 -- ---- Frames
@@ -204,6 +207,8 @@ call_makes link (Stop reason) = unless_made link.state _ (has_ended link.state) 
 call_makes link OutOfMemory = unless_made link.state _ (has_ended link.state) refl refl
 call_makes link (Send message) = unless_made link.state _ (has_ended link.state) refl refl
 call_makes link (SendInvalidate stag message) = unless_made link.state _ (has_ended link.state) refl refl
+call_makes link (Hold message) = unless_made link.state _ (has_ended link.state) refl refl
+call_makes link (SendHeld message) = unless_made link.state _ (has_ended link.state) refl refl
 call_makes link (WriteRemote stag to bytes) = unless_made link.state _ (has_ended link.state) refl refl
 call_makes link (ReadRemote sink at stag to len) = unless_made link.state _ (has_ended link.state) refl refl
 call_makes link (Drain count) = (sym (append-nil link.state.receive_queue.deliveries), omega arith)

@@ -5,6 +5,7 @@ use Rattle.std.proofs.lemmas.List.{append-nil}
 use Rattle.std.proofs.lemmas.List.Elements.{Contains-append_left, Contains-push}
 use Rattle.nr_wire.specs.Constants.{HELLO_LEN, OPCODE_READ_RESPONSE, OPCODE_TERMINATE, REASON_KEY, REASON_FLAGS, REASON_REVISION, REASON_PRIVATE, REASON_LENGTH, REASON_DDP_VERSION, REASON_RDMAP_VERSION, REASON_OPCODE, REASON_TAGGED, REASON_QUEUE}
 use Rattle.nr_wire.specs.declared.hello.Side.{Side}
+use Rattle.nr_wire.specs.declared.hello.Side.TheVariants.{Initiator, Responder}
 use Rattle.nr_wire.specs.declared.stream.Awaited.{Awaited}
 use Rattle.nr_wire.specs.declared.stream.Awaited.TheVariants.{Hello as HelloFrom, Fpdu}
 use Rattle.nr_wire.specs.Hello.{Hello, hello_of, hello_reason, value_unless}
@@ -15,20 +16,22 @@ use Rattle.nr_regions.specs.RegisteredMemory.{Access, after_place}
 use Rattle.nr_link.specs.declared.end.End.{End}
 use Rattle.nr_link.specs.declared.end.End.TheVariants as ends
 use Rattle.nr_link.specs.Frames.{Frame}
-use Rattle.nr_link.specs.Reasons.{REASON_MSN, REASON_OFFSET, REASON_FORM, REASON_RESPONSE, REASON_REQUESTS, REASON_SHORT, REASON_LONG}
+use Rattle.nr_link.specs.Reasons.{REASON_MSN, REASON_OFFSET, REASON_FORM, REASON_RESPONSE, REASON_REQUESTS, REASON_SHORT, REASON_LONG, REASON_SIZES}
 use Rattle.nr_link.specs.ReceiveState.{is_send, message_completed}
 use Rattle.nr_link.specs.SegmentFaults.{Readiness, SegmentReason, segment_reason, first_fault, reason_if, missing_fault, no_buffer, message_length_is, terminate_fault, next_msn, next_offset, is_begun, is_malformed, is_unexpected, is_too_many}
 use Rattle.nr_link.specs.SegmentFaults.SegmentReason.{Reason, NoBuffer, AccessDenied, PeerTerminated}
 use Rattle.nr_link.specs.Ending.{end_of_fault, denied_at, access_of, is_not_taken, segment_taken}
 use Rattle.nr_xdr.specs.Fields.{word_at}
 use Rattle.nr_link.specs.declared.agreement.SideTerms.{SideTerms}
+use Rattle.nr_link.specs.declared.agreement.Agreement.{Agreement}
 use Rattle.nr_endpoint.specs.LinkState.{LinkState, LinkSide, has_ended, initial_link}
 use Rattle.nr_endpoint.specs.Judging.{readiness, missing_access, segment_end, next_frame, with_frame, with_segment_by, with_fpdu, with_peer_hello, with_effect, with_read_response, next_segment}
 use Rattle.nr_endpoint.specs.Calls.{Call, IsStopReason, after_call, after_calls}
-use Rattle.nr_endpoint.specs.Calls.Call.{Feed, FeedOne, NextEvent, Post, Stop, OutOfMemory, Send, WriteRemote, ReadRemote, Drain, Register, Release, SendInvalidate, Invalidate}
-use Rattle.nr_endpoint.specs.Laws.{IsFrameReason, IsFrameEnd, FramesEndForThese, NoFrameStops, OthersComeFromStop, MemoryComesFromOutOfMemory}
+use Rattle.nr_endpoint.specs.Calls.Call.{Feed, FeedOne, NextEvent, Post, Stop, OutOfMemory, Send, WriteRemote, ReadRemote, Drain, Register, Release, SendInvalidate, Hold, SendHeld, Invalidate}
+use Rattle.nr_endpoint.specs.Laws.{IsFrameReason, IsFrameEnd, FramesEndForThese, NoFrameStops, OthersComeFromStop, MemoryComesFromOutOfMemory, IsHelloReason}
 use Rattle.nr_endpoint.proofs.AlongFrames.{feed_keeps, feed_one_keeps}
 use Rattle.nr_endpoint.specs.Hellos.{takes_invalidate}
+use Rattle.nr_endpoint.proofs.HellosFrom.{hello_from}
 
 -- ---- Reasons of a frame alone
 
@@ -40,23 +43,23 @@ value_error : {V : Type 0} (P : ℕ → Type 0) (flaw : Option ℕ) (value : V) 
 value_error P None value is = tt
 value_error P (Some reason) value is = is
 
-hello_flaw_by : (side : Side) (b1 b2 b3 b4 : Bool) → IfSome
+hello_flaw_by : (b1 b2 b3 b4 : Bool) → IfSome
     (cond b1 (Some REASON_KEY) (cond b2 (Some REASON_FLAGS) (cond b3 (Some REASON_REVISION) (cond b4 (Some REASON_PRIVATE) None))))
-    (IsFrameReason (HelloFrom side))
-hello_flaw_by side b1 b2 b3 b4 =
-    let P : ℕ → Type 0 = IsFrameReason (HelloFrom side) in
+    IsHelloReason
+hello_flaw_by b1 b2 b3 b4 =
+    let P : ℕ → Type 0 = IsHelloReason in
     some_if P b1 REASON_KEY _ (omega arith, omega arith)
     (some_if P b2 REASON_FLAGS _ (omega arith, omega arith)
     (some_if P b3 REASON_REVISION _ (omega arith, omega arith)
     (some_if P b4 REASON_PRIVATE None (omega arith, omega arith) tt)))
 
-hello_flaw_lem : (side : Side) (head : List ℕ) → IfSome (hello_reason side head) (IsFrameReason (HelloFrom side))
+hello_flaw_lem : (side : Side) (head : List ℕ) → IfSome (hello_reason side head) IsHelloReason
 unfolding hello_reason
-hello_flaw_lem side head = hello_flaw_by side _ _ _ _
+hello_flaw_lem side head = hello_flaw_by _ _ _ _
 
-reason_of_hello : (side : Side) (frame : List ℕ) → IfErr (hello_of side frame) (IsFrameReason (HelloFrom side))
+pub reason_of_hello : (side : Side) (frame : List ℕ) → IfErr (hello_of side frame) IsHelloReason
 unfolding hello_of
-reason_of_hello side frame = value_error (IsFrameReason (HelloFrom side)) (hello_reason side (take HELLO_LEN frame)) _ (hello_flaw_lem side (take HELLO_LEN frame))
+reason_of_hello side frame = value_error IsHelloReason (hello_reason side (take HELLO_LEN frame)) _ (hello_flaw_lem side (take HELLO_LEN frame))
 
 flaw_reason : (b1 b2 b3 b4 b5 b6 : Bool) → IfSome
     (cond b1 (Some REASON_LENGTH) (cond b2 (Some REASON_DDP_VERSION) (cond b3 (Some REASON_RDMAP_VERSION) (cond b4 (Some REASON_OPCODE) (cond b5 (Some REASON_TAGGED) (cond b6 (Some REASON_QUEUE) None))))))
@@ -210,27 +213,50 @@ unfolding with_fpdu
 fpdu_end s f (Ok segment) live is = by_end_lem s f segment (segment_end s f segment) live (segment_end_is s f segment)
 fpdu_end s f (Err reason) live is = (refl, is)
 
-hello_end_lem : (side : Side) (s : LinkState) (f : Frame) (r : Result Hello ℕ) → s.ended ≡ None → IfErr r (IsFrameReason (HelloFrom side)) → IfSome (with_peer_hello f r s).ended (IsFrameEnd (HelloFrom side) f.at)
+hello_frame_reason : (side : Side) (reason : ℕ) → IsHelloReason reason → IsFrameReason (HelloFrom side) reason
+hello_frame_reason Initiator reason is = is
+hello_frame_reason Responder reason is = inl is
+
+hello_end_lem : (side : Side) (s : LinkState) (f : Frame) (r : Result Hello ℕ) → s.ended ≡ None → IfErr r IsHelloReason → IfSome (with_peer_hello f r s).ended (IsFrameEnd (HelloFrom side) f.at)
 unfolding with_peer_hello
 hello_end_lem side s f (Ok hello) live is = not_ended_lem (IsFrameEnd (HelloFrom side) f.at) s.ended live
-hello_end_lem side s f (Err reason) live is = (refl, is)
+hello_end_lem side s f (Err reason) live is = (refl, hello_frame_reason side reason is)
 
 pub frames_end_for_these : FramesEndForThese
-frames_end_for_these s (HelloFrom side) frame live = hello_end_lem side s (next_frame s frame) (hello_of side frame) live (reason_of_hello side frame)
+frames_end_for_these s (HelloFrom Initiator) frame live = hello_end_lem Initiator s (next_frame s frame) (hello_of Initiator frame) live (reason_of_hello Initiator frame)
+frames_end_for_these s (HelloFrom Responder) frame live =
+    hello_from (λ t. IfSome t.ended (IsFrameEnd (HelloFrom Responder) s.place)) Responder (next_frame s frame) (hello_of Responder frame) s
+    (hello_end_lem Responder s (next_frame s frame) (hello_of Responder frame) live (reason_of_hello Responder frame)) (refl, inr refl)
 frames_end_for_these s Fpdu frame live = fpdu_end s (next_frame s frame) (next_segment s frame) live (fpdu_reason s frame)
 
 -- ---- The reasons of `stop` are others
 
+no_hello_stops : (reason : ℕ) → IsHelloReason reason → IsStopReason reason → ⊥
+no_hello_stops reason (low, high) (inl is) = omega (arith, high, is)
+no_hello_stops reason (low, high) (inr (inl is)) = omega (arith, high, is)
+no_hello_stops reason (low, high) (inr (inr (inl is))) = omega (arith, high, is)
+no_hello_stops reason (low, high) (inr (inr (inr (inl is)))) = omega (arith, high, is)
+no_hello_stops reason (low, high) (inr (inr (inr (inr (inl is))))) = omega (arith, high, is)
+no_hello_stops reason (low, high) (inr (inr (inr (inr (inr (inl is)))))) = omega (arith, high, is)
+no_hello_stops reason (low, high) (inr (inr (inr (inr (inr (inr (inl is))))))) = omega (arith, high, is)
+no_hello_stops reason (low, high) (inr (inr (inr (inr (inr (inr (inr (inl is)))))))) = omega (arith, high, is)
+no_hello_stops reason (low, high) (inr (inr (inr (inr (inr (inr (inr (inr is)))))))) = omega (arith, high, is)
+
+pub no_sizes_stop : (reason : ℕ) → reason ≡ REASON_SIZES → IsStopReason reason → ⊥
+no_sizes_stop reason same (inl is) = omega (arith, same, is)
+no_sizes_stop reason same (inr (inl is)) = omega (arith, same, is)
+no_sizes_stop reason same (inr (inr (inl is))) = omega (arith, same, is)
+no_sizes_stop reason same (inr (inr (inr (inl is)))) = omega (arith, same, is)
+no_sizes_stop reason same (inr (inr (inr (inr (inl is))))) = omega (arith, same, is)
+no_sizes_stop reason same (inr (inr (inr (inr (inr (inl is)))))) = omega (arith, same, is)
+no_sizes_stop reason same (inr (inr (inr (inr (inr (inr (inl is))))))) = omega (arith, same, is)
+no_sizes_stop reason same (inr (inr (inr (inr (inr (inr (inr (inl is)))))))) = omega (arith, same, is)
+no_sizes_stop reason same (inr (inr (inr (inr (inr (inr (inr (inr is)))))))) = omega (arith, same, is)
+
 pub no_frame_stops : NoFrameStops
-no_frame_stops (HelloFrom side) reason (low, high) (inl is) = omega (arith, high, is)
-no_frame_stops (HelloFrom side) reason (low, high) (inr (inl is)) = omega (arith, high, is)
-no_frame_stops (HelloFrom side) reason (low, high) (inr (inr (inl is))) = omega (arith, high, is)
-no_frame_stops (HelloFrom side) reason (low, high) (inr (inr (inr (inl is)))) = omega (arith, high, is)
-no_frame_stops (HelloFrom side) reason (low, high) (inr (inr (inr (inr (inl is))))) = omega (arith, high, is)
-no_frame_stops (HelloFrom side) reason (low, high) (inr (inr (inr (inr (inr (inl is)))))) = omega (arith, high, is)
-no_frame_stops (HelloFrom side) reason (low, high) (inr (inr (inr (inr (inr (inr (inl is))))))) = omega (arith, high, is)
-no_frame_stops (HelloFrom side) reason (low, high) (inr (inr (inr (inr (inr (inr (inr (inl is)))))))) = omega (arith, high, is)
-no_frame_stops (HelloFrom side) reason (low, high) (inr (inr (inr (inr (inr (inr (inr (inr is)))))))) = omega (arith, high, is)
+no_frame_stops (HelloFrom Initiator) reason is stops = no_hello_stops reason is stops
+no_frame_stops (HelloFrom Responder) reason (inl is) stops = no_hello_stops reason is stops
+no_frame_stops (HelloFrom Responder) reason (inr is) stops = no_sizes_stop reason is stops
 no_frame_stops Fpdu reason (inl (low, high)) (inl is) = omega (arith, high, is)
 no_frame_stops Fpdu reason (inl (low, high)) (inr (inl is)) = omega (arith, high, is)
 no_frame_stops Fpdu reason (inl (low, high)) (inr (inr (inl is))) = omega (arith, high, is)
@@ -313,6 +339,8 @@ call_caused done link OutOfMemory is = ended_caused (done ++ OutOfMemory ∷ [])
 call_caused done link (Send message) is = unless_caused (done ++ Send message ∷ []) link.state _ (has_ended link.state) refl (caused_stays done (Send message ∷ []) link.state.ended is)
 call_caused done link (SendInvalidate stag message) is =
     unless_caused (done ++ SendInvalidate stag message ∷ []) link.state _ (has_ended link.state) refl (caused_stays done (SendInvalidate stag message ∷ []) link.state.ended is)
+call_caused done link (Hold message) is = unless_caused (done ++ Hold message ∷ []) link.state _ (has_ended link.state) refl (caused_stays done (Hold message ∷ []) link.state.ended is)
+call_caused done link (SendHeld message) is = unless_caused (done ++ SendHeld message ∷ []) link.state _ (has_ended link.state) refl (caused_stays done (SendHeld message ∷ []) link.state.ended is)
 call_caused done link (WriteRemote stag to bytes) is = unless_caused (done ++ WriteRemote stag to bytes ∷ []) link.state _ (has_ended link.state) refl (caused_stays done (WriteRemote stag to bytes ∷ []) link.state.ended is)
 call_caused done link (ReadRemote sink at stag to len) is =
     unless_caused (done ++ ReadRemote sink at stag to len ∷ []) link.state _ (has_ended link.state) refl (caused_stays done (ReadRemote sink at stag to len ∷ []) link.state.ended is)
@@ -328,21 +356,21 @@ calls_caused done link (call ∷ calls) is =
     subst (λ (all : List Call). IfSome (after_calls (after_call link call) calls).state.ended (HasCause all)) (append_assoc done (call ∷ []) calls)
     (calls_caused (done ++ call ∷ []) (after_call link call) calls (call_caused done link call is))
 
-initial_live : (side : Side) (receives first_stag : ℕ) (terms : SideTerms) → (initial_link side receives first_stag terms).state.ended ≡ None
+initial_live : (side : Side) (receives first_stag : ℕ) (terms : SideTerms) (earlier : Option Agreement) → (initial_link side receives first_stag terms earlier).state.ended ≡ None
 unfolding initial_link
-initial_live side receives first_stag terms = refl
+initial_live side receives first_stag terms earlier = refl
 
-cause_of_lem : (side : Side) (receives first_stag : ℕ) (terms : SideTerms) (calls : List Call) (end : End) → (after_calls (initial_link side receives first_stag terms) calls).state.ended ≡ Some end → HasCause calls end
-cause_of_lem side receives first_stag terms calls end is =
-    let start : LinkSide = initial_link side receives first_stag terms in
-    subst (λ (e : Option End). IfSome e (HasCause calls)) is (calls_caused [] start calls (not_ended_lem (HasCause []) start.state.ended (initial_live side receives first_stag terms)))
+cause_of_lem : (side : Side) (receives first_stag : ℕ) (terms : SideTerms) (earlier : Option Agreement) (calls : List Call) (end : End) → (after_calls (initial_link side receives first_stag terms earlier) calls).state.ended ≡ Some end → HasCause calls end
+cause_of_lem side receives first_stag terms earlier calls end is =
+    let start : LinkSide = initial_link side receives first_stag terms earlier in
+    subst (λ (e : Option End). IfSome e (HasCause calls)) is (calls_caused [] start calls (not_ended_lem (HasCause []) start.state.ended (initial_live side receives first_stag terms earlier)))
 
 stopped : (calls : List Call) (reason : ℕ) → ((a : Awaited) × IsFrameReason a reason) ⊎ Contains calls (Stop reason) → IsStopReason reason → Contains calls (Stop reason)
 stopped calls reason (inl frame) stops = absurd (no_frame_stops frame.0 reason frame.1 stops)
 stopped calls reason (inr stop) stops = stop
 
 pub others_come_from_stop : OthersComeFromStop
-others_come_from_stop side receives first_stag terms calls at reason is stops = stopped calls reason (cause_of_lem side receives first_stag terms calls (ends.Bad at reason) is) stops
+others_come_from_stop side receives first_stag terms earlier calls at reason is stops = stopped calls reason (cause_of_lem side receives first_stag terms earlier calls (ends.Bad at reason) is) stops
 
 pub memory_comes_from_out_of_memory : MemoryComesFromOutOfMemory
-memory_comes_from_out_of_memory side receives first_stag terms calls is = cause_of_lem side receives first_stag terms calls ends.Memory is
+memory_comes_from_out_of_memory side receives first_stag terms earlier calls is = cause_of_lem side receives first_stag terms earlier calls ends.Memory is

@@ -23,6 +23,7 @@ use Rattle.nr_endpoint.specs.LinkState.{initial_link, LinkState, LinkSide, has_e
 use Rattle.nr_endpoint.specs.Judging.{with_frame, with_fpdu, with_peer_hello, with_segment_by, segment_end, next_frame, next_segment}
 use Rattle.nr_endpoint.specs.Calls.{StandsOn, after_call, after_calls}
 use Rattle.nr_endpoint.specs.Calls.Call.{Feed, FeedOne, NextEvent, Post, Send, WriteRemote, ReadRemote, Drain, Register}
+use Rattle.nr_endpoint.proofs.HellosFrom.{hello_from}
 
 -- ---- A frame
 
@@ -41,7 +42,8 @@ hello_place f (Ok hello) s le = omega arith
 hello_place f (Err reason) s le = le
 
 frame_place : (s : LinkState) (a : Awaited) (bytes : List ℕ) → (with_frame s a bytes).place ≤ s.place + length bytes
-frame_place s (HelloFrom side) bytes = hello_place (next_frame s bytes) (hello_of side bytes) s (omega arith)
+frame_place s (HelloFrom side) bytes =
+    hello_from (λ t. t.place ≤ s.place + length bytes) side (next_frame s bytes) (hello_of side bytes) s (hello_place (next_frame s bytes) (hello_of side bytes) s (omega arith)) (omega arith)
 frame_place s Fpdu bytes = fpdu_place (next_frame s bytes) (next_segment s bytes) s (omega arith)
 
 -- ---- Frames

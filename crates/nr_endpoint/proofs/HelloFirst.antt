@@ -8,13 +8,15 @@ use Rattle.nr_link.specs.declared.end.End.{End}
 use Rattle.nr_link.specs.declared.end.End.TheVariants as ends
 use Rattle.nr_link.specs.Frames.{Frame}
 use Rattle.nr_link.specs.declared.agreement.SideTerms.{SideTerms}
+use Rattle.nr_link.specs.declared.agreement.Agreement.{Agreement}
 use Rattle.nr_endpoint.specs.LinkState.{LinkState, LinkSide, has_ended, initial_link}
 use Rattle.nr_endpoint.specs.Judging.{next_frame, with_frame, with_fpdu, with_peer_hello, next_segment}
 use Rattle.nr_endpoint.specs.Calls.{Call, after_call, after_calls}
-use Rattle.nr_endpoint.specs.Calls.Call.{Feed, FeedOne, NextEvent, Post, Stop, OutOfMemory, Send, WriteRemote, ReadRemote, Drain, Register, Release, SendInvalidate, Invalidate}
+use Rattle.nr_endpoint.specs.Calls.Call.{Feed, FeedOne, NextEvent, Post, Stop, OutOfMemory, Send, WriteRemote, ReadRemote, Drain, Register, Release, SendInvalidate, Hold, SendHeld, Invalidate}
 use Rattle.nr_endpoint.specs.OutputLaws.{AllowedCallsJoin, FpdusFollowHello}
 use Rattle.nr_endpoint.proofs.AlongFrames.{feed_keeps, feed_one_keeps}
 use Rattle.nr_endpoint.proofs.HelloLaws.{SameSide, fpdu_side}
+use Rattle.nr_endpoint.proofs.HellosFrom.{hello_from}
 
 pub allowed_join : AllowedCallsJoin
 unfolding after_calls
@@ -30,7 +32,8 @@ hello_greeted s f (Ok hello) = λ live is. refl
 hello_greeted s f (Err reason) = λ live is. absurd (let h : true ≡ false = live in cc)
 
 frame_greeted : (a : Awaited) (s : LinkState) (frame : List ℕ) → has_ended s ≡ false → Greeted a s → Greeted Fpdu (with_frame s a frame)
-frame_greeted (HelloFrom side) s frame live greeted = hello_greeted s (next_frame s frame) (hello_of side frame)
+frame_greeted (HelloFrom side) s frame live greeted =
+    hello_from (Greeted Fpdu) side (next_frame s frame) (hello_of side frame) s (hello_greeted s (next_frame s frame) (hello_of side frame)) (λ lives is. absurd (let h : true ≡ false = lives in cc))
 frame_greeted Fpdu s frame live greeted =
     let same : SameSide s (with_fpdu (next_frame s frame) (next_segment s frame) s) = fpdu_side s (next_frame s frame) (next_segment s frame) in
     λ lives is. same.1 ∙ greeted live refl
@@ -60,6 +63,8 @@ call_greeted link OutOfMemory greeted =
     either_greeted link.awaited link.state _ (has_ended link.state) greeted (λ live is. absurd (let h : true ≡ false = live in cc))
 call_greeted link (Send message) greeted = either_greeted link.awaited link.state _ (has_ended link.state) greeted greeted
 call_greeted link (SendInvalidate stag message) greeted = either_greeted link.awaited link.state _ (has_ended link.state) greeted greeted
+call_greeted link (Hold message) greeted = either_greeted link.awaited link.state _ (has_ended link.state) greeted greeted
+call_greeted link (SendHeld message) greeted = either_greeted link.awaited link.state _ (has_ended link.state) greeted greeted
 call_greeted link (WriteRemote stag to bytes) greeted = either_greeted link.awaited link.state _ (has_ended link.state) greeted greeted
 call_greeted link (ReadRemote sink at stag to len) greeted = either_greeted link.awaited link.state _ (has_ended link.state) greeted greeted
 call_greeted link (Drain count) greeted = greeted
@@ -72,10 +77,10 @@ unfolding after_calls
 calls_greeted link [] greeted = greeted
 calls_greeted link (call ∷ calls) greeted = calls_greeted (after_call link call) calls (call_greeted link call greeted)
 
-initial_greeted : (side : Side) (receives first_stag : ℕ) (terms : SideTerms) → Greeted (initial_link side receives first_stag terms).awaited (initial_link side receives first_stag terms).state
+initial_greeted : (side : Side) (receives first_stag : ℕ) (terms : SideTerms) (earlier : Option Agreement) → Greeted (initial_link side receives first_stag terms earlier).awaited (initial_link side receives first_stag terms earlier).state
 unfolding initial_link
-initial_greeted side receives first_stag terms = λ live is. absurd cc
+initial_greeted side receives first_stag terms earlier = λ live is. absurd cc
 
 pub fpdus_follow_hello : FpdusFollowHello
-fpdus_follow_hello side receives first_stag terms calls =
-    calls_greeted (initial_link side receives first_stag terms) calls (initial_greeted side receives first_stag terms)
+fpdus_follow_hello side receives first_stag terms earlier calls =
+    calls_greeted (initial_link side receives first_stag terms earlier) calls (initial_greeted side receives first_stag terms earlier)

@@ -22,17 +22,19 @@ use Rattle.nr_link.specs.Limits.{open_reads_max}
 use Rattle.nr_link.specs.Output.{read_request, read_response, write}
 use Rattle.nr_link.specs.ReceiveState.{ReadRequest, read_request_of}
 use Rattle.nr_link.specs.declared.agreement.SideTerms.{SideTerms}
+use Rattle.nr_link.specs.declared.agreement.Agreement.{Agreement}
 use Rattle.nr_endpoint.specs.SendQueue.{SendQueue, ends_left, next_number, send_output, with_send_by, with_write, with_request, with_end, written}
 use Rattle.nr_endpoint.specs.ReceiveQueue.{receives_kept}
 use Rattle.nr_endpoint.specs.LinkState.{LinkState, LinkSide, has_ended, initial_link}
 use Rattle.nr_endpoint.specs.Judging.{segment_end, next_frame, with_frame, with_segment_by, with_fpdu, with_peer_hello, with_effect, with_read_request, with_read_response, fetch_access, next_segment}
 use Rattle.nr_endpoint.specs.Calls.{Call, after_call, after_calls}
-use Rattle.nr_endpoint.specs.Calls.Call.{Feed, FeedOne, NextEvent, Post, Stop, OutOfMemory, Send, WriteRemote, ReadRemote, Drain, Register, Release, SendInvalidate, Invalidate}
+use Rattle.nr_endpoint.specs.Calls.Call.{Feed, FeedOne, NextEvent, Post, Stop, OutOfMemory, Send, WriteRemote, ReadRemote, Drain, Register, Release, SendInvalidate, Hold, SendHeld, Invalidate}
 use Rattle.nr_endpoint.specs.KeptLists.{ListsFit, WaitingSendsHaveBytes, registered, released, count_calls, IsHeldRelease, AreHeldReleases, HeldRegionsAreRegistered}
 use Rattle.nr_endpoint.proofs.AlongFrames.{feed_keeps, feed_one_keeps}
 use Rattle.nr_endpoint.proofs.ItemEnds.{left_gone, left_twice}
 use Rattle.nr_endpoint.proofs.Queued.{send_by_some}
 use Rattle.nr_endpoint.proofs.SendQueues.{ends_left_append, ends_left_fewer}
+use Rattle.nr_endpoint.proofs.HellosFrom.{hello_from}
 
 pub lists_fit : (s : LinkState) → receives_kept s.receive_queue + s.receive_queue.lent ≡ s.receive_queue.receives → length s.receive_queue.deliveries ≤ s.place → length s.reads ≤ open_reads_max → ListsFit s
 lists_fit s receives events reads = record { receives = omega (arith, receives); events = events; reads = reads }
@@ -157,7 +159,8 @@ hello_keeps s f (Ok hello) = record { sends = λ fit. fit; regions = λ n counts
 hello_keeps s f (Err reason) = record { sends = λ fit. ended s _ fit; regions = λ n counts. counts }
 
 frame_keeps : (s : LinkState) (a : Awaited) (frame : List ℕ) → Keeps s (with_frame s a frame)
-frame_keeps s (HelloFrom side) frame = hello_keeps s (next_frame s frame) (hello_of side frame)
+frame_keeps s (HelloFrom side) frame =
+    hello_from (Keeps s) side (next_frame s frame) (hello_of side frame) s (hello_keeps s (next_frame s frame) (hello_of side frame)) (record { sends = λ fit. fit; regions = λ n counts. counts })
 frame_keeps s Fpdu frame = fpdu_keeps s (next_frame s frame) (next_segment s frame)
 
 -- ---- Calls
@@ -176,6 +179,8 @@ call_sends link (Stop reason) fit = either (λ s. SendsFit s.send_queue) link.st
 call_sends link OutOfMemory fit = either (λ s. SendsFit s.send_queue) link.state _ (has_ended link.state) fit fit
 call_sends link (Send message) fit = either (λ s. SendsFit s.send_queue) link.state _ (has_ended link.state) fit (sent None message link.state.send_queue fit)
 call_sends link (SendInvalidate stag message) fit = either (λ s. SendsFit s.send_queue) link.state _ (has_ended link.state) fit (sent (Some stag) message link.state.send_queue fit)
+call_sends link (Hold message) fit = either (λ s. SendsFit s.send_queue) link.state _ (has_ended link.state) fit fit
+call_sends link (SendHeld message) fit = either (λ s. SendsFit s.send_queue) link.state _ (has_ended link.state) fit (sent None message link.state.send_queue fit)
 call_sends link (WriteRemote stag to bytes) fit =
     either (λ s. SendsFit s.send_queue) link.state _ (has_ended link.state) fit
     (longer link.state.send_queue (with_write stag to bytes link.state.send_queue) refl (omega (arith, length-append link.state.send_queue.fpdus (write stag to bytes))) fit)
@@ -192,12 +197,12 @@ unfolding after_calls
 calls_send link [] fit = fit
 calls_send link (call ∷ calls) fit = calls_send (after_call link call) calls (call_sends link call fit)
 
-initial_sends : (side : Side) (receives first_stag : ℕ) (terms : SideTerms) → SendsFit (initial_link side receives first_stag terms).state.send_queue
+initial_sends : (side : Side) (receives first_stag : ℕ) (terms : SideTerms) (earlier : Option Agreement) → SendsFit (initial_link side receives first_stag terms earlier).state.send_queue
 unfolding initial_link
-initial_sends side receives first_stag terms = (omega arith, λ k. omega arith)
+initial_sends side receives first_stag terms earlier = (omega arith, λ k. omega arith)
 
 pub waiting_sends_have_bytes : WaitingSendsHaveBytes
-waiting_sends_have_bytes side receives first_stag terms calls = (calls_send (initial_link side receives first_stag terms) calls (initial_sends side receives first_stag terms)).0
+waiting_sends_have_bytes side receives first_stag terms earlier calls = (calls_send (initial_link side receives first_stag terms earlier) calls (initial_sends side receives first_stag terms earlier)).0
 
 -- n regions are held before a call, and m after it
 abbrev Moves : LinkSide → Call → ℕ → Type 0
@@ -235,6 +240,8 @@ call_counts link (Stop reason) n may counts = still link (Stop reason) n (either
 call_counts link OutOfMemory n may counts = still link OutOfMemory n (either (λ s. Counts n s.memory) link.state _ (has_ended link.state) counts counts) refl refl
 call_counts link (Send message) n may counts = still link (Send message) n (either (λ s. Counts n s.memory) link.state _ (has_ended link.state) counts counts) refl refl
 call_counts link (SendInvalidate stag message) n may counts = still link (SendInvalidate stag message) n (either (λ s. Counts n s.memory) link.state _ (has_ended link.state) counts counts) refl refl
+call_counts link (Hold message) n may counts = still link (Hold message) n (either (λ s. Counts n s.memory) link.state _ (has_ended link.state) counts counts) refl refl
+call_counts link (SendHeld message) n may counts = still link (SendHeld message) n (either (λ s. Counts n s.memory) link.state _ (has_ended link.state) counts counts) refl refl
 call_counts link (WriteRemote stag to bytes) n may counts = still link (WriteRemote stag to bytes) n (either (λ s. Counts n s.memory) link.state _ (has_ended link.state) counts counts) refl refl
 call_counts link (ReadRemote sink at stag to k) n may counts = still link (ReadRemote sink at stag to k) n (either (λ s. Counts n s.memory) link.state _ (has_ended link.state) counts counts) refl refl
 call_counts link (Drain count) n may counts = still link (Drain count) n counts refl refl
@@ -250,10 +257,10 @@ calls_count link (call ∷ calls) n may counts =
     let moved = call_counts link call n may.0 counts in
     omega (arith, moved.2, calls_count (after_call link call) calls moved.0 may.1 moved.1)
 
-initial_counts : (side : Side) (receives first_stag : ℕ) (terms : SideTerms) → Counts 0 (initial_link side receives first_stag terms).state.memory
+initial_counts : (side : Side) (receives first_stag : ℕ) (terms : SideTerms) (earlier : Option Agreement) → Counts 0 (initial_link side receives first_stag terms earlier).state.memory
 unfolding initial_link initial_memory
-initial_counts side receives first_stag terms = (λ stag le. ap (λ (o : Option Region). is_some o) (get-empty nat_cmp stag), len-empty nat_cmp Region)
+initial_counts side receives first_stag terms earlier = (λ stag le. ap (λ (o : Option Region). is_some o) (get-empty nat_cmp stag), len-empty nat_cmp Region)
 
 pub held_regions_are_registered : HeldRegionsAreRegistered
-held_regions_are_registered side receives first_stag terms calls may =
-    omega (arith, calls_count (initial_link side receives first_stag terms) calls 0 may (initial_counts side receives first_stag terms))
+held_regions_are_registered side receives first_stag terms earlier calls may =
+    omega (arith, calls_count (initial_link side receives first_stag terms earlier) calls 0 may (initial_counts side receives first_stag terms earlier))

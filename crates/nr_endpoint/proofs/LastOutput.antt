@@ -6,7 +6,7 @@ use Rattle.nr_endpoint.specs.SendQueue.{with_end, SendQueue}
 use Rattle.nr_endpoint.specs.LinkState.{LinkState, LinkSide, has_ended}
 use Rattle.nr_endpoint.specs.Judging.{with_frame}
 use Rattle.nr_endpoint.specs.Calls.{Call, after_call, after_calls}
-use Rattle.nr_endpoint.specs.Calls.Call.{Feed, FeedOne, NextEvent, Post, Stop, OutOfMemory, Send, WriteRemote, ReadRemote, Drain, Register, Release, SendInvalidate, Invalidate}
+use Rattle.nr_endpoint.specs.Calls.Call.{Feed, FeedOne, NextEvent, Post, Stop, OutOfMemory, Send, WriteRemote, ReadRemote, Drain, Register, Release, SendInvalidate, Hold, SendHeld, Invalidate}
 use Rattle.nr_endpoint.proofs.Standing.{live_state}
 use Rattle.nr_link.specs.declared.end.End.TheVariants as ends
 use Rattle.nr_endpoint.specs.Laws.{queue_drained, queue_drained_by, EndedQueuesNothing, StopQueuesLast, OutOfMemoryQueuesNothing, EndIsKept}
@@ -34,6 +34,8 @@ call_drained link (Stop reason) gone = unless_unchanged link.state _ gone
 call_drained link OutOfMemory gone = unless_unchanged link.state _ gone
 call_drained link (Send message) gone = unless_unchanged link.state _ gone
 call_drained link (SendInvalidate stag message) gone = unless_unchanged link.state _ gone
+call_drained link (Hold message) gone = unless_unchanged link.state _ gone
+call_drained link (SendHeld message) gone = unless_unchanged link.state _ gone
 call_drained link (WriteRemote stag to bytes) gone = unless_unchanged link.state _ gone
 call_drained link (ReadRemote sink at stag to len) gone = unless_unchanged link.state _ gone
 call_drained link (Drain count) gone = (gone, refl)
@@ -73,6 +75,8 @@ ended_kept link (Stop reason) gone = kept_by_lem link.state _ gone
 ended_kept link OutOfMemory gone = kept_by_lem link.state _ gone
 ended_kept link (Send message) gone = kept_by_lem link.state _ gone
 ended_kept link (SendInvalidate stag message) gone = kept_by_lem link.state _ gone
+ended_kept link (Hold message) gone = kept_by_lem link.state _ gone
+ended_kept link (SendHeld message) gone = kept_by_lem link.state _ gone
 ended_kept link (WriteRemote stag to bytes) gone = kept_by_lem link.state _ gone
 ended_kept link (ReadRemote sink at stag to len) gone = kept_by_lem link.state _ gone
 ended_kept link (Drain count) gone = refl

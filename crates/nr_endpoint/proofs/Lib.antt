@@ -18,6 +18,9 @@ pub mod CutLaws
 pub mod MemoryLaws
 pub mod ReadLaws
 pub mod Agreed
+pub mod HellosFrom
+mod FreshRegions
+mod HeldSends
 pub mod AlongFrames
 pub mod HelloLaws
 pub mod HelloFirst

@@ -27,9 +27,10 @@ use Rattle.nr_endpoint.specs.LinkState.{LinkState, LinkSide, has_ended}
 use Rattle.nr_endpoint.specs.Judging.{segment_end, next_frame, with_frame, with_segment_by, with_fpdu, with_peer_hello, with_effect, with_read_response, next_segment}
 use Rattle.nr_endpoint.specs.SegmentEnds.{denied_if, tagged_end}
 use Rattle.nr_endpoint.specs.Calls.{Call, after_call, after_calls}
-use Rattle.nr_endpoint.specs.Calls.Call.{Feed, FeedOne, NextEvent, Post, Stop, OutOfMemory, Send, WriteRemote, ReadRemote, Drain, Register, Release, SendInvalidate, Invalidate}
+use Rattle.nr_endpoint.specs.Calls.Call.{Feed, FeedOne, NextEvent, Post, Stop, OutOfMemory, Send, WriteRemote, ReadRemote, Drain, Register, Release, SendInvalidate, Hold, SendHeld, Invalidate}
 use Rattle.nr_endpoint.specs.Laws.{segment_arrivals, fpdu_arrivals, frame_arrivals, arrivals, frames_made_whole, call_events, memory_events, NoneIsDenied, MemoryFollowsEvents, PlacesAreAllowed, OpenRegionHolds, ReleasedBufferHolds, ReleasedStaysClosed}
 use Rattle.nr_endpoint.proofs.Alive.{alive_tagged}
+use Rattle.nr_endpoint.proofs.HellosFrom.{hello_from}
 
 -- the memory after some events, none of which it denies
 abbrev Follows : RegisteredMemory → List MemoryEvent → RegisteredMemory → Type 0
@@ -96,7 +97,8 @@ hello_memory s f (Ok hello) = refl
 hello_memory s f (Err reason) = refl
 
 frame_memory : (s : LinkState) (a : Awaited) (frame : List ℕ) → Follows s.memory (frame_arrivals s a frame) (with_frame s a frame).memory
-frame_memory s (HelloFrom side) frame = (hello_memory s (next_frame s frame) (hello_of side frame), tt)
+frame_memory s (HelloFrom side) frame =
+    (hello_from (λ t. t.memory ≡ s.memory) side (next_frame s frame) (hello_of side frame) s (hello_memory s (next_frame s frame) (hello_of side frame)) refl, tt)
 frame_memory s Fpdu frame = fpdu_memory s (next_frame s frame) (next_segment s frame) refl
 
 -- ---- Frames
@@ -165,6 +167,8 @@ call_memory link (Stop reason) = (unless_memory link.state _ (has_ended link.sta
 call_memory link OutOfMemory = (unless_memory link.state _ (has_ended link.state) refl, tt)
 call_memory link (Send message) = (unless_memory link.state _ (has_ended link.state) refl, tt)
 call_memory link (SendInvalidate stag message) = (unless_memory link.state _ (has_ended link.state) refl, tt)
+call_memory link (Hold message) = (unless_memory link.state _ (has_ended link.state) refl, tt)
+call_memory link (SendHeld message) = (unless_memory link.state _ (has_ended link.state) refl, tt)
 call_memory link (WriteRemote stag to bytes) = (unless_memory link.state _ (has_ended link.state) refl, tt)
 call_memory link (ReadRemote sink at stag to len) = (unless_memory link.state _ (has_ended link.state) refl, tt)
 call_memory link (Drain count) = (refl, tt)

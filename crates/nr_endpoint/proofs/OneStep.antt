@@ -34,6 +34,7 @@ use Rattle.nr_regions.specs.RegisteredMemory.{Outside}
 use Rattle.nr_endpoint.specs.EndpointState.{EndpointState, KeepsStaging, cut_frame_len}
 use Rattle.nr_endpoint.proofs.Standing.{live_state}
 use Rattle.nr_endpoint.proofs.StagedFrames.{taken_whole, taken_all, whole_as_staged, front_of}
+use Rattle.nr_endpoint.proofs.HellosFrom.{hello_from}
 
 -- ---- The side after it
 
@@ -231,7 +232,8 @@ hello_not_memory f (Ok hello) s none is = absurd (let h : None ≡ Some ends.Mem
 hello_not_memory f (Err reason) s none is = absurd cc
 
 pub frame_not_memory : (s : LinkState) (a : Awaited) (bytes : List ℕ) → s.ended ≡ None → (with_frame s a bytes).ended ≢ Some ends.Memory
-frame_not_memory s (HelloFrom side) bytes none = hello_not_memory (next_frame s bytes) (hello_of side bytes) s none
+frame_not_memory s (HelloFrom side) bytes none =
+    hello_from (λ t. t.ended ≢ Some ends.Memory) side (next_frame s bytes) (hello_of side bytes) s (hello_not_memory (next_frame s bytes) (hello_of side bytes) s none) (λ is. absurd cc)
 frame_not_memory s Fpdu bytes none = fpdu_not_memory (next_frame s bytes) (next_segment s bytes) s none
 
 -- ---- One frame at a time

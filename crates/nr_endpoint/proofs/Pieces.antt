@@ -25,6 +25,7 @@ use Rattle.nr_endpoint.specs.Calls.Call.{Feed, FeedOne, OutOfMemory}
 use Rattle.nr_endpoint.proofs.StagedFrames.{taken_whole, whole_as_staged}
 use Rattle.nr_endpoint.proofs.OneStep.{living, memory_stays, memory_ends, feed_not_memory}
 use Rattle.nr_endpoint.proofs.Standing.{stands_on_all}
+use Rattle.nr_endpoint.proofs.HellosFrom.{hello_from}
 
 -- ---- Feeding nothing, and one step as a feed
 
@@ -191,7 +192,9 @@ hello_place f (Ok hello) s none = refl
 hello_place f (Err reason) s none = absurd cc
 
 pub frame_place : (s : LinkState) (a : Awaited) (bytes : List ℕ) → (with_frame s a bytes).ended ≡ None → (with_frame s a bytes).place ≡ s.place + length bytes
-frame_place s (HelloFrom side) bytes none = hello_place (next_frame s bytes) (hello_of side bytes) s none
+frame_place s (HelloFrom side) bytes none =
+    hello_from (λ t. t.ended ≡ None → t.place ≡ s.place + length bytes) side (next_frame s bytes) (hello_of side bytes) s
+    (λ live. hello_place (next_frame s bytes) (hello_of side bytes) s live) (λ live. absurd cc) none
 frame_place s Fpdu bytes none = fpdu_place (next_frame s bytes) (next_segment s bytes) s none
 
 -- if something is left and the side goes on, the frame was complete: nothing is kept, and the offset is after it

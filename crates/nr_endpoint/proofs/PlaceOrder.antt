@@ -19,9 +19,10 @@ use Rattle.nr_link.specs.Frames.{Frame}
 use Rattle.nr_endpoint.specs.LinkState.{LinkState, LinkSide, has_ended}
 use Rattle.nr_endpoint.specs.Judging.{segment_end, next_frame, with_frame, with_segment_by, with_fpdu, with_peer_hello, next_segment}
 use Rattle.nr_endpoint.specs.Calls.{Call, after_call, after_calls}
-use Rattle.nr_endpoint.specs.Calls.Call.{Feed, FeedOne, NextEvent, Post, Stop, OutOfMemory, Send, WriteRemote, ReadRemote, Drain, Register, Release, SendInvalidate, Invalidate}
+use Rattle.nr_endpoint.specs.Calls.Call.{Feed, FeedOne, NextEvent, Post, Stop, OutOfMemory, Send, WriteRemote, ReadRemote, Drain, Register, Release, SendInvalidate, Hold, SendHeld, Invalidate}
 use Rattle.nr_endpoint.specs.Laws.{segment_arrivals, fpdu_arrivals, frame_arrivals, arrivals, frames_made_whole, call_events, memory_events, EndsWithin, PlacesAreInOrder, EndsRise, ArrivalsRise}
 use Rattle.nr_endpoint.proofs.MemoryLaws.{ended_arrivals, one_arrival}
+use Rattle.nr_endpoint.proofs.HellosFrom.{hello_from}
 
 -- from one offset to another, the events' segments each end after the one before
 abbrev pub Between : ℕ → ℕ → List MemoryEvent → Type 0
@@ -66,7 +67,8 @@ hello_between s f (Ok hello) longer = omega (arith, longer)
 hello_between s f (Err reason) longer = stands s.place
 
 frame_between : (s : LinkState) (a : Awaited) (frame : List ℕ) → IsFrame a frame → Between s.place (with_frame s a frame).place (frame_arrivals s a frame)
-frame_between s (HelloFrom side) frame is = hello_between s (next_frame s frame) (hello_of side frame) (omega (arith, is.fields))
+frame_between s (HelloFrom side) frame is =
+    hello_from (λ t. Between s.place t.place []) side (next_frame s frame) (hello_of side frame) s (hello_between s (next_frame s frame) (hello_of side frame) (omega (arith, is.fields))) (stands s.place)
 frame_between s Fpdu frame is = fpdu_between s (next_frame s frame) (next_segment s frame) (omega (arith, is.fields))
 
 -- ---- Frames
@@ -132,6 +134,8 @@ call_between link (Stop reason) = no_arrival link.state.place _ [] refl (unless_
 call_between link OutOfMemory = no_arrival link.state.place _ [] refl (unless_place link.state _ (has_ended link.state) refl)
 call_between link (Send message) = no_arrival link.state.place _ [] refl (unless_place link.state _ (has_ended link.state) refl)
 call_between link (SendInvalidate stag message) = no_arrival link.state.place _ [] refl (unless_place link.state _ (has_ended link.state) refl)
+call_between link (Hold message) = no_arrival link.state.place _ [] refl (unless_place link.state _ (has_ended link.state) refl)
+call_between link (SendHeld message) = no_arrival link.state.place _ [] refl (unless_place link.state _ (has_ended link.state) refl)
 call_between link (WriteRemote stag to bytes) = no_arrival link.state.place _ [] refl (unless_place link.state _ (has_ended link.state) refl)
 call_between link (ReadRemote sink at stag to len) = no_arrival link.state.place _ [] refl (unless_place link.state _ (has_ended link.state) refl)
 call_between link (Drain count) = stands link.state.place

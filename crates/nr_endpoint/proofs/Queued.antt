@@ -11,6 +11,7 @@ use Rattle.nr_wire.specs.Constants.{OPCODE_READ_REQUEST}
 use Rattle.nr_regions.specs.RegisteredMemory.{bytes_at}
 use Rattle.nr_link.specs.ReceiveState.{read_request_in}
 use Rattle.nr_link.specs.Output.{cut, send, send_by, send_invalidating, segment_count, read_response, terminate_message, hello_with, refusing_hello, read_request}
+use Rattle.nr_link.specs.Reasons.{REASON_SIZES}
 use Rattle.nr_link.specs.Ending.{final_output, rejection}
 use Rattle.nr_link.specs.declared.end.End.{End}
 use Rattle.nr_endpoint.specs.SendQueue.{SendQueue, output_len, with_hello, with_response, with_end}
@@ -89,6 +90,9 @@ pub terminate_queues : (side : Side) (end : End) (word : ℕ) (q : SendQueue) �
 unfolding with_end
 terminate_queues side end word q is =
     omega (arith, terminate_some word, ap (λ (bytes : List ℕ). length bytes) is, length-append q.hello (rejection side end), length-append q.fpdus (final_output end))
+
+pub sizes_queue : (q : SendQueue) → output_len q < output_len (with_hello (terminate_message REASON_SIZES) q)
+sizes_queue q = omega (arith, terminate_some REASON_SIZES, length-append q.hello (terminate_message REASON_SIZES))
 
 -- what holds anyway holds if there is an error
 pub on_any_err : {T E P : Type 0} (r : Result T E) → P → OnErr r P

@@ -14,9 +14,11 @@ use Rattle.nr_link.specs.Frames.{Frame}
 use Rattle.nr_link.specs.ReceiveState.{ReadRequest, read_request_of, read_request_in}
 use Rattle.nr_endpoint.specs.SendQueue.{with_response, with_end}
 use Rattle.nr_endpoint.specs.LinkState.{LinkState}
-use Rattle.nr_endpoint.specs.Judging.{segment_end, fetch_access, next_frame, with_frame, with_segment_by, with_fpdu, with_peer_hello, with_effect, with_read_response, with_read_request, next_segment}
-use Rattle.nr_endpoint.specs.Laws.{ReadsAreAllowed, IsAllowedRead, final_fpdus, NothingElseIsRead, OtherFramesQueueNothing}
+use Rattle.nr_endpoint.specs.Judging.{segment_end, fetch_access, next_frame, with_frame, with_segment_by, with_fpdu, with_peer_hello, with_effect, with_read_response, with_read_request, next_segment, with_other_sizes}
+use Rattle.nr_endpoint.specs.Laws.{ReadsAreAllowed, IsAllowedRead, final_fpdus, QueuesLast, NothingElseIsRead, OtherFramesQueueNothing}
 use Rattle.nr_endpoint.proofs.Alive.{alive_request}
+use Rattle.nr_endpoint.proofs.HellosFrom.{hello_from}
+use Rattle.nr_link.specs.Ending.{final_output}
 
 -- the frame of a segment that doesn't end the side
 taken : (s : LinkState) (frame : List ℕ) (segment : Segment) → next_segment s frame ≡ Ok segment → segment_end s (next_frame s frame) segment ≡ None →
@@ -56,13 +58,13 @@ reads_are_allowed_lem s frame segment request whole asks lives = (
 
 -- ---- Any other frame
 
-abbrev QueuesLast : LinkState → LinkState → Type 0
-QueuesLast s after = after.send_queue.fpdus ≡ s.send_queue.fpdus ++ final_fpdus after.ended
+abbrev QueuesFpdu : LinkState → LinkState → Type 0
+QueuesFpdu s after = after.send_queue.fpdus ≡ s.send_queue.fpdus ++ final_fpdus after.ended
 
 nothing_more : (before after : List ℕ) (e : Option End) → e ≡ None → after ≡ before → after ≡ before ++ final_fpdus e
 nothing_more before after e lives same = same ∙ sym (append-nil before) ∙ ap (λ (x : Option End). before ++ final_fpdus x) (sym lives)
 
-hello_queues : (s : LinkState) (f : Frame) (r : Result Hello ℕ) → s.ended ≡ None → QueuesLast s (with_peer_hello f r s)
+hello_queues : (s : LinkState) (f : Frame) (r : Result Hello ℕ) → s.ended ≡ None → QueuesFpdu s (with_peer_hello f r s)
 unfolding with_peer_hello with_end
 hello_queues s f (Ok hello) live = nothing_more s.send_queue.fpdus s.send_queue.fpdus s.ended live refl
 hello_queues s f (Err reason) live = refl
@@ -73,7 +75,7 @@ placed_state s t true last n live same = (live, same)
 placed_state s t false last n live same = (live, same)
 
 tagged_queues : (s : LinkState) (f : Frame) (last : Bool) (opcode stag to : ℕ) (payload : List ℕ) → s.ended ≡ None →
-    QueuesLast s (with_segment_by f (Tagged last opcode stag to payload) None s)
+    QueuesFpdu s (with_segment_by f (Tagged last opcode stag to payload) None s)
 unfolding with_effect
 tagged_queues s f last opcode stag to payload live =
     let placed : LinkState = record s { memory = after_place s.memory stag to payload } in
@@ -82,7 +84,7 @@ tagged_queues s f last opcode stag to payload live =
     nothing_more s.send_queue.fpdus t.send_queue.fpdus t.ended parts.0 parts.1
 
 untagged_queues : (s : LinkState) (f : Frame) (last : Bool) (opcode w queue msn offset : ℕ) (payload : List ℕ) → s.ended ≡ None →
-    read_request_of (Untagged last opcode w queue msn offset payload) ≡ None → QueuesLast s (with_segment_by f (Untagged last opcode w queue msn offset payload) None s)
+    read_request_of (Untagged last opcode w queue msn offset payload) ≡ None → QueuesFpdu s (with_segment_by f (Untagged last opcode w queue msn offset payload) None s)
 unfolding with_effect
 untagged_queues s f last opcode w queue msn offset payload live asks =
     nothing_more s.send_queue.fpdus (with_read_request (read_request_of (Untagged last opcode w queue msn offset payload)) s.memory s.send_queue).fpdus s.ended live (ap (λ (r : Option ReadRequest). (with_read_request r s.memory s.send_queue).fpdus) asks)
@@ -91,24 +93,29 @@ untagged_queues s f last opcode w queue msn offset payload live asks =
 segment_queues : (s : LinkState) (frame : List ℕ) (segment : Segment) (e : Option End) → s.ended ≡ None → next_segment s frame ≡ Ok segment → segment_end s (next_frame s frame) segment ≡ e →
     IsAllowedRead s Fpdu frame ⊎ QueuesLast s (with_segment_by (next_frame s frame) segment e s)
 unfolding with_end
-segment_queues s frame segment (Some end) live whole is = inr refl
-segment_queues s frame (Tagged last opcode stag to payload) None live whole is = inr (tagged_queues s (next_frame s frame) last opcode stag to payload live)
+segment_queues s frame segment (Some end) live whole is = inr (inl refl)
+segment_queues s frame (Tagged last opcode stag to payload) None live whole is = inr (inl (tagged_queues s (next_frame s frame) last opcode stag to payload live))
 segment_queues s frame (Untagged last opcode w queue msn offset payload) None live whole is =
     by (read_request_of (Untagged last opcode w queue msn offset payload)) refl
   where
     by : (r : Option ReadRequest) → read_request_of (Untagged last opcode w queue msn offset payload) ≡ r →
         IsAllowedRead s Fpdu frame ⊎ QueuesLast s (with_segment_by (next_frame s frame) (Untagged last opcode w queue msn offset payload) None s)
-    by None asks = inr (untagged_queues s (next_frame s frame) last opcode w queue msn offset payload live asks)
+    by None asks = inr (inl (untagged_queues s (next_frame s frame) last opcode w queue msn offset payload live asks))
     by (Some request) asks = inl (record { segment = Untagged last opcode w queue msn offset payload; request = request; fpdu = refl; whole = whole; asks = asks; lives = is })
 
 fpdu_queues : (s : LinkState) (frame : List ℕ) (r : Result Segment ℕ) → s.ended ≡ None → next_segment s frame ≡ r →
     IsAllowedRead s Fpdu frame ⊎ QueuesLast s (with_fpdu (next_frame s frame) r s)
 unfolding with_fpdu with_end
 fpdu_queues s frame (Ok segment) live whole = segment_queues s frame segment (segment_end s (next_frame s frame) segment) live whole refl
-fpdu_queues s frame (Err reason) live whole = inr refl
+fpdu_queues s frame (Err reason) live whole = inr (inl refl)
+
+other_sizes_queue : (s : LinkState) (f : Frame) → QueuesLast s (with_other_sizes f s)
+unfolding final_output
+other_sizes_queue s f = inr (refl, refl)
 
 pub nothing_else_is_read : NothingElseIsRead
-nothing_else_is_read s (HelloFrom side) frame live = inr (hello_queues s (next_frame s frame) (hello_of side frame) live)
+nothing_else_is_read s (HelloFrom side) frame live =
+    inr (hello_from (QueuesLast s) side (next_frame s frame) (hello_of side frame) s (inl (hello_queues s (next_frame s frame) (hello_of side frame) live)) (other_sizes_queue s (next_frame s frame)))
 nothing_else_is_read s Fpdu frame live = fpdu_queues s frame (next_segment s frame) live refl
 
 -- ---- A frame that asks for nothing queues nothing

@@ -23,7 +23,7 @@ use Rattle.nr_wire.specs.Hello.{peer}
 use Rattle.nr_endpoint.specs.LinkState.{LinkState, LinkSide, has_ended, initial_link}
 use Rattle.nr_endpoint.specs.Judging.{segment_end, next_frame, with_frame, next_segment}
 use Rattle.nr_endpoint.specs.Calls.{Call, after_call, after_calls}
-use Rattle.nr_endpoint.specs.Calls.Call.{Feed, FeedOne, NextEvent, Post, Stop, OutOfMemory, Send, WriteRemote, ReadRemote, Drain, Register, Release, SendInvalidate, Invalidate}
+use Rattle.nr_endpoint.specs.Calls.Call.{Feed, FeedOne, NextEvent, Post, Stop, OutOfMemory, Send, WriteRemote, ReadRemote, Drain, Register, Release, SendInvalidate, Hold, SendHeld, Invalidate}
 use Rattle.nr_endpoint.specs.Laws.{segment_arrivals, fpdu_arrivals, frame_arrivals, arrivals, frames_made_whole, call_events, memory_events, bytes_in_call, bytes_fed, KeepsInput}
 use Rattle.nr_endpoint.specs.ReceivedLaws.{ReceivedBytes}
 use Rattle.nr_endpoint.proofs.MemoryLaws.{ended_arrivals}
@@ -174,6 +174,8 @@ call_above from link bytes (Stop reason) fed = tt
 call_above from link bytes OutOfMemory fed = tt
 call_above from link bytes (Send message) fed = tt
 call_above from link bytes (SendInvalidate stag message) fed = tt
+call_above from link bytes (Hold message) fed = tt
+call_above from link bytes (SendHeld message) fed = tt
 call_above from link bytes (WriteRemote stag to payload) fed = tt
 call_above from link bytes (ReadRemote sink at stag to len) fed = tt
 call_above from link bytes (Drain count) fed = tt
@@ -190,9 +192,9 @@ calls_above from link bytes (call ∷ calls) fed =
     (calls_above from (after_call link call) more calls (call_fed from link bytes call fed)))
 
 pub received_bytes : ReceivedBytes
-received_bytes side receives first_stag terms before after =
-    let start : LinkSide = initial_link side receives first_stag terms in
-    let fed : IsFed (peer side) (after_calls start before) (bytes_fed start before) = stream_fed side receives first_stag terms before in (
+received_bytes side receives first_stag terms earlier before after =
+    let start : LinkSide = initial_link side receives first_stag terms earlier in
+    let fed : IsFed (peer side) (after_calls start before) (bytes_fed start before) = stream_fed side receives first_stag terms earlier before in (
       all_below start.state.place (after_calls start before).state.place (length (bytes_fed start before)) (memory_events start before) (omega (arith, fed.within)) (calls_between start before),
       all_above_lem (length (bytes_fed start before)) (memory_events (after_calls start before) after) (calls_above (peer side) (after_calls start before) (bytes_fed start before) after fed),
     )

@@ -15,7 +15,7 @@ use Rattle.nr_wire.specs.Hello.{peer}
 use Rattle.nr_endpoint.specs.LinkState.{LinkState, LinkSide, has_ended, initial_link}
 use Rattle.nr_endpoint.specs.Judging.{segment_end, next_frame, with_frame, next_segment}
 use Rattle.nr_endpoint.specs.Calls.{Call, after_call, after_calls}
-use Rattle.nr_endpoint.specs.Calls.Call.{Feed, FeedOne, NextEvent, Post, Stop, OutOfMemory, Send, WriteRemote, ReadRemote, Drain, Register, Release, SendInvalidate, Invalidate}
+use Rattle.nr_endpoint.specs.Calls.Call.{Feed, FeedOne, NextEvent, Post, Stop, OutOfMemory, Send, WriteRemote, ReadRemote, Drain, Register, Release, SendInvalidate, Hold, SendHeld, Invalidate}
 use Rattle.nr_endpoint.specs.DeliveryLaws.{deliveries_of, QueuedEvent, made_at, segment_deliveries, fpdu_deliveries, frame_deliveries, deliveries_of_frames, call_deliveries, deliveries_made, DeliveriesRise}
 use Rattle.nr_endpoint.specs.Laws.{frames_made_whole, bytes_in_call, bytes_fed}
 use Rattle.nr_endpoint.specs.ReceivedLaws.{EventsOfReceivedBytes}
@@ -112,6 +112,8 @@ call_above from link bytes (Stop reason) fed = tt
 call_above from link bytes OutOfMemory fed = tt
 call_above from link bytes (Send message) fed = tt
 call_above from link bytes (SendInvalidate stag message) fed = tt
+call_above from link bytes (Hold message) fed = tt
+call_above from link bytes (SendHeld message) fed = tt
 call_above from link bytes (WriteRemote stag to payload) fed = tt
 call_above from link bytes (ReadRemote sink at stag to len) fed = tt
 call_above from link bytes (Drain count) fed = tt
@@ -128,9 +130,9 @@ calls_above from link bytes (call ∷ calls) fed =
     (calls_above from (after_call link call) more calls (call_fed from link bytes call fed)))
 
 pub events_of_received_bytes : EventsOfReceivedBytes
-events_of_received_bytes side receives first_stag terms before after =
-    let start : LinkSide = initial_link side receives first_stag terms in
-    let fed : IsFed (peer side) (after_calls start before) (bytes_fed start before) = stream_fed side receives first_stag terms before in (
+events_of_received_bytes side receives first_stag terms earlier before after =
+    let start : LinkSide = initial_link side receives first_stag terms earlier in
+    let fed : IsFed (peer side) (after_calls start before) (bytes_fed start before) = stream_fed side receives first_stag terms earlier before in (
       all_below start.state.place (after_calls start before).state.place (length (bytes_fed start before)) (deliveries_made start before) (omega (arith, fed.within)) (events_are_in_order start before),
       all_above_lem (length (bytes_fed start before)) (deliveries_made (after_calls start before) after) (calls_above (peer side) (after_calls start before) (bytes_fed start before) after fed),
     )

@@ -5,7 +5,7 @@ use Rattle.nr_link.specs.declared.end.End.{End}
 use Rattle.nr_regions.specs.declared.right.Right.{Right}
 use Rattle.nr_regions.specs.RegisteredMemory.{after_invalidate, after_register, after_release}
 use Rattle.nr_link.specs.declared.end.End.TheVariants as ends
-use Rattle.nr_endpoint.specs.SendQueue.{with_send_by, with_write, with_request, writable, written}
+use Rattle.nr_endpoint.specs.SendQueue.{with_send_by, with_held, with_held_sent, with_write, with_request, writable, written}
 use Rattle.nr_endpoint.specs.Offering.{send_call}
 use Rattle.nr_endpoint.specs.ReceiveQueue.{delivered, posted}
 use Rattle.nr_endpoint.specs.LinkState.{LinkSide, LinkState, has_ended}
@@ -15,7 +15,7 @@ use Rattle.std.specs.FinMap.{FinMap}
 use Rattle.nr_regions.specs.RegisteredMemory.{Outside}
 use Rattle.nr_endpoint.specs.EndpointState.{EndpointState}
 use Rattle.nr_endpoint.specs.Calls.{Call, after_call, after_calls, StandsOn, StandsOnAll, with_state, unless_ended, ended_link}
-use Rattle.nr_endpoint.specs.Calls.Call.{NextEvent, Post, Stop, OutOfMemory, WriteRemote, ReadRemote, Drain, Register, Release, Invalidate}
+use Rattle.nr_endpoint.specs.Calls.Call.{NextEvent, Post, Stop, OutOfMemory, Hold, SendHeld, WriteRemote, ReadRemote, Drain, Register, Release, Invalidate}
 
 pub after_calls_append : (link : LinkSide) (calls : List Call) (call : Call) → after_calls link (calls ++ call ∷ []) ≡ after_call (after_calls link calls) call
 unfolding after_calls
@@ -67,6 +67,14 @@ pub sent_state : (l : LinkSide) (t : LinkState) (named : Option ℕ) (message : 
 unfolding after_call
 sent_state l t None message is = ap (λ (s : LinkState). with_state s l) is
 sent_state l t (Some stag) message is = ap (λ (s : LinkState). with_state s l) is
+
+pub held_state : (l : LinkSide) (t : LinkState) (message : List ℕ) → t ≡ unless_ended l.state (record l.state { send_queue = with_held message l.state.send_queue }) → with_state t l ≡ after_call l (Hold message)
+unfolding after_call
+held_state l t message is = ap (λ (s : LinkState). with_state s l) is
+
+pub held_sent_state : (l : LinkSide) (t : LinkState) (message : List ℕ) → t ≡ unless_ended l.state (record l.state { send_queue = with_held_sent message l.state.send_queue }) → with_state t l ≡ after_call l (SendHeld message)
+unfolding after_call
+held_sent_state l t message is = ap (λ (s : LinkState). with_state s l) is
 
 pub written_state : (l : LinkSide) (t : LinkState) (stag to : ℕ) (bytes : List ℕ) → t ≡ unless_ended l.state (record l.state { send_queue = with_write stag to bytes l.state.send_queue }) →
     with_state t l ≡ after_call l (WriteRemote stag to bytes)

@@ -15,12 +15,14 @@ use Rattle.nr_link.specs.Frames.{Frame}
 use Rattle.nr_link.specs.Input.{InputState, input_of, input_after}
 use Rattle.nr_link.proofs.Inputs.{input_of_append, input_of_none}
 use Rattle.nr_link.specs.declared.agreement.SideTerms.{SideTerms}
+use Rattle.nr_link.specs.declared.agreement.Agreement.{Agreement}
 use Rattle.nr_endpoint.specs.LinkState.{LinkState, LinkSide, has_ended, initial_link}
 use Rattle.nr_endpoint.specs.Judging.{segment_end, next_frame, with_frame, with_segment_by, with_fpdu, with_peer_hello, next_segment}
 use Rattle.nr_endpoint.specs.Calls.{Call, after_call, after_calls}
-use Rattle.nr_endpoint.specs.Calls.Call.{Feed, FeedOne, NextEvent, Post, Stop, OutOfMemory, Send, WriteRemote, ReadRemote, Drain, Register, Release, SendInvalidate, Invalidate}
+use Rattle.nr_endpoint.specs.Calls.Call.{Feed, FeedOne, NextEvent, Post, Stop, OutOfMemory, Send, WriteRemote, ReadRemote, Drain, Register, Release, SendInvalidate, Hold, SendHeld, Invalidate}
 use Rattle.nr_endpoint.specs.Laws.{bytes_in_call, bytes_fed, KeepsInput, StreamIsKept, PlaceIsFed}
 use Rattle.nr_endpoint.proofs.Pieces.{step_taken, frame_place}
+use Rattle.nr_endpoint.proofs.HellosFrom.{hello_from}
 
 -- ---- A frame
 
@@ -40,7 +42,8 @@ hello_within s f (Err reason) le = le
 
 -- the offset goes on by the frame, or stays if the frame ends the side
 frame_within : (s : LinkState) (a : Awaited) (frame : List ℕ) → (with_frame s a frame).place ≤ s.place + length frame
-frame_within s (HelloFrom side) frame = hello_within s (next_frame s frame) (hello_of side frame) (omega arith)
+frame_within s (HelloFrom side) frame =
+    hello_from (λ t. t.place ≤ s.place + length frame) side (next_frame s frame) (hello_of side frame) s (hello_within s (next_frame s frame) (hello_of side frame) (omega arith)) (omega arith)
 frame_within s Fpdu frame = fpdu_within s (next_frame s frame) (next_segment s frame) (omega arith)
 
 no_end : (e : Option End) → is_some e ≡ false → e ≡ None
@@ -180,6 +183,8 @@ call_fed from link bytes (Stop reason) fed = ended_fed_lem from link bytes _ (ha
 call_fed from link bytes OutOfMemory fed = ended_fed_lem from link bytes _ (has_ended link.state) refl refl refl fed
 call_fed from link bytes (Send message) fed = unless_fed from link bytes _ (has_ended link.state) refl refl fed
 call_fed from link bytes (SendInvalidate stag message) fed = unless_fed from link bytes _ (has_ended link.state) refl refl fed
+call_fed from link bytes (Hold message) fed = unless_fed from link bytes _ (has_ended link.state) refl refl fed
+call_fed from link bytes (SendHeld message) fed = unless_fed from link bytes _ (has_ended link.state) refl refl fed
 call_fed from link bytes (WriteRemote stag to payload) fed = unless_fed from link bytes _ (has_ended link.state) refl refl fed
 call_fed from link bytes (ReadRemote sink at stag to len) fed = unless_fed from link bytes _ (has_ended link.state) refl refl fed
 call_fed from link bytes (Drain count) fed = nothing_fed from link bytes _ refl refl fed
@@ -194,19 +199,19 @@ calls_fed from link bytes (call ∷ calls) fed =
     subst (λ (x : List ℕ). IsFed from (after_calls (after_call link call) calls) x) (append_assoc bytes (bytes_in_call link call) (bytes_fed (after_call link call) calls))
     (calls_fed from (after_call link call) (bytes ++ bytes_in_call link call) calls (call_fed from link bytes call fed))
 
-initial_fed : (side : Side) (receives first_stag : ℕ) (terms : SideTerms) → IsFed (peer side) (initial_link side receives first_stag terms) []
+initial_fed : (side : Side) (receives first_stag : ℕ) (terms : SideTerms) (earlier : Option Agreement) → IsFed (peer side) (initial_link side receives first_stag terms earlier) []
 unfolding initial_link
-initial_fed side receives first_stag terms = record {
-  keeps = λ live. subst (KeepsInput (initial_link side receives first_stag terms)) (sym (input_of_none (peer side))) (record { awaited = refl; rest = refl; place = refl });
+initial_fed side receives first_stag terms earlier = record {
+  keeps = λ live. subst (KeepsInput (initial_link side receives first_stag terms earlier)) (sym (input_of_none (peer side))) (record { awaited = refl; rest = refl; place = refl });
   within = omega arith;
 }
 
-pub stream_fed : (side : Side) (receives first_stag : ℕ) (terms : SideTerms) (calls : List Call) →
-    IsFed (peer side) (after_calls (initial_link side receives first_stag terms) calls) (bytes_fed (initial_link side receives first_stag terms) calls)
-stream_fed side receives first_stag terms calls = calls_fed (peer side) (initial_link side receives first_stag terms) [] calls (initial_fed side receives first_stag terms)
+pub stream_fed : (side : Side) (receives first_stag : ℕ) (terms : SideTerms) (earlier : Option Agreement) (calls : List Call) →
+    IsFed (peer side) (after_calls (initial_link side receives first_stag terms earlier) calls) (bytes_fed (initial_link side receives first_stag terms earlier) calls)
+stream_fed side receives first_stag terms earlier calls = calls_fed (peer side) (initial_link side receives first_stag terms earlier) [] calls (initial_fed side receives first_stag terms earlier)
 
 pub stream_is_kept_lem : StreamIsKept
-stream_is_kept_lem side receives first_stag terms calls = (stream_fed side receives first_stag terms calls).keeps
+stream_is_kept_lem side receives first_stag terms earlier calls = (stream_fed side receives first_stag terms earlier calls).keeps
 
 pub place_is_fed : PlaceIsFed
-place_is_fed side receives first_stag terms calls = (stream_fed side receives first_stag terms calls).within
+place_is_fed side receives first_stag terms earlier calls = (stream_fed side receives first_stag terms earlier calls).within

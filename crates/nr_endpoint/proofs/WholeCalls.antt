@@ -13,7 +13,7 @@ use Rattle.nr_endpoint.specs.declared.offering.Offered.{Offered}
 use Rattle.nr_endpoint.specs.declared.offering.Claims.{Claims}
 use Rattle.nr_endpoint.specs.declared.framing.RemoteWrite.{RemoteWrite}
 use Rattle.nr_endpoint.specs.declared.sharing.SharedWrite.{SharedWrite}
-use Rattle.nr_endpoint.specs.SendQueue.{SendQueue, with_send, with_send_by, with_fpdus, with_write}
+use Rattle.nr_endpoint.specs.SendQueue.{SendQueue, with_send, with_send_by, with_held, with_fpdus, with_write}
 use Rattle.nr_endpoint.specs.LinkState.{LinkSide, LinkState, has_ended}
 use Rattle.std.specs.Ordering.{nat_cmp}
 use Rattle.std.specs.FinMap.{FinMap}
@@ -21,8 +21,8 @@ use Rattle.nr_regions.specs.RegisteredMemory.{Outside}
 use Rattle.nr_endpoint.specs.OperationSegments.{cut_room, writes_room}
 use Rattle.nr_endpoint.specs.EndpointState.{EndpointState}
 use Rattle.nr_endpoint.specs.Calls.{Call, after_call, after_calls, with_state, unless_ended}
-use Rattle.nr_endpoint.specs.Calls.Call.{Send}
-use Rattle.nr_endpoint.specs.Offering.{offer_calls, register_call, with_buffer, claim_if, with_read, with_write_buffer, with_offered, claims_of, AreHeld, after_offer, write_call, send_call, answer_calls, writes_output, after_answer, shared_call, shared_calls, shared_output, after_shared}
+use Rattle.nr_endpoint.specs.Calls.Call.{Send, Hold}
+use Rattle.nr_endpoint.specs.Offering.{offer_calls, register_call, with_buffer, claim_if, with_read, with_write_buffer, with_offered, claims_of, AreHeld, after_offer, hold_calls, after_hold, write_call, send_call, answer_calls, writes_output, after_answer, shared_call, shared_calls, shared_output, after_shared}
 
 -- what holds of the fields holds of the value
 pub seen_all : {room : ℕ} {outside : FinMap nat_cmp Outside} (before : LinkSide) (staging : List ℕ) (now : EndpointState) (after : LinkSide) (calls : List Call) → record { link = before; staging = staging; room = room; outside = outside } ≡ now →
@@ -63,19 +63,34 @@ no_calls_lem : (l : LinkSide) → after_calls l [] ≡ l
 unfolding after_calls
 no_calls_lem l = refl
 
-in_order_lem : (s : LinkState) (message : List ℕ) (o : Offered) (b : Bool) →
-    record s { memory = with_offered s.memory o; send_queue = cond b s.send_queue (with_send message s.send_queue) }
-    ≡ remembers (cond b s (record s { send_queue = with_send message s.send_queue })) (with_offered (cond b s (record s { send_queue = with_send message s.send_queue })).memory o)
-in_order_lem s message o true = refl
-in_order_lem s message o false = refl
+in_order_lem : (s : LinkState) (queue : SendQueue) (o : Offered) (b : Bool) →
+    record s { memory = with_offered s.memory o; send_queue = cond b s.send_queue queue }
+    ≡ remembers (cond b s (record s { send_queue = queue })) (with_offered (cond b s (record s { send_queue = queue })).memory o)
+in_order_lem s queue o true = refl
+in_order_lem s queue o false = refl
 
 pub offered_state : (l : LinkSide) (t : LinkState) (message : List ℕ) (o : Offered) → t ≡ after_offer message o l.state → with_state t l ≡ after_calls l (offer_calls message o)
 offered_state l t message o is =
     let others : List Call = register_call Fetch o.read ++ (register_call Fill o.write ++ register_call Fill o.reply) in
-    ap (λ (s : LinkState). with_state s l) (is ∙ in_order_lem l.state message o (has_ended l.state))
+    ap (λ (s : LinkState). with_state s l) (is ∙ in_order_lem l.state (with_send message l.state.send_queue) o (has_ended l.state))
     ∙ registered_all_lem (with_state (after_sent message l.state) l) o.read o.write o.reply
     ∙ ap (λ (k : LinkSide). after_calls k others) (sent l message)
     ∙ sym (first_call l (Send message) others)
+
+abbrev after_held : List ℕ → LinkState → LinkState
+after_held message s = unless_ended s (record s { send_queue = with_held message s.send_queue })
+
+held : (l : LinkSide) (message : List ℕ) → with_state (after_held message l.state) l ≡ after_call l (Hold message)
+unfolding after_call
+held l message = refl
+
+pub held_state : (l : LinkSide) (t : LinkState) (message : List ℕ) (o : Offered) → t ≡ after_hold message o l.state → with_state t l ≡ after_calls l (hold_calls message o)
+held_state l t message o is =
+    let others : List Call = register_call Fetch o.read ++ (register_call Fill o.write ++ register_call Fill o.reply) in
+    ap (λ (s : LinkState). with_state s l) (is ∙ in_order_lem l.state (with_held message l.state.send_queue) o (has_ended l.state))
+    ∙ registered_all_lem (with_state (after_held message l.state) l) o.read o.write o.reply
+    ∙ ap (λ (k : LinkSide). after_calls k others) (held l message)
+    ∙ sym (first_call l (Hold message) others)
 
 -- each registration is held
 claim_held : (m : RegisteredMemory) (right : Right) (buf : Option (List ℕ)) → IfSome (claim_if m buf) (IsHeld (with_buffer m right buf))

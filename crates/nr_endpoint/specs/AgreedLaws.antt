@@ -1,5 +1,5 @@
 -- What is agreed on a side, after any calls.
-use Rattle.std.specs.Prelude.{◌≡◌, ℕ, ◌≤◌, Bool, true, false, List, take, Ok}
+use Rattle.std.specs.Prelude.{◌≡◌, ℕ, ◌≤◌, Bool, true, false, List, take, Ok, Option}
 use Rattle.nr_wire.specs.declared.hello.Side.{Side}
 use Rattle.nr_wire.specs.declared.stream.Awaited.TheVariants.{Hello as HelloFrom}
 use Rattle.nr_wire.specs.Stream.{is_whole, frame_len}
@@ -37,7 +37,7 @@ pub record IsAgreed (terms : SideTerms) (side : Side) (fed : List ℕ) (has_hell
 
 -- So it is on a side that was opened with these terms, and fed with the bytes of these calls.
 abbrev pub AgreesByHellos : Type 0
-AgreesByHellos = (side : Side) (receives first_stag : ℕ) (terms : SideTerms) (calls : List Call) →
-    let start = initial_link side receives first_stag terms in
+AgreesByHellos = (side : Side) (receives first_stag : ℕ) (terms : SideTerms) (earlier : Option Agreement) (calls : List Call) →
+    let start = initial_link side receives first_stag terms earlier in
     let s = (after_calls start calls).state in
     IsAgreed terms side (bytes_fed start calls) s.has_hello s.private s.agreed s.message_max s.client

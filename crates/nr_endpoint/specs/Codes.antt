@@ -117,9 +117,9 @@ receive_queue_code =
 
 abbrev pub send_queue_code : Coded SendQueue
 send_queue_code =
-    code_by (List ℕ × (List ℕ × (List ℕ × (List ℕ × (ℕ × (ℕ × ℕ)))))) (coded× (coded_list coded_ℕ) (coded× (coded_list coded_ℕ) (coded× (coded_list coded_ℕ) (coded× (coded_list coded_ℕ) (coded× coded_ℕ (coded× coded_ℕ coded_ℕ))))))
-    (λ q. (q.hello, (q.fpdus, (q.send_ends, (q.response_ends, (q.sends_left, (q.last_send, q.last_request)))))))
-    (λ p. record { hello = p.0; fpdus = p.1.0; send_ends = p.1.1.0; response_ends = p.1.1.1.0; sends_left = p.1.1.1.1.0; last_send = p.1.1.1.1.1.0; last_request = p.1.1.1.1.1.1 }) (λ _. refl)
+    code_by (List ℕ × (List ℕ × (List ℕ × (List ℕ × (ℕ × (ℕ × (ℕ × List (List ℕ)))))))) (coded× (coded_list coded_ℕ) (coded× (coded_list coded_ℕ) (coded× (coded_list coded_ℕ) (coded× (coded_list coded_ℕ) (coded× coded_ℕ (coded× coded_ℕ (coded× coded_ℕ (coded_list (coded_list coded_ℕ)))))))))
+    (λ q. (q.hello, (q.fpdus, (q.send_ends, (q.response_ends, (q.sends_left, (q.last_send, (q.last_request, q.held))))))))
+    (λ p. record { hello = p.0; fpdus = p.1.0; send_ends = p.1.1.0; response_ends = p.1.1.1.0; sends_left = p.1.1.1.1.0; last_send = p.1.1.1.1.1.0; last_request = p.1.1.1.1.1.1.0; held = p.1.1.1.1.1.1.1 }) (λ _. refl)
 
 abbrev pub read_code : Coded ExpectedResponse
 read_code = code_by (ℕ × (ℕ × ℕ)) (coded× coded_ℕ (coded× coded_ℕ coded_ℕ)) (λ r. (r.sink, (r.at, r.left))) (λ p. record { sink = p.0; at = p.1.0; left = p.1.1 }) (λ _. refl)
@@ -132,17 +132,17 @@ agreement_code = code_by (ℕ × (ℕ × Bool)) (coded× coded_ℕ (coded× code
 
 -- what a side says, and what is agreed
 abbrev pub Said : Type 0
-Said = SideTerms × (List ℕ × (Agreement × (ℕ × ℕ)))
+Said = SideTerms × (List ℕ × (Agreement × (ℕ × (ℕ × Option Agreement))))
 
 abbrev pub said_code : Coded Said
-said_code = coded× terms_code (coded× (coded_list coded_ℕ) (coded× agreement_code (coded× coded_ℕ coded_ℕ)))
+said_code = coded× terms_code (coded× (coded_list coded_ℕ) (coded× agreement_code (coded× coded_ℕ (coded× coded_ℕ (coded_option agreement_code)))))
 
 abbrev pub state_code : Coded LinkState
 state_code =
     code_by (Side × (Bool × (ℕ × (ℕ × (Option End × (ReceiveQueue × (List ExpectedResponse × (RegisteredMemory × (SendQueue × Said)))))))))
     (coded× side_code (coded× coded_bool (coded× coded_ℕ (coded× coded_ℕ (coded× (coded_option end_code) (coded× receive_queue_code (coded× (coded_list read_code) (coded× memory_code (coded× send_queue_code said_code)))))))))
-    (λ s. (s.side, (s.has_hello, (s.last, (s.place, (s.ended, (s.receive_queue, (s.reads, (s.memory, (s.send_queue, (s.terms, (s.private, (s.agreed, (s.message_max, s.client))))))))))))))
-    (λ p. record { side = p.0; has_hello = p.1.0; last = p.1.1.0; place = p.1.1.1.0; ended = p.1.1.1.1.0; receive_queue = p.1.1.1.1.1.0; reads = p.1.1.1.1.1.1.0; memory = p.1.1.1.1.1.1.1.0; send_queue = p.1.1.1.1.1.1.1.1.0; terms = p.1.1.1.1.1.1.1.1.1.0; private = p.1.1.1.1.1.1.1.1.1.1.0; agreed = p.1.1.1.1.1.1.1.1.1.1.1.0; message_max = p.1.1.1.1.1.1.1.1.1.1.1.1.0; client = p.1.1.1.1.1.1.1.1.1.1.1.1.1 }) (λ _. refl)
+    (λ s. (s.side, (s.has_hello, (s.last, (s.place, (s.ended, (s.receive_queue, (s.reads, (s.memory, (s.send_queue, (s.terms, (s.private, (s.agreed, (s.message_max, (s.client, s.earlier)))))))))))))))
+    (λ p. record { side = p.0; has_hello = p.1.0; last = p.1.1.0; place = p.1.1.1.0; ended = p.1.1.1.1.0; receive_queue = p.1.1.1.1.1.0; reads = p.1.1.1.1.1.1.0; memory = p.1.1.1.1.1.1.1.0; send_queue = p.1.1.1.1.1.1.1.1.0; terms = p.1.1.1.1.1.1.1.1.1.0; private = p.1.1.1.1.1.1.1.1.1.1.0; agreed = p.1.1.1.1.1.1.1.1.1.1.1.0; message_max = p.1.1.1.1.1.1.1.1.1.1.1.1.0; client = p.1.1.1.1.1.1.1.1.1.1.1.1.1.0; earlier = p.1.1.1.1.1.1.1.1.1.1.1.1.1.1 }) (λ _. refl)
 
 abbrev pub link_code : Coded LinkSide
 link_code =

@@ -14,7 +14,7 @@ use Rattle.nr_endpoint.specs.ReceiveQueue.DeliveredEvent.{ReadDone}
 use Rattle.nr_endpoint.specs.LinkState.{LinkState, LinkSide, has_ended}
 use Rattle.nr_endpoint.specs.Judging.{segment_end, next_frame, next_segment, with_frame}
 use Rattle.nr_endpoint.specs.Calls.{Call, after_call, after_calls}
-use Rattle.nr_endpoint.specs.Calls.Call.{Feed, FeedOne, NextEvent, Post, Stop, OutOfMemory, Send, SendInvalidate, WriteRemote, ReadRemote, Drain, Register, Release, Invalidate}
+use Rattle.nr_endpoint.specs.Calls.Call.{Feed, FeedOne, NextEvent, Post, Stop, OutOfMemory, Send, SendInvalidate, Hold, SendHeld, WriteRemote, ReadRemote, Drain, Register, Release, Invalidate}
 use Rattle.nr_endpoint.specs.Laws.{frames_made_whole, memory_events}
 
 -- what a segment that doesn't end the side delivers: that a read is done, by its last Read Response, or the message that it completes
@@ -56,6 +56,8 @@ call_deliveries link (Stop reason) = []
 call_deliveries link OutOfMemory = []
 call_deliveries link (Send message) = []
 call_deliveries link (SendInvalidate stag message) = []
+call_deliveries link (Hold message) = []
+call_deliveries link (SendHeld message) = []
 call_deliveries link (WriteRemote stag to bytes) = []
 call_deliveries link (ReadRemote sink at stag to len) = []
 call_deliveries link (Drain count) = []
@@ -77,6 +79,8 @@ call_delivers link (Stop reason) = []
 call_delivers link OutOfMemory = []
 call_delivers link (Send message) = []
 call_delivers link (SendInvalidate stag message) = []
+call_delivers link (Hold message) = []
+call_delivers link (SendHeld message) = []
 call_delivers link (WriteRemote stag to bytes) = []
 call_delivers link (ReadRemote sink at stag to len) = []
 call_delivers link (Drain count) = []

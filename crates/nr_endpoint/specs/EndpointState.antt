@@ -8,6 +8,7 @@ use Rattle.std.specs.Ordering.{nat_cmp}
 use Rattle.std.specs.FinMap.{FinMap}
 use Rattle.nr_regions.specs.RegisteredMemory.{Outside, bytes_held, outside_held}
 use Rattle.nr_endpoint.specs.ReceiveQueue.{receives_kept}
+use Rattle.nr_endpoint.specs.SendQueue.{held_len}
 use Rattle.nr_endpoint.specs.LinkState.{LinkState, LinkSide}
 
 pub record EndpointState : Type 0 where
@@ -35,11 +36,11 @@ pub record KeepsStaging (before after : EndpointState) (piece : List ℕ) : Type
       ≡ drop (max (length after.link.rest) (cut_frame_len before.link.awaited before.link.rest piece)) before.staging
   pub len : length after.staging ≡ length before.staging
 
--- How many bytes the receives that are not lent, the regions and the output have; and all byte buffers that are kept, with the staging
--- buffer and the bytes of buffers outside their regions.
+-- How many bytes the receives that are not lent, the regions, the output and the messages that are held back have; and all byte buffers that are
+-- kept, with the staging buffer and the bytes of buffers outside their regions.
 abbrev pub bytes_of : LinkState → ℕ
 bytes_of s =
-    s.receive_queue.receive_length * receives_kept s.receive_queue + bytes_held s.memory + (length s.send_queue.hello + length s.send_queue.fpdus)
+    s.receive_queue.receive_length * receives_kept s.receive_queue + bytes_held s.memory + (length s.send_queue.hello + length s.send_queue.fpdus + held_len s.send_queue.held)
 
 abbrev pub bytes_kept : EndpointState → ℕ
 bytes_kept e = length e.staging + (bytes_of e.link.state + outside_held e.outside)

@@ -1,5 +1,5 @@
 -- What the hello of a side says in its private data, and what is agreed by the hellos of both (RFC 5044 section 7.1; what they say is own).
-use Rattle.std.specs.Prelude.{ℕ, ◌*◌, min, max, Bool, false, List, []}
+use Rattle.std.specs.Prelude.{ℕ, ◌*◌, min, max, Bool, true, false, ◌&&◌, ◌==◌, List, [], Option, None, Some}
 use Rattle.nr_wire.specs.Constants.{UNITS_MAX}
 use Rattle.nr_wire.specs.declared.hello.Side.{Side}
 use Rattle.nr_wire.specs.declared.hello.Side.TheVariants.{Initiator, Responder}
@@ -22,6 +22,11 @@ first_private terms Responder = []
 abbrev pub side_agreement : Side → (own peer_private : List ℕ) → Agreement
 side_agreement Initiator own peer_private = agreement own peer_private
 side_agreement Responder own peer_private = agreement peer_private own
+
+-- whether two hellos to a side, on an earlier link and on this one, agree on the same lengths of Sends
+abbrev pub has_same_sizes : (earlier : Option Agreement) → Agreement → Bool
+has_same_sizes None agreed = true
+has_same_sizes (Some earlier) agreed = earlier.up == agreed.up && earlier.down == agreed.down
 
 -- the maximum length of a message that a side receives, in bytes
 abbrev pub received_max : Side → Agreement → ℕ

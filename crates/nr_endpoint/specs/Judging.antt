@@ -1,6 +1,6 @@
 -- What a frame of the peer makes of a side of a link: it ends the side, or it has its effect (RFC 5040 sections 5 and 7; RFC 5041
 -- sections 5 and 7). Why a segment ends a link is nr_link's definition, with what its access lacks of the regions.
-use Rattle.std.specs.Prelude.{ℕ, ◌+◌, ◌-◌, nat_lt, Bool, true, false, ◌==◌, if◌then◌else◌, List, [], ◌∷◌, length, Option, None, Some, option_and_then, Result, Ok, Err}
+use Rattle.std.specs.Prelude.{ℕ, ◌+◌, ◌-◌, nat_lt, Bool, true, false, ◌==◌, if◌then◌else◌, List, [], ◌∷◌, length, Option, None, Some, option_and_then, Result, Ok, Err, not}
 use Rattle.nr_wire.specs.Constants.{OPCODE_READ_RESPONSE}
 use Rattle.nr_wire.specs.declared.hello.Side.{Side}
 use Rattle.nr_wire.specs.declared.hello.Side.TheVariants.{Initiator, Responder}
@@ -15,13 +15,15 @@ use Rattle.nr_regions.specs.RegisteredMemory.{RegisteredMemory, Access, denial, 
 use Rattle.nr_link.specs.declared.end.End.{End}
 use Rattle.nr_link.specs.declared.end.End.TheVariants as ends
 use Rattle.nr_link.specs.Frames.{Frame}
-use Rattle.nr_link.specs.Output.{hello_with}
+use Rattle.nr_link.specs.Reasons.{REASON_SIZES}
+use Rattle.nr_link.specs.declared.agreement.Agreement.{Agreement}
+use Rattle.nr_link.specs.Output.{hello_with, terminate_message}
 use Rattle.nr_link.specs.ReceiveState.{ReadRequest, read_request_of}
 use Rattle.nr_link.specs.SegmentFaults.{ExpectedResponse, Readiness, segment_reason}
 use Rattle.nr_link.specs.Ending.{access_of, end_of_fault, frame_segment_with}
 use Rattle.nr_endpoint.specs.SendQueue.{SendQueue, with_hello, with_response, with_end}
 use Rattle.nr_endpoint.specs.ReceiveQueue.{with_segment, with_read_done}
-use Rattle.nr_endpoint.specs.Hellos.{own_private, side_agreement, received_max, client_heard, takes_invalidate}
+use Rattle.nr_endpoint.specs.Hellos.{own_private, side_agreement, has_same_sizes, received_max, client_heard, takes_invalidate}
 use Rattle.nr_endpoint.specs.LinkState.{LinkState}
 
 -- ---- What ends the side
@@ -125,11 +127,30 @@ unfoldable pub with_peer_hello : Frame → Result Hello ℕ → LinkState → Li
 with_peer_hello f (Ok hello) s = after_frame f (with_agreement (own_private s.terms s.side hello.private) hello.private s)
 with_peer_hello f (Err reason) s = with_end_of (ends.Bad f.at reason) s
 
+-- what is agreed with a peer whose hello has this private data
+abbrev pub agreed_with : LinkState → (peer_private : List ℕ) → Agreement
+agreed_with s peer_private = side_agreement s.side (own_private s.terms s.side peer_private) peer_private
+
+-- A responder's hello is refused if other lengths of Sends are agreed with it than an earlier link agreed on.
+abbrev pub has_other_sizes : Side → LinkState → (peer_private : List ℕ) → Bool
+has_other_sizes Initiator s peer_private = false
+has_other_sizes Responder s peer_private = not (has_same_sizes s.earlier (agreed_with s peer_private))
+
+-- The side ends for them in its state before the hello. Its Terminate follows its own hello at once, before any FPDU that waits for the peer's
+-- hello (RFC 5044 section 7.1; the reason is own).
+abbrev pub with_other_sizes : Frame → LinkState → LinkState
+with_other_sizes f s = record s { ended = Some (ends.Bad f.at REASON_SIZES); send_queue = with_hello (terminate_message REASON_SIZES) s.send_queue }
+
+abbrev pub with_hello_from : Side → Frame → Result Hello ℕ → LinkState → LinkState
+with_hello_from Initiator f hello s = with_peer_hello f hello s
+with_hello_from Responder f (Err reason) s = with_peer_hello f (Err reason) s
+with_hello_from Responder f (Ok hello) s = if has_other_sizes Responder s hello.private then with_other_sizes f s else with_peer_hello f (Ok hello) s
+
 -- the segment of the next frame
 abbrev pub next_segment : LinkState → List ℕ → Result Segment ℕ
 next_segment s bytes = frame_segment_with (takes_invalidate s.side s.agreed) (next_frame s bytes)
 
 -- after the next frame
 abbrev pub with_frame : LinkState → Awaited → List ℕ → LinkState
-with_frame s (HelloFrom side) bytes = with_peer_hello (next_frame s bytes) (hello_of side bytes) s
+with_frame s (HelloFrom side) bytes = with_hello_from side (next_frame s bytes) (hello_of side bytes) s
 with_frame s Fpdu bytes = with_fpdu (next_frame s bytes) (next_segment s bytes) s

@@ -1,10 +1,11 @@
 -- How long the lists are that a side of a link keeps, beside its byte buffers. The bounds are own.
-use Rattle.std.specs.Prelude.{◌≡◌, ℕ, ◌+◌, ◌≤◌, true, List, [], ◌∷◌, length, is_some}
+use Rattle.std.specs.Prelude.{◌≡◌, ℕ, ◌+◌, ◌≤◌, true, List, [], ◌∷◌, length, is_some, Option}
 use Rattle.std.specs.FinMap.{len}
 use Rattle.nr_wire.specs.declared.hello.Side.{Side}
 use Rattle.nr_regions.specs.RegisteredMemory.{held_region}
 use Rattle.nr_link.specs.Limits.{open_reads_max}
 use Rattle.nr_link.specs.declared.agreement.SideTerms.{SideTerms}
+use Rattle.nr_link.specs.declared.agreement.Agreement.{Agreement}
 use Rattle.nr_endpoint.specs.ReceiveQueue.{messages_in}
 use Rattle.nr_endpoint.specs.LinkState.{LinkState, LinkSide, initial_link}
 use Rattle.nr_endpoint.specs.Calls.{Call, after_call, after_calls}
@@ -21,8 +22,8 @@ pub record ListsFit (s : LinkState) : Type 0 where
 
 -- At most as many Sends wait as there are bytes of FPDUs to write.
 abbrev pub WaitingSendsHaveBytes : Type 0
-WaitingSendsHaveBytes = (side : Side) (receives first_stag : ℕ) (terms : SideTerms) (calls : List Call) →
-    let s = (after_calls (initial_link side receives first_stag terms) calls).state in
+WaitingSendsHaveBytes = (side : Side) (receives first_stag : ℕ) (terms : SideTerms) (earlier : Option Agreement) (calls : List Call) →
+    let s = (after_calls (initial_link side receives first_stag terms earlier) calls).state in
     length s.send_queue.send_ends ≤ length s.send_queue.fpdus
 
 -- whether a call registers a region, and whether it releases one, as a count
@@ -49,6 +50,6 @@ AreHeldReleases link (call ∷ calls) = IsHeldRelease link call × AreHeldReleas
 
 -- The regions that are held are as many as were registered and not released.
 abbrev pub HeldRegionsAreRegistered : Type 0
-HeldRegionsAreRegistered = (side : Side) (receives first_stag : ℕ) (terms : SideTerms) (calls : List Call) → AreHeldReleases (initial_link side receives first_stag terms) calls →
-    let s = (after_calls (initial_link side receives first_stag terms) calls).state in
+HeldRegionsAreRegistered = (side : Side) (receives first_stag : ℕ) (terms : SideTerms) (earlier : Option Agreement) (calls : List Call) → AreHeldReleases (initial_link side receives first_stag terms earlier) calls →
+    let s = (after_calls (initial_link side receives first_stag terms earlier) calls).state in
     len s.memory.held + count_calls released calls ≡ count_calls registered calls

@@ -15,20 +15,21 @@ use Rattle.nr_regions.specs.Events.{MemoryEvent, after_event, after_events, tagg
 use Rattle.nr_regions.specs.Events.MemoryEvent.{Register as RegisterRegion, Release as ReleaseRegion, Invalidate as InvalidateRegion, Arrive}
 use Rattle.nr_link.specs.declared.end.End.{End}
 use Rattle.nr_link.specs.declared.end.End.TheVariants as ends
-use Rattle.nr_link.specs.Reasons.{REASON_SHORT, REASON_LONG}
+use Rattle.nr_link.specs.Reasons.{REASON_SHORT, REASON_LONG, REASON_SIZES}
 use Rattle.nr_link.specs.Frames.{Frame}
 use Rattle.nr_link.specs.Input.{InputState, input_of}
 use Rattle.nr_link.specs.ReceiveState.{ReadRequest, read_request_of}
 use Rattle.nr_link.specs.Ending.{tagged_access, final_output, frame_end_by}
-use Rattle.nr_link.specs.Output.{hello_with, refusing_hello}
+use Rattle.nr_link.specs.Output.{hello_with, refusing_hello, terminate_message}
 use Rattle.nr_link.specs.declared.agreement.SideTerms.{SideTerms}
+use Rattle.nr_link.specs.declared.agreement.Agreement.{Agreement}
 use Rattle.nr_endpoint.specs.SendQueue.{SendQueue, with_response, writable, written}
 use Rattle.nr_endpoint.specs.Hellos.{first_private}
 use Rattle.nr_wire.specs.Hello.{peer}
 use Rattle.nr_endpoint.specs.LinkState.{LinkState, LinkSide, has_ended, initial_link}
 use Rattle.nr_endpoint.specs.Judging.{readiness, segment_end, fetch_access, next_frame, next_segment, with_frame}
 use Rattle.nr_endpoint.specs.Calls.{Call, IsStopReason, after_call, after_calls}
-use Rattle.nr_endpoint.specs.Calls.Call.{Feed, FeedOne, NextEvent, Post, Stop, OutOfMemory, Send, SendInvalidate, WriteRemote, ReadRemote, Drain, Register, Release, Invalidate}
+use Rattle.nr_endpoint.specs.Calls.Call.{Feed, FeedOne, NextEvent, Post, Stop, OutOfMemory, Send, SendInvalidate, Hold, SendHeld, WriteRemote, ReadRemote, Drain, Register, Release, Invalidate}
 
 -- ---- However the stream is cut
 
@@ -53,12 +54,12 @@ EndStays = (link : LinkSide) (piece : List ℕ) → has_ended link.state ≡ tru
 
 -- After any calls a side keeps less than a frame, and a side that has ended keeps no input.
 abbrev pub KeepsLessThanFrame : Type 0
-KeepsLessThanFrame = (side : Side) (receives first_stag : ℕ) (terms : SideTerms) (calls : List Call) →
-    IsPartial (after_calls (initial_link side receives first_stag terms) calls).awaited (after_calls (initial_link side receives first_stag terms) calls).rest
+KeepsLessThanFrame = (side : Side) (receives first_stag : ℕ) (terms : SideTerms) (earlier : Option Agreement) (calls : List Call) →
+    IsPartial (after_calls (initial_link side receives first_stag terms earlier) calls).awaited (after_calls (initial_link side receives first_stag terms earlier) calls).rest
 
 abbrev pub EndedKeepsNothing : Type 0
-EndedKeepsNothing = (side : Side) (receives first_stag : ℕ) (terms : SideTerms) (calls : List Call) →
-    has_ended (after_calls (initial_link side receives first_stag terms) calls).state ≡ true → (after_calls (initial_link side receives first_stag terms) calls).rest ≡ []
+EndedKeepsNothing = (side : Side) (receives first_stag : ℕ) (terms : SideTerms) (earlier : Option Agreement) (calls : List Call) →
+    has_ended (after_calls (initial_link side receives first_stag terms earlier) calls).state ≡ true → (after_calls (initial_link side receives first_stag terms earlier) calls).rest ≡ []
 
 -- ---- What is kept of the stream
 
@@ -72,6 +73,8 @@ bytes_in_call link (Stop reason) = []
 bytes_in_call link OutOfMemory = []
 bytes_in_call link (Send message) = []
 bytes_in_call link (SendInvalidate stag message) = []
+bytes_in_call link (Hold message) = []
+bytes_in_call link (SendHeld message) = []
 bytes_in_call link (WriteRemote stag to bytes) = []
 bytes_in_call link (ReadRemote sink at stag to len) = []
 bytes_in_call link (Drain count) = []
@@ -90,14 +93,14 @@ pub record KeepsInput (link : LinkSide) (input : InputState) : Type 0 where
 
 -- Until a side has ended, it keeps the rest of the bytes that were fed after their complete frames; its offset is the end of these.
 abbrev pub StreamIsKept : Type 0
-StreamIsKept = (side : Side) (receives first_stag : ℕ) (terms : SideTerms) (calls : List Call) →
-    let start = initial_link side receives first_stag terms in
+StreamIsKept = (side : Side) (receives first_stag : ℕ) (terms : SideTerms) (earlier : Option Agreement) (calls : List Call) →
+    let start = initial_link side receives first_stag terms earlier in
     has_ended (after_calls start calls).state ≡ false → KeepsInput (after_calls start calls) (input_of (peer side) (bytes_fed start calls))
 
 -- Ended or not, its offset and what it keeps are no more than the bytes that were fed.
 abbrev pub PlaceIsFed : Type 0
-PlaceIsFed = (side : Side) (receives first_stag : ℕ) (terms : SideTerms) (calls : List Call) →
-    let start = initial_link side receives first_stag terms in
+PlaceIsFed = (side : Side) (receives first_stag : ℕ) (terms : SideTerms) (earlier : Option Agreement) (calls : List Call) →
+    let start = initial_link side receives first_stag terms earlier in
     let link = after_calls start calls in
     link.state.place + length link.rest ≤ length (bytes_fed start calls)
 
@@ -135,6 +138,8 @@ call_events link (Stop reason) = []
 call_events link OutOfMemory = []
 call_events link (Send message) = []
 call_events link (SendInvalidate stag message) = []
+call_events link (Hold message) = []
+call_events link (SendHeld message) = []
 call_events link (WriteRemote stag to bytes) = []
 call_events link (ReadRemote sink at stag to len) = []
 call_events link (Drain count) = []
@@ -203,10 +208,15 @@ abbrev pub final_fpdus : Option End → List ℕ
 final_fpdus None = []
 final_fpdus (Some end) = final_output end
 
+-- What a side queues last is an FPDU more after the others, or after its hello.
+abbrev pub QueuesLast : LinkState → LinkState → Type 0
+QueuesLast s after =
+    (after.send_queue.fpdus ≡ s.send_queue.fpdus ++ final_fpdus after.ended)
+    ⊎ ((after.send_queue.fpdus ≡ s.send_queue.fpdus) × (after.send_queue.hello ≡ s.send_queue.hello ++ final_fpdus after.ended))
+
 -- Any other frame queues no FPDU but the one with which the side ends.
 abbrev pub NothingElseIsRead : Type 0
-NothingElseIsRead = (s : LinkState) (a : Awaited) (frame : List ℕ) → s.ended ≡ None →
-    IsAllowedRead s a frame ⊎ ((with_frame s a frame).send_queue.fpdus ≡ s.send_queue.fpdus ++ final_fpdus (with_frame s a frame).ended)
+NothingElseIsRead = (s : LinkState) (a : Awaited) (frame : List ℕ) → s.ended ≡ None → IsAllowedRead s a frame ⊎ QueuesLast s (with_frame s a frame)
 
 -- A frame that isn't a Read Request, and doesn't end the side, leaves what there is to write as it was.
 abbrev pub OtherFramesQueueNothing : Type 0
@@ -266,6 +276,8 @@ MayBeCalled link (Stop reason) = 0 < link.state.place
 MayBeCalled link OutOfMemory = Unit {0}
 MayBeCalled link (Send message) = Unit {0}
 MayBeCalled link (SendInvalidate stag message) = Unit {0}
+MayBeCalled link (Hold message) = Unit {0}
+MayBeCalled link (SendHeld message) = Unit {0}
 MayBeCalled link (WriteRemote stag to bytes) = Unit {0}
 MayBeCalled link (ReadRemote sink at stag to len) = Unit {0}
 MayBeCalled link (Drain count) = Unit {0}
@@ -287,6 +299,8 @@ bytes_drained link (Stop reason) = []
 bytes_drained link OutOfMemory = []
 bytes_drained link (Send message) = []
 bytes_drained link (SendInvalidate stag message) = []
+bytes_drained link (Hold message) = []
+bytes_drained link (SendHeld message) = []
 bytes_drained link (WriteRemote stag to bytes) = []
 bytes_drained link (ReadRemote sink at stag to len) = []
 bytes_drained link (Drain count) = take count (writable link.state.has_hello link.state.send_queue)
@@ -298,23 +312,30 @@ abbrev pub bytes_written : LinkSide → List Call → List ℕ
 bytes_written link [] = []
 bytes_written link (call ∷ calls) = bytes_drained link call ++ bytes_written (after_call link call) calls
 
--- An initiator writes its hello, and a responder nothing but the hello by which it rejects a connection and ends (RFC 5044 section 7.1).
+-- An initiator writes its hello, and after it the Terminate with which it ends, if it refuses the lengths of Sends that the peer's hello agrees on. A
+-- responder writes nothing but the hello by which it rejects a connection and ends (RFC 5044 section 7.1).
 abbrev pub IsHelloAlone : Side → SideTerms → Bool → List ℕ → Type 0
-IsHelloAlone Initiator terms ended bytes = bytes ≡ hello_with Initiator (first_private terms Initiator)
+IsHelloAlone Initiator terms ended bytes =
+    (bytes ≡ hello_with Initiator (first_private terms Initiator))
+    ⊎ ((ended ≡ true) × (bytes ≡ hello_with Initiator (first_private terms Initiator) ++ terminate_message REASON_SIZES))
 IsHelloAlone Responder terms ended bytes = (bytes ≡ []) ⊎ ((ended ≡ true) × (bytes ≡ refusing_hello))
 
 -- Until the peer's hello was accepted, that is all that was written and that may be written.
 abbrev pub NoFpduBeforeHello : Type 0
-NoFpduBeforeHello = (side : Side) (receives first_stag : ℕ) (terms : SideTerms) (calls : List Call) → MayAllBeCalled (initial_link side receives first_stag terms) calls →
-    let start = initial_link side receives first_stag terms in
+NoFpduBeforeHello = (side : Side) (receives first_stag : ℕ) (terms : SideTerms) (earlier : Option Agreement) (calls : List Call) → MayAllBeCalled (initial_link side receives first_stag terms earlier) calls →
+    let start = initial_link side receives first_stag terms earlier in
     let s = (after_calls start calls).state in
     s.has_hello ≡ false → IsHelloAlone side terms (has_ended s) (bytes_written start calls ++ writable s.has_hello s.send_queue)
 
 -- ---- Why a side ends
 
--- the reasons for which a frame ends a side: of a hello, and of an FPDU
+-- the reasons for which a frame ends a side: of a hello, of a responder's hello by what an earlier one agreed on, and of an FPDU
+abbrev pub IsHelloReason : ℕ → Type 0
+IsHelloReason reason = (REASON_KEY ≤ reason) × (reason ≤ REASON_PRIVATE)
+
 abbrev pub IsFrameReason : Awaited → ℕ → Type 0
-IsFrameReason (HelloFrom side) reason = (REASON_KEY ≤ reason) × (reason ≤ REASON_PRIVATE)
+IsFrameReason (HelloFrom Initiator) reason = IsHelloReason reason
+IsFrameReason (HelloFrom Responder) reason = IsHelloReason reason ⊎ (reason ≡ REASON_SIZES)
 IsFrameReason Fpdu reason = ((REASON_LENGTH ≤ reason) × (reason ≤ REASON_SHORT)) ⊎ (reason ≡ REASON_LONG)
 
 -- how a frame at this offset ends a side, which is never that memory ran out
@@ -334,12 +355,12 @@ NoFrameStops = (a : Awaited) (reason : ℕ) → IsFrameReason a reason → IsSto
 
 -- So a side that ended for such a reason was stopped for it, and a side that ended out of memory ran out of it.
 abbrev pub OthersComeFromStop : Type 0
-OthersComeFromStop = (side : Side) (receives first_stag : ℕ) (terms : SideTerms) (calls : List Call) (at reason : ℕ) →
-    (after_calls (initial_link side receives first_stag terms) calls).state.ended ≡ Some (ends.Bad at reason) → IsStopReason reason → Contains calls (Stop reason)
+OthersComeFromStop = (side : Side) (receives first_stag : ℕ) (terms : SideTerms) (earlier : Option Agreement) (calls : List Call) (at reason : ℕ) →
+    (after_calls (initial_link side receives first_stag terms earlier) calls).state.ended ≡ Some (ends.Bad at reason) → IsStopReason reason → Contains calls (Stop reason)
 
 abbrev pub MemoryComesFromOutOfMemory : Type 0
-MemoryComesFromOutOfMemory = (side : Side) (receives first_stag : ℕ) (terms : SideTerms) (calls : List Call) →
-    (after_calls (initial_link side receives first_stag terms) calls).state.ended ≡ Some ends.Memory → Contains calls OutOfMemory
+MemoryComesFromOutOfMemory = (side : Side) (receives first_stag : ℕ) (terms : SideTerms) (earlier : Option Agreement) (calls : List Call) →
+    (after_calls (initial_link side receives first_stag terms earlier) calls).state.ended ≡ Some ends.Memory → Contains calls OutOfMemory
 
 -- Grants deny what the memory denies, of each access of a frame that ends here.
 abbrev pub DeniesAlike : RegisteredMemory → List Grant → ℕ → Type 0
@@ -367,6 +388,8 @@ queue_drained (Stop reason) q = q
 queue_drained OutOfMemory q = q
 queue_drained (Send message) q = q
 queue_drained (SendInvalidate stag message) q = q
+queue_drained (Hold message) q = q
+queue_drained (SendHeld message) q = q
 queue_drained (WriteRemote stag to bytes) q = q
 queue_drained (ReadRemote sink at stag to len) q = q
 queue_drained (Drain count) q = written count q

@@ -1,5 +1,5 @@
 -- The state of one side of a link, with its registered memory.
-use Rattle.std.specs.Prelude.{ℕ, Bool, false, List, [], Option, None, is_some}
+use Rattle.std.specs.Prelude.{ℕ, Bool, false, if◌then◌else◌, List, [], Option, None, Some, is_some}
 use Rattle.nr_wire.specs.declared.hello.Side.{Side}
 use Rattle.nr_wire.specs.Hello.{peer}
 use Rattle.nr_wire.specs.declared.stream.Awaited.TheVariants.{Hello as HelloFrom}
@@ -19,7 +19,8 @@ use Rattle.nr_endpoint.specs.ReceiveQueue.{ReceiveQueue, initial_receives}
 -- it, in bytes. Why the side ended, once it has. What came, and what has to be written. The Read Requests that are open, the oldest first,
 -- each with the offset in its own region at which its response continues, and how many bytes are left. The regions. What its hello says: the
 -- terms with which it was opened, and the private data that it has said. What is agreed with the peer, and the maximum length of
--- a message of the peer in bytes. The number of the link's client, or 0 if it has none or wasn't heard of yet.
+-- a message of the peer in bytes. The number of the link's client, or 0 if it has none or wasn't heard of yet. What the last hello to this side on
+-- an earlier link agreed on, if there was one.
 pub record LinkState : Type 0 where
   pub side : Side
   pub has_hello : Bool
@@ -35,14 +36,15 @@ pub record LinkState : Type 0 where
   pub agreed : Agreement
   pub message_max : ℕ
   pub client : ℕ
+  pub earlier : Option Agreement
 
 abbrev pub has_ended : LinkState → Bool
 has_ended s = is_some s.ended
 
--- What a side was opened with: the number of receives, the STag that its first region gets, and its terms. Until the peer's hello was accepted
--- one unit is agreed in each direction.
-abbrev pub initial_state : Side → ℕ → ℕ → SideTerms → LinkState
-initial_state side receives first_stag terms = record {
+-- What a side was opened with: the number of receives, the STag that its first region gets, its terms, and what was agreed on an earlier link. Until
+-- the peer's hello was accepted one unit is agreed in each direction.
+abbrev pub initial_state : Side → ℕ → ℕ → SideTerms → (earlier : Option Agreement) → LinkState
+initial_state side receives first_stag terms earlier = record {
   side = side;
   has_hello = false;
   last = 0;
@@ -57,11 +59,16 @@ initial_state side receives first_stag terms = record {
   agreed = default_agreement;
   message_max = send_unit;
   client = first_client terms side;
+  earlier = earlier;
 }
 
 -- a side between two pieces of the peer's stream: the kind of the frame that comes next, and the bytes of it so far
 abbrev pub LinkSide : Type 0
 LinkSide = Feeding LinkState
 
-unfoldable pub initial_link : Side → ℕ → ℕ → SideTerms → LinkSide
-initial_link side receives first_stag terms = record { awaited = HelloFrom (peer side); rest = []; state = initial_state side receives first_stag terms }
+unfoldable pub initial_link : Side → ℕ → ℕ → SideTerms → (earlier : Option Agreement) → LinkSide
+initial_link side receives first_stag terms earlier = record { awaited = HelloFrom (peer side); rest = []; state = initial_state side receives first_stag terms earlier }
+
+-- what the last hello to a side agreed on, on this link or on an earlier one
+abbrev pub last_agreed : LinkState → Option Agreement
+last_agreed s = if s.has_hello then Some s.agreed else s.earlier

@@ -10,10 +10,10 @@ use Rattle.nr_endpoint.specs.declared.offering.Offered.{Offered}
 use Rattle.nr_endpoint.specs.declared.offering.Claims.{Claims}
 use Rattle.nr_endpoint.specs.declared.framing.RemoteWrite.{RemoteWrite}
 use Rattle.nr_endpoint.specs.declared.sharing.SharedWrite.{SharedWrite}
-use Rattle.nr_endpoint.specs.SendQueue.{with_send, with_send_by, with_fpdus}
+use Rattle.nr_endpoint.specs.SendQueue.{with_send, with_send_by, with_held, with_fpdus}
 use Rattle.nr_endpoint.specs.LinkState.{LinkState, has_ended}
 use Rattle.nr_endpoint.specs.Calls.{Call, unless_ended}
-use Rattle.nr_endpoint.specs.Calls.Call.{Send, SendInvalidate, WriteRemote, Register}
+use Rattle.nr_endpoint.specs.Calls.Call.{Send, SendInvalidate, Hold, WriteRemote, Register}
 
 -- ---- A Send and the buffers that it offers
 
@@ -71,6 +71,16 @@ abbrev pub after_offer : List ℕ → Offered → LinkState → LinkState
 after_offer message o s = record s {
   memory = with_offered s.memory o;
   send_queue = if has_ended s then s.send_queue else with_send message s.send_queue;
+}
+
+-- the same with a Send that is held back
+abbrev pub hold_calls : List ℕ → Offered → List Call
+hold_calls message o = Hold message ∷ (register_call Fetch o.read ++ (register_call Fill o.write ++ register_call Fill o.reply))
+
+abbrev pub after_hold : List ℕ → Offered → LinkState → LinkState
+after_hold message o s = record s {
+  memory = with_offered s.memory o;
+  send_queue = if has_ended s then s.send_queue else with_held message s.send_queue;
 }
 
 -- ---- RDMA Writes and a Send, which names an STag or none

@@ -9,7 +9,7 @@ use Rattle.nr_link.specs.Ending.{final_output, rejection}
 
 -- The bytes of the hello and of the FPDUs that weren't written yet. For each Send and for each Read Response among the FPDUs, in
 -- order, the number of bytes of them up to its end. How many Sends were written completely. The numbers of the last Send and of
--- the last Read Request, modulo 2 ^ 32.
+-- the last Read Request, modulo 2 ^ 32. The messages of Sends that are held back, in the order in which they will be queued.
 pub record SendQueue : Type 0 where
   pub hello : List ℕ
   pub fpdus : List ℕ
@@ -18,6 +18,12 @@ pub record SendQueue : Type 0 where
   pub sends_left : ℕ
   pub last_send : ℕ
   pub last_request : ℕ
+  pub held : List (List ℕ)
+
+-- how many bytes the messages have that are held back
+abbrev pub held_len : List (List ℕ) → ℕ
+held_len [] = 0
+held_len (message ∷ held) = length message + held_len held
 
 -- how many bytes of output it has
 abbrev pub output_len : SendQueue → ℕ
@@ -29,7 +35,7 @@ first_hello Initiator private = hello_with Initiator private
 first_hello Responder private = []
 
 abbrev pub initial_queue : Side → (private : List ℕ) → SendQueue
-initial_queue side private = record { hello = first_hello side private; fpdus = []; send_ends = []; response_ends = []; sends_left = 0; last_send = 0; last_request = 0 }
+initial_queue side private = record { hello = first_hello side private; fpdus = []; send_ends = []; response_ends = []; sends_left = 0; last_send = 0; last_request = 0; held = [] }
 
 -- the number after another (RFC 5041 section 4.3)
 abbrev pub next_number : ℕ → ℕ
@@ -56,6 +62,18 @@ with_send_by named message q = record q {
 
 abbrev pub with_send : List ℕ → SendQueue → SendQueue
 with_send message q = with_send_by None message q
+
+-- a message is held back; and the first one that is held is queued
+abbrev pub with_held : List ℕ → SendQueue → SendQueue
+with_held message q = record q { held = q.held ++ message ∷ [] }
+
+abbrev pub with_held_sent : List ℕ → SendQueue → SendQueue
+with_held_sent message q = record q {
+  fpdus = q.fpdus ++ send_output q None message;
+  send_ends = q.send_ends ++ length (q.fpdus ++ send_output q None message) ∷ [];
+  last_send = next_number q.last_send;
+  held = drop 1 q.held;
+}
 
 -- an RDMA Write of some bytes into the peer's region, from `to` on
 abbrev pub with_write : (stag to : ℕ) → List ℕ → SendQueue → SendQueue

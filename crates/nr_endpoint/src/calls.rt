@@ -1,7 +1,7 @@
 //! The calls of an endpoint's owner.
 
-ghost use Rattle.nr_endpoint.specs.LinkState.{has_ended};
-ghost use Rattle.std.specs.Prelude.{false, ◌≡◌, ◌≢◌, ℕ, ◌+◌, ◌-◌, ◌*◌, ◌^◌, ◌<◌, ◌≤◌, ◌↔◌, ◌++◌, length, take, None, Some, is_some, Ok, IfOk, OnOk, IfErr, OnErr, IsOk, IsErrAnd, IfSome, MatchResult, option_to_list, option_map, if◌then◌else◌, true, nat_lt};
+ghost use Rattle.nr_endpoint.specs.LinkState.{has_ended, last_agreed};
+ghost use Rattle.std.specs.Prelude.{false, ◌≡◌, ◌≢◌, ℕ, List, ◌+◌, ◌-◌, ◌*◌, ◌^◌, ◌<◌, ◌≤◌, ◌↔◌, [], ◌∷◌, ◌++◌, length, take, None, Some, is_some, Ok, IfOk, OnOk, IfErr, OnErr, IsOk, IsErrAnd, IfSome, MatchResult, option_to_list, option_map, if◌then◌else◌, true, nat_lt};
 ghost use Rattle.std.specs.Io.KnownBytes.{Appends};
 ghost use Rattle.nr_outside.specs.Faults.{Rises};
 ghost use Rattle.std.specs.FinMap.{get, insert, remove};
@@ -14,9 +14,9 @@ ghost use Rattle.nr_link.specs.Limits.{open_reads_max};
 ghost use Rattle.nr_endpoint.specs.Hellos.{receive_length_for};
 ghost use Rattle.nr_endpoint.specs.declared.fault.ReadRefused.TheVariants as refusals;
 ghost use Rattle.nr_endpoint.specs.declared.fault.DrainFault.TheVariants as drains;
-ghost use Rattle.nr_endpoint.specs.SendQueue.{writable, output_len};
+ghost use Rattle.nr_endpoint.specs.SendQueue.{held_len, writable, output_len};
 ghost use Rattle.nr_endpoint.specs.Calls.{after_call, IsStopReason, StandsOn};
-ghost use Rattle.nr_endpoint.specs.Calls.Call.{NextEvent, Post, Stop, OutOfMemory, Send, SendInvalidate, WriteRemote, ReadRemote, Drain, Register, Release, Invalidate};
+ghost use Rattle.nr_endpoint.specs.Calls.Call.{NextEvent, Post, Stop, OutOfMemory, Send, SendInvalidate, Hold, SendHeld, WriteRemote, ReadRemote, Drain, Register, Release, Invalidate};
 ghost use Rattle.nr_endpoint.specs.EndpointState.{bytes_kept};
 ghost use Rattle.nr_wire.specs.Constants.{FPDU_MAX};
 ghost use Rattle.nr_endpoint.specs.Receives.{HasBuffer};
@@ -26,7 +26,7 @@ ghost use Rattle.nr_link.specs.SegmentFaults.{is_begun};
 use crate::endpoint::Endpoint;
 use crate::event::Event;
 use crate::fault::{DrainFault, ReadRefused};
-use nr_link::{End, SideTerms};
+use nr_link::{Agreement, End, SideTerms};
 use nr_outside::Sink;
 use nr_regions::{Denied, Regions, Registration, Right, Why};
 use nr_xdr::{Memory, Octets};
@@ -39,6 +39,18 @@ impl Endpoint {
         ensures down { result.1 ≡ self.now.link.state.agreed.down }
     {
         (self.link.agreed.up, self.link.agreed.down)
+    }
+
+    /// What the last hello to this side agreed on, on this link or on an earlier one ([`Endpoint::open_again`]); `None` if no hello was accepted
+    /// yet. Takes no memory.
+    pub fn last_agreed(&self) -> Option<Agreement>
+        ensures { result ≡ last_agreed self.now.link.state }
+    {
+        if self.link.has_hello {
+            Some(self.link.agreed)
+        } else {
+            self.link.earlier
+        }
     }
 
     /// Whether the hellos of both sides agree on Sends with Invalidate (RFC 5040 section 4.7). Takes no memory.
@@ -176,6 +188,39 @@ impl Endpoint {
         ensures staging { self.new.staging ≡ self.old.staging }
     {
         self.link.send_parts(None, front, stream)
+    }
+
+    /// Holds a Send back: [`Endpoint::send_held`] queues it later, and then takes no memory. If the side has ended, it holds nothing. An `Err`
+    /// changes nothing.
+    pub fn hold(&mut self, message: Octets) -> Result<(), Memory>
+        requires { length message < 2 ^ 32 }
+        ensures state { OnOk result (self.new.link ≡ after_call self.old.link (Hold message)) }
+        ensures stands { OnOk result (StandsOn self.old.link (Hold message) self.new.link) }
+        ensures room { self.new.room ≡ self.old.room }
+        ensures outside { self.new.outside ≡ self.old.outside }
+        ensures err { OnErr result (self.new.link ≡ self.old.link) }
+        ensures staging { self.new.staging ≡ self.old.staging }
+    {
+        self.link.hold(message)
+    }
+
+    /// Queues the first Send that is held back, if one is, with the next message number. If the side has ended, it queues nothing. Takes no memory.
+    pub fn send_held(&mut self)
+        ensures state { (message : List ℕ) (others : List (List ℕ)) → self.old.link.state.send_queue.held ≡ message ∷ others → self.new.link ≡ after_call self.old.link (SendHeld message) }
+        ensures stands { (message : List ℕ) (others : List (List ℕ)) → self.old.link.state.send_queue.held ≡ message ∷ others → StandsOn self.old.link (SendHeld message) self.new.link }
+        ensures none { self.old.link.state.send_queue.held ≡ [] → self.new.link ≡ self.old.link }
+        ensures room { self.new.room ≡ self.old.room }
+        ensures outside { self.new.outside ≡ self.old.outside }
+        ensures staging { self.new.staging ≡ self.old.staging }
+    {
+        self.link.send_held();
+    }
+
+    /// How many Sends are held back. Takes no memory.
+    pub fn sends_held(&self) -> usize
+        ensures { result ≡ length self.now.link.state.send_queue.held }
+    {
+        self.link.send_queue.sends_held()
     }
 
     /// Queues an RDMA Write of some bytes into the peer's region, from byte `to` on. If the side has ended, it queues nothing. An `Err` changes
@@ -441,11 +486,11 @@ impl Endpoint {
     }
 
     /// How many bytes all byte buffers have that are kept: the staging buffer, the receives that are not lent, the complete buffers of the
-    /// regions, and the output.
+    /// regions, the output, and the messages that are held back.
     pub fn held(&self) -> u128
         ensures is { result ≡ bytes_kept self.now }
         ensures bound { result ≤ FPDU_MAX + self.now.link.state.receive_queue.receive_length * self.now.link.state.receive_queue.receives + bytes_held self.now.link.state.memory
-            + outside_held self.now.outside + length self.now.link.state.send_queue.hello + length self.now.link.state.send_queue.fpdus }
+            + outside_held self.now.outside + length self.now.link.state.send_queue.hello + length self.now.link.state.send_queue.fpdus + held_len self.now.link.state.send_queue.held }
         ensures most { result ≤ 2 ^ 127 + 2 ^ 64 }
     {
         self.staging.len() as u128 + self.link.held()

@@ -5,6 +5,7 @@ ghost use Rattle.std.specs.Result.{result_err};
 ghost use Rattle.std.specs.FinMap.{empty};
 ghost use Rattle.nr_wire.specs.Feeding.{bytes_taken};
 ghost use Rattle.nr_wire.specs.Stream.{bytes_needed, IsPartial};
+ghost use Rattle.nr_wire.specs.declared.hello.Side.TheVariants.{Initiator};
 ghost use Rattle.nr_link.specs.declared.end.End.TheVariants as ends;
 ghost use Rattle.nr_endpoint.specs.LinkState.{initial_link, has_ended};
 ghost use Rattle.nr_endpoint.specs.Calls.{after_call, after_calls, RepresentsCalls, StandsOn, StandsOnAll, IsStep, RanOutAt, QueuesOutput, makes_whole};
@@ -16,7 +17,7 @@ ghost use Rattle.nr_link.specs.Limits.{open_reads_max};
 
 use crate::link::LinkSide;
 use crate::staging::{stage_frame, whole_in_piece};
-use nr_link::{End, SideTerms};
+use nr_link::{Agreement, End, SideTerms};
 use nr_wire::constants::FPDU_MAX;
 use nr_wire::{Awaited, Side, bytes_needed, whole_frame};
 use nr_xdr::Memory;
@@ -59,13 +60,52 @@ impl Endpoint {
         terms: SideTerms,
     ) -> Result<Endpoint, Memory>
         requires { 0 < first_stag }
-        ensures state { IfOk result (λ e. e.link ≡ initial_link side receives first_stag terms) }
+        ensures state { IfOk result (λ e. e.link ≡ initial_link side receives first_stag terms None) }
         ensures staging { IfOk result (λ e. length e.staging ≡ FPDU_MAX) }
         ensures outside { IfOk result (λ e. e.outside ≡ empty) }
-        ensures stands { IfOk result (λ e. RepresentsCalls (initial_link side receives first_stag terms) [] e.link) }
+        ensures stands { IfOk result (λ e. RepresentsCalls (initial_link side receives first_stag terms None) [] e.link) }
+    {
+        let first_stag = u64::from(first_stag);
+        Endpoint::with_earlier(alloc, side, receives, first_stag, terms, None)
+    }
+
+    /// An initiator of a next link, with what the last hello to it on an earlier link agreed on, if there was one
+    /// ([`Endpoint::last_agreed`]): a hello by which other lengths of Sends are agreed on ends it, with reason 31 (own). Its first region gets
+    /// this STag, from 1 on; 2^32 means that none is left.
+    pub fn open_again(
+        alloc: Global,
+        receives: u32,
+        first_stag: u64,
+        terms: SideTerms,
+        earlier: Option<Agreement>,
+    ) -> Result<Endpoint, Memory>
+        requires some { 0 < first_stag }
+        requires most { first_stag ≤ 2 ^ 32 }
+        ensures state { IfOk result (λ e. e.link ≡ initial_link Initiator receives first_stag terms earlier) }
+        ensures staging { IfOk result (λ e. length e.staging ≡ FPDU_MAX) }
+        ensures outside { IfOk result (λ e. e.outside ≡ empty) }
+        ensures stands { IfOk result (λ e. RepresentsCalls (initial_link Initiator receives first_stag terms earlier) [] e.link) }
+    {
+        Endpoint::with_earlier(alloc, Side::Initiator, receives, first_stag, terms, earlier)
+    }
+
+    fn with_earlier(
+        alloc: Global,
+        side: Side,
+        receives: u32,
+        first_stag: u64,
+        terms: SideTerms,
+        earlier: Option<Agreement>,
+    ) -> Result<Endpoint, Memory>
+        requires some { 0 < first_stag }
+        requires most { first_stag ≤ 2 ^ 32 }
+        ensures state { IfOk result (λ e. e.link ≡ initial_link side receives first_stag terms earlier) }
+        ensures staging { IfOk result (λ e. length e.staging ≡ FPDU_MAX) }
+        ensures outside { IfOk result (λ e. e.outside ≡ empty) }
+        ensures stands { IfOk result (λ e. RepresentsCalls (initial_link side receives first_stag terms earlier) [] e.link) }
     {
         Ok(Endpoint {
-            link: LinkSide::new(alloc, side, receives, first_stag, terms)?,
+            link: LinkSide::new(alloc, side, receives, first_stag, terms, earlier)?,
             awaited: Awaited::Hello(side.peer()),
             staging: vec![in alloc; 0u8; FPDU_MAX]?,
             staged: 0,

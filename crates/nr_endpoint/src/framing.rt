@@ -128,6 +128,7 @@ pub fn append_segment(out: &mut Output, segment: &Segment)
     requires room { length (payload_in (plain segment.now)) + FRAMING_MAX ≤ out.old.spare }
     ensures bytes { out.new.items ≡ out.old.items ++ encoding (plain segment.now) }
     ensures spare { out.old.spare ≤ out.new.spare + (length (payload_in (plain segment.now)) + FRAMING_MAX) }
+    ensures kept { out.new.kept ≡ out.old.kept }
 {
     out.append(segment_header(segment).as_slice());
     out.append(payload_in(segment));
@@ -139,6 +140,7 @@ pub fn push_segment(out: &mut Output, segment: &Segment) -> Result<(), Memory>
     requires { IsWritable (plain segment.now) }
     ensures ok { OnOk result (out.new.items ≡ out.old.items ++ encoding (plain segment.now)) }
     ensures err { OnErr result (out.new.items ≡ out.old.items) }
+    ensures kept { out.new.kept ≡ out.old.kept }
 {
     out.reserve(payload_in(segment).len() + FRAMING_MAX)?;
     append_segment(out, segment);
@@ -168,6 +170,7 @@ pub fn append_segments(out: &mut Output, operation: Operation, bytes: &[u8])
     requires room { cut_room FRAMING_MAX bytes.now ≤ out.old.spare }
     ensures bytes { out.new.items ≡ out.old.items ++ cut (operation_segment operation) bytes.now }
     ensures spare { out.old.spare ≤ out.new.spare + cut_room FRAMING_MAX bytes.now }
+    ensures kept { out.new.kept ≡ out.old.kept }
 {
     let count = segment_count(bytes);
     for i in 0..count {
@@ -191,6 +194,7 @@ pub fn push_cut(out: &mut Output, operation: Operation, bytes: &[u8]) -> Result<
     requires { FitsOperation operation (length bytes.now) }
     ensures ok { OnOk result (out.new.items ≡ out.old.items ++ cut (operation_segment operation) bytes.now) }
     ensures err { OnErr result (out.new.items ≡ out.old.items) }
+    ensures kept { out.new.kept ≡ out.old.kept }
 {
     out.reserve(cut_room(bytes))?;
     append_segments(out, operation, bytes);
@@ -201,7 +205,8 @@ pub fn push_cut(out: &mut Output, operation: Operation, bytes: &[u8]) -> Result<
 fn append_send(out: &mut Output, named: Option<u32>, msn: u32, front: &[u8], stream: &[u8])
     requires size { length front.now + length stream.now ≤ SEGMENT_MAX }
     requires room { length front.now + length stream.now + FRAMING_MAX ≤ out.old.spare }
-    ensures { out.new.items ≡ out.old.items ++ cut (operation_segment (sender named msn)) (front.now ++ stream.now) }
+    ensures bytes { out.new.items ≡ out.old.items ++ cut (operation_segment (sender named msn)) (front.now ++ stream.now) }
+    ensures kept { out.new.kept ≡ out.old.kept }
 {
     let len = front.len() + stream.len();
     let (opcode, word) = send_opening(named);
@@ -223,6 +228,7 @@ pub fn push_send(
     requires { length front.now + length stream.now ≤ SEGMENT_MAX }
     ensures ok { OnOk result (out.new.items ≡ out.old.items ++ cut (operation_segment (sender named msn)) (front.now ++ stream.now)) }
     ensures err { OnErr result (out.new.items ≡ out.old.items) }
+    ensures kept { out.new.kept ≡ out.old.kept }
 {
     out.reserve(front.len() + stream.len() + FRAMING_MAX)?;
     append_send(out, named, msn, front, stream);
@@ -250,6 +256,7 @@ fn append_writes(out: &mut Output, writes: &[RemoteWrite<'_>])
     requires room { writes_room FRAMING_MAX writes.now ≤ out.old.spare }
     ensures bytes { out.new.items ≡ out.old.items ++ writes_output writes.now }
     ensures spare { out.old.spare ≤ out.new.spare + writes_room FRAMING_MAX writes.now }
+    ensures kept { out.new.kept ≡ out.old.kept }
 {
     for write in writes {
         append_segments(
@@ -277,6 +284,7 @@ pub fn push_answer(
     requires size { length front.now + length stream.now ≤ SEGMENT_MAX }
     ensures ok { OnOk result (out.new.items ≡ (out.old.items ++ writes_output writes.now) ++ cut (operation_segment (sender named msn)) (front.now ++ stream.now)) }
     ensures err { OnErr result (out.new.items ≡ out.old.items) }
+    ensures kept { out.new.kept ≡ out.old.kept }
 {
     let room = writes_room(writes, front.len() + stream.len() + FRAMING_MAX)?;
     out.reserve(room)?;
@@ -297,6 +305,7 @@ pub fn push_long_answer(
     requires size { length message.now < 2 ^ 32 }
     ensures ok { OnOk result (out.new.items ≡ (out.old.items ++ writes_output writes.now) ++ cut (operation_segment (sender named msn)) message.now) }
     ensures err { OnErr result (out.new.items ≡ out.old.items) }
+    ensures kept { out.new.kept ≡ out.old.kept }
 {
     let room = writes_room(writes, cut_room(message))?;
     out.reserve(room)?;
@@ -315,21 +324,28 @@ pub fn joined(alloc: Global, front: &[u8], stream: &[u8]) -> Result<Octets, Memo
     Ok(Octets::from_vec(message))
 }
 
-/// Puts a Terminate with this word at the end (RFC 5040 section 4.8). An `Err` leaves the bytes as they were.
-#[tactic(auto, unfolding(nr_link::specs::Output::terminate_message, nr_xdr::specs::Item::word))]
-pub fn push_terminate(out: &mut Output, word: u32) -> Result<(), Memory>
-    ensures ok { OnOk result (out.new.items ≡ out.old.items ++ terminate_message word) }
-    ensures err { OnErr result (out.new.items ≡ out.old.items) }
+/// The Terminate with this payload (RFC 5040 section 4.8).
+pub fn terminate(payload: &[u8]) -> Segment<'_>
+    ensures { plain result ≡ Untagged true OPCODE_TERMINATE 0 QUEUE_TERMINATE 1 0 payload.now }
 {
-    let payload = word.to_be_bytes();
-    let segment = Segment::Untagged {
+    Segment::Untagged {
         last: true,
         opcode: OPCODE_TERMINATE,
         word: 0,
         queue: QUEUE_TERMINATE,
         msn: 1,
         offset: 0,
-        payload: &payload,
-    };
-    push_segment(out, &segment)
+        payload,
+    }
+}
+
+/// Puts a Terminate with this word at the end (RFC 5040 section 4.8). An `Err` leaves the bytes as they were.
+#[tactic(auto, unfolding(nr_link::specs::Output::terminate_message, nr_xdr::specs::Item::word))]
+pub fn push_terminate(out: &mut Output, word: u32) -> Result<(), Memory>
+    ensures ok { OnOk result (out.new.items ≡ out.old.items ++ terminate_message word) }
+    ensures err { OnErr result (out.new.items ≡ out.old.items) }
+    ensures kept { out.new.kept ≡ out.old.kept }
+{
+    let payload = word.to_be_bytes();
+    push_segment(out, &terminate(&payload))
 }

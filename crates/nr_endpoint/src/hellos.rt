@@ -3,7 +3,7 @@
 ghost use Rattle.std.specs.Prelude.{◌≡◌, ◌≤◌};
 ghost use Rattle.arrayvec.specs.ArrayVec.{array_vec_len};
 ghost use Rattle.nr_wire.specs.Constants.{NUMBERED_TERMS_LEN};
-ghost use Rattle.nr_endpoint.specs.Hellos.{own_private, first_private, side_agreement, received_max, first_client, client_heard, receive_length_for, takes_invalidate};
+ghost use Rattle.nr_endpoint.specs.Hellos.{own_private, first_private, side_agreement, has_same_sizes, received_max, first_client, client_heard, receive_length_for, takes_invalidate};
 
 use crate::constants::SEND_UNIT;
 use arrayvec::ArrayVec;
@@ -43,6 +43,16 @@ pub fn side_agreement(side: Side, own: &[u8], peer_private: &[u8]) -> Agreement
     match side {
         Side::Initiator => Agreement::new(own, peer_private),
         Side::Responder => Agreement::new(peer_private, own),
+    }
+}
+
+/// Whether two hellos to a side, on an earlier link and on this one, agree on the same lengths of Sends.
+pub fn has_same_sizes(earlier: Option<Agreement>, agreed: Agreement) -> bool
+    ensures { result ≡ has_same_sizes earlier agreed }
+{
+    match earlier {
+        None => true,
+        Some(earlier) => earlier.up == agreed.up && earlier.down == agreed.down,
     }
 }
 

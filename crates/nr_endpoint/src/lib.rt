@@ -24,6 +24,7 @@ mod faults;
 mod frames;
 mod framing;
 mod hellos;
+mod holding;
 mod laws;
 mod link;
 mod offering;

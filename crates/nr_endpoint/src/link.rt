@@ -1,32 +1,33 @@
 //! One side of a link: what each frame of the peer makes of it.
 
-ghost use Rattle.std.specs.Prelude.{◌≡◌, ◌≢◌, ◌+◌, ◌^◌, ◌<◌, ◌≤◌, if◌then◌else◌, length, Some, OnOk, OnErr, IfOk};
+ghost use Rattle.std.specs.Prelude.{◌≡◌, ◌≢◌, ◌+◌, ◌^◌, ◌<◌, ◌≤◌, [], if◌then◌else◌, length, Some, OnOk, OnErr, IfOk};
 ghost use Rattle.std.specs.Bool.{OnFalse};
 ghost use Rattle.std.specs.FinMap.{empty};
 ghost use Rattle.nr_wire.specs.Stream.{IsFrame};
 ghost use Rattle.nr_wire.specs.Segment.{IsSupported, payload_in};
 ghost use Rattle.nr_wire.specs.View.{segment as plain};
 ghost use Rattle.nr_wire.specs.Hello.{hello_of};
+ghost use Rattle.nr_regions.specs.RegisteredMemory.{initial_memory};
 ghost use Rattle.nr_link.specs.declared.end.End.TheVariants as ends;
 ghost use Rattle.nr_endpoint.specs.LinkState.{initial_state};
 ghost use Rattle.nr_endpoint.specs.SendQueue.{output_len};
 ghost use Rattle.nr_endpoint.specs.SegmentEnds.{IsUntagged};
-ghost use Rattle.nr_endpoint.specs.Judging.{with_end_of, with_next_segment, with_fpdu, with_peer_hello, with_agreement, with_frame, after_frame, next_frame, next_segment};
+ghost use Rattle.nr_endpoint.specs.Judging.{with_end_of, with_next_segment, with_fpdu, with_hello_from, has_other_sizes, with_other_sizes, with_agreement, with_frame, after_frame, next_frame, next_segment};
 ghost use Rattle.nr_endpoint.specs.Hellos.{own_private};
 
 use crate::frames::{hello_in_frame, segment_in_frame};
 use crate::hellos::{
-    Private, client_heard, first_client, first_private, own_private, receive_length, received_max,
-    side_agreement, takes_invalidate,
+    Private, client_heard, first_client, first_private, has_same_sizes, own_private,
+    receive_length, received_max, side_agreement, takes_invalidate,
 };
 use crate::reads::Reads;
 use crate::receive_queue::ReceiveQueue;
 use crate::send_queue::SendQueue;
-use nr_link::constants::SEND_UNIT;
+use nr_link::constants::{REASON_SIZES, SEND_UNIT};
 use nr_link::{Agreement, End, SideTerms};
-use nr_regions::Regions;
+use nr_regions::{Regions, Right};
 use nr_wire::{Awaited, Segment, Side};
-use nr_xdr::Memory;
+use nr_xdr::{Memory, Octets};
 use std::alloc::Global;
 use std::marker::Model;
 
@@ -48,6 +49,8 @@ pub struct LinkSide {
     pub(crate) message_max: u64,
     // The number of the link's client, or 0.
     pub(crate) client: u64,
+    // What the last hello on an earlier link agreed on.
+    pub(crate) earlier: Option<Agreement>,
 }
 
 impl Model for LinkSide {
@@ -62,22 +65,47 @@ impl Model for LinkSide {
     ghost use Rattle.nr_endpoint.specs.Views.{expected};
     ghost use Rattle.nr_endpoint.specs.Counted.{IsCounted};
 
-    ghost view = { λ l. record { state = record { side = l.side; has_hello = l.has_hello; last = l.last; place = l.place; ended = l.ended; receive_queue = l.receive_queue; reads = map expected l.reads.items; memory = l.regions.memory; send_queue = l.send_queue; terms = l.terms; private = l.private.items; agreed = l.agreed; message_max = l.message_max; client = l.client }; room = l.regions.room; outside = l.regions.outside } };
+    ghost view = { λ l. record { state = record { side = l.side; has_hello = l.has_hello; last = l.last; place = l.place; ended = l.ended; receive_queue = l.receive_queue; reads = map expected l.reads.items; memory = l.regions.memory; send_queue = l.send_queue; terms = l.terms; private = l.private.items; agreed = l.agreed; message_max = l.message_max; client = l.client; earlier = l.earlier }; room = l.regions.room; outside = l.regions.outside } };
 
     ghost invariant = { λ l. IsCounted l.terms l.has_hello l.receive_queue l.place l.message_max };
 }
 
+/// No regions. The first one that is registered gets this STag, from 1 on; 2^32 means that none is left.
+#[tactic(auto, using(crate::proofs::FreshRegions::spent_memory))]
+fn fresh_regions(alloc: Global, first_stag: u64) -> Result<Regions, Memory>
+    requires some { 0 < first_stag }
+    requires most { first_stag ≤ 2 ^ 32 }
+    ensures memory { IfOk result (λ r. r.memory ≡ initial_memory first_stag) }
+    ensures outside { IfOk result (λ r. r.outside ≡ empty) }
+{
+    if first_stag <= u64::from(u32::MAX) {
+        return Ok(Regions::new(alloc, first_stag as u32));
+    }
+    // The last STag is given to a region that is released at once.
+    let mut regions = Regions::new(alloc, u32::MAX);
+    match regions.register(Octets::new(alloc), Right::Fetch) {
+        Ok(registration) => {
+            regions.release(registration);
+            Ok(regions)
+        }
+        Err(_) => Err(Memory),
+    }
+}
+
 impl LinkSide {
-    /// A side as the link is opened, with what its hello says. The first region gets this STag, which isn't 0.
+    /// A side as the link is opened, with what its hello says and what was agreed on an earlier link. The first region gets this STag, from 1
+    /// on; 2^32 means that none is left.
     pub fn new(
         alloc: Global,
         side: Side,
         receives: u32,
-        first_stag: u32,
+        first_stag: u64,
         terms: SideTerms,
+        earlier: Option<Agreement>,
     ) -> Result<LinkSide, Memory>
-        requires { 0 < first_stag }
-        ensures state { IfOk result (λ l. l.state ≡ initial_state side receives first_stag terms) }
+        requires some { 0 < first_stag }
+        requires most { first_stag ≤ 2 ^ 32 }
+        ensures state { IfOk result (λ l. l.state ≡ initial_state side receives first_stag terms earlier) }
         ensures outside { IfOk result (λ l. l.outside ≡ empty) }
     {
         let private = first_private(terms, side);
@@ -91,13 +119,14 @@ impl LinkSide {
             ended: None,
             receive_queue,
             reads: Reads::new(),
-            regions: Regions::new(alloc, first_stag),
+            regions: fresh_regions(alloc, first_stag)?,
             send_queue,
             terms,
             private,
             agreed: Agreement::default_agreement(),
             message_max: u64::from(SEND_UNIT),
             client: first_client(terms, side),
+            earlier,
         })
     }
 
@@ -147,22 +176,55 @@ impl LinkSide {
         end
     }
 
-    /// The peer's hello (RFC 5044 section 7.1).
-    #[tactic(auto, unfolding(crate::specs::Judging::with_peer_hello))]
+    /// The peer's hello (RFC 5044 section 7.1). It is accepted, or refused.
+    #[tactic(auto, unfolding(crate::specs::Judging::with_peer_hello), using(crate::proofs::HellosFrom::refused_from, crate::proofs::HellosFrom::accepted_from, crate::proofs::HellosFrom::other_from))]
     fn receive_hello(&mut self, side: Side, frame: &[u8]) -> Result<(), Memory>
         requires frame { IsFrame (Awaited.Hello side) frame.now }
         requires within { self.old.state.place + length frame.now ≤ 2 ^ 62 }
-        ensures ok { OnOk result (self.new ≡ record self.old { state = with_peer_hello (next_frame self.old.state frame.now) (hello_of side frame.now) self.old.state }) }
+        ensures ok { OnOk result (self.new ≡ record self.old { state = with_hello_from side (next_frame self.old.state frame.now) (hello_of side frame.now) self.old.state }) }
         ensures err { OnErr result (self.new ≡ self.old) }
-        ensures queued { OnErr result (output_len self.old.state.send_queue < output_len (with_peer_hello (next_frame self.old.state frame.now) (hello_of side frame.now) self.old.state).send_queue) }
+        ensures queued { OnErr result (output_len self.old.state.send_queue < output_len (with_hello_from side (next_frame self.old.state frame.now) (hello_of side frame.now) self.old.state).send_queue) }
     {
         match hello_in_frame(side, frame) {
-            Ok(hello) => self.accept_hello(hello.private, frame),
+            Ok(hello) => {
+                if self.has_other_sizes(side, hello.private) {
+                    return self.refuse_sizes();
+                }
+                self.accept_hello(hello.private, frame)
+            }
             Err(reason) => self.end_with(End::Bad {
                 at: self.place,
                 reason,
             }),
         }
+    }
+
+    /// Whether other lengths of Sends are agreed on with a responder whose hello has this private data than on an earlier link.
+    fn has_other_sizes(&self, side: Side, peer_private: &[u8]) -> bool
+        ensures { result ≡ has_other_sizes side self.now.state peer_private.now }
+    {
+        match side {
+            Side::Initiator => false,
+            Side::Responder => {
+                let own = own_private(self.terms, self.side, peer_private);
+                let agreed = side_agreement(self.side, own.as_slice(), peer_private);
+                !has_same_sizes(self.earlier, agreed)
+            }
+        }
+    }
+
+    /// The side ends for the lengths of Sends that the peer's hello agrees on. An `Err` changes nothing.
+    fn refuse_sizes(&mut self) -> Result<(), Memory>
+        ensures ok { OnOk result (self.new ≡ record self.old { state = with_other_sizes (next_frame self.old.state []) self.old.state }) }
+        ensures err { OnErr result (self.new ≡ self.old) }
+        ensures queued { OnErr result (output_len self.old.state.send_queue < output_len (with_other_sizes (next_frame self.old.state []) self.old.state).send_queue) }
+    {
+        self.send_queue.refuse_sizes()?;
+        self.ended = Some(End::Bad {
+            at: self.place,
+            reason: REASON_SIZES,
+        });
+        Ok(())
     }
 
     /// The peer's hello, which this frame holds and which has this private data, is accepted. A responder answers it.

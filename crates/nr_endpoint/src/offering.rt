@@ -2,9 +2,9 @@
 
 ghost use Rattle.std.specs.Prelude.{◌≡◌, ◌+◌, ◌^◌, ◌<◌, ◌≤◌, ◌++◌, length, false, if◌then◌else◌, All, OnOk, OnErr, IfOk, IfErr};
 ghost use Rattle.nr_endpoint.specs.LinkState.{has_ended};
-ghost use Rattle.nr_endpoint.specs.SendQueue.{with_send};
+ghost use Rattle.nr_endpoint.specs.SendQueue.{with_send, with_held};
 ghost use Rattle.nr_endpoint.specs.Calls.{after_calls, StandsOnAll};
-ghost use Rattle.nr_endpoint.specs.Offering.{one_of, offered_count, offer_calls, with_buffer, claim_if, with_offered, outside_buffer, outside_offered, claims_of, AreHeld, after_offer, FitsRegion, FitsSharedRegion, answer_calls, after_answer, shared_calls, after_shared};
+ghost use Rattle.nr_endpoint.specs.Offering.{one_of, offered_count, offer_calls, with_buffer, claim_if, with_offered, outside_buffer, outside_offered, claims_of, AreHeld, after_offer, hold_calls, after_hold, FitsRegion, FitsSharedRegion, answer_calls, after_answer, shared_calls, after_shared};
 
 use crate::endpoint::Endpoint;
 use crate::framing::RemoteWrite;
@@ -89,6 +89,18 @@ fn send_unless(
     queue.send_parts(None, front, stream)
 }
 
+/// Holds a Send back unless the side has ended. An `Err` changes nothing.
+fn hold_unless(ended: bool, queue: &mut SendQueue, message: Octets) -> Result<(), Memory>
+    requires { length message < 2 ^ 32 }
+    ensures ok { OnOk result (queue.new ≡ (if ended then queue.old else with_held message queue.old)) }
+    ensures err { OnErr result (queue.new ≡ queue.old) }
+{
+    if ended {
+        return Ok(());
+    }
+    queue.hold(message)
+}
+
 impl LinkSide {
     /// Queues the Send of a message in two parts, and registers the buffers that it offers. `Err` gives the buffers back, and
     /// changes nothing.
@@ -113,6 +125,28 @@ impl LinkSide {
             return Err(offered);
         }
         if send_unless(self.ended.is_some(), &mut self.send_queue, front, stream).is_err() {
+            return Err(offered);
+        }
+        Ok(register_offered(&mut self.regions, offered))
+    }
+
+    /// Holds the Send of a message back, and registers the buffers that it offers. `Err` gives the buffers back, and changes nothing.
+    pub fn offer_held(&mut self, message: Octets, offered: Offered) -> Result<Claims, Offered>
+        requires size { length message < 2 ^ 32 }
+        requires stags { self.old.state.memory.next + offered_count offered ≤ 2 ^ 32 }
+        ensures ok { OnOk result (self.new.state ≡ after_hold message offered self.old.state) }
+        ensures claims { IfOk result (λ claims. claims ≡ claims_of self.old.state.memory offered) }
+        ensures err { OnErr result (self.new.state ≡ self.old.state) }
+        ensures returned { IfErr result (λ o. o ≡ offered) }
+        ensures room { self.old.room ≤ self.new.room + offered_count offered }
+        ensures room_kept { OnErr result (self.old.room ≤ self.new.room) }
+        ensures outside { OnOk result (self.new.outside ≡ outside_offered self.old.state.memory offered self.old.outside) }
+        ensures outside_err { OnErr result (self.new.outside ≡ self.old.outside) }
+    {
+        if self.regions.make_room(3).is_err() {
+            return Err(offered);
+        }
+        if hold_unless(self.ended.is_some(), &mut self.send_queue, message).is_err() {
             return Err(offered);
         }
         Ok(register_offered(&mut self.regions, offered))
@@ -203,6 +237,26 @@ impl Endpoint {
         ensures staging { self.new.staging ≡ self.old.staging }
     {
         self.link.offer(front, stream, offered)
+    }
+
+    /// Holds a Send back and registers the buffers that it offers, as [`Endpoint::offer`] does with one that is queued:
+    /// [`Endpoint::send_held`] queues it later.
+    pub fn offer_held(&mut self, message: Octets, offered: Offered) -> Result<Claims, Offered>
+        requires size { length message < 2 ^ 32 }
+        requires stags { self.old.link.state.memory.next + offered_count offered ≤ 2 ^ 32 }
+        ensures state { OnOk result (self.new.link ≡ after_calls self.old.link (hold_calls message offered)) }
+        ensures stands { OnOk result (StandsOnAll self.old.link (hold_calls message offered) self.new.link) }
+        ensures claims { IfOk result (λ claims. claims ≡ claims_of self.old.link.state.memory offered) }
+        ensures held { IfOk result (AreHeld self.new.link.state.memory) }
+        ensures err { OnErr result (self.new.link ≡ self.old.link) }
+        ensures returned { IfErr result (λ o. o ≡ offered) }
+        ensures room { self.old.room ≤ self.new.room + offered_count offered }
+        ensures room_kept { OnErr result (self.old.room ≤ self.new.room) }
+        ensures outside { OnOk result (self.new.outside ≡ outside_offered self.old.link.state.memory offered self.old.outside) }
+        ensures outside_err { OnErr result (self.new.outside ≡ self.old.outside) }
+        ensures staging { self.new.staging ≡ self.old.staging }
+    {
+        self.link.offer_held(message, offered)
     }
 
     /// Queues RDMA Writes into the peer's regions, in their order, and then a Send, with Invalidate of the peer's STag that

@@ -1,7 +1,7 @@
 //! What the owner of a side does with it.
 
 ghost use Rattle.nr_endpoint.specs.LinkState.{has_ended};
-ghost use Rattle.std.specs.Prelude.{false, true, Some, ◌≡◌, ◌≢◌, ◌+◌, ◌*◌, ◌^◌, ◌<◌, ◌≤◌, ◌↔◌, [], ◌∷◌, ◌++◌, ℕ, length, take, is_some, nat_lt, if◌then◌else◌, IsOk, IfOk, OnOk, IfErr, OnErr, IsErrAnd, IfSome, MatchResult, option_map, option_to_list};
+ghost use Rattle.std.specs.Prelude.{false, true, Some, ◌≡◌, ◌≢◌, ◌+◌, ◌*◌, ◌^◌, ◌<◌, ◌≤◌, ◌↔◌, [], ◌∷◌, ◌++◌, ℕ, List, length, take, is_some, nat_lt, if◌then◌else◌, IsOk, IfOk, OnOk, IfErr, OnErr, IsErrAnd, IfSome, MatchResult, option_map, option_to_list};
 ghost use Rattle.std.specs.Io.KnownBytes.{Appends};
 ghost use Rattle.nr_outside.specs.Faults.{Rises};
 ghost use Rattle.std.specs.FinMap.{get, insert, remove};
@@ -12,7 +12,7 @@ ghost use Rattle.nr_endpoint.specs.Hellos.{receive_length_for};
 ghost use Rattle.nr_link.specs.declared.end.End.TheVariants as ends;
 ghost use Rattle.nr_endpoint.specs.declared.fault.ReadRefused.TheVariants as refusals;
 ghost use Rattle.std.specs.Result.{result_err};
-ghost use Rattle.nr_endpoint.specs.SendQueue.{with_send_by, with_write, with_request, writable, written};
+ghost use Rattle.nr_endpoint.specs.SendQueue.{held_len, with_send_by, with_held, with_held_sent, with_write, with_request, writable, written};
 ghost use Rattle.nr_endpoint.specs.ReceiveQueue.{delivered, posted, receives_kept};
 ghost use Rattle.nr_endpoint.specs.EndpointState.{bytes_of};
 ghost use Rattle.nr_endpoint.specs.Calls.{unless_ended};
@@ -110,6 +110,29 @@ impl LinkSide {
             return Ok(());
         }
         self.send_queue.send_parts(named, front, stream)
+    }
+
+    /// Holds a Send back. If the side has ended, it holds nothing. An `Err` changes nothing.
+    pub fn hold(&mut self, message: Octets) -> Result<(), Memory>
+        requires { length message < 2 ^ 32 }
+        ensures ok { OnOk result (self.new ≡ record self.old { state = unless_ended self.old.state (record self.old.state { send_queue = with_held message self.old.state.send_queue }) }) }
+        ensures err { OnErr result (self.new ≡ self.old) }
+    {
+        if self.ended.is_some() {
+            return Ok(());
+        }
+        self.send_queue.hold(message)
+    }
+
+    /// Queues the first Send that is held back, if one is. If the side has ended, it queues nothing. Takes no memory.
+    pub fn send_held(&mut self)
+        ensures first { (message : List ℕ) (others : List (List ℕ)) → self.old.state.send_queue.held ≡ message ∷ others → self.new ≡ record self.old { state = unless_ended self.old.state (record self.old.state { send_queue = with_held_sent message self.old.state.send_queue }) } }
+        ensures none { self.old.state.send_queue.held ≡ [] → self.new ≡ self.old }
+    {
+        if self.ended.is_some() {
+            return;
+        }
+        self.send_queue.send_held();
     }
 
     /// Queues an RDMA Write of some bytes into the peer's region `stag`, from byte `to` on (RFC 5040 section 4.3). If
@@ -305,14 +328,15 @@ impl LinkSide {
         receive_length * self.receive_queue.buffers() as u128
     }
 
-    /// How many bytes the receives that are not lent, the buffers of the regions and the output have.
+    /// How many bytes the receives that are not lent, the buffers of the regions, the output and the messages that are held back have.
     pub fn held(&self) -> u128
         ensures is { result ≡ bytes_of self.now.state + outside_held self.now.outside }
         ensures bound { result ≤ self.now.state.receive_queue.receive_length * self.now.state.receive_queue.receives + bytes_held self.now.state.memory + outside_held self.now.outside
-            + length self.now.state.send_queue.hello + length self.now.state.send_queue.fpdus }
+            + length self.now.state.send_queue.hello + length self.now.state.send_queue.fpdus + held_len self.now.state.send_queue.held }
         ensures most { result ≤ 2 ^ 127 }
     {
         let outside = self.regions.outside_held();
-        self.receives_held() + self.regions.bytes_held() + self.send_queue.len() + outside
+        let output = self.send_queue.len() + self.send_queue.held_len() as u128;
+        self.receives_held() + self.regions.bytes_held() + output + outside
     }
 }

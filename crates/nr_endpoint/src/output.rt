@@ -188,22 +188,26 @@ impl Pieces {
     }
 }
 
-/// FPDUs that wait to be written: pieces, and after them a run of bytes. A clause sees the bytes, and the room after them.
+/// FPDUs that wait to be written: pieces, and after them a run of bytes. A clause sees the bytes, the room after them, and the room that is
+/// kept for bytes that come later.
 #[derive(Drop)]
 pub struct Output {
     pieces: Pieces,
     run: BytesMut,
+    kept: usize,
 }
 
 impl Model for Output {
-    ghost use Rattle.std.specs.Prelude.{◌++◌};
-    ghost use Rattle.bytes.specs.Filled.{Filled, filled_code};
+    ghost use Rattle.std.specs.Prelude.{◌++◌, ◌-◌, ◌≤◌};
+    ghost use Rattle.nr_endpoint.specs.private.Outputs.{OutputView, output_code};
 
-    ghost Value = { Filled };
+    ghost Value = { OutputView };
 
-    ghost coded = { filled_code };
+    ghost coded = { output_code };
 
-    ghost view = { λ o. record { items = o.pieces ++ o.run.items; spare = o.run.spare } };
+    ghost view = { λ o. record { items = o.pieces ++ o.run.items; spare = o.run.spare - o.kept; kept = o.kept } };
+
+    ghost invariant = { λ o. o.kept ≤ o.run.spare };
 }
 
 /// Writes a run to a sink, and drops from the front what it took; answers how many bytes those were.
@@ -211,6 +215,7 @@ pub fn write_run<K: Sink>(run: &mut BytesMut, sink: &mut K) -> (usize, Result<()
     ensures count { result.0 ≤ length run.old.items }
     ensures bound { result.0 < 2 ^ 63 }
     ensures left { run.new.items ≡ drop result.0 run.old.items }
+    ensures spare { run.new.spare ≡ run.old.spare }
     ensures took { Appends (K.taken sink.old) (K.taken sink.new) (take result.0 run.old.items) }
     ensures all { OnOk result.1 (result.0 ≡ length run.old.items) }
     ensures counted { MatchResult result.1
@@ -234,11 +239,13 @@ pub fn write_run<K: Sink>(run: &mut BytesMut, sink: &mut K) -> (usize, Result<()
 impl Output {
     /// No bytes. Takes no memory.
     pub fn new(alloc: Global) -> Output
-        ensures { result.items ≡ [] }
+        ensures items { result.items ≡ [] }
+        ensures kept { result.kept ≡ 0 }
     {
         Output {
             pieces: Pieces::new(alloc),
             run: BytesMut::new(alloc),
+            kept: 0,
         }
     }
 
@@ -263,13 +270,41 @@ impl Output {
         }
     }
 
-    /// Makes room for some bytes.
+    /// Makes room for some bytes, beside what is kept.
     pub fn reserve(&mut self, more: usize) -> Result<(), Memory>
         ensures items { self.new.items ≡ self.old.items }
         ensures ok { OnOk result (more ≤ self.new.spare) }
+        ensures kept { self.new.kept ≡ self.old.kept }
     {
-        self.run.reserve(more)?;
+        if more > usize::MAX - self.kept {
+            return Err(Memory);
+        }
+        self.run.reserve(more + self.kept)?;
         Ok(())
+    }
+
+    /// Keeps room for some bytes that come later. An `Err` changes nothing.
+    pub fn keep(&mut self, more: usize) -> Result<(), Memory>
+        ensures items { self.new.items ≡ self.old.items }
+        ensures ok { OnOk result (self.new.kept ≡ self.old.kept + more) }
+        ensures err { OnErr result (self.new.kept ≡ self.old.kept) }
+    {
+        if more > usize::MAX - self.kept {
+            return Err(Memory);
+        }
+        self.run.reserve(more + self.kept)?;
+        self.kept += more;
+        Ok(())
+    }
+
+    /// Some of the room that was kept is free for bytes that come now.
+    pub fn use_kept(&mut self, room: usize)
+        requires { room ≤ self.old.kept }
+        ensures items { self.new.items ≡ self.old.items }
+        ensures kept { self.new.kept + room ≡ self.old.kept }
+        ensures spare { self.new.spare ≡ self.old.spare + room }
+    {
+        self.kept -= room;
     }
 
     /// Puts some bytes at the end, for which there is room.
@@ -277,6 +312,7 @@ impl Output {
         requires { length bytes.now ≤ self.old.spare }
         ensures bytes { self.new.items ≡ self.old.items ++ bytes.now }
         ensures spare { self.new.spare + length bytes.now ≡ self.old.spare }
+        ensures kept { self.new.kept ≡ self.old.kept }
     {
         self.run.extend_reserved(bytes);
     }
@@ -286,6 +322,7 @@ impl Output {
         ensures ok { OnOk result (self.new.items ≡ self.old.items ++ piece) }
         ensures spare { OnOk result (self.new.spare ≡ self.old.spare) }
         ensures err { OnErr result (self.new.items ≡ self.old.items) }
+        ensures kept { self.new.kept ≡ self.old.kept }
     {
         self.pieces.take_run(&mut self.run)?;
         self.pieces.push(piece)
@@ -295,6 +332,7 @@ impl Output {
     pub fn absorb(&mut self, more: &mut Output) -> Result<(), Memory>
         ensures ok { OnOk result (self.new.items ≡ self.old.items ++ more.old.items) }
         ensures err { OnErr result (self.new.items ≡ self.old.items) }
+        ensures kept { self.new.kept ≡ self.old.kept }
     {
         more.pieces.take_run(&mut more.run)?;
         self.pieces.take_run(&mut self.run)?;
@@ -305,6 +343,7 @@ impl Output {
     pub fn write_out<K: Sink>(&mut self, sink: &mut K) -> (usize, Result<(), Failed>)
         ensures count { result.0 ≤ length self.old.items }
         ensures left { self.new.items ≡ drop result.0 self.old.items }
+        ensures kept { self.new.kept ≡ self.old.kept }
         ensures took { Appends (K.taken sink.old) (K.taken sink.new) (take result.0 self.old.items) }
         ensures all { OnOk result.1 (result.0 ≡ length self.old.items) }
         ensures counted { MatchResult result.1

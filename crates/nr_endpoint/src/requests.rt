@@ -1,17 +1,20 @@
 //! Read Requests at the end of the output (RFC 5040 section 4.4).
 
-ghost use Rattle.std.specs.Prelude.{◌≡◌, ◌+◌, ◌*◌, ◌≤◌, ◌++◌, length};
+ghost use Rattle.std.specs.Prelude.{◌≡◌, ◌+◌, ◌*◌, ◌^◌, ◌<◌, ◌≤◌, ◌++◌, length, OnOk, OnErr};
 ghost use Rattle.arrayvec.specs.ArrayVec.{array_vec_len};
 ghost use Rattle.nr_xdr.specs.Item.{word, hyper};
 ghost use Rattle.nr_link.specs.Output.{read_request};
-ghost use Rattle.nr_endpoint.specs.Requesting.{last_request_after, requests_output};
+ghost use Rattle.nr_endpoint.specs.SendQueue.{with_request, with_send};
+ghost use Rattle.nr_endpoint.specs.Requesting.{last_request_after, requests_output, with_read_requests};
 
-use crate::constants::{FRAMING_MAX, READ_REQUEST_LEN};
-use crate::framing::append_segment;
+use crate::constants::{FRAMING_MAX, OPEN_READS_MAX, READ_REQUEST_LEN};
+use crate::framing::{Operation, append_segment, append_segments, cut_room};
 use crate::output::Output;
+use crate::send_queue::{SendQueue, reserve_ends};
 use arrayvec::ArrayVec;
 use nr_wire::Segment;
 use nr_wire::constants::{OPCODE_READ_REQUEST, QUEUE_READ_REQUEST};
+use nr_xdr::Memory;
 
 /// The room that a Read Request takes at most.
 pub const REQUEST_ROOM: usize = READ_REQUEST_LEN + FRAMING_MAX;
@@ -72,6 +75,7 @@ pub fn append_request(out: &mut Output, msn: u32, read: &RemoteRead)
     requires room { REQUEST_ROOM ≤ out.old.spare }
     ensures bytes { out.new.items ≡ out.old.items ++ read_request msn read.now.sink read.now.at read.now.len read.now.stag read.now.to }
     ensures spare { out.old.spare ≤ out.new.spare + REQUEST_ROOM }
+    ensures kept { out.new.kept ≡ out.old.kept }
 {
     let payload = request_payload(read);
     let segment = Segment::Untagged {
@@ -91,6 +95,7 @@ pub fn append_requests(out: &mut Output, last: u32, reads: &[RemoteRead]) -> u32
     requires room { REQUEST_ROOM * length reads.now ≤ out.old.spare }
     ensures bytes { out.new.items ≡ out.old.items ++ requests_output last reads.now }
     ensures last { result ≡ last_request_after last reads.now }
+    ensures kept { out.new.kept ≡ out.old.kept }
 {
     let mut msn = last;
     for read in reads {
@@ -98,4 +103,52 @@ pub fn append_requests(out: &mut Output, last: u32, reads: &[RemoteRead]) -> u32
         append_request(out, msn, read);
     }
     msn
+}
+
+impl SendQueue {
+    /// A Read Request. An `Err` changes nothing.
+    pub fn request(&mut self, read: &RemoteRead) -> Result<(), Memory>
+        ensures ok { OnOk result (self.new ≡ with_request read.now.sink read.now.at read.now.len read.now.stag read.now.to self.old) }
+        ensures err { OnErr result (self.new ≡ self.old) }
+    {
+        self.fpdus.reserve(REQUEST_ROOM)?;
+        let msn = self.last_request.wrapping_add(1);
+        append_request(&mut self.fpdus, msn, read);
+        self.last_request = msn;
+        Ok(())
+    }
+
+    /// Read Requests. An `Err` changes nothing.
+    pub fn request_all(&mut self, reads: &[RemoteRead]) -> Result<(), Memory>
+        requires count { length reads.now ≤ OPEN_READS_MAX }
+        ensures ok { OnOk result (self.new ≡ with_read_requests reads.now self.old) }
+        ensures err { OnErr result (self.new ≡ self.old) }
+    {
+        self.fpdus.reserve(REQUEST_ROOM * reads.len())?;
+        self.last_request = append_requests(&mut self.fpdus, self.last_request, reads);
+        Ok(())
+    }
+
+    /// A Send, and then Read Requests. An `Err` changes nothing.
+    #[tactic(auto, using(crate::proofs::Cuts::carried_send))]
+    pub fn send_and_request_all(
+        &mut self,
+        message: &[u8],
+        reads: &[RemoteRead],
+    ) -> Result<(), Memory>
+        requires size { length message.now < 2 ^ 32 }
+        requires count { length reads.now ≤ OPEN_READS_MAX }
+        ensures ok { OnOk result (self.new ≡ with_read_requests reads.now (with_send message.now self.old)) }
+        ensures err { OnErr result (self.new ≡ self.old) }
+    {
+        let msn = self.last_send.wrapping_add(1);
+        reserve_ends(&mut self.send_ends, self.held.len())?;
+        self.fpdus
+            .reserve(cut_room(message) + REQUEST_ROOM * reads.len())?;
+        append_segments(&mut self.fpdus, Operation::Send { msn }, message);
+        self.send_ends.push_back_reserved(self.fpdus.len());
+        self.last_send = msn;
+        self.last_request = append_requests(&mut self.fpdus, self.last_request, reads);
+        Ok(())
+    }
 }

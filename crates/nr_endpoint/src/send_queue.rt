@@ -2,30 +2,30 @@
 
 ghost use Rattle.std.specs.Prelude.{◌≡◌, ℕ, ◌+◌, ◌-◌, ◌^◌, ◌<◌, ◌≤◌, [], ◌++◌, if◌then◌else◌, length, take, drop, All, IfOk, OnOk, OnErr, MatchResult, min};
 ghost use Rattle.std.specs.Io.KnownBytes.{Appends};
+ghost use Rattle.std.specs.VecDeque.{deque_capacity};
 ghost use Rattle.nr_wire.specs.Constants.{PRIVATE_MAX};
 ghost use Rattle.nr_wire.specs.Hello.{hello_encoding};
-ghost use Rattle.nr_link.specs.Output.{refusing_hello};
+ghost use Rattle.nr_link.specs.Output.{refusing_hello, terminate_message};
 ghost use Rattle.nr_endpoint.specs.Judging.{reply_hello};
 ghost use Rattle.nr_outside.specs.Faults.{Rises};
-ghost use Rattle.nr_endpoint.specs.Requesting.{with_read_requests};
 ghost use Rattle.nr_endpoint.specs.Offering.{FitsRegion, FitsSharedRegion, shared_output, writes_output};
-ghost use Rattle.nr_endpoint.specs.SendQueue.{initial_queue, output_len, with_hello, with_fpdus, with_send, with_send_by, with_write, with_request, with_response, with_end, writable, written, ends_left, ends_passed};
+ghost use Rattle.nr_endpoint.specs.SendQueue.{initial_queue, output_len, with_hello, with_fpdus, with_send_by, with_write, with_response, with_end, writable, written, ends_left, ends_passed};
 
-use crate::constants::{OPEN_READS_MAX, SEGMENT_MAX};
+use crate::constants::SEGMENT_MAX;
 use crate::ending::{is_rejection, terminate_word};
 use crate::framing::{
-    Operation, RemoteWrite, append_segments, cut_room, joined, push_answer, push_cut,
-    push_long_answer, push_send, push_terminate, sender,
+    Operation, RemoteWrite, joined, push_answer, push_cut, push_long_answer, push_send,
+    push_terminate, sender, terminate,
 };
 use crate::output::{Output, write_run};
-use crate::requests::{REQUEST_ROOM, RemoteRead, append_request, append_requests};
 use crate::sharing::{SharedWrite, push_shared_answer};
 use bytes::BytesMut;
 use nr_link::End;
+use nr_link::constants::REASON_SIZES;
 use nr_outside::{Failed, Sink};
 use nr_wire::constants::FLAG_REJECT;
-use nr_wire::{Hello, Side, write_hello};
-use nr_xdr::Memory;
+use nr_wire::{Hello, Side, write_hello, write_segment};
+use nr_xdr::{Memory, Octets};
 use std::alloc::Global;
 use std::collections::VecDeque;
 use std::marker::Model;
@@ -35,12 +35,16 @@ use std::marker::Model;
 pub struct SendQueue {
     alloc: Global,
     hello: BytesMut,
-    fpdus: Output,
-    send_ends: VecDeque<usize>,
+    pub(crate) fpdus: Output,
+    pub(crate) send_ends: VecDeque<usize>,
     response_ends: VecDeque<usize>,
     sends_left: u64,
-    last_send: u32,
-    last_request: u32,
+    pub(crate) last_send: u32,
+    pub(crate) last_request: u32,
+    // The messages of Sends that are held back. There is room for their FPDUs, and for the ends of their Sends.
+    pub(crate) held: VecDeque<Octets>,
+    // The sum of their lengths.
+    pub(crate) held_len: usize,
 }
 
 impl Model for SendQueue {
@@ -51,7 +55,11 @@ impl Model for SendQueue {
 
     ghost coded = { send_queue_code };
 
-    ghost view = { λ q. record { hello = q.hello.items; fpdus = q.fpdus.items; send_ends = q.send_ends.items; response_ends = q.response_ends.items; sends_left = q.sends_left; last_send = q.last_send; last_request = q.last_request } };
+    ghost view = { λ q. record { hello = q.hello.items; fpdus = q.fpdus.items; send_ends = q.send_ends.items; response_ends = q.response_ends.items; sends_left = q.sends_left; last_send = q.last_send; last_request = q.last_request; held = q.held.items } };
+
+    ghost use Rattle.nr_endpoint.specs.private.HeldSends.{HasRoomFor};
+
+    ghost invariant = { λ q. HasRoomFor q.held.items q.held_len q.fpdus.kept q.send_ends.items (deque_capacity q.send_ends) };
 }
 
 /// Puts a side's hello at the end. An `Err` leaves the bytes as they were.
@@ -82,6 +90,7 @@ fn push_hello(
 fn retire_first(ends: &mut VecDeque<usize>, n: usize) -> usize
     ensures left { ends.new.items ≡ drop 1 ends.old.items ++ ends_left n (take 1 ends.old.items) }
     ensures passed { result ≡ ends_passed n (take 1 ends.old.items) }
+    ensures capacity { deque_capacity ends.new ≡ deque_capacity ends.old }
 {
     match ends.pop_front() {
         None => 0,
@@ -100,12 +109,26 @@ fn retire_first(ends: &mut VecDeque<usize>, n: usize) -> usize
 fn retire_ends(ends: &mut VecDeque<usize>, n: usize) -> usize
     ensures left { ends.new.items ≡ ends_left n ends.old.items }
     ensures passed { result ≡ ends_passed n ends.old.items }
+    ensures capacity { deque_capacity ends.new ≡ deque_capacity ends.old }
 {
     let mut passed = 0;
     for _i in 0..ends.len() {
         passed += retire_first(ends, n);
     }
     passed
+}
+
+/// Makes room for one end more, beside those of some Sends that are held back.
+pub fn reserve_ends(ends: &mut VecDeque<usize>, held: usize) -> Result<(), Memory>
+    ensures items { ends.new.items ≡ ends.old.items }
+    ensures room { OnOk result (length ends.old.items + (held + 1) ≤ deque_capacity ends.new) }
+    ensures never_falls { deque_capacity ends.old ≤ deque_capacity ends.new }
+{
+    let Some(more) = held.checked_add(1) else {
+        return Err(Memory);
+    };
+    ends.reserve(more)?;
+    Ok(())
 }
 
 /// Writes a hello to a sink, and after it FPDUs if these may be written, and drops from the front what the sink took. It answers
@@ -152,6 +175,8 @@ impl SendQueue {
             sends_left: 0,
             last_send: 0,
             last_request: 0,
+            held: VecDeque::new(alloc),
+            held_len: 0,
         })
     }
 
@@ -178,7 +203,7 @@ impl SendQueue {
         ensures err { OnErr result (self.new ≡ self.old) }
     {
         let msn = self.last_send.wrapping_add(1);
-        self.send_ends.reserve(1)?;
+        reserve_ends(&mut self.send_ends, self.held.len())?;
         push_cut(&mut self.fpdus, sender(named, msn), message)?;
         self.send_ends.push_back_reserved(self.fpdus.len());
         self.last_send = msn;
@@ -211,7 +236,7 @@ impl SendQueue {
         ensures err { OnErr result (self.new ≡ self.old) }
     {
         let msn = self.last_send.wrapping_add(1);
-        self.send_ends.reserve(1)?;
+        reserve_ends(&mut self.send_ends, self.held.len())?;
         push_send(&mut self.fpdus, named, msn, front, stream)?;
         self.send_ends.push_back_reserved(self.fpdus.len());
         self.last_send = msn;
@@ -263,7 +288,7 @@ impl SendQueue {
         ensures err { OnErr result (self.new ≡ self.old) }
     {
         let msn = self.last_send.wrapping_add(1);
-        self.send_ends.reserve(1)?;
+        reserve_ends(&mut self.send_ends, self.held.len())?;
         push_answer(&mut self.fpdus, writes, named, msn, front, stream)?;
         self.send_ends.push_back_reserved(self.fpdus.len());
         self.last_send = msn;
@@ -284,7 +309,7 @@ impl SendQueue {
         ensures err { OnErr result (self.new ≡ self.old) }
     {
         let msn = self.last_send.wrapping_add(1);
-        self.send_ends.reserve(1)?;
+        reserve_ends(&mut self.send_ends, self.held.len())?;
         push_long_answer(&mut self.fpdus, writes, named, msn, message)?;
         self.send_ends.push_back_reserved(self.fpdus.len());
         self.last_send = msn;
@@ -306,7 +331,7 @@ impl SendQueue {
         ensures err { OnErr result (self.new ≡ self.old) }
     {
         let msn = self.last_send.wrapping_add(1);
-        self.send_ends.reserve(1)?;
+        reserve_ends(&mut self.send_ends, self.held.len())?;
         push_shared_answer(
             &mut self.fpdus,
             self.alloc,
@@ -318,52 +343,6 @@ impl SendQueue {
         )?;
         self.send_ends.push_back_reserved(self.fpdus.len());
         self.last_send = msn;
-        Ok(())
-    }
-
-    /// A Read Request. An `Err` changes nothing.
-    pub fn request(&mut self, read: &RemoteRead) -> Result<(), Memory>
-        ensures ok { OnOk result (self.new ≡ with_request read.now.sink read.now.at read.now.len read.now.stag read.now.to self.old) }
-        ensures err { OnErr result (self.new ≡ self.old) }
-    {
-        self.fpdus.reserve(REQUEST_ROOM)?;
-        let msn = self.last_request.wrapping_add(1);
-        append_request(&mut self.fpdus, msn, read);
-        self.last_request = msn;
-        Ok(())
-    }
-
-    /// Read Requests. An `Err` changes nothing.
-    pub fn request_all(&mut self, reads: &[RemoteRead]) -> Result<(), Memory>
-        requires count { length reads.now ≤ OPEN_READS_MAX }
-        ensures ok { OnOk result (self.new ≡ with_read_requests reads.now self.old) }
-        ensures err { OnErr result (self.new ≡ self.old) }
-    {
-        self.fpdus.reserve(REQUEST_ROOM * reads.len())?;
-        self.last_request = append_requests(&mut self.fpdus, self.last_request, reads);
-        Ok(())
-    }
-
-    /// A Send, and then Read Requests. An `Err` changes nothing.
-    #[tactic(auto, using(crate::proofs::Cuts::carried_send))]
-    pub fn send_and_request_all(
-        &mut self,
-        message: &[u8],
-        reads: &[RemoteRead],
-    ) -> Result<(), Memory>
-        requires size { length message.now < 2 ^ 32 }
-        requires count { length reads.now ≤ OPEN_READS_MAX }
-        ensures ok { OnOk result (self.new ≡ with_read_requests reads.now (with_send message.now self.old)) }
-        ensures err { OnErr result (self.new ≡ self.old) }
-    {
-        let msn = self.last_send.wrapping_add(1);
-        self.send_ends.reserve(1)?;
-        self.fpdus
-            .reserve(cut_room(message) + REQUEST_ROOM * reads.len())?;
-        append_segments(&mut self.fpdus, Operation::Send { msn }, message);
-        self.send_ends.push_back_reserved(self.fpdus.len());
-        self.last_send = msn;
-        self.last_request = append_requests(&mut self.fpdus, self.last_request, reads);
         Ok(())
     }
 
@@ -400,6 +379,20 @@ impl SendQueue {
             None => Ok(()),
             Some(word) => push_terminate(&mut self.fpdus, word),
         }
+    }
+
+    /// The Terminate of an initiator that refuses what the peer's hello agrees on: it follows the own hello, since FPDUs wait until the peer's
+    /// was accepted. An `Err` changes nothing.
+    #[tactic(auto, unfolding(nr_link::specs::Output::terminate_message, nr_xdr::specs::Item::word), using(crate::proofs::Queued::sizes_queue, crate::proofs::Queued::on_any_err))]
+    pub fn refuse_sizes(&mut self) -> Result<(), Memory>
+        ensures ok { OnOk result (self.new ≡ with_hello (terminate_message REASON_SIZES) self.old) }
+        ensures err { OnErr result (self.new ≡ self.old) }
+        ensures queued { OnErr result (output_len self.old < output_len (with_hello (terminate_message REASON_SIZES) self.old)) }
+    {
+        let word = REASON_SIZES.to_be_bytes();
+        let bytes = write_segment(self.alloc, &terminate(&word))?;
+        self.hello.extend_from_slice(bytes.as_slice())?;
+        Ok(())
     }
 
     /// How many Read Responses were not written completely.

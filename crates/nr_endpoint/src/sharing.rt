@@ -151,6 +151,7 @@ pub fn push_shared_answer(
     requires fits { All FitsSharedRegion writes.now }
     ensures ok { OnOk result (out.new.items ≡ (out.old.items ++ shared_output writes.now) ++ cut (operation_segment (sender named msn)) (front.now ++ stream.now)) }
     ensures err { OnErr result (out.new.items ≡ out.old.items) }
+    ensures kept { out.new.kept ≡ out.old.kept }
 {
     let mut more = shared_answer(alloc, writes, named, msn, front, stream)?;
     out.absorb(&mut more)

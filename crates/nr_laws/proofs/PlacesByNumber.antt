@@ -1,5 +1,5 @@
 -- Places follow what callers see, also if a call is sent again: whatever adds its entry comes after its first Submit.
-use Rattle.std.proofs.Common.{◌≡◌, ℕ, ◌≤◌, List, [], ◌∷◌, ◌++◌, length, Option, refl, sym, ap, subst, ◌∙◌, arith, append_assoc, append-nil, length-append, ◌⊎◌, inl, inr}
+use Rattle.std.proofs.Common.{◌≡◌, ◌≢◌, ℕ, ◌≤◌, List, [], ◌∷◌, ◌++◌, length, Option, refl, sym, ap, subst, ◌∙◌, arith, append_assoc, append-nil, length-append, ◌⊎◌, inl, inr}
 use Rattle.std.specs.List.{AllByRecursion}
 use Rattle.nr_outside.specs.declared.moment.Moment.{Moment}
 use Rattle.nr_wire.specs.declared.hello.Side.TheVariants.{Initiator, Responder}
@@ -190,8 +190,8 @@ module _ (reply_to : List Entry → Moment → List ℕ → Option (List ℕ)) (
   own_after = later_execute opened run typed other front back call form xid here executing far near e then after moment payload place reply is
 
   -- an earlier link that executed it submitted it after its first Submit, too
-  earlier_after : (link : ℕ) → number link ≡ number executing → IsEarlier opened run link executing → (p q : List Mark) (now : Moment) (bytes : List ℕ) (at : ℕ) (answer : List ℕ) → run ≡ p ++ marks.Execute link xid now bytes at answer ∷ q → AfterFirst front p
-  earlier_after link heard y p q now bytes at answer there = by (one link heard)
+  earlier_after : (link : ℕ) → number executing ≢ 0 → number link ≡ number executing → IsEarlier opened run link executing → (p q : List Mark) (now : Moment) (bytes : List ℕ) (at : ℕ) (answer : List ℕ) → run ≡ p ++ marks.Execute link xid now bytes at answer ∷ q → AfterFirst front p
+  earlier_after link some heard y p q now bytes at answer there = by (one link some heard)
     where
       after_first : IsEarlier opened run other link → AfterFirst front p
       after_first between = later_execute opened run typed other front back call form xid here link far (matched link y) between p q now bytes at answer there
@@ -233,14 +233,14 @@ module _ (reply_to : List Entry → Moment → List ℕ → Option (List ℕ)) (
       let earliest : Mark = marks.Execute a.link xid a.moment a.payload a.at a.reply in
       let there : then ≡ a.before ++ earliest ∷ a.after = a.is ∙ ap (λ (x : ℕ). a.before ++ marks.Execute a.link x a.moment a.payload a.at a.reply ∷ a.after) same_xid in
       let in_run : run ≡ a.before ++ earliest ∷ (a.after ++ execute ∷ after) = is ∙ ap (λ (r : List Mark). r ++ execute ∷ after) there ∙ append_assoc a.before (earliest ∷ a.after) (execute ∷ after) in
-      let follows = by a.link same_client a.before (a.after ++ execute ∷ after) a.moment a.payload a.at a.reply in_run (clients executing a.link some (sym same_client)) in
+      let follows = by a.link some same_client a.before (a.after ++ execute ∷ after) a.moment a.payload a.at a.reply in_run (clients executing a.link some (sym same_client)) in
       let longer = rises reply_to adds number front a.before follows in
       let place_is = a.place_is in
       omega (arith, longer, place_is)
     where
-      by : (link : ℕ) → number link ≡ number executing → (p q : List Mark) (now : Moment) (bytes : List ℕ) (at : ℕ) (answer : List ℕ) → run ≡ p ++ marks.Execute link xid now bytes at answer ∷ q → IsEarlier opened run executing link ⊎ IsEarlier opened run link executing → AfterFirst front p
-      by link heard p q now bytes at answer there (inl later) = beyond opened run typed other front back call form xid here executing link far near e then after moment payload place reply is later p q now bytes at answer there
-      by link heard p q now bytes at answer there (inr earlier) = earlier_after link heard earlier p q now bytes at answer there
+      by : (link : ℕ) → number executing ≢ 0 → number link ≡ number executing → (p q : List Mark) (now : Moment) (bytes : List ℕ) (at : ℕ) (answer : List ℕ) → run ≡ p ++ marks.Execute link xid now bytes at answer ∷ q → IsEarlier opened run executing link ⊎ IsEarlier opened run link executing → AfterFirst front p
+      by link some heard p q now bytes at answer there (inl later) = beyond opened run typed other front back call form xid here executing link far near e then after moment payload place reply is later p q now bytes at answer there
+      by link some heard p q now bytes at answer there (inr earlier) = earlier_after link some heard earlier p q now bytes at answer there
 
   place_after : length (journal_from reply_to adds number [] front) ≤ place
   unfolding tagged_journal

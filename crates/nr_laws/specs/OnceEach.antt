@@ -108,9 +108,9 @@ ExecutesUntilLeft opened run link = (before : List Mark) (xid : ℕ) (moment : M
 abbrev pub AcceptsWithEarlier : (ℕ → LinkParameters) → List Mark → ℕ → Type 0
 AcceptsWithEarlier opened run link = (earlier : ℕ) → IsEarlier opened run earlier link → AcceptsByRule (opened earlier) earlier run
 
--- the link is one of the client's with this number: of it and each link whose server heard the number, one goes on from the other
+-- the link is one of the client's with this number, if that isn't 0: of it and each link whose server heard the number, one goes on from the other
 abbrev pub IsLinkOf : (ℕ → LinkParameters) → List Mark → (number link : ℕ) → Type 0
-IsLinkOf opened run number link = (other : ℕ) → number_heard run other ≡ number → IsEarlier opened run link other ⊎ IsEarlier opened run other link
+IsLinkOf opened run number link = (other : ℕ) → number ≢ 0 → number_heard run other ≡ number → IsEarlier opened run link other ⊎ IsEarlier opened run other link
 
 -- ---- The theorem
 

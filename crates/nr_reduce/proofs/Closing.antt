@@ -10,7 +10,7 @@ use Rattle.nr_reduce.specs.OfferedMemory.{region_at, held_if_open, registered_re
 use Rattle.nr_reduce.specs.Written.{ends_written}
 use Rattle.nr_reduce.specs.ClientState.{OutstandingCall, ClientState}
 use Rattle.nr_reduce.proofs.OwnStags.{closed_stag}
-use Rattle.nr_reduce.specs.KeptCalls.{KeptCall, AreKept}
+use Rattle.nr_reduce.specs.KeptCalls.{KeptCall, AreKept, numbered_calls}
 use Rattle.nr_reduce.specs.KeptClient.{CallsKeep, IsOwned, IsRegionOpen, IsAmong, AreRising, OpensFor, AreBelow, released_all, without}
 use Rattle.nr_reduce.proofs.Conveying.{all_among}
 
@@ -252,6 +252,7 @@ kept_alike k k2 (c ∷ cs) (o ∷ os) same is = (
     call = is.0.call;
     write = is.0.write;
     reply = is.0.reply;
+    planned = is.0.planned;
     given = is.0.given;
     stags = is.0.stags;
   },
@@ -260,9 +261,9 @@ kept_alike k k2 (c ∷ cs) (o ∷ os) same is = (
 
 -- The calls and regions, once those of an xid are closed and its call is no longer outstanding.
 pub calls_closed : (calls : List KeptCall) (next_xid xid place : ℕ) (k k2 : ClientState) → SendsAlike k k2 → CallsKeep calls next_xid k →
-    k2.outstanding ≡ filter (λ o. not (eqb o.xid xid)) k.outstanding → k2.regions ≡ regions_closed (of_call xid) place k.regions → CallsKeep (without xid calls) next_xid k2
+    numbered_calls k2 ≡ filter (λ o. not (eqb o.xid xid)) (numbered_calls k) → k2.regions ≡ regions_closed (of_call xid) place k.regions → CallsKeep (without xid calls) next_xid k2
 calls_closed calls next_xid xid place k k2 same keeps outstanding regions = record {
-  kept = subst (λ (os : List OutstandingCall). AreKept k2 (without xid calls) os) (sym outstanding) (kept_alike k k2 (without xid calls) _ same (kept_without k xid calls k.outstanding keeps.kept));
+  kept = subst (λ (os : List OutstandingCall). AreKept k2 (without xid calls) os) (sym outstanding) (kept_alike k k2 (without xid calls) _ same (kept_without k xid calls (numbered_calls k) keeps.kept));
   rising = rising_without xid calls next_xid keeps.rising;
   owned = subst (λ (rs : List Region). (stag : ℕ) (r : Region) → region_at rs stag ≡ Some r → r.until ≡ None → IsOwned (without xid calls) r.call stag) (sym regions) (owned_closed xid place calls k.regions keeps.owned);
   opens = subst (λ (rs : List Region). AllByRecursion (OpensFor rs) (without xid calls)) (sym regions) (opens_closed xid place k.regions calls keeps.opens);

@@ -1,5 +1,5 @@
 -- A message is judged by what a client keeps as by what the client of a run knows.
-use Rattle.std.proofs.Common.{◌≡◌, ℕ, ◌+◌, Bool, true, false, cond, not, ◌&&◌, ◌||◌, eqb, leb, List, [], ◌∷◌, ◌++◌, length, take, drop, map, inl, inr, Option, None, Some, Result, Ok, Err, refl, sym, ap, subst, ◌∙◌}
+use Rattle.std.proofs.Common.{◌≡◌, ℕ, ◌+◌, ◌≤◌, Bool, true, false, cond, not, ◌&&◌, ◌||◌, eqb, leb, List, [], ◌∷◌, ◌++◌, length, take, drop, map, inl, inr, Option, None, Some, Result, Ok, Err, refl, sym, ap, subst, ◌∙◌}
 use Rattle.std.specs.Prelude.{is_none, IfSome}
 use Rattle.std.proofs.lemmas.Bool.{eqb-true}
 use Rattle.std.specs.List.{AllByRecursion, find, list_any}
@@ -23,12 +23,14 @@ use Rattle.nr_reduce.specs.Plans.{Buffer, buffers, buffer_if, lists_of, write_li
 use Rattle.nr_reduce.specs.Chunks.{Bytes, joined_bytes, some_bytes, reply_moved, reply_stream, reply_conveyed, whole, returns, returns_each, returns_none, returns_stream, fills_first, are_empty, answers_offer}
 use Rattle.nr_reduce.specs.OfferedRegions.{Region, region_grants, region_bytes, region_bytes_by}
 use Rattle.nr_reduce.specs.OfferedMemory.{held_if_open, registered_region, HoldsRegions}
+use Rattle.nr_reduce.specs.Written.{ends_written}
 use Rattle.nr_reduce.specs.ClientState.{OutstandingCall, ClientState, is_sent, client_memory_at}
 use Rattle.nr_reduce.specs.ClientMessages.{ReplyVerdict, reply_verdict, reply_by_payload, by_lists, reply_by_body, by_call, reply_by_header, answered_call, call_in, names_another, invalidates_another, message_verdict}
 use Rattle.nr_reduce.specs.ClientMessages.ReplyVerdict.{EndsLink, GivesOutcome}
 use Rattle.nr_link.specs.Reasons.{REASON_INVALIDATED}
-use Rattle.nr_reduce.specs.KeptCalls.{KeptCall, IsKeptCall, AreKept, stags_unless, kept_payload, kept_lists, kept_body, kept_call, kept_by, kept_header, kept_verdict, kept_in, kept_names_another, kept_invalidates_another, kept_message_verdict}
+use Rattle.nr_reduce.specs.KeptCalls.{KeptCall, IsKeptCall, AreKept, numbered_calls, stags_unless, kept_payload, kept_lists, kept_body, kept_call, kept_by, kept_header, kept_verdict, kept_in, kept_names_another, kept_invalidates_another, kept_message_verdict}
 use Rattle.nr_reduce.specs.KeptClient.{IsAmong, IsRegionOpen, OpensFor, bytes_under}
+use Rattle.nr_reduce.proofs.Numbered.{found_among}
 
 -- ---- The bytes under the STag of an open region
 
@@ -200,6 +202,10 @@ found_alike k xid (c ∷ cs) (o ∷ os) is = by (eqb c.xid xid && c.is_sent) ref
         subst (λ (p : Bool). FoundAlike k (c ∷ cs) (o ∷ os) (cond p (Some c) (kept_by cs xid)) (cond (eqb o.xid xid && is_sent k o) (Some o) (find (λ x. eqb x.xid xid && is_sent k x) os))) (sym e)
         (subst (λ (p : Bool). FoundAlike k (c ∷ cs) (o ∷ os) (kept_by cs xid) (cond p (Some o) (find (λ x. eqb x.xid xid && is_sent k x) os))) (sym (test ∙ e)) (later _ _ rest))
 
+-- it is no call that waits
+answered_alike : (k : ClientState) (xid : ℕ) (calls : List KeptCall) → AreKept k calls (numbered_calls k) → ends_written k.written k.send_ends ≤ k.sends → FoundAlike k calls (numbered_calls k) (kept_by calls xid) (answered_call k xid)
+answered_alike k xid calls is few = subst (λ (y : Option OutstandingCall). FoundAlike k calls (numbered_calls k) (kept_by calls xid) y) (found_among k xid few) (found_alike k xid calls (numbered_calls k) is)
+
 -- ---- The verdict
 
 pub all_among : {X : Type 0} (P : X → Type 0) (xs : List X) (x : X) → AllByRecursion P xs → IsAmong x xs → P x
@@ -256,25 +262,25 @@ body_alike k place m message (Nomsg lists) c o is holds opens =
 body_alike k place m message (ErrVers version low high) c o is holds opens = ap (λ (x : ℕ). GivesOutcome x (Some (Rattle.nr_reduce.specs.declared.call.Outcome.TheVariants.Version low high))) is.xid
 body_alike k place m message (ErrChunk version) c o is holds opens = ap (λ (x : ℕ). GivesOutcome x (Some Rattle.nr_reduce.specs.declared.call.Outcome.TheVariants.Chunk)) is.xid
 
-call_alike : (k : ClientState) (place : ℕ) (m : RegisteredMemory) (calls : List KeptCall) (message : List ℕ) (body : Body) (x : Option KeptCall) (y : Option OutstandingCall) → FoundAlike k calls k.outstanding x y →
+call_alike : (k : ClientState) (place : ℕ) (m : RegisteredMemory) (calls : List KeptCall) (message : List ℕ) (body : Body) (x : Option KeptCall) (y : Option OutstandingCall) → FoundAlike k calls (numbered_calls k) x y →
     HoldsRegions k.regions k.accesses_received place m → AllByRecursion (OpensFor k.regions) calls → kept_call (bytes_under m) message body x ≡ by_call k place message body y
 call_alike k place m calls message body _ _ NoCall holds opens = refl
 call_alike k place m calls message body _ _ (ThisCall c o is among) holds opens = body_alike k place m message body c o is holds (all_among (OpensFor k.regions) calls c opens among)
 
-header_alike : (k : ClientState) (place : ℕ) (m : RegisteredMemory) (calls : List KeptCall) (message : List ℕ) (r : Result Header HeaderFault) → AreKept k calls k.outstanding →
+header_alike : (k : ClientState) (place : ℕ) (m : RegisteredMemory) (calls : List KeptCall) (message : List ℕ) (r : Result Header HeaderFault) → AreKept k calls (numbered_calls k) → ends_written k.written k.send_ends ≤ k.sends →
     HoldsRegions k.regions k.accesses_received place m → AllByRecursion (OpensFor k.regions) calls → kept_header calls (bytes_under m) message r ≡ reply_by_header k place message r
-header_alike k place m calls message (Ok header) is holds opens =
-    call_alike k place m calls message header.body (kept_by calls header.xid) (answered_call k header.xid) (found_alike k header.xid calls k.outstanding is) holds opens
-header_alike k place m calls message (Err faults.Short) is holds opens = refl
-header_alike k place m calls message (Err (faults.Version version)) is holds opens = refl
-header_alike k place m calls message (Err (faults.Kind kind)) is holds opens = refl
-header_alike k place m calls message (Err (faults.BadChunks at)) is holds opens = refl
+header_alike k place m calls message (Ok header) is few holds opens =
+    call_alike k place m calls message header.body (kept_by calls header.xid) (answered_call k header.xid) (answered_alike k header.xid calls is few) holds opens
+header_alike k place m calls message (Err faults.Short) is few holds opens = refl
+header_alike k place m calls message (Err (faults.Version version)) is few holds opens = refl
+header_alike k place m calls message (Err (faults.Kind kind)) is few holds opens = refl
+header_alike k place m calls message (Err (faults.BadChunks at)) is few holds opens = refl
 
 -- What a requester makes of a message is what its client makes of it.
-pub verdict_alike : (k : ClientState) (place : ℕ) (m : RegisteredMemory) (calls : List KeptCall) (message : List ℕ) → AreKept k calls k.outstanding →
+pub verdict_alike : (k : ClientState) (place : ℕ) (m : RegisteredMemory) (calls : List KeptCall) (message : List ℕ) → AreKept k calls (numbered_calls k) → ends_written k.written k.send_ends ≤ k.sends →
     HoldsRegions k.regions k.accesses_received place m → AllByRecursion (OpensFor k.regions) calls → kept_verdict calls (bytes_under m) message ≡ reply_verdict k place message
 unfolding kept_verdict reply_verdict
-verdict_alike k place m calls message is holds opens = header_alike k place m calls message (header_of message) is holds opens
+verdict_alike k place m calls message is few holds opens = header_alike k place m calls message (header_of message) is few holds opens
 
 -- ---- A message that names an STag
 
@@ -282,21 +288,21 @@ given_alike : (stag : ℕ) (bs : List Buffer) → list_any (λ s. eqb s stag) (m
 given_alike stag [] = refl
 given_alike stag (b ∷ bs) = ap (λ (rest : Bool). eqb b.stag stag || rest) (given_alike stag bs)
 
-names_alike : (k : ClientState) (calls : List KeptCall) (stag : ℕ) (x : Option KeptCall) (y : Option OutstandingCall) → FoundAlike k calls k.outstanding x y → kept_names_another x stag ≡ names_another y stag
+names_alike : (k : ClientState) (calls : List KeptCall) (stag : ℕ) (x : Option KeptCall) (y : Option OutstandingCall) → FoundAlike k calls (numbered_calls k) x y → kept_names_another x stag ≡ names_another y stag
 names_alike k calls stag _ _ NoCall = refl
 names_alike k calls stag _ _ (ThisCall c o is among) =
     ap not (ap (λ (given : List ℕ). list_any (λ s. eqb s stag) given) is.given ∙ given_alike stag (buffers o.stag o.plan))
 
-header_names : (k : ClientState) (calls : List KeptCall) (stag : ℕ) (r : Result Header HeaderFault) → AreKept k calls k.outstanding → kept_names_another (kept_in calls r) stag ≡ names_another (call_in k r) stag
-header_names k calls stag (Ok header) is = names_alike k calls stag (kept_by calls header.xid) (answered_call k header.xid) (found_alike k header.xid calls k.outstanding is)
-header_names k calls stag (Err fault) is = refl
+header_names : (k : ClientState) (calls : List KeptCall) (stag : ℕ) (r : Result Header HeaderFault) → AreKept k calls (numbered_calls k) → ends_written k.written k.send_ends ≤ k.sends → kept_names_another (kept_in calls r) stag ≡ names_another (call_in k r) stag
+header_names k calls stag (Ok header) is few = names_alike k calls stag (kept_by calls header.xid) (answered_call k header.xid) (answered_alike k header.xid calls is few)
+header_names k calls stag (Err fault) is few = refl
 
-another_alike : (k : ClientState) (calls : List KeptCall) (named : Option ℕ) (message : List ℕ) → AreKept k calls k.outstanding → kept_invalidates_another calls named message ≡ invalidates_another k named message
-another_alike k calls None message is = refl
-another_alike k calls (Some stag) message is = header_names k calls stag (header_of message) is
+another_alike : (k : ClientState) (calls : List KeptCall) (named : Option ℕ) (message : List ℕ) → AreKept k calls (numbered_calls k) → ends_written k.written k.send_ends ≤ k.sends → kept_invalidates_another calls named message ≡ invalidates_another k named message
+another_alike k calls None message is few = refl
+another_alike k calls (Some stag) message is few = header_names k calls stag (header_of message) is few
 
-pub message_alike : (k : ClientState) (place : ℕ) (m : RegisteredMemory) (calls : List KeptCall) (named : Option ℕ) (message : List ℕ) → AreKept k calls k.outstanding →
+pub message_alike : (k : ClientState) (place : ℕ) (m : RegisteredMemory) (calls : List KeptCall) (named : Option ℕ) (message : List ℕ) → AreKept k calls (numbered_calls k) → ends_written k.written k.send_ends ≤ k.sends →
     HoldsRegions k.regions k.accesses_received place m → AllByRecursion (OpensFor k.regions) calls → kept_message_verdict calls (bytes_under m) named message ≡ message_verdict k place named message
 unfolding kept_message_verdict message_verdict
-message_alike k place m calls named message is holds opens =
-    λ i. cond (another_alike k calls named message is i) (EndsLink REASON_INVALIDATED) (verdict_alike k place m calls message is holds opens i)
+message_alike k place m calls named message is few holds opens =
+    λ i. cond (another_alike k calls named message is few i) (EndsLink REASON_INVALIDATED) (verdict_alike k place m calls message is few holds opens i)

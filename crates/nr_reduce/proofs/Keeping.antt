@@ -1,10 +1,8 @@
 -- What a client keeps is enough to judge a message, to answer a Read Request, and to answer a call.
-use Rattle.std.proofs.Common.{◌≡◌, ℕ, ◌-◌, Bool, false, cond, leb, List, [], ◌∷◌, length, take, drop, Option, None, Some, Result, Ok, Err, refl, sym, ap, subst, ◌∙◌, arith}
-use Rattle.std.specs.Ordering.{nat_cmp}
-use Rattle.std.specs.FinMap.{get-empty}
+use Rattle.std.proofs.Common.{◌≡◌, ℕ, ◌-◌, Bool, cond, leb, List, [], ◌∷◌, ◌++◌, length, take, drop, Option, None, Some, Result, Ok, Err, refl, sym, ap, subst, ◌∙◌, arith}
 use Rattle.nr_regions.specs.declared.denied.Denied.TheVariants as denied
 use Rattle.nr_regions.specs.declared.right.Right.TheVariants.{Fetch}
-use Rattle.nr_regions.specs.RegisteredMemory.{Region as HeldRegion, RegisteredMemory, Access, NoneIsDead, initial_memory, live_region, held_region, denial, denial_in, region_offer, bytes_in}
+use Rattle.nr_regions.specs.RegisteredMemory.{Region as HeldRegion, RegisteredMemory, Access, live_region, denial, denial_in, region_offer, bytes_in}
 use Rattle.nr_regions.specs.Access.{contents}
 use Rattle.nr_link.specs.declared.end.End.{End}
 use Rattle.nr_link.specs.Output.{read_response}
@@ -21,71 +19,23 @@ use Rattle.nr_reduce.specs.OfferedRegions.{Region, region_grants, region_bytes, 
 use Rattle.nr_reduce.specs.OfferedMemory.{region_at, HoldsRegions, held_if_open, registered_region}
 use Rattle.nr_reduce.specs.EndRules.{EndState, live}
 use Rattle.nr_reduce.specs.ClientState.{OutstandingCall, ClientState, call_payload, plan_for, client_memory_at, WaitingCall, plan_unless, first_of}
-use Rattle.nr_reduce.specs.Client.{initial_client}
-use Rattle.nr_reduce.specs.SubmitAnswer.{unless_spent, by_plan, answer_by, submit_answer, calls_counted, unless_far, unless_far_from, least_xid}
-use Rattle.nr_reduce.specs.KeptCalls.{KeptCall, AreKept}
-use Rattle.nr_reduce.specs.KeptClient.{KeptClient, ClientKeeps, CallsKeep, MemoryKeeps, bytes_under, opened_client, IsUnresumed}
-use Rattle.nr_reduce.specs.StandingLaws.{KeptJudges, KeptResponds, KeptAnswers, KeptCounts, kept_answer_by_plan, kept_answer_if}
+use Rattle.nr_reduce.specs.SubmitAnswer.{unless_spent, by_plan, answer_by, submit_answer, calls_counted, unless_far_by, least_xid}
+use Rattle.nr_reduce.specs.KeptCalls.{KeptCall, AreKept, numbered_from, numbered_calls}
+use Rattle.nr_reduce.specs.KeptClient.{KeptClient, ClientKeeps, CallsKeep, MemoryKeeps, AreRising, bytes_under}
+use Rattle.nr_reduce.specs.StandingLaws.{KeptJudges, KeptResponds, KeptAnswers, KeptCounts, least_kept, kept_answer_by_plan, kept_answer_if}
 use Rattle.nr_reduce.proofs.MemorySteps.{holds_later}
 use Rattle.nr_reduce.proofs.Conveying.{message_alike}
 use Rattle.nr_regions.proofs.Holding.{live_parts}
-use Rattle.std.specs.Prelude.{unwrap_or}
-use Rattle.nr_reduce.specs.Opening.{IsFirstLink}
-use Rattle.std.proofs.lemmas.Bool.{eq-eqb}
-
--- ---- As it is opened
-
-memory_begins : (first_stag : ℕ) → HoldsRegions [] [] 0 (initial_memory first_stag)
-unfolding live_region held_region initial_memory
-memory_begins first_stag stag =
-    let flag = get-empty {X = Bool} nat_cmp stag in
-    let region = get-empty {X = HeldRegion} nat_cmp stag in
-    λ i. cond (unwrap_or (flag i) false) None (region i)
-
-none_begins : (first_stag : ℕ) → NoneIsDead (initial_memory first_stag)
-unfolding initial_memory
-none_begins first_stag stag = ap (λ (o : Option Bool). unwrap_or o false) (get-empty nat_cmp stag)
-
-next_begins : (first_stag : ℕ) → (initial_memory first_stag).next ≡ first_stag
-unfolding initial_memory
-next_begins first_stag = refl
-
--- a link that was not reopened
-abbrev unresumed : LinkParameters → LinkParameters
-unresumed any = record any { resumed = []; agreed = None }
-
-begins_unresumed : (any : LinkParameters) → any.client.number ≡ 0 → ClientKeeps (unresumed any) (opened_client (unresumed any)) (initial_client (unresumed any)) 0
-begins_unresumed any number = record {
-  ended = refl;
-  xid = refl;
-  sends = refl;
-  grant = refl;
-  up = refl;
-  down = refl;
-  invalidates = refl;
-  first = (refl, (refl, number));
-  outstanding = refl;
-  calls = λ lives. record { kept = tt; rising = tt; owned = λ stag r e is. absurd cc; opens = tt };
-  memory = λ lives. record { next = next_begins any.first_stag; offered = tt; holds = memory_begins any.first_stag; none_dead = none_begins any.first_stag; below = λ stag r e. absurd cc };
-  waits = tt;
-  rising = tt;
-  opens = tt;
-  accesses = tt;
-  holds = tt;
-}
-
-pub keeps_begins : (opened : LinkParameters) → IsFirstLink opened → opened.client.number ≡ 0 → ClientKeeps opened (opened_client opened) (initial_client opened) 0
-keeps_begins opened first number =
-    let same : unresumed opened ≡ opened = (λ i. record opened { resumed = sym first.resumed i; agreed = sym first.agreed i }) in
-    subst (λ (p : LinkParameters). ClientKeeps p (opened_client p) (initial_client p) 0) same (begins_unresumed opened number)
+use Rattle.std.proofs.lemmas.Bool.{ne_eqb}
+use Rattle.nr_reduce.proofs.Numbered.{numbered_length}
 
 -- ---- Messages
 
 pub kept_judges : KeptJudges
-kept_judges opened kept k count place named message keeps later =
+kept_judges opened kept k count place named message keeps later few =
     let calls : CallsKeep kept.calls kept.next_xid k = keeps.calls refl in
     let memory : MemoryKeeps kept.memory k count = keeps.memory refl in
-    message_alike k place kept.memory kept.calls named message calls.kept
+    message_alike k place kept.memory kept.calls named message calls.kept few
     (holds_later k.regions k.accesses_received count place kept.memory later keeps.accesses memory.holds) keeps.opens
 
 -- ---- Read Requests
@@ -131,45 +81,56 @@ kept_count k (c ∷ cs) [] is = absurd is
 kept_count k (c ∷ cs) (o ∷ os) is = (let rest = kept_count k cs os is.1 in omega (arith, rest))
 
 -- the parts of an answer, one by one
-answer_parts : Result Plan TooLarge → (grant count xid stag : ℕ) → Submission
-answer_parts (Err large) grant count xid stag = submissions.Refused (refusals.TooLarge large.need large.room)
-answer_parts (Ok plan) grant count xid stag =
+answer_parts : Result Plan TooLarge → (grant count number : ℕ) → (least : Option ℕ) → (xid stag : ℕ) → Submission
+answer_parts (Err large) grant count number least xid stag = submissions.Refused (refusals.TooLarge large.need large.room)
+answer_parts (Ok plan) grant count number least xid stag =
     cond (leb grant count) (submissions.Refused (refusals.NoCredit count grant))
-    (unless_spent (numbers_end - xid) 1 (unless_spent (numbers_end - stag) (regions_needed plan) (submissions.Accepted xid)))
+    (unless_far_by number xid least (unless_spent (numbers_end - xid) 1 (unless_spent (numbers_end - stag) (regions_needed plan) (submissions.Accepted xid))))
 
-own_parts : (kept : KeptClient) (p : Result Plan TooLarge) → kept_answer_by_plan kept p ≡ answer_parts p kept.grant (length kept.calls) kept.next_xid kept.memory.next
+own_parts : (kept : KeptClient) (p : Result Plan TooLarge) → kept_answer_by_plan kept p ≡ answer_parts p kept.grant (length kept.calls) kept.number (least_kept kept.calls) kept.next_xid kept.memory.next
 unfolding answer_parts
 own_parts kept (Ok plan) = refl
 own_parts kept (Err large) = refl
 
--- a client without a number counts no call that waits, and its xids have no window
-client_parts : (k : ClientState) (p : Result Plan TooLarge) → IsUnresumed k → by_plan k p ≡ answer_parts p k.grant (length k.outstanding) k.next_xid k.stag
+-- the least xid of the calls that are kept is that of the outstanding ones, or of those that wait
+least_same : (k : ClientState) (n : ℕ) (cs : List KeptCall) (os : List OutstandingCall) (ws : List WaitingCall) → AreKept k cs (os ++ numbered_from n ws) → least_kept cs ≡ least_xid os ws
+least_same k n [] [] [] is = refl
+least_same k n [] [] (w ∷ ws) is = absurd is
+least_same k n [] (o ∷ os) ws is = absurd is
+least_same k n (c ∷ cs) [] [] is = absurd is
+least_same k n (c ∷ cs) [] (w ∷ ws) is = ap (λ (xid : ℕ). Some xid) is.0.xid
+least_same k n (c ∷ cs) (o ∷ os) ws is = ap (λ (xid : ℕ). Some xid) is.0.xid
+
+client_parts : (k : ClientState) (p : Result Plan TooLarge) → by_plan k p ≡ answer_parts p k.grant (calls_counted k) k.terms.number (least_xid k.outstanding k.waiting) k.next_xid k.stag
 unfolding answer_parts
-client_parts k (Ok plan) first = λ i. cond (leb k.grant (count i)) (submissions.Refused (refusals.NoCredit (count i) k.grant)) (near i)
-  where
-    answer : Submission
-    answer = unless_spent (numbers_end - k.next_xid) 1 (unless_spent (numbers_end - k.stag) (regions_needed plan) (submissions.Accepted k.next_xid))
+client_parts k (Ok plan) = refl
+client_parts k (Err large) = refl
 
-    count : calls_counted k ≡ length k.outstanding
-    count = (let none = ap (λ (ws : List WaitingCall). length ws) first.0 in omega (arith, none))
+-- a new call has the plan for the lengths of the state: its xid is that of none that waits
+waits_below : (k : ClientState) (n next : ℕ) (cs : List KeptCall) (os : List OutstandingCall) (ws : List WaitingCall) → AreRising cs next → AreKept k cs (os ++ numbered_from n ws) → first_of ws next ≡ None
+waits_below k n next cs os [] rising is = refl
+waits_below k n next [] [] (w ∷ ws) rising is = absurd is
+waits_below k n next (c ∷ cs) [] (w ∷ ws) rising is =
+    ap (λ (b : Bool). cond b (Some w) None) (ne_eqb w.xid next (λ e. (let lt = rising.0 in let own = is.0.xid in omega (arith, lt, own, e))))
+waits_below k n next [] (o ∷ os) (w ∷ ws) rising is = absurd is
+waits_below k n next (c ∷ cs) (o ∷ os) (w ∷ ws) rising is = waits_below k n next cs os (w ∷ ws) rising.1.1 is.1
 
-    near : unless_far k answer ≡ answer
-    near = ap (λ (b : Bool). cond b answer (unless_far_from k.next_xid (least_xid k.outstanding k.waiting) answer)) (eq-eqb k.terms.number 0 first.1.1)
-client_parts k (Err large) first = refl
-
-plan_same : (k : ClientState) (xid : ℕ) (call : Call) (form : Form) → k.waiting ≡ [] → plan_of (call_payload xid call) form k.up_max k.down_max ≡ plan_for k xid call form
+plan_same : (k : ClientState) (xid : ℕ) (call : Call) (form : Form) → first_of k.waiting xid ≡ None → plan_of (call_payload xid call) form k.up_max k.down_max ≡ plan_for k xid call form
 unfolding plan_for
-plan_same k xid call form none = sym (ap (λ (ws : List WaitingCall). plan_unless (first_of ws xid) (plan_of (call_payload xid call) form k.up_max k.down_max)) none)
+plan_same k xid call form none = sym (ap (λ (o : Option WaitingCall). plan_unless o (plan_of (call_payload xid call) form k.up_max k.down_max)) none)
 
 answer_live : (opened : LinkParameters) (kept : KeptClient) (k : ClientState) (count : ℕ) (call : Call) (form : Form) → ClientKeeps opened kept (live k) count →
     kept_answer_by_plan kept (plan_of (call_payload kept.next_xid call) form kept.up_max kept.down_max) ≡ by_plan k (plan_for k k.next_xid call form)
 answer_live opened kept k count call form keeps =
     let memory : MemoryKeeps kept.memory k count = keeps.memory refl in
     let calls : CallsKeep kept.calls kept.next_xid k = keeps.calls refl in
+    let counted : length kept.calls ≡ calls_counted k = kept_count k kept.calls (numbered_calls k) calls.kept ∙ numbered_length k in
+    let below : first_of k.waiting k.next_xid ≡ None = waits_below k k.sends k.next_xid kept.calls k.outstanding k.waiting (subst (λ (n : ℕ). AreRising kept.calls n) keeps.xid calls.rising) calls.kept in
     own_parts kept (plan_of (call_payload kept.next_xid call) form kept.up_max kept.down_max)
-    ∙ (λ i. answer_parts (plan_of (call_payload (keeps.xid i) call) form (keeps.up i) (keeps.down i)) (keeps.grant i) (kept_count k kept.calls k.outstanding calls.kept i) (keeps.xid i) (memory.next i))
-    ∙ sym (client_parts k (plan_of (call_payload k.next_xid call) form k.up_max k.down_max) keeps.first)
-    ∙ ap (by_plan k) (plan_same k k.next_xid call form keeps.first.0)
+    ∙ (λ i. answer_parts (plan_of (call_payload (keeps.xid i) call) form (keeps.up i) (keeps.down i)) (keeps.grant i) (counted i) (keeps.opening.0 i)
+    (least_same k k.sends kept.calls k.outstanding k.waiting calls.kept i) (keeps.xid i) (memory.next i))
+    ∙ sym (client_parts k (plan_of (call_payload k.next_xid call) form k.up_max k.down_max))
+    ∙ ap (by_plan k) (plan_same k k.next_xid call form below)
 
 answer_if : (opened : LinkParameters) (kept : KeptClient) (e : EndState ClientState) (count : ℕ) (call : Call) (form : Form) → ClientKeeps opened kept e count → (x : Option End) → e.ended ≡ x →
     kept_answer_if kept call form x ≡ answer_by e.state call form x
@@ -184,6 +145,6 @@ kept_answers opened kept e count call form keeps =
 
 pub kept_counts : KeptCounts
 kept_counts opened kept e count keeps = (
-  keeps.outstanding,
-  (keeps.grant, λ lives. (let calls : CallsKeep kept.calls kept.next_xid e.state = keeps.calls lives in kept_count e.state kept.calls e.state.outstanding calls.kept ∙ sym keeps.outstanding)),
+  keeps.outstanding ∙ numbered_length e.state,
+  (keeps.grant, λ lives. (let calls : CallsKeep kept.calls kept.next_xid e.state = keeps.calls lives in kept_count e.state kept.calls (numbered_calls e.state) calls.kept ∙ sym keeps.outstanding)),
 )

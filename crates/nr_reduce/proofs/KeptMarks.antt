@@ -5,7 +5,7 @@ use Rattle.nr_link.specs.declared.end.End.{End}
 use Rattle.nr_link.specs.Input.{InputState, input_of, input_count, input_after}
 use Rattle.nr_link.proofs.Inputs.{input_of_append, input_of_count}
 use Rattle.nr_reduce.specs.declared.mark.Mark.{Mark}
-use Rattle.nr_reduce.specs.KeptCalls.{KeptCall}
+use Rattle.nr_reduce.specs.KeptCalls.{KeptCall, numbered_calls}
 use Rattle.std.specs.List.{AllByRecursion, find}
 use Rattle.nr_reduce.specs.declared.mark.Mark.TheVariants as marks
 use Rattle.nr_reduce.specs.declared.mark.LinkParameters.{LinkParameters}
@@ -155,11 +155,11 @@ writes_ended opened kept k end count sent keeps = record {
   up = keeps.up;
   down = keeps.down;
   invalidates = keeps.invalidates;
-  first = keeps.first;
+  opening = keeps.opening;
   outstanding = keeps.outstanding;
   calls = λ e. absurd cc;
   memory = λ e. absurd cc;
-  waits = waits_sent sent k.outstanding kept.calls keeps.waits;
+  waits = waits_sent sent (numbered_calls k) kept.calls keeps.waits;
   rising = rising_sent sent kept.calls kept.next_xid keeps.rising;
   opens = opens_sent sent k.regions kept.calls keeps.opens;
   accesses = keeps.accesses;

@@ -1,4 +1,6 @@
 pub mod KeptMarks
+pub mod OpenedClients
+pub mod Numbered
 pub mod Registering
 pub mod Submits
 pub mod Taking
@@ -17,6 +19,8 @@ pub mod OutcomesStay
 pub mod XidsFollow
 pub mod Unresumed
 pub mod RisingXids
+pub mod WaitingFit
+pub mod Resending
 pub mod ToldCredits
 pub mod Unconcerned
 pub mod OutputItems
@@ -64,3 +68,7 @@ pub mod Calls
 pub mod OfferedMemory
 pub mod MemorySteps
 pub mod PrivateData
+pub mod PlansByLists
+pub mod AnsweredXids
+pub mod OutcomesApart
+pub mod KeptReopening

@@ -110,7 +110,7 @@ chunk_lengths_are None = refl
 chunk_lengths_are (Some n) = refl
 
 -- a region that lies within the payload has no zeros after it
-region_inside : (payload : List ℕ) (at n : ℕ) → at + n ≤ length payload → given_region payload at n ≡ take n (drop at payload)
+pub region_inside : (payload : List ℕ) (at n : ℕ) → at + n ≤ length payload → given_region payload at n ≡ take n (drop at payload)
 region_inside payload at n le =
     let held : List ℕ = take n (drop at payload) in
     let none : n - length held ≡ 0 = (let a = length-take n (drop at payload) in let b = length-drop at payload in omega (arith, a, b, le)) in

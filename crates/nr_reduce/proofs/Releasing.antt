@@ -12,17 +12,18 @@ use Rattle.nr_reduce.specs.OfferedRegions.{Region, until_or, regions_closed, reg
 use Rattle.nr_reduce.specs.OfferedMemory.{region_at, held_if_open, registered_region, AreReceived, HoldsRegions, is_closed_by, ReleasesClosed}
 use Rattle.nr_reduce.specs.Events.RunEvent.{MemoryRevoked}
 use Rattle.nr_reduce.specs.EndRules.{next_end_state, live}
-use Rattle.nr_reduce.specs.ClientState.{OutstandingCall, ClientState, client_memory_at, WaitingCall}
-use Rattle.nr_reduce.specs.Client.{client_rules, client_end, client_state_after, revoked_call, with_message, revoked_waiting}
-use Rattle.nr_reduce.specs.KeptCalls.{KeptCall, IsKeptCall, AreKept, stags_unless}
+use Rattle.nr_reduce.specs.ClientState.{OutstandingCall, ClientState, client_memory_at}
+use Rattle.nr_reduce.specs.Client.{client_rules, client_end, client_state_after, revoked_call, with_message}
+use Rattle.nr_reduce.specs.KeptCalls.{KeptCall, IsKeptCall, AreKept, numbered_calls, stags_unless}
 use Rattle.nr_reduce.specs.Plans.{buffers}
-use Rattle.nr_reduce.specs.KeptClient.{KeptClient, ClientKeeps, CallsKeep, MemoryKeeps, HoldsFor, IsOwned, IsRegionOpen, IsAmong, AreRising, OpensFor, IsWaiting, HasRegions, HasRegionsOf, bytes_under, released_all, stags_in, stags_for, without, revoked_if, revoked_kept, kept_revoked, kept_handed_back, kept_completed, IsUnresumed}
+use Rattle.nr_reduce.specs.KeptClient.{KeptClient, ClientKeeps, CallsKeep, MemoryKeeps, HoldsFor, IsOwned, IsRegionOpen, IsAmong, AreRising, OpensFor, IsWaiting, HasRegions, HasRegionsOf, bytes_under, released_all, stags_in, stags_for, without, revoked_if, revoked_kept, kept_revoked, kept_handed_back, kept_completed, IsOpenedWith}
 use Rattle.nr_reduce.specs.StandingLaws.{KeptStays, KeptRevokes, KeptHandsBack, KeptCompletes}
 use Rattle.nr_reduce.proofs.OfferedMemory.{grants_from, contents_same, AreAlike, alike_offers}
 use Rattle.nr_reduce.proofs.MemorySteps.{holds_closed, holds_later, offered_closed, offered_later, received_later}
 use Rattle.nr_reduce.proofs.Closing.{of_call, releases_closed, below_closed, released_next, released_none_dead, open_closed, closed_owner, released_other, all_without, rising_without, calls_closed, kept_alike}
 use Rattle.nr_reduce.proofs.Conveying.{all_among, open_bytes}
 use Rattle.nr_reduce.proofs.Keeping.{kept_count}
+use Rattle.nr_reduce.proofs.Numbered.{numbered_revoked, numbered_without}
 
 -- ---- The call of an xid
 
@@ -89,7 +90,7 @@ one_revoked : (k : ClientState) (xid : ℕ) (c : KeptCall) (o : OutstandingCall)
 one_revoked k xid c o is = subst (λ (n : ℕ). IsKeptCall k (revoked_if (eqb c.xid xid) c) (cond (eqb n xid) (record o { is_revoked = true }) o)) is.xid (by (eqb c.xid xid))
   where
     by : (b : Bool) → IsKeptCall k (revoked_if b c) (cond b (record o { is_revoked = true }) o)
-    by true = record { xid = is.xid; send = is.send; sent = is.sent; revoked = refl; call = tt; write = is.write; reply = is.reply; given = is.given; stags = refl }
+    by true = record { xid = is.xid; send = is.send; sent = is.sent; revoked = refl; call = tt; write = is.write; reply = is.reply; planned = tt; given = is.given; stags = refl }
     by false = is
 
 kept_revoked_lem : (k : ClientState) (xid : ℕ) (cs : List KeptCall) (os : List OutstandingCall) → AreKept k cs os → AreKept k (map (revoked_kept xid) cs) (map (revoked_call xid) os)
@@ -136,7 +137,8 @@ opens_revoked xid place regions (c ∷ cs) h = (by (eqb c.xid xid) refl, opens_r
 calls_revoked : (opened : LinkParameters) (calls : List KeptCall) (next_xid xid place : ℕ) (k : ClientState) → CallsKeep calls next_xid k → CallsKeep (map (revoked_kept xid) calls) next_xid (client_state_after opened k (MemoryRevoked place xid))
 unfolding client_state_after
 calls_revoked opened calls next_xid xid place k keeps = record {
-  kept = kept_alike k (client_state_after opened k (MemoryRevoked place xid)) (map (revoked_kept xid) calls) (map (revoked_call xid) k.outstanding) (record { written = refl; ends = refl }) (kept_revoked_lem k xid calls k.outstanding keeps.kept);
+  kept = subst (λ (os : List OutstandingCall). AreKept (client_state_after opened k (MemoryRevoked place xid)) (map (revoked_kept xid) calls) os) (numbered_revoked xid k)
+      (kept_alike k (client_state_after opened k (MemoryRevoked place xid)) (map (revoked_kept xid) calls) (map (revoked_call xid) (numbered_calls k)) (record { written = refl; ends = refl }) (kept_revoked_lem k xid calls (numbered_calls k) keeps.kept));
   rising = rising_revoked xid calls next_xid keeps.rising;
   owned = λ stag r e is_open.
       (let owner = closed_owner xid place calls k.regions keeps.owned stag r e is_open in
@@ -249,7 +251,7 @@ kept_stays opened kept e count later keeps le = record {
   up = keeps.up;
   down = keeps.down;
   invalidates = keeps.invalidates;
-  first = keeps.first;
+  opening = keeps.opening;
   outstanding = keeps.outstanding;
   calls = keeps.calls;
   memory = λ lives.
@@ -303,9 +305,9 @@ waits_revoked xid os (c ∷ cs) h = (by (eqb c.xid xid), waits_revoked xid os cs
     by false = h.0
 
 -- of a client that hasn't ended the memory of its calls is that of its open regions
-pub keeps_live : (opened : LinkParameters) (kept : KeptClient) (k : ClientState) (count : ℕ) → kept.ended ≡ None → kept.next_xid ≡ k.next_xid → kept.sends ≡ k.sends → kept.grant ≡ k.grant → kept.up_max ≡ k.up_max → kept.down_max ≡ k.down_max → kept.invalidates ≡ k.invalidates → IsUnresumed k → kept.outstanding ≡ length k.outstanding →
+pub keeps_live : (opened : LinkParameters) (kept : KeptClient) (k : ClientState) (count : ℕ) → kept.ended ≡ None → kept.next_xid ≡ k.next_xid → kept.sends ≡ k.sends → kept.grant ≡ k.grant → kept.up_max ≡ k.up_max → kept.down_max ≡ k.down_max → kept.invalidates ≡ k.invalidates → IsOpenedWith kept.number kept.agreed k → kept.outstanding ≡ length (numbered_calls k) →
     AreReceived count k.accesses_received → MemoryKeeps kept.memory k count → CallsKeep kept.calls kept.next_xid k → ClientKeeps opened kept (live k) count
-keeps_live opened kept k count ended xid sends grant up down invalidates first outstanding accesses memory calls = record {
+keeps_live opened kept k count ended xid sends grant up down invalidates opening outstanding accesses memory calls = record {
   ended = ended;
   xid = xid;
   sends = sends;
@@ -313,11 +315,11 @@ keeps_live opened kept k count ended xid sends grant up down invalidates first o
   up = up;
   down = down;
   invalidates = invalidates;
-  first = first;
+  opening = opening;
   outstanding = outstanding;
   calls = λ lives. calls;
   memory = λ lives. memory;
-  waits = kept_waits k kept.calls k.outstanding kept.next_xid calls.rising calls.kept;
+  waits = kept_waits k kept.calls (numbered_calls k) kept.next_xid calls.rising calls.kept;
   rising = calls.rising;
   opens = calls.opens;
   accesses = accesses;
@@ -341,7 +343,7 @@ revokes : (opened : LinkParameters) (kept : KeptClient) (k : ClientState) (count
 unfolding client_end client_state_after kept_revoked
 revokes opened kept k count xid keeps =
     let calls : CallsKeep kept.calls kept.next_xid k = keeps.calls refl in
-    keeps_live opened (kept_revoked kept xid) (client_state_after opened k (MemoryRevoked count xid)) count keeps.ended keeps.xid keeps.sends keeps.grant keeps.up keeps.down keeps.invalidates (ap (λ (ws : List WaitingCall). map (revoked_waiting xid) ws) keeps.first.0, keeps.first.1) (keeps.outstanding ∙ sym (length-map k.outstanding (revoked_call xid))) keeps.accesses
+    keeps_live opened (kept_revoked kept xid) (client_state_after opened k (MemoryRevoked count xid)) count keeps.ended keeps.xid keeps.sends keeps.grant keeps.up keeps.down keeps.invalidates keeps.opening (keeps.outstanding ∙ sym (length-map (numbered_calls k) (revoked_call xid)) ∙ ap (λ (os : List OutstandingCall). length os) (numbered_revoked xid k)) keeps.accesses
     (memory_closed xid count count kept.calls kept.next_xid k (client_state_after opened k (MemoryRevoked count xid)) kept.memory (omega arith) calls keeps.accesses (keeps.memory refl) refl refl refl)
     (calls_revoked opened kept.calls kept.next_xid xid count k calls)
 
@@ -355,11 +357,11 @@ revokes_ended opened kept k end count xid keeps = record {
   up = keeps.up;
   down = keeps.down;
   invalidates = keeps.invalidates;
-  first = keeps.first;
+  opening = keeps.opening;
   outstanding = keeps.outstanding;
   calls = λ e. absurd cc;
   memory = λ e. absurd cc;
-  waits = waits_revoked xid k.outstanding kept.calls keeps.waits;
+  waits = waits_revoked xid (numbered_calls k) kept.calls keeps.waits;
   rising = rising_revoked xid kept.calls kept.next_xid keeps.rising;
   opens = opens_still xid k.regions kept.calls keeps.opens;
   accesses = keeps.accesses;
@@ -387,11 +389,11 @@ kept_hands_back opened kept e end count xid ended keeps = record {
   up = keeps.up;
   down = keeps.down;
   invalidates = keeps.invalidates;
-  first = keeps.first;
+  opening = keeps.opening;
   outstanding = keeps.outstanding;
   calls = λ lives. absurd (let wrong : Some end ≡ None = sym ended ∙ lives in cc);
   memory = λ lives. absurd (let wrong : Some end ≡ None = sym ended ∙ lives in cc);
-  waits = all_without (IsWaiting e.state.outstanding) xid kept.calls keeps.waits;
+  waits = all_without (IsWaiting (numbered_calls e.state)) xid kept.calls keeps.waits;
   rising = rising_without xid kept.calls kept.next_xid keeps.rising;
   opens = all_without (OpensFor e.state.regions) xid kept.calls keeps.opens;
   accesses = keeps.accesses;
@@ -400,11 +402,12 @@ kept_hands_back opened kept e end count xid ended keeps = record {
 
 pub kept_completes : KeptCompletes
 unfolding kept_completed
-kept_completes opened kept k count place message keeps le =
+kept_completes opened kept k count place message keeps le others =
     let calls : CallsKeep kept.calls kept.next_xid k = keeps.calls refl in
     let after : ClientState = with_message k place (Some message) in
     let closed : CallsKeep (without (word_at 0 message) kept.calls) kept.next_xid after =
-    calls_closed kept.calls kept.next_xid (word_at 0 message) place k after (record { written = refl; ends = refl }) calls refl refl in
-    keeps_live opened (kept_completed kept message) after place keeps.ended keeps.xid keeps.sends refl keeps.up keeps.down keeps.invalidates keeps.first (kept_count after (without (word_at 0 message) kept.calls) after.outstanding closed.kept) (received_later count place k.accesses_received le keeps.accesses)
+    calls_closed kept.calls kept.next_xid (word_at 0 message) place k after (record { written = refl; ends = refl }) calls
+    (sym (numbered_without (word_at 0 message) k.sends k.outstanding k.waiting others)) refl in
+    keeps_live opened (kept_completed kept message) after place keeps.ended keeps.xid keeps.sends refl keeps.up keeps.down keeps.invalidates keeps.opening (kept_count after (without (word_at 0 message) kept.calls) (numbered_calls after) closed.kept) (received_later count place k.accesses_received le keeps.accesses)
     (memory_closed (word_at 0 message) count place kept.calls kept.next_xid k after kept.memory le calls keeps.accesses (keeps.memory refl) refl refl refl)
     closed

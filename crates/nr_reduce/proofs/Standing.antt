@@ -23,12 +23,11 @@ use Rattle.nr_reduce.specs.Run.{client, server, output_due}
 use Rattle.nr_reduce.specs.AtEachMark.{AtEachMark}
 use Rattle.nr_reduce.specs.Matched.{IsPrefixOf}
 use Rattle.nr_reduce.specs.Asked.{IsAll}
-use Rattle.nr_reduce.specs.KeptClient.{KeptClient, ClientKeeps, opened_client}
+use Rattle.nr_reduce.specs.KeptClient.{KeptClient, ClientKeeps, opened_client, CanResume}
 use Rattle.nr_reduce.specs.Standing.{input_events, RepresentsMarks, IsState, ClientRepresents, ServerRepresents}
 use Rattle.nr_reduce.specs.StandingLaws.{GoesOn, GoesByInput, ClientGoesByInput, ServerGoesByInput, ClientStandsOn, ServerStandsOn, ClientRunsOutAt, ServerRunsOutAt, ClientStaysOut, ServerStaysOut, ClientQueueIsDue, ServerQueueIsDue}
 use Rattle.nr_reduce.proofs.Steps.{client_one, output_due_up_one, server_one, output_due_down_one, ended_stays}
-use Rattle.nr_reduce.proofs.Keeping.{keeps_begins}
-use Rattle.nr_reduce.specs.Opening.{IsFirstLink}
+use Rattle.nr_reduce.proofs.OpenedClients.{keeps_begins}
 
 pub AtEachMark_more : (P : List Mark → Mark → Type 0) (before run : List Mark) (mark : Mark) → AtEachMark P before run → P (before ++ run) mark → AtEachMark P before (run ++ mark ∷ [])
 AtEachMark_more P before [] mark h p = (let at : P before mark = rw append-nil at p in at, tt)
@@ -266,10 +265,10 @@ pub server_stays_out_lem : ServerStaysOut
 server_stays_out_lem opened link ended queue left run mark out queued =
     (out.0, stays_out IsState (server_rules opened) link Responder (server opened link) (output_due opened link Responder) run mark queue left (output_due_down_one opened link run mark) out.1 queued)
 
-pub client_begins_lem : (opened : LinkParameters) (link : ℕ) → IsFirstLink opened → opened.client.number ≡ 0 → ClientRepresents opened link (opened_client opened) (initial_input Responder) (client_hello opened) []
+pub client_begins_lem : (opened : LinkParameters) (link : ℕ) → CanResume opened.resumed opened.first_xid → ClientRepresents opened link (opened_client opened) (initial_input Responder) (client_hello opened) []
 unfolding client events bytes_received bytes_sent output_due
-client_begins_lem opened link first number = record {
-  keeps = keeps_begins opened first number;
+client_begins_lem opened link rise = record {
+  keeps = keeps_begins opened rise;
   received = λ lives. sym (input_of_none Responder);
   output = sym (append-nil (client_hello opened));
 }

@@ -1,7 +1,7 @@
 -- What a client keeps after an access of its peer, after a write, with the server's hello, and after a call that it accepts.
-use Rattle.std.proofs.Common.{◌≡◌, ℕ, ◌+◌, ◌<◌, ◌≤◌, Bool, true, false, cond, leb, ltb, List, [], ◌∷◌, ◌++◌, length, map, inl, inr, Option, None, Some, Result, Ok, refl, sym, ap, subst, ◌∙◌, arith, length-append}
+use Rattle.std.proofs.Common.{◌≡◌, ℕ, ◌+◌, ◌<◌, ◌≤◌, Bool, true, false, cond, leb, ltb, List, [], ◌∷◌, ◌++◌, length, map, inl, inr, Option, None, Some, Result, Ok, refl, sym, ap, subst, ◌∙◌, arith, append-nil, length-append}
 use Rattle.std.specs.List.{AllByRecursion, filter}
-use Rattle.std.proofs.lemmas.Bool.{lt-leb, le-ltb}
+use Rattle.std.proofs.lemmas.Bool.{lt-leb, le-ltb, eq-eqb}
 use Rattle.nr_regions.specs.RegisteredMemory.{RegisteredMemory, denial}
 use Rattle.nr_regions.specs.Access.{TaggedSegment, access_of_tagged}
 use Rattle.nr_regions.specs.declared.denied.Denied.{Denied}
@@ -11,20 +11,22 @@ use Rattle.nr_regions.proofs.Holding.{next_after_place, none_dead_arrive}
 use Rattle.nr_reduce.specs.declared.mark.LinkParameters.{LinkParameters}
 use Rattle.nr_reduce.specs.declared.outline.Plan.{Plan}
 use Rattle.nr_reduce.specs.History.{AcceptedCall}
-use Rattle.nr_reduce.specs.Plans.{TooLarge, Buffer, buffers, regions_needed, lists_of}
+use Rattle.nr_reduce.specs.Plans.{TooLarge, Buffer, buffers, regions_needed, lists_of, plan_of}
 use Rattle.nr_reduce.specs.OfferedRegions.{Region}
 use Rattle.nr_reduce.specs.OfferedMemory.{region_at}
 use Rattle.nr_reduce.specs.Written.{ends_written}
 use Rattle.nr_reduce.specs.Events.RunEvent.{CallSubmitted}
-use Rattle.nr_reduce.specs.ClientState.{OutstandingCall, ClientState, call_payload, plan_for, region_of}
+use Rattle.nr_reduce.specs.ClientState.{OutstandingCall, WaitingCall, ClientState, first_of, others_than, waiting_call, call_payload, plan_unless, plan_for, stag_unless, stags_unless_waiting, region_of}
 use Rattle.nr_reduce.specs.EndRules.{live, next_end_state}
-use Rattle.nr_reduce.specs.Client.{client_rules, client_end, client_state_after, outstanding_of, plan_or, with_hello, call_ends, submitted_ends}
-use Rattle.nr_reduce.specs.KeptCalls.{KeptCall, IsKeptCall, AreKept}
+use Rattle.nr_reduce.specs.Client.{client_rules, client_end, client_state_after, outstanding_of, plan_or, with_hello, call_ends, submitted_output, submitted_ends, xid_unless_waiting, regions_unless_waiting, is_revoked_waiting}
+use Rattle.nr_reduce.specs.KeptCalls.{KeptCall, IsKeptCall, AreKept, numbered_from, numbered_calls}
 use Rattle.nr_reduce.specs.Hellos.{client_agreement}
-use Rattle.nr_reduce.specs.KeptClient.{KeptClient, ClientKeeps, kept_greeted, CallsKeep, MemoryKeeps, HoldsFor, IsOwned, IsRegionOpen, IsAmong, AreRising, AreBelow, OpensFor, registered_all, kept_placed, sent_kept, kept_sent, kept_of, kept_submitted}
-use Rattle.nr_reduce.specs.StandingLaws.{KeptPlaces, KeptWrites, KeptGreets, KeptSubmits}
+use Rattle.nr_reduce.specs.KeptClient.{KeptClient, ClientKeeps, kept_greeted, CallsKeep, MemoryKeeps, HoldsFor, IsOwned, IsRegionOpen, IsAmong, AreRising, AreBelow, OpensFor, registered_all, kept_placed, sent_kept, kept_sent, kept_of, kept_submitted, kept_resent}
+use Rattle.nr_reduce.specs.StandingLaws.{KeptPlaces, KeptWrites, KeptGreets, KeptResends, KeptSubmits}
 use Rattle.nr_reduce.proofs.MemorySteps.{holds_access, received_one, offered_later}
 use Rattle.nr_reduce.proofs.Releasing.{keeps_live}
+use Rattle.nr_reduce.proofs.Numbered.{numbered_sent}
+use Rattle.nr_reduce.proofs.PlansByLists.{planned_by_lists}
 use Rattle.nr_reduce.proofs.LaterSends.{calls_later, submit_later}
 use Rattle.nr_reduce.proofs.Registering.{Registers, register_all, buffers_numbered, buffers_count, opens_new, opens_old, own_region, at_both, or_region}
 
@@ -47,6 +49,7 @@ kept_stay k k2 (c ∷ cs) (o ∷ os) same is = (
     call = is.0.call;
     write = is.0.write;
     reply = is.0.reply;
+    planned = is.0.planned;
     given = is.0.given;
     stags = is.0.stags;
   },
@@ -78,7 +81,7 @@ event_next m s = arrival_next m s (denial m (access_of_tagged s))
 
 calls_same : (calls : List KeptCall) (next : ℕ) (k : ClientState) (access : TaggedSegment) → CallsKeep calls next k → CallsKeep calls next (record k { accesses_received = k.accesses_received ++ access ∷ [] })
 calls_same calls next k access keeps = record {
-  kept = kept_stay k (record k { accesses_received = k.accesses_received ++ access ∷ [] }) calls k.outstanding refl keeps.kept;
+  kept = kept_stay k (record k { accesses_received = k.accesses_received ++ access ∷ [] }) calls (numbered_calls k) refl keeps.kept;
   rising = keeps.rising;
   owned = keeps.owned;
   opens = keeps.opens;
@@ -89,7 +92,7 @@ unfolding kept_placed
 kept_places opened kept k count access keeps lt =
     let memory : MemoryKeeps kept.memory k count = keeps.memory refl in
     let after : ClientState = record k { accesses_received = k.accesses_received ++ access ∷ [] } in
-    keeps_live opened (kept_placed kept access) after access.end keeps.ended keeps.xid keeps.sends keeps.grant keeps.up keeps.down keeps.invalidates keeps.first keeps.outstanding (received_one count k.accesses_received access (omega (arith, lt)) keeps.accesses)
+    keeps_live opened (kept_placed kept access) after access.end keeps.ended keeps.xid keeps.sends keeps.grant keeps.up keeps.down keeps.invalidates keeps.opening keeps.outstanding (received_one count k.accesses_received access (omega (arith, lt)) keeps.accesses)
     (record {
       next = event_next kept.memory access ∙ memory.next;
       offered = offered_later count access.end k.regions (omega (arith, lt)) memory.offered;
@@ -114,6 +117,7 @@ sent_all k k2 sent (c ∷ cs) (o ∷ os) e is = (
     call = is.0.call;
     write = is.0.write;
     reply = is.0.reply;
+    planned = is.0.planned;
     given = is.0.given;
     stags = is.0.stags;
   },
@@ -148,10 +152,10 @@ kept_writes opened kept k count taken keeps =
     let memory : MemoryKeeps kept.memory k count = keeps.memory refl in
     let after : ClientState = record k { written = k.written + taken } in
     let sent : ℕ = ends_written (k.written + taken) k.send_ends in
-    keeps_live opened (kept_sent sent kept) after count keeps.ended keeps.xid keeps.sends keeps.grant keeps.up keeps.down keeps.invalidates keeps.first keeps.outstanding keeps.accesses
+    keeps_live opened (kept_sent sent kept) after count keeps.ended keeps.xid keeps.sends keeps.grant keeps.up keeps.down keeps.invalidates keeps.opening keeps.outstanding keeps.accesses
     (record { next = memory.next; offered = memory.offered; holds = memory.holds; none_dead = memory.none_dead; below = memory.below })
     (record {
-      kept = sent_all k after sent kept.calls k.outstanding refl calls.kept;
+      kept = sent_all k after sent kept.calls (numbered_calls k) refl calls.kept;
       rising = rising_sent sent kept.calls kept.next_xid calls.rising;
       owned = λ stag r there is_open.
           (let owner : IsOwned kept.calls r.call stag = calls.owned stag r there is_open in
@@ -167,14 +171,104 @@ kept_greets opened kept k f count keeps within =
     let later : AllByRecursion (λ end. k.written < end) (call_ends opened k.due 1 k.outstanding) = calls_later opened k.written k.due 1 k.outstanding within in
     let calls : CallsKeep kept.calls kept.next_xid k = keeps.calls refl in
     let memory : MemoryKeeps kept.memory k count = keeps.memory refl in
-    keeps_live opened (kept_greeted kept (client_agreement opened f)) (with_hello opened k f) count keeps.ended keeps.xid keeps.sends keeps.grant refl refl refl keeps.first keeps.outstanding keeps.accesses
+    keeps_live opened (kept_greeted kept (client_agreement opened f)) (with_hello opened k f) count keeps.ended keeps.xid keeps.sends keeps.grant refl refl refl keeps.opening keeps.outstanding keeps.accesses
     (record { next = memory.next; offered = memory.offered; holds = memory.holds; none_dead = memory.none_dead; below = memory.below })
     (record {
-      kept = kept_stay k (with_hello opened k f) kept.calls k.outstanding (left_append k.written k.send_ends (call_ends opened k.due 1 k.outstanding) later) calls.kept;
+      kept = kept_stay k (with_hello opened k f) kept.calls (numbered_calls k) (left_append k.written k.send_ends (call_ends opened k.due 1 k.outstanding) later) calls.kept;
       rising = calls.rising;
       owned = calls.owned;
       opens = calls.opens;
     })
+
+-- ---- A call that is sent again
+
+abbrev pub resent_call : WaitingCall → AcceptedCall
+resent_call w = record { xid = w.xid; call = w.call; form = w.form }
+
+-- a client after it sent the first call that waits: no number, STag or region is new
+abbrev pub after_resent : LinkParameters → ClientState → WaitingCall → List WaitingCall → ClientState
+after_resent opened k w others = record k {
+  sends = k.sends + 1;
+  outstanding = k.outstanding ++ outstanding_of k (resent_call w) ∷ [];
+  waiting = others;
+  due = k.due + length (submitted_output opened k (resent_call w));
+  send_ends = k.send_ends ++ submitted_ends opened k (resent_call w);
+}
+
+first_is : (k : ClientState) (w : WaitingCall) (others : List WaitingCall) → k.waiting ≡ w ∷ others → waiting_call k w.xid ≡ Some w
+first_is k w others there = ap (λ (ws : List WaitingCall). first_of ws w.xid) there ∙ ap (λ (b : Bool). cond b (Some w) None) (eq-eqb w.xid w.xid refl)
+
+others_are : (k : ClientState) (w : WaitingCall) (others : List WaitingCall) → k.waiting ≡ w ∷ others → others_than k.waiting w.xid ≡ others
+others_are k w others there = ap (λ (ws : List WaitingCall). others_than ws w.xid) there ∙ ap (λ (b : Bool). cond b others (w ∷ others)) (eq-eqb w.xid w.xid refl)
+
+pub resent_is : (opened : LinkParameters) (k : ClientState) (count : ℕ) (w : WaitingCall) (others : List WaitingCall) → k.waiting ≡ w ∷ others → client_state_after opened k (CallSubmitted count (resent_call w)) ≡ after_resent opened k w others
+unfolding client_state_after
+resent_is opened k count w others there =
+    let is : waiting_call k w.xid ≡ Some w = first_is k w others there in
+    let left : others_than k.waiting w.xid ≡ others = others_are k w others there in
+    let o : OutstandingCall = outstanding_of k (resent_call w) in
+    let stag : k.stag + 0 ≡ k.stag = omega arith in
+    (λ i. record k {
+      next_xid = xid_unless_waiting (is i) k.next_xid;
+      sends = k.sends + 1;
+      stag = k.stag + stags_unless_waiting (is i) o.plan;
+      outstanding = k.outstanding ++ o ∷ [];
+      waiting = left i;
+      regions = k.regions ++ regions_unless_waiting (is i) count o;
+      due = k.due + length (submitted_output opened k (resent_call w));
+      send_ends = k.send_ends ++ submitted_ends opened k (resent_call w);
+    })
+    ∙ (λ i. record k {
+      next_xid = k.next_xid;
+      sends = k.sends + 1;
+      stag = stag i;
+      outstanding = k.outstanding ++ o ∷ [];
+      waiting = others;
+      regions = append-nil k.regions i;
+      due = k.due + length (submitted_output opened k (resent_call w));
+      send_ends = k.send_ends ++ submitted_ends opened k (resent_call w);
+    })
+
+-- its calls are the same, with the same numbers
+pub resent_calls : (opened : LinkParameters) (k : ClientState) (w : WaitingCall) (others : List WaitingCall) → k.waiting ≡ w ∷ others → numbered_calls (after_resent opened k w others) ≡ numbered_calls k
+unfolding plan_for
+resent_calls opened k w others there =
+    let is : waiting_call k w.xid ≡ Some w = first_is k w others there in
+    numbered_sent k.outstanding k.sends w others (outstanding_of k (resent_call w))
+    (λ i. record {
+      xid = w.xid;
+      send = k.sends;
+      call = w.call;
+      plan = plan_or (call_payload w.xid w.call) (plan_unless (is i) (plan_of (call_payload w.xid w.call) w.form k.up_max k.down_max));
+      stag = stag_unless (is i) k.stag;
+      is_revoked = is_revoked_waiting (is i);
+    })
+    ∙ ap (λ (ws : List WaitingCall). k.outstanding ++ numbered_from k.sends ws) (sym there)
+
+resends : (opened : LinkParameters) (kept : KeptClient) (k : ClientState) (count : ℕ) (w : WaitingCall) (others : List WaitingCall) → ClientKeeps opened kept (live k) count → k.waiting ≡ w ∷ others → k.written ≤ k.due →
+    ClientKeeps opened (kept_resent kept) (live (after_resent opened k w others)) count
+unfolding kept_resent
+resends opened kept k count w others keeps there within =
+    let a : AcceptedCall = resent_call w in
+    let after : ClientState = after_resent opened k w others in
+    let calls : CallsKeep kept.calls kept.next_xid k = keeps.calls refl in
+    let memory : MemoryKeeps kept.memory k count = keeps.memory refl in
+    let same : numbered_calls after ≡ numbered_calls k = resent_calls opened k w others there in
+    let left : SendsStay k after = left_append k.written k.send_ends (submitted_ends opened k a) (submit_later opened k a within) in
+    keeps_live opened (kept_resent kept) after count keeps.ended keeps.xid (ap (λ (n : ℕ). n + 1) keeps.sends) keeps.grant keeps.up keeps.down keeps.invalidates keeps.opening
+    (keeps.outstanding ∙ sym (ap (λ (os : List OutstandingCall). length os) same)) keeps.accesses
+    (record { next = memory.next; offered = memory.offered; holds = memory.holds; none_dead = memory.none_dead; below = memory.below })
+    (record {
+      kept = subst (λ (os : List OutstandingCall). AreKept after kept.calls os) (sym same) (kept_stay k after kept.calls (numbered_calls k) left calls.kept);
+      rising = calls.rising;
+      owned = calls.owned;
+      opens = calls.opens;
+    })
+
+pub kept_resends : KeptResends
+unfolding client_end
+kept_resends opened kept k count w others keeps there within few =
+    subst (λ (x : ClientState). ClientKeeps opened (kept_resent kept) (live x) count) (sym (resent_is opened k count w others there)) (resends opened kept k count w others keeps there within)
 
 -- ---- A call that is accepted
 
@@ -223,7 +317,8 @@ calls_submitted : (opened : LinkParameters) (calls : List KeptCall) (next_xid : 
     CallsKeep (calls ++ c ∷ []) (next_xid + 1) (client_state_after opened (unwaiting any) (CallSubmitted count a))
 unfolding client_state_after
 calls_submitted opened calls next_xid any count a c keeps below stay next is = record {
-  kept = kept_more after calls k.outstanding c o (kept_stay k after calls k.outstanding stay keeps.kept) is;
+  kept = subst (λ (os : List OutstandingCall). AreKept after (calls ++ c ∷ []) os) (sym (append-nil (k.outstanding ++ o ∷ [])))
+      (kept_more after calls k.outstanding c o (kept_stay k after calls k.outstanding stay (subst (λ (os : List OutstandingCall). AreKept k calls os) (append-nil k.outstanding) keeps.kept)) is);
   rising = rising_more calls c next_xid keeps.rising (is.xid ∙ next);
   owned = λ stag r there is_open. own stag r is_open (region_at k.regions stag) refl (sym (at_both k.regions new stag) ∙ there);
   opens = opens_more k.regions new calls c keeps.opens (subst (λ (ss : List ℕ). AllByRecursion (λ s. IsRegionOpen (k.regions ++ new) c.xid s) ss) (sym is.stags) (subst (λ (x : ℕ). AllByRecursion (λ s. IsRegionOpen (k.regions ++ new) x s) (map (λ (b : Buffer). b.stag) (buffers k.stag o.plan))) (sym is.xid) (opens_new a.xid count k.regions (buffers k.stag o.plan) k.stag below (buffers_numbered k.stag o.plan))));
@@ -258,6 +353,10 @@ calls_submitted opened calls next_xid any count a c keeps below stay next is = r
 planned : (k : ClientState) (a : AcceptedCall) (plan : Plan) → plan_for k a.xid a.call a.form ≡ Ok plan → (outstanding_of k a).plan ≡ plan
 planned k a plan is = ap (λ (r : Result Plan TooLarge). plan_or (call_payload a.xid a.call) r) is
 
+plan_anew : (any : ClientState) (a : AcceptedCall) (plan : Plan) → plan_for (unwaiting any) a.xid a.call a.form ≡ Ok plan → plan_of (call_payload a.xid a.call) a.form any.up_max any.down_max ≡ Ok plan
+unfolding plan_for
+plan_anew any a plan is = is
+
 submits_unwaiting : (opened : LinkParameters) (kept : KeptClient) (any : ClientState) (count : ℕ) (a : AcceptedCall) (plan : Plan) → ClientKeeps opened kept (live (unwaiting any)) count → a.xid ≡ kept.next_xid →
     plan_for (unwaiting any) a.xid a.call a.form ≡ Ok plan → any.written ≤ any.due → ends_written any.written any.send_ends ≤ any.sends →
     ClientKeeps opened (kept_submitted kept a.call plan) (next_end_state (client_rules opened) (live (unwaiting any)) (CallSubmitted count a)) count
@@ -286,16 +385,18 @@ submits_unwaiting opened kept any count a plan keeps next is within few =
       call = refl;
       write = λ i. (lists_of (memory.next i) (sym plan_is i)).write;
       reply = λ i. (lists_of (memory.next i) (sym plan_is i)).reply;
+      planned = plan_is ∙ planned_by_lists (call_payload a.xid a.call) a.form k.up_max k.down_max kept.memory.next plan (plan_anew any a plan is);
       given = λ i. map (λ (b : Buffer). b.stag) (buffers (memory.next i) (sym plan_is i));
       stags = λ i. map (λ (b : Buffer). b.stag) (buffers (memory.next i) (sym plan_is i));
     } in
-    keeps_live opened (kept_submitted kept a.call plan) after count keeps.ended (ap (λ (n : ℕ). n + 1) keeps.xid) (ap (λ (n : ℕ). n + 1) keeps.sends) keeps.grant keeps.up keeps.down keeps.invalidates (refl, keeps.first.1) (ap (λ (n : ℕ). n + 1) keeps.outstanding ∙ sym (length-append k.outstanding (o ∷ []))) keeps.accesses
+    keeps_live opened (kept_submitted kept a.call plan) after count keeps.ended (ap (λ (n : ℕ). n + 1) keeps.xid) (ap (λ (n : ℕ). n + 1) keeps.sends) keeps.grant keeps.up keeps.down keeps.invalidates keeps.opening
+    (let before = keeps.outstanding in let none = length-append k.outstanding [] in let one = length-append k.outstanding (o ∷ []) in let all = length-append (k.outstanding ++ o ∷ []) [] in omega (arith, before, none, one, all)) keeps.accesses
     (record { next = all.next_is; offered = all.offered; holds = all.holds; none_dead = all.none_dead; below = all.below })
     (calls_submitted opened kept.calls kept.next_xid k count a (kept_of kept.next_xid kept.sends a.call plan kept.memory.next) calls memory.below left next own)
 
 pub kept_submits : KeptSubmits
-kept_submits opened kept k count a plan keeps next is within few =
-    let same : unwaiting k ≡ k = (λ i. record k { waiting = sym keeps.first.0 i }) in
+kept_submits opened kept k count a plan keeps none next is within few =
+    let same : unwaiting k ≡ k = (λ i. record k { waiting = sym none i }) in
     subst (λ (x : ClientState). ClientKeeps opened (kept_submitted kept a.call plan) (next_end_state (client_rules opened) (live x) (CallSubmitted count a)) count) same
     (submits_unwaiting opened kept k count a plan (subst (λ (x : ClientState). ClientKeeps opened kept (live x) count) (sym same) keeps) next
     (subst (λ (x : ClientState). plan_for x a.xid a.call a.form ≡ Ok plan) (sym same) is) within few)

@@ -56,7 +56,7 @@ has_opening opened link run = kept_after (client_rules opened) (HasOpening opene
 
 -- ---- What waits
 
-abbrev NoneWaits : ClientState → Type 0
+abbrev pub NoneWaits : ClientState → Type 0
 NoneWaits k = k.waiting ≡ []
 
 none_segment : (k : ClientState) (f : Frame) (r : Result Segment ℕ) → NoneWaits k → NoneWaits (with_segment k f r)
@@ -69,7 +69,7 @@ none_segment k f (Ok segment) h = by (message_completed k.received segment) (rea
     by (Some m) None = h
     by (Some m) (Some q) = h
 
-none_after : (opened : LinkParameters) (k : ClientState) (event : RunEvent) → NoneWaits k → NoneWaits (client_state_after opened k event)
+pub none_after : (opened : LinkParameters) (k : ClientState) (event : RunEvent) → NoneWaits k → NoneWaits (client_state_after opened k event)
 unfolding client_state_after
 none_after opened k (FrameReceived f) h = by (is_hello f)
   where

@@ -1,5 +1,5 @@
 -- What a client keeps of its outstanding calls, and what it makes of a message by them.
-use Rattle.std.specs.Prelude.{◌≡◌, ℕ, Bool, true, false, not, ◌&&◌, ◌==◌, if◌then◌else◌, List, [], ◌∷◌, map, drop, Option, None, Some, is_none, IfSome, Result, Ok, Err}
+use Rattle.std.specs.Prelude.{◌≡◌, ℕ, ◌+◌, ◌++◌, Bool, true, false, not, ◌&&◌, ◌==◌, if◌then◌else◌, List, [], ◌∷◌, map, drop, Option, None, Some, is_none, IfSome, Result, Ok, Err}
 use Rattle.std.specs.List.{find, list_any}
 use Rattle.nr_header.specs.declared.fault.HeaderFault.{HeaderFault}
 use Rattle.nr_header.specs.declared.fault.HeaderFault.TheVariants as faults
@@ -13,27 +13,39 @@ use Rattle.nr_reduce.specs.declared.call.Call.{Call}
 use Rattle.nr_reduce.specs.declared.call.Outcome.TheVariants as outcomes
 use Rattle.nr_reduce.specs.Plans.{Buffer, buffers, lists_of}
 use Rattle.nr_reduce.specs.Chunks.{Bytes, answers_offer, reply_conveyed}
-use Rattle.nr_reduce.specs.ClientState.{OutstandingCall, ClientState, is_sent}
+use Rattle.nr_reduce.specs.PlansByLists.{plan_by_lists}
+use Rattle.nr_reduce.specs.ClientState.{OutstandingCall, WaitingCall, ClientState, is_sent, call_payload}
 use Rattle.nr_reduce.specs.ClientMessages.{ReplyVerdict, reply_by_payload}
 use Rattle.nr_reduce.specs.ClientMessages.ReplyVerdict.{EndsLink, GivesOutcome}
 
--- A call that is outstanding: the number of its Send on the link, and whether that has completely left; the call, until its memory is revoked; the lists that its reply
--- has to repeat; the STags that it was given, in the order in which they were offered; those of its regions, and none once they are
--- released.
+-- A call that is outstanding, or waits to be sent again: the number of its Send on the link, and whether that has completely left; the call, until its
+-- memory is revoked; the position of its read chunk, if it has one, and the lists that its reply has to repeat; the STags that it was given, in the order
+-- in which they were offered; those of its regions, and none once they are released.
 pub record KeptCall : Type 0 where
   pub xid : ℕ
   pub send : ℕ
   pub is_sent : Bool
   pub call : Option Call
+  pub read_at : Option ℕ
   pub offered : ChunkLists
   pub given : List ℕ
   pub stags : List ℕ
+
+-- The calls of a client in the order of their xids, each with the number of its Send: those that are outstanding, and those that wait to be sent
+-- again, whose Sends come next, in their order.
+abbrev pub numbered_from : (send : ℕ) → List WaitingCall → List OutstandingCall
+numbered_from send [] = []
+numbered_from send (w ∷ waiting) =
+    record { xid = w.xid; send = send; call = w.call; plan = w.plan; stag = w.stag; is_revoked = w.is_revoked } ∷ numbered_from (send + 1) waiting
+
+abbrev pub numbered_calls : ClientState → List OutstandingCall
+numbered_calls k = k.outstanding ++ numbered_from k.sends k.waiting
 
 abbrev pub stags_unless : Bool → List Buffer → List ℕ
 stags_unless true bs = []
 stags_unless false bs = map (λ b. b.stag) bs
 
--- it is kept of this call of a client in this state
+-- It is kept of this call of a client in this state. Until its memory is revoked, its plan can be made again.
 pub record IsKeptCall (k : ClientState) (c : KeptCall) (o : OutstandingCall) : Type 0 where
   pub xid : c.xid ≡ o.xid
   pub send : c.send ≡ o.send
@@ -42,6 +54,7 @@ pub record IsKeptCall (k : ClientState) (c : KeptCall) (o : OutstandingCall) : T
   pub call : IfSome c.call (λ call. call ≡ o.call)
   pub write : c.offered.write ≡ (lists_of o.stag o.plan).write
   pub reply : c.offered.reply ≡ (lists_of o.stag o.plan).reply
+  pub planned : IfSome c.call (λ call. o.plan ≡ plan_by_lists (call_payload o.xid call) c.read_at c.offered)
   pub given : c.given ≡ map (λ b. b.stag) (buffers o.stag o.plan)
   pub stags : c.stags ≡ stags_unless o.is_revoked (buffers o.stag o.plan)
 

@@ -1,6 +1,6 @@
 -- What a client keeps, and the state that it is enough for: of regions, accesses and outcomes of the past it keeps nothing but what its
 -- registered memory holds.
-use Rattle.std.specs.Prelude.{◌≡◌, ℕ, ◌+◌, ◌<◌, ◌⊎◌, ◌==◌, nat_lt, Bool, true, false, not, List, [], ◌∷◌, ◌++◌, length, map, Option, None, Some, IfSome, is_none}
+use Rattle.std.specs.Prelude.{◌≡◌, ◌≢◌, ℕ, ◌+◌, ◌<◌, ◌⊎◌, ◌==◌, nat_lt, Bool, true, false, not, List, [], ◌∷◌, ◌++◌, length, map, Option, None, Some, IfSome, is_none}
 use Rattle.std.specs.List.{AllByRecursion, filter, find}
 use Rattle.nr_regions.specs.RegisteredMemory.{RegisteredMemory, initial_memory, held_region, NoneIsDead, after_register, after_release, bytes_in}
 use Rattle.nr_regions.specs.Access.{TaggedSegment}
@@ -14,7 +14,8 @@ use Rattle.nr_link.specs.ReceiveState.{ReceiveState, message_completed}
 use Rattle.nr_wire.specs.Segment.{Segment}
 use Rattle.nr_reduce.specs.declared.call.Call.{Call}
 use Rattle.nr_reduce.specs.declared.outline.Plan.{Plan}
-use Rattle.nr_reduce.specs.Plans.{Buffer, buffers, lists_of}
+use Rattle.nr_reduce.specs.Plans.{Buffer, buffers, lists_of, regions_needed}
+use Rattle.nr_reduce.specs.declared.mark.ResumedCall.{ResumedCall}
 use Rattle.nr_reduce.specs.declared.mark.LinkParameters.{LinkParameters}
 use Rattle.nr_reduce.specs.Limits.{send_unit}
 use Rattle.nr_reduce.specs.OfferedRegions.{Region}
@@ -23,11 +24,13 @@ use Rattle.nr_reduce.specs.EndRules.{EndState}
 use Rattle.nr_reduce.specs.ClientState.{OutstandingCall, ClientState, client_memory_at}
 use Rattle.nr_reduce.specs.Client.{credits_of_word}
 use Rattle.nr_xdr.specs.Fields.{word_at}
-use Rattle.nr_reduce.specs.KeptCalls.{KeptCall, AreKept, stags_unless}
+use Rattle.nr_reduce.specs.Asked.{IsPlannedAs}
+use Rattle.nr_reduce.specs.KeptCalls.{KeptCall, AreKept, numbered_calls, stags_unless}
 
--- Why the client ended, once it has; the xid that it gives next; how many Sends have a number; the credits that are granted; how many calls are outstanding; the calls
--- among them that weren't handed back, in the order of their Submits; its registered memory; the maximum length of a Send in bytes,
--- towards the server and from it; whether a reply may be a Send with Invalidate.
+-- Why the client ended, once it has; the xid that it gives next; how many Sends have a number; the credits that are granted; how many calls are
+-- outstanding or wait to be sent again; the calls among them that weren't handed back, in the order of their xids; its registered memory; the maximum length of a Send in bytes,
+-- towards the server and from it; whether a reply may be a Send with Invalidate; the number of the client, or 0 if it has none; what
+-- the last hello to it on an earlier link agreed on.
 pub record KeptClient : Type 0 where
   pub ended : Option End
   pub next_xid : ℕ
@@ -39,6 +42,8 @@ pub record KeptClient : Type 0 where
   pub up_max : ℕ
   pub down_max : ℕ
   pub invalidates : Bool
+  pub number : ℕ
+  pub agreed : Option Agreement
 
 -- the bytes under an STag
 abbrev pub bytes_under : RegisteredMemory → ℕ → List ℕ
@@ -76,9 +81,9 @@ AreRising (c ∷ cs) below = (c.xid < below) × (AllByRecursion (λ d. c.xid < d
 abbrev pub OpensFor : List Region → KeptCall → Type 0
 OpensFor regions c = AllByRecursion (λ stag. IsRegionOpen regions c.xid stag) c.stags
 
--- each kept call is an outstanding one, and the open regions are those of the kept calls
+-- each kept call is an outstanding one, or one that waits, and the open regions are those of the kept calls
 pub record CallsKeep (calls : List KeptCall) (next : ℕ) (k : ClientState) : Type 0 where
-  pub kept : AreKept k calls k.outstanding
+  pub kept : AreKept k calls (numbered_calls k)
   pub rising : AreRising calls next
   pub owned : (stag : ℕ) (r : Region) → region_at k.regions stag ≡ Some r → r.until ≡ None → IsOwned calls r.call stag
   pub opens : AllByRecursion (OpensFor k.regions) calls
@@ -108,9 +113,9 @@ HasRegionsOf c (Some o) = HasRegions c o
 abbrev pub IsWaiting : List OutstandingCall → KeptCall → Type 0
 IsWaiting outstanding c = HasRegionsOf c (find (λ o. o.xid == c.xid) outstanding)
 
--- no call waits to be sent again, no earlier hello agreed on anything, and the client has no number
-abbrev pub IsUnresumed : ClientState → Type 0
-IsUnresumed k = (k.waiting ≡ []) × ((k.agreed ≡ None) × (k.terms.number ≡ 0))
+-- what a client was opened with: its number, and what an earlier hello agreed on
+abbrev pub IsOpenedWith : (number : ℕ) → Option Agreement → ClientState → Type 0
+IsOpenedWith number agreed k = (number ≡ k.terms.number) × (agreed ≡ k.agreed)
 
 -- It is kept of a client in this state, after `count` bytes were received. Of a client that has ended its calls are some of those that
 -- were outstanding, and the memory counts by what it holds for them.
@@ -122,30 +127,15 @@ pub record ClientKeeps (opened : LinkParameters) (kept : KeptClient) (e : EndSta
   pub up : kept.up_max ≡ e.state.up_max
   pub down : kept.down_max ≡ e.state.down_max
   pub invalidates : kept.invalidates ≡ e.state.invalidates
-  pub first : IsUnresumed e.state
-  pub outstanding : kept.outstanding ≡ length e.state.outstanding
+  pub opening : IsOpenedWith kept.number kept.agreed e.state
+  pub outstanding : kept.outstanding ≡ length (numbered_calls e.state)
   pub calls : e.ended ≡ None → CallsKeep kept.calls kept.next_xid e.state
   pub memory : e.ended ≡ None → MemoryKeeps kept.memory e.state count
-  pub waits : AllByRecursion (IsWaiting e.state.outstanding) kept.calls
+  pub waits : AllByRecursion (IsWaiting (numbered_calls e.state)) kept.calls
   pub rising : AreRising kept.calls kept.next_xid
   pub opens : AllByRecursion (OpensFor e.state.regions) kept.calls
   pub accesses : AreReceived count e.state.accesses_received
   pub holds : AllByRecursion (HoldsFor kept.memory e.state count) kept.calls
-
--- a client as it is opened
-abbrev pub opened_client : LinkParameters → KeptClient
-opened_client opened = record {
-  ended = None;
-  next_xid = opened.first_xid;
-  sends = 0;
-  grant = 1;
-  outstanding = 0;
-  calls = [];
-  memory = initial_memory opened.first_stag;
-  up_max = send_unit;
-  down_max = send_unit;
-  invalidates = false;
-}
 
 -- ---- What it keeps once regions are released
 
@@ -166,7 +156,7 @@ without xid calls = filter (λ c. not (c.xid == xid)) calls
 
 -- the memory of a call is revoked: its regions are released, and the call is handed back
 abbrev pub revoked_if : Bool → KeptCall → KeptCall
-revoked_if true c = record { xid = c.xid; send = c.send; is_sent = c.is_sent; call = None; offered = c.offered; given = c.given; stags = [] }
+revoked_if true c = record { xid = c.xid; send = c.send; is_sent = c.is_sent; call = None; read_at = c.read_at; offered = c.offered; given = c.given; stags = [] }
 revoked_if false c = c
 
 abbrev pub revoked_kept : ℕ → KeptCall → KeptCall
@@ -231,6 +221,7 @@ kept_of xid send call plan stag = record {
   send = send;
   is_sent = false;
   call = Some call;
+  read_at = plan.read_at;
   offered = lists_of stag plan;
   given = map (λ b. b.stag) (buffers stag plan);
   stags = map (λ b. b.stag) (buffers stag plan);
@@ -245,6 +236,49 @@ kept_submitted kept call plan = record kept {
   memory = registered_all kept.memory (buffers kept.memory.next plan);
 }
 
+-- the first call that waits is sent again: its Send has the next number
+unfoldable pub kept_resent : KeptClient → KeptClient
+kept_resent kept = record kept { sends = kept.sends + 1 }
+
+-- no call of this xid waits to be sent again, and none of that of a message
+abbrev pub NoneWaitsOf : ClientState → ℕ → Type 0
+NoneWaitsOf k xid = AllByRecursion (λ w. w.xid ≢ xid) k.waiting
+
+abbrev pub NoneWaitsFor : ClientState → Option (List ℕ) → Type 0
+NoneWaitsFor k None = Unit {0}
+NoneWaitsFor k (Some message) = NoneWaitsOf k (word_at 0 message)
+
 -- with the server's hello: what is agreed
 unfoldable pub kept_greeted : KeptClient → Agreement → KeptClient
 kept_greeted kept a = record kept { up_max = a.up; down_max = a.down; invalidates = a.invalidates }
+
+-- ---- A client as it is opened: it keeps the calls that it sends again, with the numbers that their Sends will have, and their regions.
+
+abbrev pub resumed_kept : (send stag : ℕ) → List ResumedCall → List KeptCall
+resumed_kept send stag [] = []
+resumed_kept send stag (r ∷ calls) = kept_of r.xid send r.call r.plan stag ∷ resumed_kept (send + 1) (stag + regions_needed r.plan) calls
+
+abbrev pub resumed_memory : RegisteredMemory → List ResumedCall → RegisteredMemory
+resumed_memory m [] = m
+resumed_memory m (r ∷ calls) = resumed_memory (registered_all m (buffers m.next r.plan)) calls
+
+abbrev pub opened_client : LinkParameters → KeptClient
+opened_client opened = record {
+  ended = None;
+  next_xid = opened.first_xid;
+  sends = 0;
+  grant = 1;
+  outstanding = length opened.resumed;
+  calls = resumed_kept 0 opened.first_stag opened.resumed;
+  memory = resumed_memory (initial_memory opened.first_stag) opened.resumed;
+  up_max = send_unit;
+  down_max = send_unit;
+  invalidates = false;
+  number = opened.client.number;
+  agreed = opened.agreed;
+}
+
+-- A client can be opened with these calls to send again: each has a plan of its form, and their xids rise, and are below this.
+abbrev pub CanResume : List ResumedCall → ℕ → Type 0
+CanResume [] next = Unit {0}
+CanResume (r ∷ calls) next = IsPlannedAs r.xid r.call r.form r.plan × ((r.xid < next) × (AllByRecursion (λ c. r.xid < c.xid) calls × CanResume calls next))

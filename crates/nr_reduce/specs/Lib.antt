@@ -2,6 +2,7 @@ pub mod Limits
 pub mod Items
 pub mod Largest
 pub mod Plans
+pub mod PlansByLists
 pub mod Chunks
 pub mod Holds
 pub mod CodeViews
@@ -36,6 +37,8 @@ pub mod SubmitAnswer
 pub mod Asked
 pub mod OutcomesDue
 pub mod Reopening
+pub mod Resending
+pub mod KeptReopening
 pub mod NumberedJournal
 pub mod KeepsCalls
 pub mod Served

@@ -1,6 +1,6 @@
 -- The one journal with the client and the xid of each entry, and what the server makes of a call by it: a client with a number has each change
 -- executed once.
-use Rattle.std.specs.Prelude.{◌≡◌, ℕ, ◌+◌, max, Bool, ◌==◌, ◌&&◌, nat_le, if◌then◌else◌, List, [], ◌∷◌, ◌++◌, length, map, fold, Option, None, Some}
+use Rattle.std.specs.Prelude.{◌≡◌, ◌≢◌, ℕ, ◌+◌, max, Bool, ◌==◌, ◌&&◌, nat_le, if◌then◌else◌, List, [], ◌∷◌, ◌++◌, length, map, fold, slice_get, Option, None, Some}
 use Rattle.nr_outside.specs.declared.moment.Moment.{Moment}
 use Rattle.nr_rpc.specs.declared.head.CallHead.TheVariants.{Version2}
 use Rattle.nr_rpc.specs.Call.{call_encoding}
@@ -127,3 +127,8 @@ NumberedMark plain number before mark = Unit {0}
 pub record JournaledByNumber (plain : PlainServer) (number : ℕ → ℕ) (T : List TaggedEntry) (run : List Mark) : Type 0 where
   pub is : tagged_journal plain number run ≡ T
   pub each : AtEachMark (NumberedMark plain number) [] run
+
+-- no two entries are of one call of a client that has a number
+abbrev pub HasNoEntryTwice : List TaggedEntry → Type 0
+HasNoEntryTwice T = (place other : ℕ) (t u : TaggedEntry) → slice_get T place ≡ Some t → slice_get T other ≡ Some u →
+    t.client ≢ 0 → t.client ≡ u.client → t.xid ≡ u.xid → place ≡ other

@@ -1,6 +1,7 @@
 -- The marks that an end stands for, one mark more, and what a client keeps that is enough for it.
 use Rattle.std.specs.Prelude.{◌≡◌, ℕ, zero, suc, ◌+◌, ◌-◌, ◌<◌, ◌≤◌, nat_le, if◌then◌else◌, false, List, [], ◌∷◌, ◌++◌, length, map, take, drop, Option, None, Some, Result, Ok, Err, Contains}
 use Rattle.std.specs.List.{AllByRecursion}
+use Rattle.nr_xdr.specs.Fields.{word_at}
 use Rattle.nr_wire.specs.declared.hello.Side.{Side}
 use Rattle.nr_wire.specs.declared.hello.Side.TheVariants.{Initiator, Responder}
 use Rattle.nr_wire.specs.declared.stream.Awaited.TheVariants.{Hello as HelloFrom}
@@ -14,7 +15,7 @@ use Rattle.nr_link.specs.Output.{read_response}
 use Rattle.nr_link.specs.Frames.{Frame, is_hello}
 use Rattle.nr_wire.specs.Segment.{Segment}
 use Rattle.nr_link.specs.Input.{InputState, input_of, initial_input, input_frames, input_after}
-use Rattle.nr_link.specs.ReceiveState.{ReadRequest, nothing_received}
+use Rattle.nr_link.specs.ReceiveState.{ReadRequest, nothing_received, message_completed}
 use Rattle.nr_reduce.specs.declared.call.Call.{Call}
 use Rattle.nr_reduce.specs.declared.call.Form.{Form}
 use Rattle.nr_reduce.specs.declared.call.Refused.TheVariants as refusals
@@ -24,7 +25,6 @@ use Rattle.nr_reduce.specs.declared.mark.Mark.{Mark}
 use Rattle.nr_reduce.specs.declared.mark.Mark.TheVariants as marks
 use Rattle.nr_reduce.specs.declared.mark.LinkParameters.{LinkParameters}
 use Rattle.nr_reduce.specs.declared.mark.ResumedCall.{ResumedCall}
-use Rattle.nr_reduce.specs.Opening.{IsFirstLink}
 use Rattle.nr_reduce.specs.declared.outline.Plan.{Plan}
 use Rattle.nr_reduce.specs.Limits.{numbers_end}
 use Rattle.nr_reduce.specs.Plans.{TooLarge, regions_needed, buffers, plan_of}
@@ -34,24 +34,24 @@ use Rattle.nr_reduce.specs.Hellos.{client_hello, client_agreement}
 use Rattle.nr_reduce.specs.Events.{RunEvent, events_at}
 use Rattle.nr_reduce.specs.Events.RunEvent.{FrameReceived, CallSubmitted, MemoryRevoked, QueueWritten}
 use Rattle.nr_reduce.specs.EndRules.{EndMachine, EndState, live, next_end_state, end_state_after, output_for_all}
-use Rattle.nr_reduce.specs.ClientState.{OutstandingCall, ClientState, call_payload, plan_for, region_of}
+use Rattle.nr_reduce.specs.ClientState.{OutstandingCall, WaitingCall, ClientState, call_payload, plan_for, region_of}
 use Rattle.nr_reduce.specs.OfferedRegions.{Region}
 use Rattle.nr_reduce.specs.Client.{client_rules, client_segment, client_end, response_output, with_message, with_hello}
 use Rattle.nr_reduce.specs.ClientMessages.{message_verdict}
 use Rattle.nr_reduce.specs.ServerState.{ServerState}
 use Rattle.nr_reduce.specs.Server.{server_rules, initial_server}
 use Rattle.nr_reduce.specs.Run.{client, server, output_due}
-use Rattle.nr_reduce.specs.SubmitAnswer.{unless_spent, submit_answer}
+use Rattle.nr_reduce.specs.SubmitAnswer.{unless_spent, unless_far_by, calls_counted, submit_answer}
 use Rattle.nr_reduce.specs.Matched.{IsPrefixOf}
 use Rattle.nr_reduce.specs.Asked.{IsAll, AskedSoFar}
 use Rattle.nr_reduce.specs.Served.{ServedSoFar}
-use Rattle.nr_reduce.specs.KeptCalls.{kept_message_verdict}
-use Rattle.nr_reduce.specs.KeptClient.{KeptClient, ClientKeeps, bytes_under, opened_client, kept_revoked, kept_handed_back, kept_completed, kept_placed, kept_received, kept_sent, kept_submitted, kept_greeted}
+use Rattle.nr_reduce.specs.KeptCalls.{KeptCall, kept_message_verdict}
+use Rattle.nr_reduce.specs.KeptClient.{KeptClient, ClientKeeps, bytes_under, opened_client, CanResume, kept_revoked, kept_handed_back, kept_completed, kept_placed, kept_received, kept_sent, kept_submitted, kept_resent, kept_greeted, NoneWaitsOf, NoneWaitsFor}
 use Rattle.nr_reduce.specs.Standing.{input_events, ClientRepresents, ClientRunsOut, ServerRepresents, ServerRunsOut}
 
--- An end stands for no marks as it is opened: a client's queue has its hello. Its link was not reopened, and it has no number.
+-- An end stands for no marks as it is opened: a client's queue has its hello.
 abbrev pub ClientBegins : Type 0
-ClientBegins = (opened : LinkParameters) (link : ℕ) → IsFirstLink opened → opened.client.number ≡ 0 → ClientRepresents opened link (opened_client opened) (initial_input Responder) (client_hello opened) []
+ClientBegins = (opened : LinkParameters) (link : ℕ) → CanResume opened.resumed opened.first_xid → ClientRepresents opened link (opened_client opened) (initial_input Responder) (client_hello opened) []
 
 abbrev pub ServerBegins : Type 0
 ServerBegins = (opened : LinkParameters) (link : ℕ) → ServerRepresents opened link (initial_server opened) (initial_input Initiator) [] []
@@ -152,6 +152,7 @@ ServerQueueIsDue = (opened : LinkParameters) (link : ℕ) (end : EndState Server
 -- By what it keeps it judges a message as the client does, also one that is completed further on.
 abbrev pub KeptJudges : Type 0
 KeptJudges = (opened : LinkParameters) (kept : KeptClient) (k : ClientState) (count place : ℕ) (named : Option ℕ) (message : List ℕ) → ClientKeeps opened kept (live k) count → count ≤ place →
+    ends_written k.written k.send_ends ≤ k.sends →
     kept_message_verdict kept.calls (bytes_under kept.memory) named message ≡ message_verdict k place named message
 
 -- It answers a Read Request that is allowed with the bytes that the client's region holds.
@@ -160,13 +161,20 @@ KeptResponds = (opened : LinkParameters) (kept : KeptClient) (k : ClientState) (
     denial kept.memory (record { right = Fetch; stag = r.stag; to = r.to; len = r.size }) ≡ None →
     response_output k place (Some r) ≡ read_response r.sink r.sink_to (take r.size (drop r.to (bytes_under kept.memory r.stag)))
 
--- What it answers to a call: refused as ended, too large, without credit, or without numbers, in this order; else accepted.
+-- the least xid of the calls that are kept: they are in the order of their xids
+abbrev pub least_kept : List KeptCall → Option ℕ
+least_kept [] = None
+least_kept (c ∷ calls) = Some c.xid
+
+-- What it answers to a call: refused as ended, too large, without credit, above the window of a client with a number, or without numbers, in this
+-- order; else accepted.
 abbrev pub kept_answer_by_plan : KeptClient → Result Plan TooLarge → Submission
 kept_answer_by_plan kept (Err large) = submissions.Refused (refusals.TooLarge large.need large.room)
 kept_answer_by_plan kept (Ok plan) =
     if nat_le kept.grant (length kept.calls) then submissions.Refused (refusals.NoCredit (length kept.calls) kept.grant)
-    else unless_spent (numbers_end - kept.next_xid) 1
-    (unless_spent (numbers_end - kept.memory.next) (regions_needed plan) (submissions.Accepted kept.next_xid))
+    else unless_far_by kept.number kept.next_xid (least_kept kept.calls)
+    (unless_spent (numbers_end - kept.next_xid) 1
+    (unless_spent (numbers_end - kept.memory.next) (regions_needed plan) (submissions.Accepted kept.next_xid)))
 
 abbrev pub kept_answer_if : KeptClient → Call → Form → Option End → Submission
 kept_answer_if kept call form (Some end) = submissions.Refused (refusals.Ended end)
@@ -182,7 +190,7 @@ KeptAnswers = (opened : LinkParameters) (kept : KeptClient) (e : EndState Client
 -- It knows how many calls are outstanding, and the credits that are granted, also once it has ended; until then it has all these calls.
 abbrev pub KeptCounts : Type 0
 KeptCounts = (opened : LinkParameters) (kept : KeptClient) (e : EndState ClientState) (count : ℕ) → ClientKeeps opened kept e count →
-    (kept.outstanding ≡ length e.state.outstanding) × ((kept.grant ≡ e.state.grant) × (e.ended ≡ None → length kept.calls ≡ kept.outstanding))
+    (kept.outstanding ≡ calls_counted e.state) × ((kept.grant ≡ e.state.grant) × (e.ended ≡ None → length kept.calls ≡ kept.outstanding))
 
 -- It keeps as much while more bytes are received,
 abbrev pub KeptStays : Type 0
@@ -200,7 +208,7 @@ KeptHandsBack = (opened : LinkParameters) (kept : KeptClient) (e : EndState Clie
 
 -- and after a message that doesn't end the client.
 abbrev pub KeptCompletes : Type 0
-KeptCompletes = (opened : LinkParameters) (kept : KeptClient) (k : ClientState) (count place : ℕ) (message : List ℕ) → ClientKeeps opened kept (live k) count → count ≤ place →
+KeptCompletes = (opened : LinkParameters) (kept : KeptClient) (k : ClientState) (count place : ℕ) (message : List ℕ) → ClientKeeps opened kept (live k) count → count ≤ place → NoneWaitsOf k (word_at 0 message) →
     ClientKeeps opened (kept_completed kept message) (live (with_message k place (Some message))) place
 
 -- It keeps as much after an access of its peer that comes later,
@@ -211,7 +219,7 @@ KeptPlaces = (opened : LinkParameters) (kept : KeptClient) (k : ClientState) (co
 -- after each complete frame later than the hello that doesn't end the client,
 abbrev pub KeptTakes : Type 0
 KeptTakes = (opened : LinkParameters) (kept : KeptClient) (k : ClientState) (count : ℕ) (f : Frame) (segment : Segment) → ClientKeeps opened kept (live k) count → count < f.end →
-    is_hello f ≡ false → client_segment k f ≡ Ok segment → client_end k (FrameReceived f) ≡ None →
+    is_hello f ≡ false → client_segment k f ≡ Ok segment → client_end k (FrameReceived f) ≡ None → NoneWaitsFor k (message_completed k.received segment) →
     ClientKeeps opened (kept_received kept k.received f segment) (next_end_state (client_rules opened) (live k) (FrameReceived f)) f.end
 
 -- after an event that ends the client, with the reason,
@@ -229,9 +237,15 @@ abbrev pub KeptGreets : Type 0
 KeptGreets = (opened : LinkParameters) (kept : KeptClient) (k : ClientState) (f : Frame) (count : ℕ) → ClientKeeps opened kept (live k) count →
     k.written ≤ k.due → ClientKeeps opened (kept_greeted kept (client_agreement opened f)) (live (with_hello opened k f)) count
 
--- and after a call that it accepts: its Send hasn't left, since no more Sends have left than calls were accepted before.
+-- after a call that it sends again,
+abbrev pub KeptResends : Type 0
+KeptResends = (opened : LinkParameters) (kept : KeptClient) (k : ClientState) (count : ℕ) (w : WaitingCall) (others : List WaitingCall) → ClientKeeps opened kept (live k) count → k.waiting ≡ w ∷ others →
+    k.written ≤ k.due → ends_written k.written k.send_ends ≤ k.sends →
+    ClientKeeps opened (kept_resent kept) (next_end_state (client_rules opened) (live k) (CallSubmitted count (record { xid = w.xid; call = w.call; form = w.form }))) count
+
+-- and after a new call that it accepts, while none waits: its Send hasn't left, since no more Sends have left than calls were accepted before.
 abbrev pub KeptSubmits : Type 0
-KeptSubmits = (opened : LinkParameters) (kept : KeptClient) (k : ClientState) (count : ℕ) (a : AcceptedCall) (plan : Plan) → ClientKeeps opened kept (live k) count → a.xid ≡ kept.next_xid →
+KeptSubmits = (opened : LinkParameters) (kept : KeptClient) (k : ClientState) (count : ℕ) (a : AcceptedCall) (plan : Plan) → ClientKeeps opened kept (live k) count → k.waiting ≡ [] → a.xid ≡ kept.next_xid →
     plan_for k a.xid a.call a.form ≡ Ok plan → k.written ≤ k.due → ends_written k.written k.send_ends ≤ k.sends →
     ClientKeeps opened (kept_submitted kept a.call plan) (next_end_state (client_rules opened) (live k) (CallSubmitted count a)) count
 

@@ -43,8 +43,11 @@ abbrev pub unless_far_from : (next : ℕ) → Option ℕ → Submission → Subm
 unless_far_from next None answer = answer
 unless_far_from next (Some oldest) answer = if nat_le window (next - oldest) then submissions.Refused (refusals.Window oldest next) else answer
 
+abbrev pub unless_far_by : (number next : ℕ) → Option ℕ → Submission → Submission
+unless_far_by number next least answer = if number == 0 then answer else unless_far_from next least answer
+
 abbrev pub unless_far : ClientState → Submission → Submission
-unless_far k answer = if k.terms.number == 0 then answer else unless_far_from k.next_xid (least_xid k.outstanding k.waiting) answer
+unless_far k answer = unless_far_by k.terms.number k.next_xid (least_xid k.outstanding k.waiting) answer
 
 -- The first of these that applies: it has ended; the call needs more room than there is; no credit is left; its xid is too far above the least
 -- one; too few xids or STags are left. Else the call is accepted under the next xid.

@@ -59,12 +59,13 @@ pub use planning::{outline_of, plan};
 pub use reading::{is_read_chunk_of, is_read_chunk_of_item, item_position, total_at};
 pub use replying::{answer_header, answer_lists, answer_message};
 pub use run_laws::{
-    accepted_calls_keep_the_law, accesses_are_allowed, counts_go_by_bytes_sent, ended_ends_stay,
-    laws_so_far, nothing_twice, one_mark_more, output_is_items, places_rise, plans_are_accepted,
-    reopened_links_go_on, sends_are_answered, submits_are_sent,
+    accepted_calls_keep_the_law, accesses_are_allowed, calls_are_sent_again,
+    counts_go_by_bytes_sent, ended_ends_stay, laws_so_far, nothing_twice, one_mark_more,
+    output_is_items, places_rise, plans_are_accepted, reopened_links_go_on, sends_are_answered,
+    submits_are_sent,
 };
 pub use sequence::Sequence;
 pub use standing_laws::{
-    clients_keep_enough, ends_stand_for_marks, kept_clients_stand_on, no_call_before_hello,
-    pieces_in_parts, stags_go_in_order,
+    clients_keep_enough, ends_stand_for_marks, kept_calls_go_on, kept_clients_stand_on,
+    no_call_before_hello, pieces_in_parts, stags_go_in_order,
 };

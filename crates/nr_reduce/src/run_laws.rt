@@ -2,6 +2,7 @@
 
 ghost use Rattle.nr_reduce.specs.OutputLaws.{ClientOutputIsItems, ClientBytes, ServerBytes, ClientCountsItems, WroteAddsNothing};
 ghost use Rattle.nr_reduce.specs.RunLaws.{ClientAfterMark, ServerAfterMark, ClientOutputAfterMark, ServerOutputAfterMark, EndedClientStays, EndedServerStays, FullHoldsSoFar, SoFarHoldsBefore, AskedWithMark, ServedWithMark, GrantsHaveOwnStags, ClientAllows, ServerAllows, StagsAreNumbers, AcceptedKeepsLaw, SubmitIsSent, HelloSendsCalls, AcceptedCallsWait, ReadChunkStays, PayloadHasItsXid, ReadyIsConveyed, PayloadIsConveyed, ExecuteIsAnswered, RefusedSendIsAnswered, BadMessageIsRefused, RefusedCallIsAnswered, RefusedIsNotExecuted, OpenReadsAreFew, PlanIsAccepted, SendIsExecutedOnce, CallCompletesOnce, XidsRise, PlacesRise};
+ghost use Rattle.nr_reduce.specs.Resending.{ResendsKeepLaw};
 ghost use Rattle.nr_reduce.specs.ReopenedLinks.{ReopenedStagsAreNew, ReopenedCallsGoOn};
 
 /// One mark more: the state of an end, and the output due, are those before with the events of the mark.
@@ -41,6 +42,12 @@ pub fn accesses_are_allowed()
 pub fn accepted_calls_keep_the_law()
     ensures stags { StagsAreNumbers }
     ensures accepted { AcceptedKeepsLaw }
+{}
+
+/// Of a client that was opened with numbers in range and kept its law so far: the Submits by which it sends again the calls that it can, under
+/// their xids and in their order, keep the law, each while fewer calls are outstanding than are granted. After them no call can be sent again.
+pub fn calls_are_sent_again()
+    ensures { ResendsKeepLaw }
 {}
 
 /// An accepted call is sent by its plan: at its Submit, once the server's hello was received, else with that hello. Until

@@ -1,6 +1,7 @@
 //! Laws of what an end keeps: the marks that it stands for, and that it is enough.
 
-ghost use Rattle.nr_reduce.specs.StandingLaws.{ClientBegins, ServerBegins, EventsOfInput, ClientStandsOn, ServerStandsOn, ClientGoesByInput, ServerGoesByInput, ClientRunsOutAt, ServerRunsOutAt, ClientStaysOut, ServerStaysOut, ClientQueueIsDue, ServerQueueIsDue, KeptJudges, KeptResponds, KeptAnswers, KeptCounts, KeptStays, KeptRevokes, KeptHandsBack, KeptCompletes, KeptPlaces, KeptTakes, KeptEnds, KeptWrites, KeptGreets, KeptSubmits, NextXidFollows, XidsFollow, OutcomesStay, RevokeStands, RevokeStaysOut, WroteStands, OtherMarkStands, NoCallBeforeHello, NothingDueBeforeHello, InputInParts, ClientStagsInOrder, ServerStagsInOrder, PlanStagsInOrder};
+ghost use Rattle.nr_reduce.specs.KeptReopening.{KeptReopens, CallsUncompleted};
+ghost use Rattle.nr_reduce.specs.StandingLaws.{ClientBegins, ServerBegins, EventsOfInput, ClientStandsOn, ServerStandsOn, ClientGoesByInput, ServerGoesByInput, ClientRunsOutAt, ServerRunsOutAt, ClientStaysOut, ServerStaysOut, ClientQueueIsDue, ServerQueueIsDue, KeptJudges, KeptResponds, KeptAnswers, KeptCounts, KeptStays, KeptRevokes, KeptHandsBack, KeptCompletes, KeptPlaces, KeptTakes, KeptEnds, KeptWrites, KeptGreets, KeptResends, KeptSubmits, NextXidFollows, XidsFollow, OutcomesStay, RevokeStands, RevokeStaysOut, WroteStands, OtherMarkStands, NoCallBeforeHello, NothingDueBeforeHello, InputInParts, ClientStagsInOrder, ServerStagsInOrder, PlanStagsInOrder};
 
 /// What an end keeps stands for the marks of its link: as it is opened, and from mark to mark. A client keeps its calls and its
 /// registered memory, and of an end that has ended neither input nor calls count. By its input alone an end knows what a mark
@@ -40,7 +41,15 @@ pub fn clients_keep_enough()
     ensures ended { KeptEnds }
     ensures written { KeptWrites }
     ensures greeted { KeptGreets }
+    ensures resent { KeptResends }
     ensures submitted { KeptSubmits }
+{}
+
+/// What a client that keeps its law so far keeps of its calls is enough to go on over another link: those that weren't given up are sent again, in
+/// their order, each under its xid by the plan that is made again of what is kept. None that is outstanding or waits was completed.
+pub fn kept_calls_go_on()
+    ensures reopens { KeptReopens }
+    ensures uncompleted { CallsUncompleted }
 {}
 
 /// What a client keeps stands for one mark more: after a revoke, also if it ran out of memory, after a write of a part of its

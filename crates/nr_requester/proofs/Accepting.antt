@@ -1,5 +1,6 @@
 -- A call is accepted: a requester stands for the marks with that Submit; and what it answers to a call is what its client answers.
-use Rattle.std.proofs.Common.{◌≡◌, ℕ, ◌+◌, ◌-◌, ◌≤◌, cond, leb, List, [], ◌∷◌, ◌++◌, length, Option, None, Some, Result, Ok, Err, refl, sym, ap, subst, ◌∙◌, arith, append-nil}
+use Rattle.std.proofs.Common.{◌≡◌, ◌≢◌, ℕ, ◌+◌, ◌-◌, ◌≤◌, Bool, true, false, ◌&&◌, cond, eqb, leb, ltb, List, [], ◌∷◌, ◌++◌, length, map, Option, None, Some, Result, Ok, Err, refl, sym, ap, subst, ◌∙◌, inl, inr, arith, append-nil}
+use Rattle.std.proofs.lemmas.Bool.{cases_lt, eq-eqb, lt-ltb, le-ltb, lt-leb, le-leb}
 use Rattle.std.proofs.lemmas.List.{length-map}
 use Rattle.nr_wire.specs.declared.hello.Side.TheVariants.{Initiator, Responder}
 use Rattle.nr_link.specs.declared.end.End.{End}
@@ -26,16 +27,18 @@ use Rattle.nr_reduce.specs.Written as reduce
 use Rattle.nr_reduce.specs.ClientState.{WaitingCall, ClientState, first_of, call_payload, plan_unless, plan_for}
 use Rattle.nr_reduce.specs.Client.{client_rules, client_end, client_output}
 use Rattle.nr_reduce.specs.Run.{client}
-use Rattle.nr_reduce.specs.Credits.{calls_outstanding, credits_granted}
-use Rattle.nr_reduce.specs.SubmitAnswer.{unless_spent}
+use Rattle.nr_reduce.specs.Credits.{credits_granted}
+use Rattle.nr_reduce.specs.SubmitAnswer.{unless_spent, unless_far_by}
 use Rattle.nr_reduce.specs.KeptClient.{KeptClient, ClientKeeps, kept_submitted}
 use Rattle.nr_reduce.specs.Standing.{input_events}
-use Rattle.nr_reduce.specs.StandingLaws.{GoesOn, kept_answer_by_plan, kept_answer_if}
+use Rattle.nr_reduce.specs.StandingLaws.{GoesOn, least_kept, kept_answer_by_plan, kept_answer_if}
 use Rattle.nr_reduce.proofs.Standing.{client_stands}
 use Rattle.nr_reduce.proofs.Submits.{kept_submits}
 use Rattle.nr_reduce.proofs.Keeping.{kept_answers, kept_counts}
-use Rattle.nr_requester.specs.RequesterState.{RequesterState, RequesterSide, kept_call, queue_of, kept_client, input_kept}
-use Rattle.nr_requester.specs.Standing.{LinkKeeps, KeepsClient}
+use Rattle.nr_reduce.proofs.Unresumed.{none_waits}
+use Rattle.nr_requester.specs.RequesterState.{RequesterState, RequesterSide, StoredCall, kept_call, kept_calls, queue_of, kept_client, input_kept}
+use Rattle.nr_requester.specs.Sending.{least_stored}
+use Rattle.nr_requester.specs.Standing.{LinkKeeps, KeepsClient, RequesterRepresents, waiting_message}
 use Rattle.nr_requester.specs.AfterCalls.{submitted, after_submit}
 use Rattle.nr_requester.specs.Answers.{plan_under, answer_by_plan, answer_if, answer_of}
 use Rattle.nr_requester.specs.Laws.{AnswersAsClient, AgreesAsClient, CountsAsClient, EndAsClient}
@@ -54,7 +57,7 @@ same_input link run input is =
 
 -- ---- What goes out with an accepted call
 
-module _ (opened : LinkParameters) (link : ℕ) (h : RequesterSide) (run : List Mark) (call : Call) (form : Form) (plan : Plan) (s : KeepsClient opened link h run) (none : h.state.side.ended ≡ None) (is : plan_for (state_of opened link run) h.state.next_xid call form ≡ Ok plan) where
+module _ (opened : LinkParameters) (link : ℕ) (h : RequesterSide) (run : List Mark) (call : Call) (form : Form) (plan : Plan) (s : KeepsClient opened link h run) (none : h.state.side.ended ≡ None) (is : plan_for (state_of opened link run) h.state.next_xid call form ≡ Ok plan) (unwaited : (state_of opened link run).waiting ≡ []) where
   abbrev pub k : ClientState
   k = state_of opened link run
 
@@ -93,13 +96,13 @@ module _ (opened : LinkParameters) (link : ℕ) (h : RequesterSide) (run : List 
   kept_next =
       subst (λ (x : KeptClient). ClientKeeps opened x (next_end_state (client_rules opened) (client opened link run) event) count) (kept_accepted h call plan sent_few)
       (subst (λ (e : EndState ClientState). ClientKeeps opened (kept_submitted (kept_client h.state) call plan) (next_end_state (client_rules opened) e event) count) (sym (lives_as (client opened link run) stays))
-      (kept_submits opened (kept_client h.state) k count a plan (subst (λ (e : EndState ClientState). ClientKeeps opened (kept_client h.state) e count) (lives_as (client opened link run) stays) s.kept.keeps) refl is (omega (arith, due)) left_few))
+      (kept_submits opened (kept_client h.state) k count a plan (subst (λ (e : EndState ClientState). ClientKeeps opened (kept_client h.state) e count) (lives_as (client opened link run) stays) s.kept.keeps) unwaited refl is (omega (arith, due)) left_few))
 
   side_is : (after_submit h call plan).state.side ≡ submitted h.state.side (call_message a.xid opened.wished k.stag plan) (buffers k.stag plan)
   side_is = λ i. submitted h.state.side (call_message a.xid (s.wished i) (stag i) plan) (buffers (stag i) plan)
 
   queue_next : queue_of (after_submit h call plan).state ≡ queue_of h.state ++ client_output opened k event
-  queue_next = ap (λ (x : LinkState). writable x.has_hello x.send_queue) side_is ∙ queue_submitted opened h.state.side k count a plan keeps is due s.kept.keeps.first.0
+  queue_next = ap (λ (x : LinkState). writable x.has_hello x.send_queue) side_is ∙ queue_submitted opened h.state.side k count a plan keeps is due unwaited
 
   output_next : output_for (client_rules opened) (client opened link run) event ≡ client_output opened k event
   unfolding client_end
@@ -128,12 +131,12 @@ module _ (opened : LinkParameters) (link : ℕ) (h : RequesterSide) (run : List 
       subst (λ (x : LinkState). LinkKeeps opened x (state_of opened link (run ++ mark ∷ []))) (sym side_is)
       (subst (λ (x : ClientState). LinkKeeps opened (submitted h.state.side (call_message a.xid opened.wished k.stag plan) (buffers k.stag plan)) x)
       (sym (state_next opened link run mark event stays (own_events link (event ∷ [])) refl))
-      (link_submitted opened h.state.side k count a plan keeps is due s.kept.keeps.first.0))
+      (link_submitted opened h.state.side k count a plan keeps is due unwaited))
 
   pub submit_keeps : KeepsClient opened link (after_submit h call plan) (run ++ mark ∷ [])
   submit_keeps = record {
     wished = s.wished;
-    first = s.first;
+    resumes = s.resumes;
     kept = client_stands opened link (kept_client h.state) (kept_client (after_submit h call plan).state) (input_kept h) (input_kept (after_submit h call plan)) (queue_of h.state) (queue_of (after_submit h call plan).state) run mark s.kept goes_on
         (λ lives_on. same_input link run (input_kept h) (s.kept.received stays));
     sent = λ lives_on. s.sent none;
@@ -142,26 +145,60 @@ module _ (opened : LinkParameters) (link : ℕ) (h : RequesterSide) (run : List 
 
 -- ---- What is answered to a call
 
-answer_same : (r : RequesterState) (p : Result Plan TooLarge) → answer_by_plan r p ≡ kept_answer_by_plan (kept_client r) p
-answer_same r (Err large) = refl
-answer_same r (Ok plan) = ap (λ (n : ℕ). cond (leb r.grant n) (submissions.Refused (refusals.NoCredit n r.grant)) (accepting plan)) (sym (length-map r.outstanding (kept_call r.sent)))
+least_same : (sent : ℕ) (calls : List StoredCall) → least_stored calls ≡ least_kept (map (kept_call sent) calls)
+least_same sent [] = refl
+least_same sent (c ∷ calls) = refl
+
+-- A credit is left if fewer calls are counted than are granted. While a Send is held back none is left.
+credit_same : (held n grant : ℕ) (some none : Submission) → (held ≢ 0 → grant ≤ n) → cond ((eqb held 0) && ltb n grant) some none ≡ cond (leb grant n) none some
+credit_same held n grant some none taken = by (eqb held 0) refl
   where
-    accepting : Plan → Submission
-    accepting plan =
+    by : (b : Bool) → eqb held 0 ≡ b → cond (b && ltb n grant) some none ≡ cond (leb grant n) none some
+    by true e = elim (cases_lt n grant) [
+      | inl lt ↦ ap (λ (b : Bool). cond b some none) (lt-ltb n grant lt) ∙ sym (ap (λ (b : Bool). cond b none some) (lt-leb grant n lt))
+      | inr ge ↦ ap (λ (b : Bool). cond b some none) (le-ltb n grant ge) ∙ sym (ap (λ (b : Bool). cond b none some) (le-leb grant n ge))
+    ]
+    by false e = sym (ap (λ (b : Bool). cond b none some) (le-leb grant n (taken (λ same. (let wrong : true ≡ false = sym (eq-eqb held 0 same) ∙ e in absurd cc)))))
+
+-- Sends are held back only while all credits are taken
+abbrev pub HeldForCredit : RequesterState → Type 0
+HeldForCredit r = length r.side.send_queue.held ≢ 0 → r.grant ≤ length r.outstanding
+
+answer_same : (r : RequesterState) (p : Result Plan TooLarge) → HeldForCredit r → answer_by_plan r p ≡ kept_answer_by_plan (kept_client r) p
+answer_same r (Err large) taken = refl
+answer_same r (Ok plan) taken =
+    credit_same (length r.side.send_queue.held) (length r.outstanding) r.grant (unless_far_by r.side.terms.number r.next_xid (least_stored r.outstanding) answer) (submissions.Refused (refusals.NoCredit (length r.outstanding) r.grant)) taken
+    ∙ (λ i. cond (leb r.grant (count i)) (submissions.Refused (refusals.NoCredit (count i) r.grant)) (unless_far_by r.side.terms.number r.next_xid (least_same r.sent r.outstanding i) answer))
+  where
+    answer : Submission
+    answer =
         unless_spent (numbers_end - r.next_xid) 1
         (unless_spent (numbers_end - r.side.memory.next) (regions_needed plan) (submissions.Accepted r.next_xid))
 
-answer_kept : (r : RequesterState) (call : Call) (form : Form) (x : Option End) → answer_if r call form x ≡ kept_answer_if (kept_client r) call form x
-answer_kept r call form (Some end) = refl
-answer_kept r call form None = answer_same r (plan_under r call form)
+    count : length r.outstanding ≡ length (kept_calls r)
+    count = sym (length-map r.outstanding (kept_call r.sent))
+
+answer_kept : (r : RequesterState) (call : Call) (form : Form) (x : Option End) → (x ≡ None → HeldForCredit r) → answer_if r call form x ≡ kept_answer_if (kept_client r) call form x
+answer_kept r call form (Some end) taken = refl
+answer_kept r call form None taken = answer_same r (plan_under r call form) (taken refl)
+
+-- a requester that keeps its client answers a call as that does
+pub answers_alike : (opened : LinkParameters) (link : ℕ) (h : RequesterSide) (run : List Mark) (call : Call) (form : Form) → KeepsClient opened link h run → (h.state.side.ended ≡ None → HeldForCredit h.state) →
+    answer_of h.state call form ≡ submit_answer (client opened link run) call form
+unfolding answer_of
+answers_alike opened link h run call form s taken =
+    answer_kept h.state call form h.state.side.ended taken ∙ kept_answers opened (kept_client h.state) (client opened link run) (length (bytes_received link Initiator run)) call form s.kept.keeps
+
+-- on the first link no Send is held back
+none_held : (opened : LinkParameters) (link : ℕ) (h : RequesterSide) (run : List Mark) → RequesterRepresents opened link h run → h.state.side.ended ≡ None → length h.state.side.send_queue.held ≡ 0
+none_held opened link h run s lives =
+    ap (λ (messages : List (List ℕ)). length messages) ((s.keeps.side lives).held ∙ ap (λ (ws : List WaitingCall). map (waiting_message opened) ws) (none_waits opened link run s.first.resumed))
 
 pub answers_as_client : AnswersAsClient
-unfolding answer_of
-answers_as_client opened link h run call form s =
-    answer_kept h.state call form h.state.side.ended ∙ kept_answers opened (kept_client h.state) (client opened link run) (length (bytes_received link Initiator run)) call form s.keeps.kept.keeps
+answers_as_client opened link h run call form s = answers_alike opened link h run call form s.keeps (λ lives some. absurd (some (none_held opened link h run s lives)))
 
 pub counts_as_client : CountsAsClient
-unfolding calls_outstanding credits_granted
+unfolding credits_granted
 counts_as_client opened link h run s =
     (let c = kept_counts opened (kept_client h.state) (client opened link run) (length (bytes_received link Initiator run)) s.keeps.kept.keeps in (c.0, c.1.0))
 
@@ -173,13 +210,13 @@ end_as_client opened link h run s = s.keeps.kept.keeps.ended
 
 -- ---- An accepted call
 
-plan_same : (opened : LinkParameters) (link : ℕ) (h : RequesterSide) (run : List Mark) (call : Call) (form : Form) → KeepsClient opened link h run → plan_under h.state call form ≡ plan_for (state_of opened link run) h.state.next_xid call form
+plan_same : (opened : LinkParameters) (link : ℕ) (h : RequesterSide) (run : List Mark) (call : Call) (form : Form) → (state_of opened link run).waiting ≡ [] → KeepsClient opened link h run → plan_under h.state call form ≡ plan_for (state_of opened link run) h.state.next_xid call form
 unfolding plan_for
-plan_same opened link h run call form s =
+plan_same opened link h run call form unwaited s =
     let k : ClientState = state_of opened link run in
     (λ i. plan_of (call_payload h.state.next_xid call) form (s.kept.keeps.up i) (s.kept.keeps.down i))
-    ∙ sym (ap (λ (ws : List WaitingCall). plan_unless (first_of ws h.state.next_xid) (plan_of (call_payload h.state.next_xid call) form k.up_max k.down_max)) s.kept.keeps.first.0)
+    ∙ sym (ap (λ (ws : List WaitingCall). plan_unless (first_of ws h.state.next_xid) (plan_of (call_payload h.state.next_xid call) form k.up_max k.down_max)) unwaited)
 
-pub submit_client : (opened : LinkParameters) (link : ℕ) (h : RequesterSide) (run : List Mark) (call : Call) (form : Form) (plan : Plan) → h.state.side.ended ≡ None → plan_under h.state call form ≡ Ok plan → KeepsClient opened link h run →
+pub submit_client : (opened : LinkParameters) (link : ℕ) (h : RequesterSide) (run : List Mark) (call : Call) (form : Form) (plan : Plan) → h.state.side.ended ≡ None → plan_under h.state call form ≡ Ok plan → (state_of opened link run).waiting ≡ [] → KeepsClient opened link h run →
     KeepsClient opened link (after_submit h call plan) (run ++ marks.Submit link call form (submissions.Accepted h.state.next_xid) ∷ [])
-submit_client opened link h run call form plan none is s = submit_keeps opened link h run call form plan s none (sym (plan_same opened link h run call form s) ∙ is)
+submit_client opened link h run call form plan none is unwaited s = submit_keeps opened link h run call form plan s none (sym (plan_same opened link h run call form unwaited s) ∙ is) unwaited

@@ -21,10 +21,11 @@ use Rattle.nr_reduce.specs.KeptClient.{KeptClient, ClientKeeps}
 use Rattle.nr_reduce.specs.Standing.{ClientRepresents, ClientRunsOut}
 use Rattle.nr_reduce.proofs.Steps.{client_one, end_state_after_append}
 use Rattle.nr_reduce.proofs.Standing.{itself, received_one, client_stays_out_lem}
+use Rattle.nr_reduce.proofs.Unresumed.{none_waits}
 use Rattle.nr_requester.specs.declared.answer.AnsweredCall.{AnsweredCall}
 use Rattle.nr_requester.specs.RequesterState.{StoredCall, RequesterState, RequesterFeeding, RequesterSide, feeding_of, kept_call, kept_client, queue_of, input_kept}
 use Rattle.nr_requester.specs.KeptAnswers.{is_due, client_by, StillHolds, KeepsAnswers}
-use Rattle.nr_requester.specs.Standing.{KeepsClient, AnswersAfter, RequesterRepresents, RequesterRunsOut}
+use Rattle.nr_requester.specs.Standing.{KeepsClient, AnswersAfter, AnswersWith, RequesterRepresents, RequesterRunsOut}
 use Rattle.nr_requester.specs.AfterCalls.{opened_as, stored_call, after_submit, after_drain, after_revoke, revoked_if, forgotten_if, forgotten_call, after_forget}
 use Rattle.nr_requester.specs.AfterPiece.{after_fed, RanOut}
 use Rattle.nr_requester.specs.CountedMarks.{has_bytes, is_counted, marks_of, counted_marks, marks_if}
@@ -55,8 +56,9 @@ answers_begin any link staging =
 
 pub begins : Begins
 unfolding opened_as marks_of
-begins opened link staging first number = record {
-  keeps = begins_client opened link staging first number;
+begins opened link staging first = record {
+  keeps = begins_client opened link staging first;
+  first = first;
   answers =
       (let same : first_link opened ≡ opened = (λ i. record opened { resumed = sym first.resumed i; agreed = sym first.agreed i }) in
       subst (λ (p : LinkParameters). AnswersAfter p link (opened_as p.first_xid p.first_stag p.wished p.client staging) []) same (answers_begin opened link staging));
@@ -65,27 +67,26 @@ begins opened link staging first number = record {
 
 -- ---- An accepted call
 
-submit_answers : (opened : LinkParameters) (link : ℕ) (h : RequesterSide) (run : List Mark) (call : Call) (form : Form) (plan : Plan) → KeepsClient opened link h run → AnswersAfter opened link h run →
-    AnswersAfter opened link (after_submit h call plan) (run ++ marks.Submit link call form (submissions.Accepted h.state.next_xid) ∷ [])
+pub submit_answers : (calls : List AcceptedCall) (opened : LinkParameters) (link : ℕ) (h : RequesterSide) (run : List Mark) (call : Call) (form : Form) (plan : Plan) → (client opened link run).state.waiting ≡ [] → h.state.next_xid ≡ (client opened link run).state.next_xid →
+    AnswersWith calls opened link h run → AnswersWith calls opened link (after_submit h call plan) (run ++ marks.Submit link call form (submissions.Accepted h.state.next_xid) ∷ [])
 unfolding client
-submit_answers opened link h run call form plan s k =
+submit_answers calls opened link h run call form plan unwaited xid_is k =
     let a : AcceptedCall = record { xid = h.state.next_xid; call = call; form = form } in
     let mark : Mark = marks.Submit link call form (submissions.Accepted h.state.next_xid) in
     let es : List RunEvent = events link Initiator run in
     let event : RunEvent = CallSubmitted (length (bytes_received link Initiator run)) a in
-    let asked : List AcceptedCall = accepted_calls link run in
+    let asked : List AcceptedCall = calls ++ accepted_calls link run in
     let c : StoredCall = stored_call h.state.next_xid h.state.sends call plan h.state.side.memory in
     let due2 : ℕ → Bool = is_due link (run ++ mark ∷ []) in
     let same : (xid : ℕ) → due2 xid ≡ is_due link run xid = due_same link run mark (λ x. refl) in
     let outs = quiet_outcomes opened es (event ∷ []) (tt, tt) in
     let e : EndState ClientState = client_by opened es in
-    let xid_is : h.state.next_xid ≡ e.state.next_xid = s.kept.keeps.xid in
-    let regions : Offers opened (next_end_state (client_rules opened) e event).state = submit_offers opened e.state e.ended (length (bytes_received link Initiator run)) a s.kept.keeps.first.0 xid_is k.regions in
+    let regions : Offers opened (next_end_state (client_rules opened) e event).state = submit_offers opened e.state e.ended (length (bytes_received link Initiator run)) a unwaited xid_is k.regions in
     let next : KeepsAnswers opened (es ++ event ∷ []) due2 (asked ++ a ∷ []) (after_submit h call plan).state = record {
       outcomes = k.outcomes ∙ (λ i. Rattle.std.specs.List.filter (λ (x : Rattle.nr_reduce.specs.History.CompletedCall). sym (same x.xid) i) (sym outs i));
       hands_back = all_as h.state.answered (back_more opened es (event ∷ [])) k.hands_back;
       holds = all_as h.state.answered (λ (x : AnsweredCall) g. subst (λ (d : EndState ClientState). StillHolds d.state.next_xid d.state x) (sym (end_state_after_append (client_rules opened) (initial_client opened) es (event ∷ [])))
-          (submit_still opened e.state e.ended (length (bytes_received link Initiator run)) a x s.kept.keeps.first.0 xid_is g)) k.holds;
+          (submit_still opened e.state e.ended (length (bytes_received link Initiator run)) a x unwaited xid_is g)) k.holds;
       calls = all_as h.state.answered (λ (x : AnsweredCall) g. asked_more asked (a ∷ []) x.xid x.call g) k.calls;
       awaited = all_append _ h.state.outstanding (c ∷ []) (all_as h.state.outstanding (λ (x : StoredCall) g. g ∙ sym (same x.xid)) k.awaited) (sym (same h.state.next_xid ∙ k.to_come h.state.next_xid (omega arith)), tt);
       submitted = all_append _ h.state.outstanding (c ∷ []) (all_as h.state.outstanding (λ (x : StoredCall) g. some_asked asked (a ∷ []) x.xid x.call g) k.submitted) ((form, Contains-push asked a), tt);
@@ -94,26 +95,27 @@ submit_answers opened link h run call form plan s k =
       to_come = λ xid at. same xid ∙ k.to_come xid (omega (arith, at));
       regions = subst (λ (x : EndState ClientState). Offers opened x.state) (sym (end_state_after_append (client_rules opened) (initial_client opened) es (event ∷ []))) regions;
     } in
-    by_events opened link run mark (after_submit h call plan).state
+    by_events calls opened link run mark (after_submit h call plan).state
     (subst (λ (more : List RunEvent). KeepsAnswers opened (es ++ more) due2 (asked ++ accepted_at link mark) (after_submit h call plan).state) (sym (own_events link (event ∷ [])))
     (subst (λ (xs : List AcceptedCall). KeepsAnswers opened (es ++ event ∷ []) due2 (asked ++ xs) (after_submit h call plan).state) (sym (ap (λ (b : Bool). cond b (a ∷ []) []) (itself link))) next))
 
 pub submit_is_a_mark : SubmitIsAMark
 submit_is_a_mark h call form plan none number is opened link run s = record {
-  keeps = submit_client opened link h run call form plan none is s.keeps;
-  answers = submit_answers opened link h run call form plan s.keeps s.answers;
+  keeps = submit_client opened link h run call form plan none is (none_waits opened link run s.first.resumed) s.keeps;
+  first = s.first;
+  answers = submit_answers [] opened link h run call form plan (none_waits opened link run s.first.resumed) s.keeps.kept.keeps.xid s.answers;
   counted = counted_more link run (marks.Submit link call form (submissions.Accepted h.state.next_xid)) h.marks true (itself link) s.counted;
 }
 
 -- ---- A drain
 
-wrote_quiet : (link : ℕ) (run : List Mark) (bytes : List ℕ) → IsQuiet link run (marks.Wrote link Initiator bytes)
+pub wrote_quiet : (link : ℕ) (run : List Mark) (bytes : List ℕ) → IsQuiet link run (marks.Wrote link Initiator bytes)
 wrote_quiet link run bytes = (no_frames_if _ (QueueWritten (length bytes) ∷ []) (tt, tt), none_if _ (QueueWritten (length bytes) ∷ []) (tt, tt))
 
 wrote_own : (link : ℕ) (bytes : List ℕ) → is_counted link (marks.Wrote link Initiator bytes) ≡ has_bytes bytes
 wrote_own link bytes = ap (λ (b : Bool). b && has_bytes bytes) (itself link)
 
-drain_marks : (h : RequesterSide) (n : ℕ) → (after_drain n h).marks ≡ marks_if (has_bytes (take n (queue_of h.state))) h.marks
+pub drain_marks : (h : RequesterSide) (n : ℕ) → (after_drain n h).marks ≡ marks_if (has_bytes (take n (queue_of h.state))) h.marks
 unfolding after_drain
 drain_marks h n = refl
 
@@ -122,19 +124,19 @@ drain_counted h n link run is =
     let bytes : List ℕ = take n (queue_of h.state) in
     drain_marks h n ∙ counted_more link run (marks.Wrote link Initiator bytes) h.marks (has_bytes bytes) (wrote_own link bytes) is
 
-record DrainLeaves (h : RequesterSide) (n : ℕ) : Type 0 where
+pub record DrainLeaves (h : RequesterSide) (n : ℕ) : Type 0 where
   pub answered : (after_drain n h).state.answered ≡ h.state.answered
   pub outstanding : (after_drain n h).state.outstanding ≡ h.state.outstanding
   pub next : (after_drain n h).state.next_xid ≡ h.state.next_xid
 
-drain_leaves : (h : RequesterSide) (n : ℕ) → DrainLeaves h n
+pub drain_leaves : (h : RequesterSide) (n : ℕ) → DrainLeaves h n
 unfolding after_drain
 drain_leaves h n = record { answered = refl; outstanding = refl; next = refl }
 
-drain_answers : (opened : LinkParameters) (link : ℕ) (h : RequesterSide) (run : List Mark) (n : ℕ) (bytes : List ℕ) → AnswersAfter opened link h run → AnswersAfter opened link (after_drain n h) (run ++ marks.Wrote link Initiator bytes ∷ [])
-drain_answers opened link h run n bytes k =
+pub drain_answers : (calls : List AcceptedCall) (opened : LinkParameters) (link : ℕ) (h : RequesterSide) (run : List Mark) (n : ℕ) (bytes : List ℕ) → AnswersWith calls opened link h run → AnswersWith calls opened link (after_drain n h) (run ++ marks.Wrote link Initiator bytes ∷ [])
+drain_answers calls opened link h run n bytes k =
     let l : DrainLeaves h n = drain_leaves h n in
-    quiet_mark opened link h (after_drain n h) run (marks.Wrote link Initiator bytes) (wrote_quiet link run bytes) (λ x. refl) k l.answered l.outstanding l.next
+    quiet_mark calls opened link h (after_drain n h) run (marks.Wrote link Initiator bytes) (wrote_quiet link run bytes) (λ x. refl) k l.answered l.outstanding l.next
 
 -- nothing is received with such a mark
 received_same : (link : ℕ) (run : List Mark) (mark : Mark) → fed_at link Initiator mark ≡ [] → bytes_received link Initiator (run ++ mark ∷ []) ≡ bytes_received link Initiator run
@@ -154,13 +156,13 @@ drain_out opened link h stopped run n out =
       written = out.written + length bytes;
       same = client_next opened link run mark (QueueWritten (length bytes)) (own_events link (QueueWritten (length bytes) ∷ []))
           ∙ ap (λ (e : EndState ClientState). next_end_state (client_rules opened) e (QueueWritten (length bytes))) out.same;
-      answers = drain_answers opened link h run n bytes out.answers;
+      answers = drain_answers [] opened link h run n bytes out.answers;
       counted = drain_counted h n link run out.counted;
     }
 
 pub drain_is_a_mark : DrainIsAMark
 drain_is_a_mark h n le fits = (
-  λ opened link run s. record { keeps = drain_stands h n le fits opened link run s.keeps; answers = drain_answers opened link h run n (take n (queue_of h.state)) s.answers; counted = drain_counted h n link run s.counted },
+  λ opened link run s. record { keeps = drain_stands h n le fits opened link run s.keeps; first = s.first; answers = drain_answers [] opened link h run n (take n (queue_of h.state)) s.answers; counted = drain_counted h n link run s.counted },
   λ opened link stopped run out. drain_out opened link h stopped run n out,
 )
 
@@ -169,7 +171,7 @@ drain_is_a_mark h n le fits = (
 -- what it keeps of its client, but for why it ended
 kept_out : (before after : RequesterFeeding) → before.state.side.ended ≡ None → RanOut before after → kept_client before.state ≡ record (kept_client after.state) { ended = None }
 kept_out before after lives out =
-    (λ i. record (kept_client before.state) { ended = lives i; memory = sym out.memory i; up_max = (sym out.agreed i).up; down_max = (sym out.agreed i).down; invalidates = (sym out.agreed i).invalidates })
+    (λ i. record (kept_client before.state) { ended = lives i; memory = sym out.memory i; up_max = (sym out.agreed i).up; down_max = (sym out.agreed i).down; invalidates = (sym out.agreed i).invalidates; number = (sym out.terms i).number; agreed = sym out.earlier i })
     ∙ (λ i. record (kept_client (sym out.same i)) { ended = None; memory = after.state.side.memory })
 
 same_answers : (opened : LinkParameters) (es : List RunEvent) (due : ℕ → Bool) (asked : List AcceptedCall) (r r2 : RequesterState) → KeepsAnswers opened es due asked r → r2.answered ≡ r.answered → r2.outstanding ≡ r.outstanding → r2.next_xid ≡ r.next_xid → KeepsAnswers opened es due asked r2
@@ -185,7 +187,7 @@ piece_runs_out h after piece lives out more opened link run s =
     let all : List Mark = run ++ mark ∷ [] in
     let before : RequesterSide = after_fed h piece h.staging in
     let c : KeepsClient opened link before all = fed_client opened link h run piece h.staging s.keeps in
-    let k : AnswersAfter opened link before all = fed_answers opened link h run piece h.staging s.keeps s.answers in
+    let k : AnswersAfter opened link before all = fed_answers [] opened link h run piece h.staging s.keeps s.answers in
     let is_live : (client opened link all).ended ≡ None = sym c.kept.keeps.ended ∙ lives in
     let queued : bytes_sent link Initiator all ++ queue_of after.state ≡ output_due opened link Initiator all = (λ i. bytes_sent link Initiator all ++ writable (out.hello i) (out.queue i)) ∙ c.kept.output in
     record {
@@ -213,9 +215,9 @@ revoke_given : (h : RequesterSide) (xid : ℕ) → given_state revoked_if xid h.
 unfolding after_revoke
 revoke_given h xid = (refl, (refl, refl))
 
-revoke_answers : (opened : LinkParameters) (link : ℕ) (h : RequesterSide) (run : List Mark) (xid : ℕ) (bytes : List ℕ) → xid < h.state.next_xid → AnswersAfter opened link h run → AnswersAfter opened link (after_revoke h xid) (run ++ marks.Revoke link xid bytes ∷ [])
-revoke_answers opened link h run xid bytes lt k =
-    given_mark revoked_if opened link h (after_revoke h xid) run (marks.Revoke link xid bytes) xid revokes (revoke_quiet link run xid bytes) (revoke_gives link xid bytes) lt k (revoke_given h xid)
+pub revoke_answers : (calls : List AcceptedCall) (opened : LinkParameters) (link : ℕ) (h : RequesterSide) (run : List Mark) (xid : ℕ) (bytes : List ℕ) → xid < h.state.next_xid → AnswersWith calls opened link h run → AnswersWith calls opened link (after_revoke h xid) (run ++ marks.Revoke link xid bytes ∷ [])
+revoke_answers calls opened link h run xid bytes lt k =
+    given_mark revoked_if calls opened link h (after_revoke h xid) run (marks.Revoke link xid bytes) xid revokes (revoke_quiet link run xid bytes) (revoke_gives link xid bytes) lt k (revoke_given h xid)
 
 revoke_counted : (h : RequesterSide) (xid link : ℕ) (run : List Mark) (bytes : List ℕ) → h.marks ≡ counted_marks link run → (after_revoke h xid).marks ≡ counted_marks link (run ++ marks.Revoke link xid bytes ∷ [])
 unfolding after_revoke
@@ -224,7 +226,8 @@ revoke_counted h xid link run bytes is = counted_more link run (marks.Revoke lin
 pub revoke_is_a_mark : RevokeIsAMark
 revoke_is_a_mark h xid bytes lt opened link run s = record {
   keeps = revoke_stands opened link h run xid bytes s.keeps;
-  answers = revoke_answers opened link h run xid bytes lt s.answers;
+  first = s.first;
+  answers = revoke_answers [] opened link h run xid bytes lt s.answers;
   counted = revoke_counted h xid link run bytes s.counted;
 }
 
@@ -247,7 +250,7 @@ revoke_stays_out opened link h stopped run xid bytes lt out =
       same = client_next opened link run mark (MemoryRevoked at xid) (own_events link (MemoryRevoked at xid ∷ []))
           ∙ (λ i. next_end_state (client_rules opened) (out.same i) (MemoryRevoked (place i) xid))
           ∙ ap (λ (e : EndState ClientState). live (record e.state { written = out.written })) (sym after);
-      answers = revoke_answers opened link h run xid bytes lt out.answers;
+      answers = revoke_answers [] opened link h run xid bytes lt out.answers;
       counted = revoke_counted h xid link run bytes out.counted;
     }
 
@@ -287,11 +290,11 @@ unfolding after_forget
 forget_leaves h xid = record { wished = refl; sent = refl; side = refl; input = refl }
 
 -- of its client nothing changes
-forget_client : (opened : LinkParameters) (link : ℕ) (h : RequesterSide) (run : List Mark) (xid : ℕ) → KeepsClient opened link h run → KeepsClient opened link (after_forget h xid) run
+pub forget_client : (opened : LinkParameters) (link : ℕ) (h : RequesterSide) (run : List Mark) (xid : ℕ) → KeepsClient opened link h run → KeepsClient opened link (after_forget h xid) run
 unfolding after_forget
 forget_client opened link h run xid s = record {
   wished = s.wished;
-  first = s.first;
+  resumes = s.resumes;
   kept = subst (λ (x : KeptClient). ClientRepresents opened link x (input_kept h) (queue_of h.state) run) (kept_after_forget h xid) s.kept;
   sent = s.sent;
   side = s.side;
@@ -303,10 +306,10 @@ unfolding after_forget
 forget_out opened link h stopped run xid out = subst (λ (x : KeptClient). ClientRunsOut opened link x (queue_of h.state) stopped run) (kept_after_forget h xid) out
 
 -- a mark that has no event, and gives up the call of an xid
-abbrev HasNoEvent : ℕ → Mark → Type 0
+abbrev pub HasNoEvent : ℕ → Mark → Type 0
 HasNoEvent link mark = (run : List Mark) → (events_at link Initiator run mark ≡ []) × ((written_at link Initiator mark ≡ []) × (fed_at link Initiator mark ≡ []))
 
-none_quiet : (es : List RunEvent) → es ≡ [] → AreNoFrames es × SubmitNothing es
+pub none_quiet : (es : List RunEvent) → es ≡ [] → AreNoFrames es × SubmitNothing es
 none_quiet es none = subst (λ (xs : List RunEvent). AreNoFrames xs × SubmitNothing xs) (sym none) (tt, tt)
 
 out_still : (opened : LinkParameters) (link : ℕ) (h : RequesterSide) (stopped run : List Mark) (mark : Mark) (answers : AnswersAfter opened link h (run ++ mark ∷ [])) → is_counted link mark ≡ false → RequesterRunsOut opened link h stopped run →
@@ -320,9 +323,9 @@ out_still opened link h stopped run mark answers uncounted out no_events no_writ
   counted = same_count link run mark h.marks uncounted out.counted;
 }
 
-given_answers : (opened : LinkParameters) (link : ℕ) (h : RequesterSide) (run : List Mark) (mark : Mark) (xid : ℕ) → HasNoEvent link mark → GivesUp link mark xid → xid < h.state.next_xid → AnswersAfter opened link h run → AnswersAfter opened link (after_forget h xid) (run ++ mark ∷ [])
-given_answers opened link h run mark xid none gives lt k =
-    given_mark forgotten_if opened link h (after_forget h xid) run mark xid forgets (none_quiet (events_at link Initiator run mark) (none run).0) gives lt k (forget_given h xid)
+pub given_answers : (calls : List AcceptedCall) (opened : LinkParameters) (link : ℕ) (h : RequesterSide) (run : List Mark) (mark : Mark) (xid : ℕ) → HasNoEvent link mark → GivesUp link mark xid → xid < h.state.next_xid → AnswersWith calls opened link h run → AnswersWith calls opened link (after_forget h xid) (run ++ mark ∷ [])
+given_answers calls opened link h run mark xid none gives lt k =
+    given_mark forgotten_if calls opened link h (after_forget h xid) run mark xid forgets (none_quiet (events_at link Initiator run mark) (none run).0) gives lt k (forget_given h xid)
 
 -- such a mark is counted
 abbrev IsOwn : (ℕ → Mark) → Type 0
@@ -338,7 +341,8 @@ given_stands h mark xid none gives own lt opened link run s =
     let n = none link run in
     record {
       keeps = forget_client opened link h (run ++ mark link ∷ []) xid (others_leave_client opened link h run (mark link) s.keeps n.0 n.1.0 n.1.1);
-      answers = given_answers opened link h run (mark link) xid (none link) (gives link) lt s.answers;
+      first = s.first;
+      answers = given_answers [] opened link h run (mark link) xid (none link) (gives link) lt s.answers;
       counted = forget_counted h xid link run (mark link) (own link) s.counted;
     }
 
@@ -352,7 +356,7 @@ given_stays_out h mark xid none gives own lt opened link stopped run out =
       received = received_same link run (mark link) n.1.1 ∙ out.received;
       written = out.written;
       same = client_one opened link run (mark link) ∙ ap (λ (es : List RunEvent). end_state_after (client_rules opened) (client opened link run) es) n.0 ∙ out.same;
-      answers = given_answers opened link h run (mark link) xid (none link) (gives link) lt out.answers;
+      answers = given_answers [] opened link h run (mark link) xid (none link) (gives link) lt out.answers;
       counted = forget_counted h xid link run (mark link) (own link) out.counted;
     }
 
@@ -373,10 +377,11 @@ done_is_a_mark h xid outcome lt = (
 pub others_leave_it : OthersLeaveIt
 others_leave_it opened link h run mark s no_events no_write no_feed none = record {
   keeps = others_leave_client opened link h run mark s.keeps no_events no_write no_feed;
-  answers = quiet_mark opened link h h run mark (none_quiet (events_at link Initiator run mark) no_events) none s.answers refl refl refl;
+  first = s.first;
+  answers = quiet_mark [] opened link h h run mark (none_quiet (events_at link Initiator run mark) no_events) none s.answers refl refl refl;
   counted = same_count link run mark h.marks (others_uncounted link run mark no_events no_write no_feed none) s.counted;
 }
 
 pub others_stay_out : OthersStayOut
 others_stay_out opened link h stopped run mark out no_events no_write no_feed none =
-    out_still opened link h stopped run mark (quiet_mark opened link h h run mark (none_quiet (events_at link Initiator run mark) no_events) none out.answers refl refl refl) (others_uncounted link run mark no_events no_write no_feed none) out no_events no_write no_feed
+    out_still opened link h stopped run mark (quiet_mark [] opened link h h run mark (none_quiet (events_at link Initiator run mark) no_events) none out.answers refl refl refl) (others_uncounted link run mark no_events no_write no_feed none) out no_events no_write no_feed

@@ -25,6 +25,7 @@ use Rattle.nr_reduce.specs.ClientMessages.{outcome_bytes}
 use Rattle.nr_requester.specs.HeldBytes.{NothingOutside, call_bytes, stored_bytes, buffer_len, buffers_len, LinkFits, IsCount, RegionsHave, AreRisingBy, send_of, CountsFit, unsent, in_bytes, claims_size, claims_len, claims_total, CallFits, AnswerFits, AreDistinct, RequesterBounds, IsBounded, reply_room, segments_offered}
 use Rattle.nr_requester.proofs.ChangedCalls.{nth_of, not_found}
 use Rattle.nr_requester.proofs.Taken.{same_rising}
+use Rattle.nr_requester.proofs.DeadRegions.{released_next}
 use Rattle.nr_requester.proofs.RegionBounds.{Both, bytes_count, released_both}
 use Rattle.nr_requester.proofs.AnswerSteps.{all_append}
 use Rattle.nr_requester.proofs.MessageBodies.{one_held}
@@ -72,7 +73,7 @@ rooms_bounded len sent sends next e xs ys answers h b =
       record {
         staging = w.staging;
         outside = w.outside;
-        numbers = same_rising send_of (λ x y same. ap (λ (c : OutstandingCall). c.send) same.0) sends xs ys h w.numbers;
+        numbers = same_rising send_of (λ x y same. ap (λ (c : OutstandingCall). c.send) same.0) (sends + length e.link.state.send_queue.held) xs ys h w.numbers;
         order = w.order;
         link = w.link;
         regions = λ size is. subst (λ (n : ℕ). RegionsHave size e.link.state.memory n) (same_total size xs ys h) (w.regions size is);
@@ -199,8 +200,8 @@ completed_bounded len sent sends next n room most number e e2 calls calls2 answe
     let all : RequesterBounds len e2 sends next left more = record {
       staging = ap (λ (xs : List ℕ). length xs) same ∙ w.staging;
       outside = none w.outside;
-      numbers = rising_removed send_of sends n calls w.numbers;
-      order = w.order;
+      numbers = subst (λ (x : LinkState). AreRisingBy send_of left (sends + length x.send_queue.held)) (sym state) (rising_removed send_of (sends + length s.send_queue.held) n calls w.numbers);
+      order = subst (λ (x : LinkState). sends + length x.send_queue.held ≤ next) (sym state) w.order;
       link = subst (λ (x : LinkState). LinkFits len x) (sym state) (record {
         side = w.link.side;
         receives = w.link.receives;
@@ -211,6 +212,8 @@ completed_bounded len sent sends next n room most number e e2 calls calls2 answe
         hello = w.link.hello;
         queue = w.link.queue;
         responses = w.link.responses;
+        messages = w.link.messages;
+        stag = (let same = released_next s.memory (stags_of c.claims) in let some = w.link.stag in omega (arith, same, some));
         regions = (both in_bytes bytes_count).0;
       });
       regions = λ size is. subst (λ (x : LinkState). RegionsHave size x.memory (claims_total size left)) (sym state) (subst (λ (k : ℕ). RegionsHave size memory k) (total_removed size n calls d lt) (both size is).1);

@@ -25,7 +25,7 @@ use Rattle.nr_reduce.proofs.Standing.{itself, one_more}
 use Rattle.nr_requester.specs.declared.answer.AnsweredCall.{AnsweredCall}
 use Rattle.nr_requester.specs.RequesterState.{RequesterState, RequesterSide, StoredCall, awaited_call}
 use Rattle.nr_requester.specs.KeptAnswers.{is_due, client_by, completed_of, HandsBack, StillHolds, IsAsked, KeepsAnswers}
-use Rattle.nr_requester.specs.Standing.{AnswersAfter}
+use Rattle.nr_requester.specs.Standing.{AnswersWith}
 use Rattle.nr_requester.specs.AfterCalls.{without_answer, revoked_if, forgotten_if}
 use Rattle.nr_requester.specs.Laws.{gives_up, GivesUpNothing}
 use Rattle.nr_requester.specs.OpenCalls.{call_with}
@@ -212,17 +212,21 @@ quiet_more opened es more due due2 asked added r r2 k still outcomes regions sam
 abbrev pub IsQuiet : ℕ → List Mark → Mark → Type 0
 IsQuiet link run mark = AreNoFrames (events_at link Initiator run mark) × SubmitNothing (events_at link Initiator run mark)
 
-accepted_one : (link : ℕ) (run : List Mark) (mark : Mark) → accepted_calls link (run ++ mark ∷ []) ≡ accepted_calls link run ++ accepted_at link mark
+pub accepted_one : (link : ℕ) (run : List Mark) (mark : Mark) → accepted_calls link (run ++ mark ∷ []) ≡ accepted_calls link run ++ accepted_at link mark
 unfolding accepted_calls
 accepted_one link run mark = one_more (accepted_at link) run mark
 
+more_accepted : (calls : List AcceptedCall) (link : ℕ) (run : List Mark) (mark : Mark) → (calls ++ accepted_calls link run) ++ accepted_at link mark ≡ calls ++ accepted_calls link (run ++ mark ∷ [])
+more_accepted calls link run mark =
+    append_assoc calls (accepted_calls link run) (accepted_at link mark) ∙ ap (λ (xs : List AcceptedCall). calls ++ xs) (sym (accepted_one link run mark))
+
 -- what holds of all marks holds of the marks with this one more, by its events
-pub by_events : (opened : LinkParameters) (link : ℕ) (run : List Mark) (mark : Mark) (r : RequesterState) →
-    KeepsAnswers opened (events link Initiator run ++ events_at link Initiator run mark) (is_due link (run ++ mark ∷ [])) (accepted_calls link run ++ accepted_at link mark) r →
-    KeepsAnswers opened (events link Initiator (run ++ mark ∷ [])) (is_due link (run ++ mark ∷ [])) (accepted_calls link (run ++ mark ∷ [])) r
-by_events opened link run mark r k =
-    subst (λ (es : List RunEvent). KeepsAnswers opened es (is_due link (run ++ mark ∷ [])) (accepted_calls link (run ++ mark ∷ [])) r) (sym (events_one link Initiator run mark))
-    (subst (λ (xs : List AcceptedCall). KeepsAnswers opened (events link Initiator run ++ events_at link Initiator run mark) (is_due link (run ++ mark ∷ [])) xs r) (sym (accepted_one link run mark)) k)
+pub by_events : (calls : List AcceptedCall) (opened : LinkParameters) (link : ℕ) (run : List Mark) (mark : Mark) (r : RequesterState) →
+    KeepsAnswers opened (events link Initiator run ++ events_at link Initiator run mark) (is_due link (run ++ mark ∷ [])) ((calls ++ accepted_calls link run) ++ accepted_at link mark) r →
+    KeepsAnswers opened (events link Initiator (run ++ mark ∷ [])) (is_due link (run ++ mark ∷ [])) (calls ++ accepted_calls link (run ++ mark ∷ [])) r
+by_events calls opened link run mark r k =
+    subst (λ (es : List RunEvent). KeepsAnswers opened es (is_due link (run ++ mark ∷ [])) (calls ++ accepted_calls link (run ++ mark ∷ [])) r) (sym (events_one link Initiator run mark))
+    (subst (λ (xs : List AcceptedCall). KeepsAnswers opened (events link Initiator run ++ events_at link Initiator run mark) (is_due link (run ++ mark ∷ [])) xs r) (more_accepted calls link run mark) k)
 
 pub quiet_outcomes : (opened : LinkParameters) (es more : List RunEvent) → AreNoFrames more → (client_by opened (es ++ more)).state.outcomes ≡ (client_by opened es).state.outcomes
 quiet_outcomes opened es more none =
@@ -279,11 +283,11 @@ none_accepted link run (marks.Drop l) none = refl
 none_accepted link run (marks.Told l what) none = refl
 
 -- a mark that gives up nothing, and has no frame
-pub quiet_mark : (opened : LinkParameters) (link : ℕ) (h h2 : RequesterSide) (run : List Mark) (mark : Mark) → IsQuiet link run mark → GivesUpNothing link mark → AnswersAfter opened link h run →
-    h2.state.answered ≡ h.state.answered → h2.state.outstanding ≡ h.state.outstanding → h2.state.next_xid ≡ h.state.next_xid → AnswersAfter opened link h2 (run ++ mark ∷ [])
-quiet_mark opened link h h2 run mark quiet none k answered outstanding next =
-    by_events opened link run mark h2.state
-    (quiet_more opened (events link Initiator run) (events_at link Initiator run mark) (is_due link run) (is_due link (run ++ mark ∷ [])) (accepted_calls link run) (accepted_at link mark) h.state h2.state k
+pub quiet_mark : (calls : List AcceptedCall) (opened : LinkParameters) (link : ℕ) (h h2 : RequesterSide) (run : List Mark) (mark : Mark) → IsQuiet link run mark → GivesUpNothing link mark → AnswersWith calls opened link h run →
+    h2.state.answered ≡ h.state.answered → h2.state.outstanding ≡ h.state.outstanding → h2.state.next_xid ≡ h.state.next_xid → AnswersWith calls opened link h2 (run ++ mark ∷ [])
+quiet_mark calls opened link h h2 run mark quiet none k answered outstanding next =
+    by_events calls opened link run mark h2.state
+    (quiet_more opened (events link Initiator run) (events_at link Initiator run mark) (is_due link run) (is_due link (run ++ mark ∷ [])) (calls ++ accepted_calls link run) (accepted_at link mark) h.state h2.state k
     (quiet_still opened (events link Initiator run) (events_at link Initiator run mark) quiet.0 quiet.1)
     (quiet_outcomes opened (events link Initiator run) (events_at link Initiator run mark) quiet.0) (quiet_regions opened (events link Initiator run) (events_at link Initiator run mark) quiet.1 k.regions)
     (due_same link run mark none) answered outstanding (omega (arith, next)) (none_accepted link run mark quiet.1))
@@ -364,18 +368,18 @@ differs x xid lt = by (eqb x xid) refl
     by false e = e
     by true e = absurd (let same : x ≡ xid = eqb-true x xid e in omega (arith, same, lt))
 
-pub given_mark : (given_if : Bool → StoredCall → StoredCall) (opened : LinkParameters) (link : ℕ) (h h2 : RequesterSide) (run : List Mark) (mark : Mark) (xid : ℕ) → IsGivenUp given_if → IsQuiet link run mark → GivesUp link mark xid → xid < h.state.next_xid →
-    AnswersAfter opened link h run → given_state given_if xid h.state h2.state → AnswersAfter opened link h2 (run ++ mark ∷ [])
-given_mark given_if opened link h h2 run mark xid g quiet gives lt k is =
+pub given_mark : (given_if : Bool → StoredCall → StoredCall) (calls : List AcceptedCall) (opened : LinkParameters) (link : ℕ) (h h2 : RequesterSide) (run : List Mark) (mark : Mark) (xid : ℕ) → IsGivenUp given_if → IsQuiet link run mark → GivesUp link mark xid → xid < h.state.next_xid →
+    AnswersWith calls opened link h run → given_state given_if xid h.state h2.state → AnswersWith calls opened link h2 (run ++ mark ∷ [])
+given_mark given_if calls opened link h h2 run mark xid g quiet gives lt k is =
     let es : List RunEvent = events link Initiator run in
     let more : List RunEvent = events_at link Initiator run mark in
-    let asked : List AcceptedCall = accepted_calls link run in
+    let asked : List AcceptedCall = calls ++ accepted_calls link run in
     let added : List AcceptedCall = accepted_at link mark in
     let due : ℕ → Bool = is_due link run in
     let due2 : ℕ → Bool = is_due link (run ++ mark ∷ []) in
     let less : (x : ℕ) → due2 x ≡ (due x && not (eqb x xid)) = λ x. due_one link run mark x ∙ ap (λ (b : Bool). due x && not b) (gives x) in
     let outs : List CompletedCall = (client_by opened es).state.outcomes in
-    by_events opened link run mark h2.state (record {
+    by_events calls opened link run mark h2.state (record {
       outcomes = ap (λ (xs : List AnsweredCall). map completed_of xs) is.0 ∙ without_completed xid h.state.answered ∙ ap (λ (cs : List CompletedCall). filter (λ c. not (eqb c.xid xid)) cs) k.outcomes
           ∙ sym (filter_both (λ c. due c.xid) (λ c. not (eqb c.xid xid)) outs) ∙ sym (filter_same (λ c. due2 c.xid) (λ c. due c.xid && not (eqb c.xid xid)) outs (λ c. less c.xid))
           ∙ ap (λ (cs : List CompletedCall). filter (λ c. due2 c.xid) cs) (sym (quiet_outcomes opened es more quiet.0));

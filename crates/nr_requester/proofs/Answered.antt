@@ -17,7 +17,9 @@ use Rattle.nr_reduce.specs.declared.fault.TooLarge.{TooLarge as CodeTooLarge}
 use Rattle.nr_reduce.specs.declared.outline.Outline.{Outline}
 use Rattle.nr_reduce.specs.declared.outline.Plan.{Plan}
 use Rattle.nr_reduce.specs.CallOutlines.{OutlineAnswers}
-use Rattle.nr_reduce.specs.Plans.{TooLarge, plan_of, regions_needed}
+use Rattle.nr_reduce.specs.Plans.{TooLarge, plan_of, regions_needed, lists_of}
+use Rattle.nr_reduce.specs.PlansByLists.{plan_by_lists}
+use Rattle.nr_reduce.proofs.PlansByLists.{planned_by_lists}
 use Rattle.nr_reduce.specs.ClientState.{call_payload}
 use Rattle.nr_requester.specs.RequesterState.{RequesterState, RequesterSide}
 use Rattle.nr_requester.specs.Standing.{RequesterRepresents}
@@ -53,6 +55,12 @@ planned_answer r call form plan lives is = live_answer r call form lives ∙ ap 
 
 pub is_plan_lem : (r : RequesterState) (call : Call) (form : Form) (plan : Plan) → r.side.agreed.up ≤ receive_max → plan_under r call form ≡ Ok plan → IsPlan plan
 is_plan_lem r call form plan short is = record { payload = call_payload r.next_xid call; form = form; up = r.side.agreed.up; down = r.side.agreed.down; short = short; is = is }
+
+-- it can be made again of its lists
+pub again_lem : (r : RequesterState) (call : Call) (form : Form) (plan : Plan) → r.side.agreed.up ≤ receive_max → plan_under r call form ≡ Ok plan →
+    IsPlan (plan_by_lists (call_payload r.next_xid call) plan.read_at (lists_of r.side.memory.next plan))
+again_lem r call form plan short is =
+    subst IsPlan (planned_by_lists (call_payload r.next_xid call) form r.side.agreed.up r.side.agreed.down r.side.memory.next plan is) (is_plan_lem r call form plan short is)
 
 pub sent_stands : (before after : RequesterSide) (call : Call) (form : Form) (xid : ℕ) → WasSent before after call form xid → (opened : LinkParameters) (link : ℕ) (run : List Mark) → RequesterRepresents opened link before run →
     RequesterRepresents opened link after (run ++ marks.Submit link call form (submissions.Accepted xid) ∷ [])

@@ -20,6 +20,8 @@ use Rattle.nr_reduce.specs.ClientState.{ClientState, OutstandingCall, region_of}
 use Rattle.nr_reduce.specs.Client.{client_rules, client_segment, client_end, client_state_after, outstanding_of, revoked_call, with_message, with_request, with_segment, with_hello, due_with_response}
 use Rattle.nr_reduce.proofs.Placing.{segment_next}
 use Rattle.nr_reduce.proofs.Standing.{itself}
+use Rattle.nr_reduce.specs.KeptCalls.{numbered_from, numbered_calls}
+use Rattle.nr_reduce.proofs.Numbered.{numbered_revoked}
 use Rattle.nr_requester.specs.CallRegions.{call_stags, AreOfBefore, OffersPlan, CallsOffer}
 
 pick : (b : Bool) (x y : Region) (xs ys : List Region) → x.stag ≡ y.stag → map (λ (r : Region). r.stag) xs ≡ map (λ (r : Region). r.stag) ys →
@@ -148,11 +150,26 @@ calls_more next place rs bs (x ∷ xs) o before own is h =
 
 -- ---- Its events
 
+all_left : (P : OutstandingCall → Type 0) (xs ys : List OutstandingCall) → AllByRecursion P (xs ++ ys) → AllByRecursion P xs
+all_left P [] ys h = tt
+all_left P (x ∷ xs) ys h = (h.0, all_left P xs ys h.1)
+
+all_right : (P : OutstandingCall → Type 0) (xs ys : List OutstandingCall) → AllByRecursion P (xs ++ ys) → AllByRecursion P ys
+all_right P [] ys h = h
+all_right P (x ∷ xs) ys h = all_right P xs ys h.1
+
+all_joined : (P : OutstandingCall → Type 0) (xs ys : List OutstandingCall) → AllByRecursion P xs → AllByRecursion P ys → AllByRecursion P (xs ++ ys)
+all_joined P [] ys h g = g
+all_joined P (x ∷ xs) ys h g = (h.0, all_joined P xs ys h.1 g)
+
 message_offers : (next : ℕ) (k : ClientState) (place : ℕ) (message : Option (List ℕ)) → CallsOffer next k → CallsOffer next (with_message k place message)
 message_offers next k place None h = h
 message_offers next k place (Some message) h = record {
   before = before_closed (λ r. eqb r.call (word_at 0 message)) place next k.regions h.before;
-  calls = calls_closed (λ r. eqb r.call (word_at 0 message)) place next k.regions (filter (λ o. not (eqb o.xid (word_at 0 message))) k.outstanding) (calls_without (word_at 0 message) next k.regions k.outstanding h.calls);
+  calls = calls_closed (λ r. eqb r.call (word_at 0 message)) place next k.regions (filter (λ o. not (eqb o.xid (word_at 0 message))) k.outstanding ++ numbered_from k.sends k.waiting)
+      (all_joined (OffersPlan next k.regions) (filter (λ o. not (eqb o.xid (word_at 0 message))) k.outstanding) (numbered_from k.sends k.waiting)
+      (calls_without (word_at 0 message) next k.regions k.outstanding (all_left (OffersPlan next k.regions) k.outstanding (numbered_from k.sends k.waiting) h.calls))
+      (all_right (OffersPlan next k.regions) k.outstanding (numbered_from k.sends k.waiting) h.calls));
 }
 
 request_offers : (next : ℕ) (k : ClientState) (due : ℕ) (r : Option ReadRequest) → CallsOffer next k → CallsOffer next (with_request k due r)
@@ -198,7 +215,8 @@ event_offers opened k (FrameReceived f) none h =
 event_offers opened k (CallSubmitted place a) none h = absurd none
 event_offers opened k (MemoryRevoked place xid) none h = record {
   before = before_closed (λ r. eqb r.call xid) place k.next_xid k.regions h.before;
-  calls = calls_closed (λ r. eqb r.call xid) place k.next_xid k.regions (map (revoked_call xid) k.outstanding) (calls_revoked xid k.next_xid k.regions k.outstanding h.calls);
+  calls = subst (λ (os : List OutstandingCall). AllByRecursion (OffersPlan k.next_xid (regions_closed (λ r. eqb r.call xid) place k.regions)) os) (numbered_revoked xid k)
+      (calls_closed (λ r. eqb r.call xid) place k.next_xid k.regions (map (revoked_call xid) (numbered_calls k)) (calls_revoked xid k.next_xid k.regions (numbered_calls k) h.calls));
 }
 event_offers opened k (CallExecuted call) none h = h
 event_offers opened k (QueueWritten taken) none h = record { before = h.before; calls = h.calls }
@@ -237,14 +255,14 @@ unfolding client_state_after client_end
 unwaiting_offers opened any None place a own h =
     let k : ClientState = unwaiting any in
     let n : ℕ = k.next_xid in
-    let bs : List Buffer = buffers k.stag (outstanding_of k a).plan in
-    let more : CallsOffer (n + 1) (record k { regions = k.regions ++ map (region_of n place) bs; outstanding = k.outstanding ++ outstanding_of k a ∷ [] }) = record {
-      before = before_more n k.regions (map (region_of n place) bs) h.before (before_own n place bs);
-      calls = calls_more n place k.regions bs k.outstanding (outstanding_of k a) h.before own refl h.calls;
-    } in
+    let o : OutstandingCall = outstanding_of k a in
+    let bs : List Buffer = buffers k.stag o.plan in
+    let before : AllByRecursion (OffersPlan n k.regions) k.outstanding = subst (λ (os : List OutstandingCall). AllByRecursion (OffersPlan n k.regions) os) (append-nil k.outstanding) h.calls in
+    let more : AllByRecursion (OffersPlan (n + 1) (k.regions ++ map (region_of n place) bs)) (k.outstanding ++ o ∷ []) = calls_more n place k.regions bs k.outstanding o h.before own refl before in
     record {
-      before = subst (λ (x : ℕ). AreOfBefore (n + 1) (k.regions ++ map (region_of x place) bs)) (sym own) more.before;
-      calls = subst (λ (x : ℕ). AllByRecursion (OffersPlan (n + 1) (k.regions ++ map (region_of x place) bs)) (k.outstanding ++ outstanding_of k a ∷ [])) (sym own) more.calls;
+      before = subst (λ (x : ℕ). AreOfBefore (n + 1) (k.regions ++ map (region_of x place) bs)) (sym own) (before_more n k.regions (map (region_of n place) bs) h.before (before_own n place bs));
+      calls = subst (λ (x : ℕ). AllByRecursion (OffersPlan (n + 1) (k.regions ++ map (region_of x place) bs)) ((k.outstanding ++ o ∷ []) ++ [])) (sym own)
+          (subst (λ (os : List OutstandingCall). AllByRecursion (OffersPlan (n + 1) (k.regions ++ map (region_of n place) bs)) os) (sym (append-nil (k.outstanding ++ o ∷ []))) more);
     }
 unwaiting_offers opened any (Some end) place a own h = h
 

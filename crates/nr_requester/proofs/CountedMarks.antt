@@ -16,7 +16,7 @@ use Rattle.nr_requester.specs.Laws.{GivesUpNothing}
 
 -- ---- One mark more
 
-count_more : (p : Mark → Bool) (run : List Mark) (mark : Mark) → length (filter p (run ++ mark ∷ [])) ≡ length (filter p run) + length (filter p (mark ∷ []))
+pub count_more : (p : Mark → Bool) (run : List Mark) (mark : Mark) → length (filter p (run ++ mark ∷ [])) ≡ length (filter p run) + length (filter p (mark ∷ []))
 count_more p [] mark = omega arith
 count_more p (m ∷ run) mark = by (p m) (count_more p run mark)
   where

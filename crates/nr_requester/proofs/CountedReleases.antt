@@ -16,6 +16,7 @@ use Rattle.nr_reduce.specs.ClientState.{ClientState, OutstandingCall}
 use Rattle.nr_reduce.specs.KeptCalls.{AreKept, stags_unless}
 use Rattle.nr_reduce.specs.KeptClient.{IsRegionOpen, OpensFor}
 use Rattle.nr_reduce.specs.Run.{client}
+use Rattle.nr_reduce.specs.KeptCalls.{numbered_calls}
 use Rattle.nr_requester.specs.RequesterState.{StoredCall, kept_call, stags_of}
 use Rattle.nr_requester.specs.AfterCalls.{live_count}
 use Rattle.nr_requester.specs.Laws.{CountsAllButNamed, NamedRegionIsNotCounted}
@@ -123,4 +124,4 @@ named_is_not_counted opened link h run s lives =
     let is_live : (client opened link run).ended ≡ None = sym s.keeps.kept.keeps.ended ∙ lives in
     let calls = s.keeps.kept.keeps.calls is_live in
     let memory = s.keeps.kept.keeps.memory is_live in
-    all_calls (client opened link run).state h.state.side.memory _ h.state.sent h.state.outstanding (client opened link run).state.outstanding memory.holds calls.kept calls.opens
+    all_calls (client opened link run).state h.state.side.memory _ h.state.sent h.state.outstanding (numbered_calls (client opened link run).state) memory.holds calls.kept calls.opens

@@ -108,6 +108,10 @@ unfolding after_release
 released_is m [] = refl
 released_is m (stag ∷ stags) = released_is (after_release m stag) stags
 
+-- a release gives no STag
+pub released_next : (m : RegisteredMemory) (stags : List ℕ) → (released_all m stags).next ≡ m.next
+released_next m stags = ap (λ (x : RegisteredMemory). x.next) (released_is m stags)
+
 -- a flag that is taken out was never set
 same_removed : (dead : FinMap nat_cmp Bool) (k : ℕ) (v : Bool) → remove (insert dead k v) k ≡ remove dead k
 same_removed dead k v = same_map nat_cmp_total nat_cmp-IsAntisymmetric (remove (insert dead k v) k) (remove dead k) (λ q. by q (eqb q k) refl)

@@ -31,7 +31,7 @@ use Rattle.nr_reduce.proofs.Standing.{itself, client_stands, client_by_input_lem
 use Rattle.nr_reduce.proofs.Steps.{ended_stays}
 use Rattle.nr_link.specs.Frames.{frames_completed}
 use Rattle.nr_requester.specs.RequesterState.{RequesterState, RequesterFeeding, RequesterSide, feeding_of, queue_of, kept_client, input_kept}
-use Rattle.nr_requester.specs.Standing.{LinkKeeps, KeepsClient, AnswersAfter}
+use Rattle.nr_requester.specs.Standing.{LinkKeeps, KeepsClient, AnswersWith}
 use Rattle.nr_requester.specs.KeptAnswers.{is_due, client_by, KeepsAnswers}
 use Rattle.nr_requester.specs.AfterPiece.{requester_ended, after_frame, after_piece, after_fed}
 use Rattle.nr_requester.specs.Laws.{PieceIsAMark}
@@ -204,24 +204,25 @@ module _ (opened : LinkParameters) (link : ℕ) (h : RequesterSide) (run : List 
       λ lives. g.keeps.live_one (sym g.keeps.client.ended ∙ lives) in
       record {
         wished = g.keeps.wished;
-        first = s.first;
+        resumes = s.resumes;
         kept = client_stands_on;
         sent = λ lives. (next lives).sent;
         side = λ lives. subst (λ (e : EndState ClientState). LinkKeeps opened after.state.side e.state) (sym state) (next lives).side;
       }
 
 -- its answers
-pub fed_answers : (opened : LinkParameters) (link : ℕ) (h : RequesterSide) (run : List Mark) (piece staging : List ℕ) → KeepsClient opened link h run → AnswersAfter opened link h run → AnswersAfter opened link (after_fed h piece staging) (run ++ marks.Fed link Initiator piece ∷ [])
-fed_answers opened link h run piece staging s k =
+pub fed_answers : (calls : List AcceptedCall) (opened : LinkParameters) (link : ℕ) (h : RequesterSide) (run : List Mark) (piece staging : List ℕ) → KeepsClient opened link h run → AnswersWith calls opened link h run → AnswersWith calls opened link (after_fed h piece staging) (run ++ marks.Fed link Initiator piece ∷ [])
+fed_answers calls opened link h run piece staging s k =
     let m : Mark = marks.Fed link Initiator piece in
-    by_events opened link run m (after_fed h piece staging).state
-    (subst (λ (xs : List AcceptedCall). KeepsAnswers opened (events link Initiator run ++ events_at link Initiator run m) (is_due link (run ++ m ∷ [])) xs (after_fed h piece staging).state) (sym (append-nil (accepted_calls link run)))
-    ((goes opened link h run piece staging s).answers (is_due link (run ++ m ∷ [])) (accepted_calls link run)
-    (subst (λ (due : ℕ → Bool). KeepsAnswers opened (events link Initiator run) due (accepted_calls link run) h.state) (λ i xid. sym (due_same link run m (λ x. refl) xid) i) k)))
+    by_events calls opened link run m (after_fed h piece staging).state
+    (subst (λ (xs : List AcceptedCall). KeepsAnswers opened (events link Initiator run ++ events_at link Initiator run m) (is_due link (run ++ m ∷ [])) xs (after_fed h piece staging).state) (sym (append-nil (calls ++ accepted_calls link run)))
+    ((goes opened link h run piece staging s).answers (is_due link (run ++ m ∷ [])) (calls ++ accepted_calls link run)
+    (subst (λ (due : ℕ → Bool). KeepsAnswers opened (events link Initiator run) due (calls ++ accepted_calls link run) h.state) (λ i xid. sym (due_same link run m (λ x. refl) xid) i) k)))
 
 pub piece_is_a_mark : PieceIsAMark
 piece_is_a_mark h piece staging opened link run s = record {
   keeps = fed_client opened link h run piece staging s.keeps;
-  answers = fed_answers opened link h run piece staging s.keeps s.answers;
+  first = s.first;
+  answers = fed_answers [] opened link h run piece staging s.keeps s.answers;
   counted = counted_more link run (marks.Fed link Initiator piece) h.marks (has_bytes piece) (own_bytes link piece) s.counted;
 }

@@ -24,7 +24,7 @@ use Rattle.nr_endpoint.specs.Calls.Call.{FeedOne, NextEvent, Post, Stop, OutOfMe
 use Rattle.nr_endpoint.proofs.AlongFrames.{feed_one_keeps}
 use Rattle.nr_requester.specs.declared.answer.AnsweredCall.{AnsweredCall}
 use Rattle.nr_requester.specs.declared.outstanding.OutstandingCall.{OutstandingCall}
-use Rattle.nr_requester.specs.HeldBytes.{QueueFits, region_size, IsCount, in_bytes, claims_total, unsent, IsBounded}
+use Rattle.nr_requester.specs.HeldBytes.{QueueFits, region_size, IsCount, AreRisingBy, send_of, in_bytes, claims_total, unsent, IsBounded}
 use Rattle.nr_requester.specs.AfterPiece.{dead_memory}
 use Rattle.nr_requester.specs.Buffers.{with_memory}
 use Rattle.nr_requester.specs.Fed.{StopsDead}
@@ -35,9 +35,9 @@ use Rattle.nr_requester.proofs.FrameBounds.{Fits, end_fits, fed_one_fits}
 use Rattle.nr_requester.proofs.RegionBounds.{bytes_count}
 use Rattle.nr_requester.proofs.StepLeaves.{step_leaves}
 
--- the same Sends wait, and the same have left
+-- the same Sends wait, and are held back, and the same have left
 abbrev pub SameSends : SendQueue → SendQueue → Type 0
-SameSends q p = (p.sends_left ≡ q.sends_left) × (p.send_ends ≡ q.send_ends)
+SameSends q p = (p.sends_left ≡ q.sends_left) × ((p.send_ends ≡ q.send_ends) × (p.held ≡ q.held))
 
 -- ---- A frame
 
@@ -74,7 +74,7 @@ frame_sends q (HelloFrom side) s frame live h = hello_sends q s (next_frame s fr
 frame_sends q Fpdu s frame live h = fpdu_sends q s (next_frame s frame) (next_segment s frame) h
 
 fed_sends : (link : LinkSide) (piece : List ℕ) → SameSends link.state.send_queue (after_call link (FeedOne piece)).state.send_queue
-fed_sends link piece = feed_one_keeps (λ a s. SameSends link.state.send_queue s.send_queue) (frame_sends link.state.send_queue) link piece (refl, refl)
+fed_sends link piece = feed_one_keeps (λ a s. SameSends link.state.send_queue s.send_queue) (frame_sends link.state.send_queue) link piece (refl, (refl, refl))
 
 -- a region that dies is as long as before
 dead_fits : (size : ℕ → ℕ) (own : Option ℕ) (s : LinkState) (len total : ℕ) → Fits size len total s → Fits size len total (record s { memory = dead_memory own s.memory })
@@ -89,6 +89,8 @@ dead_fits size own s len total f = (
     hello = f.0.hello;
     queue = f.0.queue;
     responses = f.0.responses;
+    messages = f.0.messages;
+    stag = (let same = dead_next own s.memory in let some = f.0.stag in omega (arith, same, some));
     regions = λ stag region there. f.0.regions stag region (sym (dead_region own s.memory stag) ∙ there);
   },
   subst (λ (n : ℕ). IsTotal (region_size size) n total (dead_memory own s.memory).held) (sym (dead_next own s.memory))
@@ -105,19 +107,21 @@ module _ (len sent sends next : ℕ) (calls : List OutstandingCall) (answers : L
   moved : e2.link.state.memory.next ≡ e.link.state.memory.next → FitsFor len calls e2.link.state → SameSends e.link.state.send_queue e2.link.state.send_queue → IsBounded len sent sends next e2 calls answers
   moved stags fits same =
       let w = b.0 in
-      let count = ap (λ (xs : List ℕ). length xs) same.1 in
+      let count = ap (λ (xs : List ℕ). length xs) same.1.0 in
+      let kept : length e2.link.state.send_queue.held ≡ length e.link.state.send_queue.held = ap (λ (xs : List (List ℕ)). length xs) same.1.1 in
+      let order = w.order in
       let left = same.0 in
       let was = w.counts.waiting in
       let number = w.counts.numbered in (
         record {
           staging = staging ∙ w.staging;
           outside = same_outside e e2 stags outside w.outside;
-          numbers = w.numbers;
-          order = w.order;
+          numbers = subst (λ (n : ℕ). AreRisingBy send_of calls (sends + n)) (sym kept) w.numbers;
+          order = omega (arith, order, kept);
           link = (fits in_bytes bytes_count).0;
           regions = λ size is. (fits size is).1;
           counts = record {
-            waiting = subst (λ (n : ℕ). length e2.link.state.send_queue.send_ends ≤ length (unsent n calls)) (sym left) (omega (arith, was, count));
+            waiting = subst (λ (n : ℕ). length e2.link.state.send_queue.send_ends + length e2.link.state.send_queue.held ≤ length (unsent n calls)) (sym left) (omega (arith, was, count, kept));
             numbered = omega (arith, number, left, count);
           };
           each = w.each;
@@ -143,21 +147,21 @@ module _ (len sent sends next : ℕ) (calls : List OutstandingCall) (answers : L
       (subst (λ (x : LinkState). SameSends e.link.state.send_queue x.send_queue) (sym is) same)
 
   pub same_bounded : e2.link ≡ e.link → IsBounded len sent sends next e2 calls answers
-  same_bounded is = to_state e.link.state (ap (λ (l : LinkSide). l.state) is) refl here (refl, refl)
+  same_bounded is = to_state e.link.state (ap (λ (l : LinkSide). l.state) is) refl here (refl, (refl, refl))
 
   pub next_bounded : e2.link ≡ after_call e.link NextEvent → IsBounded len sent sends next e2 calls answers
   unfolding after_call
   next_bounded is = to_state (after_call e.link NextEvent).state (ap (λ (l : LinkSide). l.state) is) refl (λ size counts. (
-    record { side = b.0.link.side; receives = b.0.link.receives; receive_length = b.0.link.receive_length; receive = b.0.link.receive; up = b.0.link.up; down = b.0.link.down; hello = b.0.link.hello; queue = b.0.link.queue; responses = b.0.link.responses; regions = b.0.link.regions },
+    record { side = b.0.link.side; receives = b.0.link.receives; receive_length = b.0.link.receive_length; receive = b.0.link.receive; up = b.0.link.up; down = b.0.link.down; hello = b.0.link.hello; queue = b.0.link.queue; responses = b.0.link.responses; messages = b.0.link.messages; stag = b.0.link.stag; regions = b.0.link.regions },
     b.0.regions size counts,
-  )) (refl, refl)
+  )) (refl, (refl, refl))
 
   pub post_bounded : e2.link ≡ after_call e.link Post → IsBounded len sent sends next e2 calls answers
   unfolding after_call
   post_bounded is = to_state (after_call e.link Post).state (ap (λ (l : LinkSide). l.state) is) refl (λ size counts. (
-    record { side = b.0.link.side; receives = b.0.link.receives; receive_length = b.0.link.receive_length; receive = b.0.link.receive; up = b.0.link.up; down = b.0.link.down; hello = b.0.link.hello; queue = b.0.link.queue; responses = b.0.link.responses; regions = b.0.link.regions },
+    record { side = b.0.link.side; receives = b.0.link.receives; receive_length = b.0.link.receive_length; receive = b.0.link.receive; up = b.0.link.up; down = b.0.link.down; hello = b.0.link.hello; queue = b.0.link.queue; responses = b.0.link.responses; messages = b.0.link.messages; stag = b.0.link.stag; regions = b.0.link.regions },
     b.0.regions size counts,
-  )) (refl, refl)
+  )) (refl, (refl, refl))
 
   going : e.link.state.ended ≡ None → has_ended e.link.state ≡ false
   going lives = ap (λ (o : Option End). is_some o) lives
@@ -178,10 +182,12 @@ module _ (len sent sends next : ℕ) (calls : List OutstandingCall) (answers : L
           hello = b.0.link.hello;
           queue = ended_fits s.send_queue true (subst (λ (x : Bool). QueueFits x s.send_queue) (going lives) b.0.link.queue);
           responses = b.0.link.responses;
+          messages = b.0.link.messages;
+          stag = b.0.link.stag;
           regions = b.0.link.regions;
         },
         b.0.regions size counts,
-      )) (refl, refl)
+      )) (refl, (refl, refl))
 
   pub stop_bounded : (reason : ℕ) → e.link.state.ended ≡ None → (e2.link ≡ after_call e.link (Stop reason)) ⊎ (e2.link ≡ after_call e.link OutOfMemory) → IsBounded len sent sends next e2 calls answers
   unfolding after_call
@@ -189,14 +195,14 @@ module _ (len sent sends next : ℕ) (calls : List OutstandingCall) (answers : L
       let s : LinkState = e.link.state in
       let after : LinkState = with_end_of (ends.Bad s.last reason) s in
       to_state after (ap (λ (l : LinkSide). l.state) is ∙ ap (λ (o : Option End). cond (is_some o) s after) lives) refl
-      (λ size counts. end_fits size s (ends.Bad s.last reason) len (claims_total size calls) (going lives) (here size counts)) (end_sends s.send_queue s (ends.Bad s.last reason) (refl, refl))
+      (λ size counts. end_fits size s (ends.Bad s.last reason) len (claims_total size calls) (going lives) (here size counts)) (end_sends s.send_queue s (ends.Bad s.last reason) (refl, (refl, refl)))
   stop_bounded reason lives (inr is) = out_bounded lives is
 
   -- a region dies, or none
   pub dead_bounded : (own : Option ℕ) → e2.link ≡ with_memory (dead_memory own e.link.state.memory) e.link → IsBounded len sent sends next e2 calls answers
   dead_bounded own is =
       to_state (record e.link.state { memory = dead_memory own e.link.state.memory }) (ap (λ (l : LinkSide). l.state) is) (dead_next own e.link.state.memory)
-      (λ size counts. dead_fits size own e.link.state len (claims_total size calls) (here size counts)) (refl, refl)
+      (λ size counts. dead_fits size own e.link.state len (claims_total size calls) (here size counts)) (refl, (refl, refl))
 
   pub stop_dead_bounded : (own : Option ℕ) (reason : ℕ) → e.link.state.ended ≡ None → StopsDead own reason e.link e2.link → IsBounded len sent sends next e2 calls answers
   unfolding after_call
@@ -204,5 +210,5 @@ module _ (len sent sends next : ℕ) (calls : List OutstandingCall) (answers : L
       let s : LinkState = e.link.state in
       let after : LinkState = with_end_of (ends.Bad s.last reason) s in
       to_state (record after { memory = dead_memory own s.memory }) (ap (λ (l : LinkSide). l.state) is ∙ ap (λ (o : Option End). record (cond (is_some o) s after) { memory = dead_memory own s.memory }) lives) (dead_next own s.memory)
-      (λ size counts. dead_fits size own after len (claims_total size calls) (end_fits size s (ends.Bad s.last reason) len (claims_total size calls) (going lives) (here size counts))) (end_sends s.send_queue s (ends.Bad s.last reason) (refl, refl))
+      (λ size counts. dead_fits size own after len (claims_total size calls) (end_fits size s (ends.Bad s.last reason) len (claims_total size calls) (going lives) (here size counts))) (end_sends s.send_queue s (ends.Bad s.last reason) (refl, (refl, refl)))
   stop_dead_bounded own reason lives (inr is) = out_bounded lives is

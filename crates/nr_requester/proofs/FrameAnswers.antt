@@ -26,6 +26,7 @@ use Rattle.nr_reduce.specs.KeptClient.{ClientKeeps, bytes_under, HoldsFor, AreRi
 use Rattle.nr_reduce.specs.OfferedMemory.{AreOffered}
 use Rattle.nr_reduce.proofs.Releasing.{kept_stays}
 use Rattle.nr_reduce.proofs.Steps.{end_state_after_append, ended_stays}
+use Rattle.nr_reduce.specs.KeptCalls.{numbered_calls}
 use Rattle.nr_requester.specs.declared.answer.AnsweredCall.{AnsweredCall}
 use Rattle.nr_requester.specs.RequesterState.{RequesterState, StoredCall, awaited_call, stag_of, stags_of, kept_call, kept_calls, kept_client}
 use Rattle.nr_requester.specs.CallRegions.{OffersPlan}
@@ -77,7 +78,7 @@ held_for m k count sent [] h = tt
 held_for m k count sent (c ∷ cs) h = (h.0, held_for m k count sent cs h.1)
 
 -- the buffers of the call that a message completes
-pub buffers_held : (opened : LinkParameters) (r : RequesterState) (k : ClientState) (next count place xid : ℕ) (d : StoredCall) → ClientKeeps opened (kept_client r) (live k) count → count ≤ place → AllByRecursion (OffersPlan next k.regions) k.outstanding →
+pub buffers_held : (opened : LinkParameters) (r : RequesterState) (k : ClientState) (next count place xid : ℕ) (d : StoredCall) → ClientKeeps opened (kept_client r) (live k) count → count ≤ place → AllByRecursion (OffersPlan next k.regions) (numbered_calls k) →
     call_of xid r.outstanding ≡ Some d → is_some d.call ≡ true → buffers_in (buffers_under r.side.memory d.claims) ≡ region_contents k place xid
 buffers_held opened r k next count place xid d keeps le offers found has =
     let later : ClientKeeps opened (kept_client r) (live k) place = kept_stays opened (kept_client r) (live k) count place keeps le in
@@ -85,7 +86,7 @@ buffers_held opened r k next count place xid d keeps le offers found has =
     let own = found_one (λ (c : StoredCall). AllByRecursion (λ stag. bytes_under r.side.memory stag ≡ client_memory_at k place stag) (stags_of c.claims)) xid d r.outstanding holds found in
     buffers_by_stags r.side.memory d.claims
     ∙ same_under (λ s. bytes_under r.side.memory s) (λ s. client_memory_at k place s) (stags_of d.claims) own
-    ∙ ap (λ (ss : List ℕ). map (λ s. client_memory_at k place s) ss) (stags_in_state k next r.sent xid d r.outstanding k.outstanding offers (keeps.calls refl).kept found has)
+    ∙ ap (λ (ss : List ℕ). map (λ s. client_memory_at k place s) ss) (stags_in_state k next r.sent xid d r.outstanding (numbered_calls k) offers (keeps.calls refl).kept found has)
     ∙ by_regions (λ s. client_memory_at k place s) (filter (λ (g : Region). eqb g.call xid) k.regions)
 
 -- each call has an xid below the next one
@@ -200,7 +201,7 @@ module _ (opened : LinkParameters) (r after : RequesterState) (k : ClientState) 
 
       held_now : is_some d.call ≡ true → buffers_in (buffers_under r.side.memory d.claims) ≡ region_contents k f.end d.xid
       held_now has =
-          buffers_held opened r k (client_by opened past).state.next_xid count f.end xid d keeps.client le (subst (λ (x : ClientState). AllByRecursion (OffersPlan (client_by opened past).state.next_xid x.regions) x.outstanding) (sym state_is) h.regions.calls) of.found has
+          buffers_held opened r k (client_by opened past).state.next_xid count f.end xid d keeps.client le (subst (λ (x : ClientState). AllByRecursion (OffersPlan (client_by opened past).state.next_xid x.regions) (numbered_calls x)) (sym state_is) h.regions.calls) of.found has
           ∙ (λ i. region_contents k f.end (sym (found_xid xid d r.outstanding of.found) i))
 
       below : d.xid < k.next_xid

@@ -2,12 +2,13 @@
 use Rattle.std.proofs.Common.{◌≡◌, ℕ, ◌≤◌, Bool, true, false, cond, eqb, List, [], ◌∷◌, ◌++◌, length, take, drop, Option, None, Some, Result, Ok, Err, refl, sym, ap, subst, ◌∙◌, inl, inr, arith, length-append}
 use Rattle.std.proofs.lemmas.Bool.{eqb-true, cases_eq}
 use Rattle.std.proofs.lemmas.List.{length-take, length-drop}
+use Rattle.std.specs.List.{AllByRecursion}
 use Rattle.std.specs.FinMap.{get, insert}
 use Rattle.nr_regions.specs.declared.denied.Denied.{Denied}
 use Rattle.nr_regions.specs.declared.denied.Denied.TheVariants.{NoStag}
 use Rattle.nr_regions.specs.declared.right.Kind.{Kind}
 use Rattle.nr_regions.specs.RegisteredMemory.{Region, RegisteredMemory, Access, held_region, live_region, region_offer, denial_in, denial, bytes_in, bytes_at, bytes_after_write, after_place, after_place_in, right_for}
-use Rattle.nr_regions.proofs.Holding.{live_parts, within, get_insert_here, get_insert_other, length_bytes_after_write}
+use Rattle.nr_regions.proofs.Holding.{next_after_place, live_parts, within, get_insert_here, get_insert_other, length_bytes_after_write}
 use Rattle.nr_regions.proofs.Totals.{sound_change}
 use Rattle.nr_wire.specs.Constants.{OPCODE_READ_RESPONSE, OPCODE_READ_REQUEST}
 use Rattle.nr_wire.specs.declared.hello.Side.{Side}
@@ -36,7 +37,7 @@ use Rattle.nr_endpoint.specs.Calls.{after_call}
 use Rattle.nr_endpoint.specs.Calls.Call.{FeedOne}
 use Rattle.nr_endpoint.proofs.AlongFrames.{feed_one_keeps}
 use Rattle.nr_endpoint.proofs.Alive.{alive_tagged, alive_request}
-use Rattle.nr_requester.specs.HeldBytes.{region_max, response_max, QueueFits, RegionsFit, LinkFits, region_size, RegionsHave}
+use Rattle.nr_requester.specs.HeldBytes.{region_max, response_max, FitsSend, QueueFits, RegionsFit, LinkFits, region_size, RegionsHave}
 use Rattle.nr_endpoint.specs.OutputSizes.{send_frames_max, hello_max}
 use Rattle.nr_endpoint.proofs.OutputSizes.{end_within}
 use Rattle.nr_requester.proofs.OutputBounds.{response_fits}
@@ -63,6 +64,8 @@ end_fits size s end len total live f = (
     hello = omega (arith, f.0.hello, length-append s.send_queue.hello (rejection s.side end), no_rejection s.side end f.0.side);
     queue = end_within send_frames_max response_max 0 0 s.side end s.send_queue (subst (λ (b : Bool). QueueFits b s.send_queue) live f.0.queue);
     responses = f.0.responses;
+    messages = f.0.messages;
+    stag = f.0.stag;
     regions = f.0.regions;
   },
   f.1,
@@ -126,6 +129,8 @@ read_fits size s last n true len total f = (
     hello = f.0.hello;
     queue = f.0.queue;
     responses = f.0.responses;
+    messages = f.0.messages;
+    stag = f.0.stag;
     regions = f.0.regions;
   },
   f.1,
@@ -152,6 +157,7 @@ record QueueLeft (q : SendQueue) : Type 0 where
   pub hello : length q.hello ≤ hello_max
   pub queue : QueueFits false q
   pub responses : length q.response_ends ≤ open_reads_max
+  pub messages : AllByRecursion FitsSend q.held
 
 answered_fits : (s : LinkState) (f : Frame) (last : Bool) (opcode w queue msn offset : ℕ) (payload : List ℕ) (b : Bool) → eqb opcode OPCODE_READ_REQUEST ≡ b → f.at ≡ s.place →
     segment_end s f (Untagged last opcode w queue msn offset payload) ≡ None → RegionsFit s.memory → QueueLeft s.send_queue →
@@ -166,6 +172,7 @@ answered_fits s f last opcode w queue msn offset payload true is at lives fit le
       hello = left.hello;
       queue = response_fits s.send_queue r.sink r.sink_to (bytes_at s.memory (fetch_access r)) (reached_short s.memory (fetch_access r) fit) left.queue;
       responses = omega (arith, fine.few, length-append s.send_queue.response_ends (length (s.send_queue.fpdus ++ read_response r.sink r.sink_to (bytes_at s.memory (fetch_access r))) ∷ []));
+      messages = left.messages;
     }
 
 -- ---- A frame
@@ -177,13 +184,13 @@ segment_fits size s f (Tagged last opcode stag to payload) None len total live a
     let m = placed_fits size s.memory stag to (kind_of opcode) payload total (allowed_lem s last opcode stag to payload (alive_tagged s f last opcode stag to payload at lives)) h.0.regions h.1 in
     let placed : LinkState = record s { memory = after_place s.memory stag to payload } in
     let after = read_fits size placed last (length payload) (eqb opcode OPCODE_READ_RESPONSE) len total (
-      record { side = h.0.side; receives = h.0.receives; receive_length = h.0.receive_length; receive = h.0.receive; up = h.0.up; down = h.0.down; hello = h.0.hello; queue = h.0.queue; responses = h.0.responses; regions = m.0 },
+      record { side = h.0.side; receives = h.0.receives; receive_length = h.0.receive_length; receive = h.0.receive; up = h.0.up; down = h.0.down; hello = h.0.hello; queue = h.0.queue; responses = h.0.responses; messages = h.0.messages; stag = (let same = next_after_place s.memory stag to payload in let some = h.0.stag in omega (arith, same, some)); regions = m.0 },
       m.1,
     ) in
-    (record { side = after.0.side; receives = after.0.receives; receive_length = after.0.receive_length; receive = after.0.receive; up = after.0.up; down = after.0.down; hello = after.0.hello; queue = after.0.queue; responses = after.0.responses; regions = after.0.regions }, after.1)
+    (record { side = after.0.side; receives = after.0.receives; receive_length = after.0.receive_length; receive = after.0.receive; up = after.0.up; down = after.0.down; hello = after.0.hello; queue = after.0.queue; responses = after.0.responses; messages = after.0.messages; stag = after.0.stag; regions = after.0.regions }, after.1)
 segment_fits size s f (Untagged last opcode w queue msn offset payload) None len total live at lives h =
     let left = answered_fits s f last opcode w queue msn offset payload (eqb opcode OPCODE_READ_REQUEST) refl at lives h.0.regions
-    (record { hello = h.0.hello; queue = subst (λ (b : Bool). QueueFits b s.send_queue) live h.0.queue; responses = h.0.responses }) in (
+    (record { hello = h.0.hello; queue = subst (λ (b : Bool). QueueFits b s.send_queue) live h.0.queue; responses = h.0.responses; messages = h.0.messages }) in (
       record {
         side = h.0.side;
         receives = h.0.receives;
@@ -194,6 +201,8 @@ segment_fits size s f (Untagged last opcode w queue msn offset payload) None len
         hello = left.hello;
         queue = subst (λ (b : Bool). QueueFits b (with_read_request (cond (eqb opcode OPCODE_READ_REQUEST) (Some (read_request_in payload)) None) s.memory s.send_queue)) (sym live) left.queue;
         responses = left.responses;
+        messages = left.messages;
+        stag = h.0.stag;
         regions = h.0.regions;
       },
       h.1,
@@ -226,6 +235,8 @@ hello_fits size s f (Ok hello) len total live h = (
         omega (arith, h.0.hello, length-append s.send_queue.hello (reply_hello s.side own), no_reply s.side own h.0.side);
     queue = h.0.queue;
     responses = h.0.responses;
+    messages = h.0.messages;
+    stag = h.0.stag;
     regions = h.0.regions;
   },
   h.1,

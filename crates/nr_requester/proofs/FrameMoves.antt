@@ -111,7 +111,7 @@ kept_dead opened kept e end count m is same k = record {
   up = k.up;
   down = k.down;
   invalidates = k.invalidates;
-  first = k.first;
+  opening = k.opening;
   outstanding = k.outstanding;
   calls = k.calls;
   memory = λ none. absurd (let wrong : Some end ≡ None = sym is ∙ none in cc);
@@ -321,9 +321,9 @@ without_alike sent xid (c ∷ cs) = by (eqb c.xid xid) (without_alike sent xid c
     by true rest = rest
     by false rest = ap (λ (xs : List KeptCall). kept_call sent c ∷ xs) rest
 
-pub completed_is : (r : RequesterState) (message : List ℕ) (xid : ℕ) (outcome : Option Outcome) (s : LinkState) → s.ended ≡ r.side.ended → released_all s.memory (stags_for (word_at 0 message) r.outstanding) ≡ released_all r.side.memory (stags_for (word_at 0 message) r.outstanding) → s.agreed ≡ r.side.agreed → kept_completed (kept_client r) message ≡ kept_client (judged r s message (GivesOutcome xid outcome))
+pub completed_is : (r : RequesterState) (message : List ℕ) (xid : ℕ) (outcome : Option Outcome) (s : LinkState) → s.ended ≡ r.side.ended → released_all s.memory (stags_for (word_at 0 message) r.outstanding) ≡ released_all r.side.memory (stags_for (word_at 0 message) r.outstanding) → s.agreed ≡ r.side.agreed → s.terms ≡ r.side.terms → s.earlier ≡ r.side.earlier → kept_completed (kept_client r) message ≡ kept_client (judged r s message (GivesOutcome xid outcome))
 unfolding kept_completed
-completed_is r message xid outcome s ended memory agreed =
+completed_is r message xid outcome s ended memory agreed terms earlier =
     let x : ℕ = word_at 0 message in
     let calls = without_alike r.sent x r.outstanding in
     let count : length (without x (kept_calls r)) ≡ length (without_call x r.outstanding) = ap (λ (xs : List KeptCall). length xs) calls ∙ length-map (without_call x r.outstanding) (kept_call r.sent) in
@@ -339,4 +339,6 @@ completed_is r message xid outcome s ended memory agreed =
       up_max = (sym agreed i).up;
       down_max = (sym agreed i).down;
       invalidates = (sym agreed i).invalidates;
+      number = (sym terms i).number;
+      agreed = (sym earlier i);
     }

@@ -1,5 +1,5 @@
 -- The side of the link after a frame that doesn't end it.
-use Rattle.std.proofs.Common.{◌≡◌, ◌≢◌, ℕ, ◌+◌, ◌-◌, ◌<◌, ◌≤◌, Bool, true, false, cond, not, ◌&&◌, eqb, ltb, List, [], ◌∷◌, ◌++◌, length, Option, None, Some, Ok, refl, sym, ap, subst, ◌∙◌, arith, append_assoc, length-append}
+use Rattle.std.proofs.Common.{◌≡◌, ◌≢◌, ℕ, ◌+◌, ◌-◌, ◌<◌, ◌≤◌, Bool, true, false, cond, not, ◌&&◌, eqb, ltb, List, [], ◌∷◌, ◌++◌, length, map, Option, None, Some, Ok, refl, sym, ap, subst, ◌∙◌, arith, append_assoc, length-append}
 use Rattle.std.specs.Prelude.{option_and_then, IfSome}
 use Rattle.std.proofs.lemmas.List.{append-nil}
 use Rattle.std.proofs.lemmas.Bool.{ne_eqb}
@@ -22,10 +22,10 @@ use Rattle.nr_endpoint.specs.ReceiveQueue.{sends_begun, takes_receive, message_d
 use Rattle.nr_endpoint.specs.Judging.{with_effect, with_read_response, after_frame, segment_end, readiness, missing_access, with_read_request, fetch_access, expected_response}
 use Rattle.nr_endpoint.proofs.Queued.{response_some}
 use Rattle.nr_reduce.specs.declared.mark.LinkParameters.{LinkParameters}
-use Rattle.nr_reduce.specs.ClientState.{ClientState}
+use Rattle.nr_reduce.specs.ClientState.{ClientState, WaitingCall}
 use Rattle.nr_reduce.specs.Client.{with_segment, with_message, with_request, response_output, due_with_response}
 use Rattle.nr_reduce.proofs.Touches.{AreNone, all_none, no_lack, no_flaw}
-use Rattle.nr_requester.specs.Standing.{HasEnds, sends_ends, LinkKeeps}
+use Rattle.nr_requester.specs.Standing.{HasEnds, sends_ends, LinkKeeps, waiting_message}
 use Rattle.nr_requester.specs.AfterPiece.{taken}
 use Rattle.nr_requester.proofs.Links.{ends_more}
 use Rattle.nr_requester.proofs.OneReceive.{received_next, receive_part, none_told, MessageAt, after_message, IsFreed, is_freed}
@@ -83,10 +83,13 @@ link_tagged opened s k f last opcode stag to payload keeps fine later some =
       number = keeps.number;
       waiting = λ none. not_greeted k greeted none;
       none_due = λ none. not_greeted k greeted none;
+      granted = λ none. not_greeted k greeted none;
+      client_terms = keeps.client_terms;
       sends = subst (λ (xs : List ℕ). HasEnds k.written (length s.send_queue.hello) xs s.send_queue.send_ends) (sym (same k.has_hello)) keeps.sends;
       responses = keeps.responses;
       left = keeps.left;
       numbered = ap (λ (xs : List ℕ). length xs) (same k.has_hello) ∙ keeps.numbered;
+      held = keeps.held;
       greeted = later_place opened s k f.end keeps later some;
     })
   where
@@ -103,10 +106,12 @@ record SameButResponses (k k2 : ClientState) : Type 0 where
   pub send_ends : k2.send_ends ≡ k.send_ends
   pub sends : k2.sends ≡ k.sends
   pub down_max : k2.down_max ≡ k.down_max
+  pub waiting : k2.waiting ≡ k.waiting
+  pub terms : k2.terms ≡ k.terms
 
 same_request_lem : (k : ClientState) (due : ℕ) (req : Option ReadRequest) → SameButResponses k (with_request k due req)
-same_request_lem k due None = record { has_hello = refl; written = refl; send_ends = refl; sends = refl; down_max = refl }
-same_request_lem k due (Some r) = record { has_hello = refl; written = refl; send_ends = refl; sends = refl; down_max = refl }
+same_request_lem k due None = record { has_hello = refl; written = refl; send_ends = refl; sends = refl; down_max = refl; waiting = refl; terms = refl }
+same_request_lem k due (Some r) = record { has_hello = refl; written = refl; send_ends = refl; sends = refl; down_max = refl; waiting = refl; terms = refl }
 
 -- what the queue has more for it is what is due, by what the memory holds
 pub record RequestFine (s : LinkState) (k : ClientState) (end : ℕ) (req : Option ReadRequest) : Type 0 where
@@ -127,10 +132,11 @@ record SameQueue (q q2 : SendQueue) : Type 0 where
   pub send_ends : q2.send_ends ≡ q.send_ends
   pub sends_left : q2.sends_left ≡ q.sends_left
   pub last_send : q2.last_send ≡ q.last_send
+  pub held : q2.held ≡ q.held
 
 same_queue : (q : SendQueue) (m : RegisteredMemory) (req : Option ReadRequest) → SameQueue q (with_read_request req m q)
-same_queue q m None = record { hello = refl; send_ends = refl; sends_left = refl; last_send = refl }
-same_queue q m (Some r) = record { hello = refl; send_ends = refl; sends_left = refl; last_send = refl }
+same_queue q m None = record { hello = refl; send_ends = refl; sends_left = refl; last_send = refl; held = refl }
+same_queue q m (Some r) = record { hello = refl; send_ends = refl; sends_left = refl; last_send = refl; held = refl }
 
 pub link_untagged : (opened : LinkParameters) (s : LinkState) (k : ClientState) (f : Frame) (last : Bool) (opcode w queue msn offset : ℕ) (payload : List ℕ) → LinkKeeps opened s k → s.place ≢ 0 → 0 < f.end →
     message_completed k.received (Untagged last opcode w queue msn offset payload) ≡ None → k.due ≡ k.written + length (writable s.has_hello s.send_queue) →
@@ -155,11 +161,14 @@ link_untagged opened s k f last opcode w queue msn offset payload keeps later so
       number = left.last_send ∙ keeps.number ∙ ap msn_word (sym same.sends);
       waiting = λ e. not_greeted k greeted (sym same.has_hello ∙ e);
       none_due = λ e. not_greeted k greeted (sym same.has_hello ∙ e);
+      granted = λ e. not_greeted k greeted (sym same.has_hello ∙ e);
+      client_terms = same.terms ∙ keeps.client_terms;
       sends = sends_are;
       responses = subst (λ (n : ℕ). HasEnds n (length (with_read_request req s.memory s.send_queue).hello) (with_request k more req).response_ends (with_read_request req s.memory s.send_queue).response_ends) (sym same.written)
           (request_ends s k f.end req keeps.responses (due ∙ queue_len) fine);
       left = (λ i. left.sends_left i + length (left.send_ends i)) ∙ keeps.left ∙ sym same.sends;
       numbered = ap (λ (xs : List ℕ). length xs) sends_same ∙ keeps.numbered ∙ sym same.sends;
+      held = left.held ∙ keeps.held ∙ ap (λ (ws : List WaitingCall). map (waiting_message opened) ws) (sym same.waiting);
       greeted = same.has_hello ∙ later_place opened s k f.end keeps later some;
     })
   where
@@ -254,10 +263,13 @@ link_message opened s k f last opcode w queue msn offset payload message m keeps
       number = keeps.number;
       waiting = λ e. not_greeted k greeted e;
       none_due = λ e. not_greeted k greeted e;
+      granted = λ e. not_greeted k greeted e;
+      client_terms = keeps.client_terms;
       sends = subst (λ (xs : List ℕ). HasEnds k.written (length s.send_queue.hello) xs s.send_queue.send_ends) (sym sends_same) keeps.sends;
       responses = keeps.responses;
       left = keeps.left;
       numbered = ap (λ (xs : List ℕ). length xs) sends_same ∙ keeps.numbered;
+      held = keeps.held;
       greeted = later_place opened s k f.end keeps later some;
     }))
   where

@@ -36,10 +36,13 @@ use Rattle.nr_reduce.specs.ClientMessages.{ReplyVerdict, message_verdict}
 use Rattle.nr_reduce.specs.ClientMessages.ReplyVerdict.{EndsLink, GivesOutcome}
 use Rattle.nr_reduce.specs.Client.{client_rules, client_segment, client_end, client_output, client_readiness, end_of_verdict, client_message_end, or_message_end, response_output, outcomes_of, or_other_sizes}
 use Rattle.nr_reduce.specs.KeptCalls.{kept_named, kept_message_verdict}
-use Rattle.nr_reduce.specs.KeptClient.{KeptClient, ClientKeeps, bytes_under, released_all, kept_completed, kept_placed, kept_received, kept_by_message}
+use Rattle.nr_reduce.specs.KeptClient.{KeptClient, ClientKeeps, NoneWaitsFor, bytes_under, released_all, kept_completed, kept_placed, kept_received, kept_by_message}
 use Rattle.nr_regions.proofs.Holding.{live_held}
 use Rattle.nr_reduce.proofs.Keeping.{kept_judges, kept_responds}
 use Rattle.nr_reduce.proofs.Taking.{kept_takes}
+use Rattle.nr_requester.proofs.WaitsApart.{none_waits_of}
+use Rattle.nr_reduce.specs.Written.{ends_written}
+use Rattle.nr_requester.proofs.Links.{sent_is}
 use Rattle.nr_requester.specs.RequesterState.{RequesterState, kept_calls, queue_of, kept_client}
 use Rattle.nr_requester.specs.Standing.{LinkKeeps}
 use Rattle.nr_requester.specs.AfterCalls.{stags_for}
@@ -59,12 +62,16 @@ module _ (opened : LinkParameters) (r : RequesterState) (k : ClientState) (count
   hello : r.side.has_hello ≡ true
   hello = keeps.side.has_hello ∙ has_greeted opened r.side k keeps.side later
 
+  -- no more Sends have left than have a number
+  few : ends_written k.written k.send_ends ≤ k.sends
+  few = (let due = keeps.due in let sent = sent_is opened r.side k keeps.side (omega (arith, due)) in let left = keeps.side.left in omega (arith, sent, left))
+
   -- what the client keeps after a frame that doesn't end it
   client_next : (segment : Segment) (after : RequesterState) → Reads opened k f segment → client_end k (FrameReceived f) ≡ None → kept_received (kept_client r) k.received f segment ≡ kept_client after →
-      ClientKeeps opened (kept_client after) (next_end_state (client_rules opened) (live k) (FrameReceived f)) f.end
-  client_next segment after said none is =
+      NoneWaitsFor k (message_completed k.received segment) → ClientKeeps opened (kept_client after) (next_end_state (client_rules opened) (live k) (FrameReceived f)) f.end
+  client_next segment after said none is others =
       subst (λ (x : KeptClient). ClientKeeps opened x (next_end_state (client_rules opened) (live k) (FrameReceived f)) f.end) is
-      (kept_takes opened (kept_client r) k count f segment keeps.client lt said.later said.is_segment none)
+      (kept_takes opened (kept_client r) k count f segment keeps.client lt said.later said.is_segment none others)
 
   tagged_taken : (last : Bool) (opcode stag to : ℕ) (payload : List ℕ) → segment_end r.side f (Tagged last opcode stag to payload) ≡ None → Reads opened k f (Tagged last opcode stag to payload) →
       FrameTaken opened r k f (record r { side = after_frame f (with_effect (Tagged last opcode stag to payload) r.side) })
@@ -79,7 +86,7 @@ module _ (opened : LinkParameters) (r : RequesterState) (k : ClientState) (count
       let after : RequesterState = record r { side = after_frame f (with_effect segment r.side) } in
       let kept : kept_received (kept_client r) k.received f segment ≡ kept_client after =
       ap (λ (m : RegisteredMemory). record (kept_client r) { memory = m }) arrives ∙ sym (ap (λ (s : LinkState). kept_client (record r { side = after_frame f s })) effect) in
-      taken_live opened r k count f after keeps said.end (client_next segment after said said.end kept)
+      taken_live opened r k count f after keeps said.end (client_next segment after said said.end kept tt)
       (subst (λ (x : ClientState). LinkKeeps opened after.side x) (sym said.state) (link_tagged opened r.side k f last opcode stag to payload keeps.side fine later (omega (arith, lt))))
       refl (ap (λ (s : LinkState). s.send_queue.sends_left) effect) refl
       (ap (λ (s : LinkState). writable s.has_hello s.send_queue) effect ∙ sym (append-nil (queue_of r)) ∙ ap (λ (xs : List ℕ). queue_of r ++ xs) (sym said.output)) refl
@@ -103,7 +110,7 @@ module _ (opened : LinkParameters) (r : RequesterState) (k : ClientState) (count
       let fine : RequestFine r.side k f.end req = request_is req (request_fine r.side f last opcode w queue msn offset payload none) in
       let stays : client_end k (FrameReceived f) ≡ None = said.end ∙ ap (client_message_end k f (stag_invalidated segment)) whole in
       let kept : kept_received (kept_client r) k.received f segment ≡ kept_client after = ap (λ (m : Option (List ℕ)). kept_by_message (kept_client r) m) whole in
-      taken_live opened r k count f after keeps stays (client_next segment after said stays kept)
+      taken_live opened r k count f after keeps stays (client_next segment after said stays kept (subst (λ (m : Option (List ℕ)). NoneWaitsFor k m) (sym whole) tt))
       (subst (λ (x : ClientState). LinkKeeps opened after.side x) (sym said.state) (link_untagged opened r.side k f last opcode w queue msn offset payload keeps.side later (omega (arith, lt)) whole keeps.due fine))
       refl (same_left req) refl
       (ap (λ (h : Bool). writable h (with_read_request req r.side.memory r.side.send_queue)) hello
@@ -146,7 +153,7 @@ module _ (opened : LinkParameters) (r : RequesterState) (k : ClientState) (count
       at = message_at (receive_length_for opened.client) k.received segment message whole fits
 
       same_verdict : kept_message_verdict (kept_calls r) (bytes_under r.side.memory) named message ≡ message_verdict k f.end named message
-      same_verdict = kept_judges opened (kept_client r) k count f.end named message keeps.client (omega (arith, lt))
+      same_verdict = kept_judges opened (kept_client r) k count f.end named message keeps.client (omega (arith, lt)) few
 
       end_is : client_end k (FrameReceived f) ≡ end_of_verdict f (kept_message_verdict (kept_calls r) (bytes_under r.side.memory) named message)
       end_is = said.end ∙ ap (client_message_end k f named) whole ∙ ap (end_of_verdict f) (sym same_verdict)
@@ -171,8 +178,11 @@ module _ (opened : LinkParameters) (r : RequesterState) (k : ClientState) (count
           let after : RequesterState = judged r s2 message (GivesOutcome xid outcome) in
           let stays : client_end k (FrameReceived f) ≡ None = end_is ∙ ap (end_of_verdict f) is in
           let kept : kept_received (kept_client r) k.received f segment ≡ kept_client after =
-          ap (λ (m : Option (List ℕ)). kept_by_message (kept_client r) m) whole ∙ completed_is r message xid outcome s2 refl gone refl in
-          taken_live opened r k count f after keeps stays (client_next segment after said stays kept)
+          ap (λ (m : Option (List ℕ)). kept_by_message (kept_client r) m) whole ∙ completed_is r message xid outcome s2 refl gone refl refl refl in
+          let fine = verdict_fine k f.end named message xid outcome (sym same_verdict ∙ is) in
+          let others : NoneWaitsFor k (message_completed k.received segment) =
+          subst (λ (m : Option (List ℕ)). NoneWaitsFor k m) (sym whole) (none_waits_of opened (kept_client r) k count f.end message xid outcome keeps.client fine) in
+          taken_live opened r k count f after keeps stays (client_next segment after said stays kept others)
           (subst (λ (x : ClientState). LinkKeeps opened after.side x) (sym said.state)
           (link_message opened r.side k f last opcode w queue msn offset payload message (released_all dead (stags_for (word_at 0 message) r.outstanding)) keeps.side later (omega (arith, lt)) whole at))
           refl (ap (λ (q : SendQueue). q.sends_left) (same_queue (read_request_of segment) at.no_request)) refl
@@ -192,7 +202,7 @@ module _ (opened : LinkParameters) (r : RequesterState) (k : ClientState) (count
             judged_alike = sym same_verdict ∙ is;
             answered = ap (λ (xs : List AnsweredCall). r.answered ++ xs) (dead_answer own r.side.memory (call_of (word_at 0 message) r.outstanding) outcome);
             outstanding = refl;
-            outcomes = ap (λ (x : ClientState). x.outcomes) said.state ∙ message_segment k f segment message whole ∙ ap (λ (v : ReplyVerdict). k.outcomes ++ outcomes_of v) (verdict_fine k f.end named message xid outcome (sym same_verdict ∙ is));
+            outcomes = ap (λ (x : ClientState). x.outcomes) said.state ∙ message_segment k f segment message whole ∙ ap (λ (v : ReplyVerdict). k.outcomes ++ outcomes_of v) fine;
           }))
 
   -- ---- Any FPDU

@@ -1,5 +1,5 @@
 -- A call is given up: it is handed back and its regions are released, or its owner forgets it; or its answer is taken.
-use Rattle.std.proofs.Common.{◌≡◌, ◌≢◌, ℕ, suc, ◌-◌, ◌<◌, Bool, true, false, cond, eqb, List, [], ◌∷◌, ◌++◌, length, map, take, drop, get_or, set, Option, None, Some, is_some, refl, sym, ap, subst, ◌∙◌, arith}
+use Rattle.std.proofs.Common.{◌≡◌, ◌≢◌, ℕ, suc, ◌+◌, ◌-◌, ◌<◌, ◌≤◌, Bool, true, false, cond, eqb, List, [], ◌∷◌, ◌++◌, length, map, take, drop, get_or, set, Option, None, Some, is_some, refl, sym, ap, subst, ◌∙◌, arith}
 use Rattle.std.specs.List.{AllByRecursion, find}
 use Rattle.nr_regions.specs.RegisteredMemory.{RegisteredMemory, Claim, AreHeldFrom}
 use Rattle.nr_endpoint.specs.LinkState.{LinkState, LinkSide}
@@ -18,8 +18,9 @@ use Rattle.nr_requester.specs.OpenCalls.{open_call, call_with, buffers_with, buf
 use Rattle.nr_requester.specs.Standing.{RequesterRepresents, RequesterRunsOut, StandsOn, StaysOut, StopsRevoked}
 use Rattle.nr_requester.specs.Views.{HasRoom, RequesterInvariant, IsAnswered, AreRising, stored_view, given_up, forgot, requester_view, side_view}
 use Rattle.nr_requester.specs.CountedMarks.{one_mark_more, with_releases}
-use Rattle.nr_requester.specs.HeldBytes.{NothingOutside, LinkFits, IsCount, RegionsHave, xid_of, send_of, CountsFit, in_bytes, claims_size, claims_total, CallFits, AnswerFits, RequesterBounds}
+use Rattle.nr_requester.specs.HeldBytes.{NothingOutside, LinkFits, IsCount, RegionsHave, AreRisingBy, xid_of, send_of, CountsFit, in_bytes, claims_size, claims_total, CallFits, AnswerFits, RequesterBounds}
 use Rattle.nr_requester.proofs.Releases.{all_released, held_middle, stags_are_of}
+use Rattle.nr_requester.proofs.DeadRegions.{released_next}
 use Rattle.nr_requester.proofs.RegionBounds.{Both, bytes_count, released_both}
 use Rattle.nr_requester.proofs.ChangedCalls.{changed_by, LeavesOthers, found_at, none_found, one_changed, none_changed, count_stays, each_stays, nth_of, rising_stays, waiting_stays, claims_around, claims_changed, total_changed, apart_stays, others_answered}
 use Rattle.nr_requester.proofs.FoundAnswers.{all_left, distinct_left, fewer_left, none_taken}
@@ -36,7 +37,7 @@ forget_leaves c = refl
 
 -- any call: these have one
 pub given : (calls : List OutstandingCall) (at : ℕ) → OutstandingCall
-given calls at = get_or calls at (record { xid = 0; send = 0; call = None; is_forgotten = false; offered = record { read = []; write = []; reply = None }; given = record { read = None; write = None; reply = None }; claims = no_claims; room = record { bytes = []; len = 0 } })
+given calls at = get_or calls at (record { xid = 0; send = 0; call = None; is_forgotten = false; read_at = None; offered = record { read = []; write = []; reply = None }; given = record { read = None; write = None; reply = None }; claims = no_claims; room = record { bytes = []; len = 0 } })
 
 -- ---- The regions of a call are released
 
@@ -94,8 +95,8 @@ given_up_within e e2 len sends next n calls calls2 answers d w held lt same none
     let all : RequesterBounds len e2 sends next left answers = record {
       staging = ap (λ (xs : List ℕ). length xs) same ∙ w.staging;
       outside = none w.outside;
-      numbers = rising_stays send_of sends n calls y d refl lt w.numbers;
-      order = w.order;
+      numbers = subst (λ (x : LinkState). AreRisingBy send_of left (sends + length x.send_queue.held)) (sym state) (rising_stays send_of (sends + length s.send_queue.held) n calls y d refl lt w.numbers);
+      order = subst (λ (x : LinkState). sends + length x.send_queue.held ≤ next) (sym state) w.order;
       link = subst (λ (x : LinkState). LinkFits len x) (sym state) (record {
         side = w.link.side;
         receives = w.link.receives;
@@ -106,6 +107,8 @@ given_up_within e e2 len sends next n calls calls2 answers d w held lt same none
         hello = w.link.hello;
         queue = w.link.queue;
         responses = w.link.responses;
+        messages = w.link.messages;
+        stag = (let same = released_next s.memory (stags_of c.claims) in let some = w.link.stag in omega (arith, same, some));
         regions = (both in_bytes bytes_count).0;
       });
       regions = λ size is. subst (λ (x : LinkState). RegionsHave size x.memory (claims_total size left)) (sym state) (subst (λ (k : ℕ). RegionsHave size memory k) (sum size) (both size is).1);
@@ -158,7 +161,7 @@ forgot_within e len sends next n calls calls2 answers d w lt are =
     let all : RequesterBounds len e sends next left answers = record {
       staging = w.staging;
       outside = w.outside;
-      numbers = rising_stays send_of sends n calls y d refl lt w.numbers;
+      numbers = rising_stays send_of (sends + length e.link.state.send_queue.held) n calls y d refl lt w.numbers;
       order = w.order;
       link = w.link;
       regions = λ size is. subst (λ (k : ℕ). RegionsHave size e.link.state.memory k) (sum size) (w.regions size is);

@@ -1,6 +1,6 @@
 -- The server's hello.
 use Rattle.std.proofs.Common.{◌≡◌, ℕ, inl, ◌<◌, ◌≤◌, Bool, true, false, cond, not, List, [], ◌++◌, length, take, drop, Option, None, Some, Result, Ok, Err, refl, sym, ap, subst, ◌∙◌, arith}
-use Rattle.std.specs.Prelude.{IfSome}
+use Rattle.std.specs.Prelude.{IfErr}
 use Rattle.std.proofs.lemmas.List.{append-nil}
 use Rattle.std.proofs.lemmas.Bool.{ne_eqb, eq-eqb, lt-ltb}
 use Rattle.nr_wire.specs.declared.hello.Side.{Side}
@@ -16,12 +16,13 @@ use Rattle.nr_link.specs.Frames.{Frame, is_hello}
 use Rattle.nr_link.specs.Output.{terminate_message}
 use Rattle.nr_link.specs.Ending.{frame_end_by, hello_end, final_output, rejection}
 use Rattle.nr_endpoint.specs.Hellos.{own_private, side_agreement, received_max, client_heard, receive_length_for}
+use Rattle.nr_endpoint.specs.Hellos.{has_same_sizes as side_sizes}
 use Rattle.nr_endpoint.specs.LinkState.{LinkState}
 use Rattle.nr_endpoint.specs.SendQueue.{writable, with_hello as queue_hello, with_end}
-use Rattle.nr_endpoint.specs.Judging.{with_frame, with_peer_hello, with_end_of, with_agreement, after_frame, next_frame, reply_hello}
-use Rattle.nr_endpoint.specs.Laws.{IsFrameEnd}
+use Rattle.nr_endpoint.specs.Judging.{agreed_with, with_frame, with_peer_hello, with_other_sizes, with_hello_from, with_end_of, with_agreement, after_frame, next_frame, reply_hello}
+use Rattle.nr_endpoint.specs.Laws.{IsHelloReason}
 use Rattle.nr_endpoint.proofs.Agreed.{agreed_fits}
-use Rattle.nr_endpoint.proofs.EndLaws.{frames_end_for_these}
+use Rattle.nr_endpoint.proofs.EndLaws.{reason_of_hello}
 use Rattle.nr_reduce.specs.declared.mark.LinkParameters.{LinkParameters}
 use Rattle.nr_reduce.specs.Hellos.{private_of, client_agreement, agreement_with}
 use Rattle.nr_reduce.specs.OfferedRegions.{region_grants}
@@ -91,22 +92,35 @@ link_greeted opened s k f private agreed most number is le keeps some none =
       responses = subst (λ (h : List ℕ). HasEnds k.written (length h) k.response_ends s.send_queue.response_ends) hello keeps.responses;
       left = keeps.left;
       numbered = ap (λ (xs : List ℕ). length xs) (sym same) ∙ keeps.numbered;
+      held = keeps.held;
       greeted = sym (ap not (ne_eqb f.end 0 (λ e. (let h = e in omega (arith, h, some)))));
+      granted = λ e. absurd cc;
+      client_terms = keeps.client_terms;
     }
 
 no_output : (reason at : ℕ) → reason ≤ 4 → final_output (ends.Bad at reason) ≡ []
 unfolding final_output
 no_output reason at le = ap (λ (b : Bool). cond b [] (terminate_message reason)) (lt-ltb reason 5 (omega (arith, le)))
 
-hello_reason : (s : LinkState) (frame : List ℕ) (reason : ℕ) → s.ended ≡ None → hello_of Responder frame ≡ Err reason → reason ≤ 4
-unfolding with_peer_hello
-hello_reason s frame reason lives is =
-    (subst (λ (e : Option End). IfSome e (IsFrameEnd (HelloFrom Responder) s.place)) (ap (λ (r : Result Hello ℕ). (with_peer_hello (next_frame s frame) r s).ended) is) (frames_end_for_these s (HelloFrom Responder) frame lives)).1.1
+hello_reason : (frame : List ℕ) (reason : ℕ) → hello_of Responder frame ≡ Err reason → reason ≤ 4
+hello_reason frame reason is = (subst (λ (r : Result Hello ℕ). IfErr r IsHelloReason) is (reason_of_hello Responder frame)).1
 
--- no earlier hello agreed on anything
-same_sizes : (k : ClientState) (f : Frame) (end : Option End) → k.agreed ≡ None → or_other_sizes k f end ≡ end
-same_sizes k f (Some end) none = refl
-same_sizes k f None none = ap (λ (agreed : Option Agreement). cond (has_same_sizes agreed (agreement_with k.terms f)) None (Some (ends.Bad f.at REASON_SIZES))) none
+-- whether the lengths of Sends that a hello agrees on are those of an earlier one: by the side of the link as by its client
+sizes_same : (earlier : Option Agreement) (a : Agreement) → side_sizes earlier a ≡ has_same_sizes earlier a
+sizes_same None a = refl
+sizes_same (Some earlier) a = refl
+
+sizes_are : (opened : LinkParameters) (s : LinkState) (k : ClientState) (f : Frame) (private : List ℕ) → agreed_with s private ≡ client_agreement opened f → s.earlier ≡ k.agreed → k.terms ≡ opened.client →
+    side_sizes s.earlier (agreed_with s private) ≡ has_same_sizes k.agreed (agreement_with k.terms f)
+unfolding client_agreement
+sizes_are opened s k f private agrees earlier terms =
+    (λ i. side_sizes (earlier i) (agrees i))
+    ∙ sizes_same k.agreed (agreement_with opened.client f)
+    ∙ ap (λ (t : SideTerms). has_same_sizes k.agreed (agreement_with t f)) (sym terms)
+
+last_is : (at : ℕ) → final_output (ends.Bad at REASON_SIZES) ≡ terminate_message REASON_SIZES
+unfolding final_output
+last_is at = refl
 
 pub hello_taken : (opened : LinkParameters) (r : RequesterState) (k : ClientState) (count : ℕ) (frame : List ℕ) → KeepsLiveClient opened r k count → count < (next_frame r.side frame).end → r.side.place ≡ 0 →
     FrameTaken opened r k (next_frame r.side frame) (after_hello r frame)
@@ -125,10 +139,8 @@ hello_taken opened r k count frame keeps lt first = by (hello_of Responder frame
     no_hello : k.has_hello ≡ false
     no_hello = link.greeted ∙ ap not is_first
 
-    end_is : (x : Result Hello ℕ) → hello_of Responder frame ≡ x → client_end k (FrameReceived f) ≡ hello_end x
-    end_is x e =
-        (λ i. cond (is_first i) (or_other_sizes k f (hello_end (e i))) (or_message_end k f (frame_end_by (client_readiness k) (region_grants f.end k.regions) f (client_segment k f))))
-        ∙ same_sizes k f (hello_end x) keeps.client.first.1.0
+    end_is : (x : Result Hello ℕ) → hello_of Responder frame ≡ x → client_end k (FrameReceived f) ≡ or_other_sizes k f (hello_end x)
+    end_is x e = (λ i. cond (is_first i) (or_other_sizes k f (hello_end (e i))) (or_message_end k f (frame_end_by (client_readiness k) (region_grants f.end k.regions) f (client_segment k f))))
 
     output_is : client_output opened k (FrameReceived f) ≡ calls_output opened 1 k.outstanding
     output_is = ap (λ (b : Bool). cond b (calls_output opened 1 k.outstanding) (response_output k f.end (segment_request (client_segment k f)))) is_first
@@ -136,15 +148,18 @@ hello_taken opened r k count frame keeps lt first = by (hello_of Responder frame
     state_is : client_state_after opened k (FrameReceived f) ≡ with_hello opened k f
     state_is = ap (λ (b : Bool). cond b (with_hello opened k f) (with_segment k f (client_segment k f))) is_first
 
-    by : (x : Result Hello ℕ) → hello_of Responder frame ≡ x → FrameTaken opened r k f (record r { side = with_peer_hello f x r.side })
-    by (Ok hello) e =
+    agrees_on : (hello : Hello) → hello_of Responder frame ≡ Ok hello → agreed_with r.side hello.private ≡ client_agreement opened f
+    agrees_on hello e = agrees_as opened r.side f hello.private link.side link.terms (said_private Responder frame hello e)
+
+    agreed_taken : (hello : Hello) → hello_of Responder frame ≡ Ok hello → client_end k (FrameReceived f) ≡ None → FrameTaken opened r k f (record r { side = with_peer_hello f (Ok hello) r.side })
+    agreed_taken hello e ends_not =
         let own : List ℕ = own_private r.side.terms r.side.side hello.private in
         let agreed : Agreement = side_agreement r.side.side own hello.private in
         let most : ℕ = received_max r.side.side agreed in
         let number : ℕ = client_heard r.side.terms r.side.side hello.private in
         let after : RequesterState = record r { side = after_frame f (with_agreement own hello.private r.side) } in
         let none : reply_hello r.side.side own ≡ [] = ap (λ (side : Side). reply_hello side own) link.side in
-        let agrees : agreed ≡ client_agreement opened f = agrees_as opened r.side f hello.private link.side link.terms (said_private Responder frame hello e) in
+        let agrees : agreed ≡ client_agreement opened f = agrees_on hello e in
         let most_is : most ≡ (client_agreement opened f).down = (λ i. received_max (link.side i) (agrees i)) in
         let most_fits : most ≤ receive_length_for opened.client = subst (λ (terms : SideTerms). most ≤ receive_length_for terms) link.terms (agreed_fits r.side.terms r.side.side hello.private) in
         let within = keeps.due in
@@ -153,8 +168,8 @@ hello_taken opened r k count frame keeps lt first = by (hello_of Responder frame
         let greeted : ClientKeeps opened (kept_client after) (live (with_hello opened k f)) f.end =
         subst (λ (x : KeptClient). ClientKeeps opened x (live (with_hello opened k f)) f.end) (kept_as opened r f own hello.private agrees) kept in
         let next_is : live (with_hello opened k f) ≡ next_end_state (client_rules opened) (live k) (FrameReceived f) =
-        ap (λ (x : ClientState). live x) (sym state_is) ∙ sym (ap (λ (x : Option End). next_end_state_by (client_rules opened) k (FrameReceived f) x) (end_is (Ok hello) e)) in
-        taken_live opened r k count f after keeps (end_is (Ok hello) e)
+        ap (λ (x : ClientState). live x) (sym state_is) ∙ sym (ap (λ (x : Option End). next_end_state_by (client_rules opened) k (FrameReceived f) x) ends_not) in
+        taken_live opened r k count f after keeps ends_not
         (subst (λ (x : EndState ClientState). ClientKeeps opened (kept_client after) x f.end) next_is greeted)
         (subst (λ (x : ClientState). LinkKeeps opened after.side x) (sym state_is)
         (subst (λ (bytes : List ℕ). LinkKeeps opened (after_frame f (record r.side { has_hello = true; send_queue = queue_hello bytes r.side.send_queue; private = own; agreed = agreed; message_max = most; client = number })) (with_hello opened k f)) (sym none)
@@ -163,12 +178,37 @@ hello_taken opened r k count frame keeps lt first = by (hello_of Responder frame
         ((λ i. (r.side.send_queue.hello ++ none i) ++ link.waiting no_hello i)
         ∙ (λ i. writable (sym (link.has_hello ∙ no_hello) i) r.side.send_queue ++ sym output_is i)) refl
         refl (inl (record { answered = refl; outstanding = refl; outcomes = ap (λ (x : ClientState). x.outcomes) state_is }))
+
+    other_taken : client_end k (FrameReceived f) ≡ Some (ends.Bad f.at REASON_SIZES) → FrameTaken opened r k f (record r { side = with_other_sizes f r.side })
+    other_taken ended =
+        let end : End = ends.Bad f.at REASON_SIZES in
+        let none : r.side.has_hello ≡ false = link.has_hello ∙ no_hello in
+        let last : List ℕ = terminate_message REASON_SIZES in
+        taken_ended opened r k count f (record r { side = with_other_sizes f r.side }) end keeps ended r.side.memory (λ stag. refl) refl refl (omega (arith, lt))
+        ((λ i. writable (none i) (queue_hello last r.side.send_queue))
+        ∙ append-nil (r.side.send_queue.hello ++ last)
+        ∙ (λ i. sym (append-nil r.side.send_queue.hello) i ++ last)
+        ∙ (λ i. writable (sym none i) r.side.send_queue ++ sym (last_is f.at) i))
+        refl refl refl
+
+    sized_end : (hello : Hello) → hello_of Responder frame ≡ Ok hello → (b : Bool) → side_sizes r.side.earlier (agreed_with r.side hello.private) ≡ b → client_end k (FrameReceived f) ≡ cond b None (Some (ends.Bad f.at REASON_SIZES))
+    sized_end hello e b is =
+        end_is (Ok hello) e
+        ∙ ap (λ (c : Bool). cond c None (Some (ends.Bad f.at REASON_SIZES))) (sym (sizes_are opened r.side k f hello.private (agrees_on hello e) keeps.client.opening.1 link.client_terms) ∙ is)
+
+    by_hello : (hello : Hello) → hello_of Responder frame ≡ Ok hello → (b : Bool) → side_sizes r.side.earlier (agreed_with r.side hello.private) ≡ b →
+        FrameTaken opened r k f (record r { side = cond (not b) (with_other_sizes f r.side) (with_peer_hello f (Ok hello) r.side) })
+    by_hello hello e true is = agreed_taken hello e (sized_end hello e true is)
+    by_hello hello e false is = other_taken (sized_end hello e false is)
+
+    by : (x : Result Hello ℕ) → hello_of Responder frame ≡ x → FrameTaken opened r k f (record r { side = with_hello_from Responder f x r.side })
+    by (Ok hello) e = by_hello hello e (side_sizes r.side.earlier (agreed_with r.side hello.private)) refl
     by (Err reason) e =
         let end : End = ends.Bad 0 reason in
         taken_ended opened r k count f (record r { side = with_end_of (ends.Bad f.at reason) r.side }) end keeps (end_is (Err reason) e) r.side.memory (λ stag. refl)
         (ap (λ (n : ℕ). record (kept_client r) { ended = Some (ends.Bad n reason) }) first) refl (omega (arith, lt))
         (no_last r.side.has_hello (link.has_hello ∙ no_hello)
-        ∙ sym (append-nil (queue_of r)) ∙ ap (λ (xs : List ℕ). queue_of r ++ xs) (sym (no_output reason 0 (hello_reason r.side frame reason keeps.client.ended e))))
+        ∙ sym (append-nil (queue_of r)) ∙ ap (λ (xs : List ℕ). queue_of r ++ xs) (sym (no_output reason 0 (hello_reason frame reason e))))
         refl refl refl
       where
         no_last : (h : Bool) → h ≡ false → writable h (with_end r.side.side (ends.Bad f.at reason) r.side.send_queue) ≡ writable h r.side.send_queue

@@ -7,11 +7,12 @@ use Rattle.nr_regions.specs.RegisteredMemory.{RegisteredMemory, bytes_held, outs
 use Rattle.nr_endpoint.specs.EndpointState.{EndpointState, bytes_of, bytes_kept}
 use Rattle.nr_endpoint.specs.LinkState.{LinkState, has_ended}
 use Rattle.nr_endpoint.specs.ReceiveQueue.{ReceiveQueue, receives_kept}
+use Rattle.nr_endpoint.specs.SendQueue.{held_len}
 use Rattle.nr_requester.specs.declared.outstanding.OutstandingCall.{OutstandingCall}
 use Rattle.nr_requester.specs.declared.answer.AnsweredCall.{AnsweredCall}
 use Rattle.nr_requester.specs.RequesterState.{StoredCall, RequesterState, RequesterSide}
 use Rattle.nr_requester.specs.Views.{stored_view, requester_view}
-use Rattle.nr_requester.specs.HeldBytes.{NothingOutside, call_size, end_size, offer_held, OffersFew, stored_bytes, calls_bytes, rooms_bytes, rooms_total, bytes_held_by, held_unit, last_max, LinkFits, RegionsHave, in_bytes, claims_total, CallFits, answer_bytes, answers_bytes, AnswerFits, RequesterBounds}
+use Rattle.nr_requester.specs.HeldBytes.{NothingOutside, FitsSend, call_size, end_size, message_size, receive_max, offer_held, OffersFew, stored_bytes, calls_bytes, rooms_bytes, rooms_total, bytes_held_by, held_unit, last_max, LinkFits, RegionsHave, in_bytes, claims_total, CallFits, answer_bytes, answers_bytes, AnswerFits, RequesterBounds}
 use Rattle.nr_endpoint.specs.OutputSizes.{frame_max, send_frames_max}
 use Rattle.nr_endpoint.proofs.SendQueues.{ends_left_fewer}
 use Rattle.nr_requester.proofs.RegionBounds.{bytes_count}
@@ -43,14 +44,19 @@ no_outside : (e : EndpointState) → NothingOutside e → outside_held e.outside
 unfolding outside_held
 no_outside e s = sym s.bytes_are
 
--- but for the frames of the Sends, each of which is that of a call
+-- the messages that are held back
+held_short : (messages : List (List ℕ)) → AllByRecursion FitsSend messages → held_len messages ≤ receive_max * length messages
+held_short [] h = omega arith
+held_short (m ∷ messages) h = omega (arith, h.0, held_short messages h.1)
+
+-- but for the frames of the Sends, and for the messages that are held back, each of which is that of a call
 pub link_bytes : (s : LinkState) (len total : ℕ) → LinkFits len s → RegionsHave in_bytes s.memory total → receives_kept s.receive_queue ≤ 1 →
-    FPDU_MAX + bytes_of s ≤ link_max + total + send_frames_max * length s.send_queue.send_ends
+    FPDU_MAX + bytes_of s ≤ link_max + total + send_frames_max * length s.send_queue.send_ends + receive_max * length s.send_queue.held
 link_bytes s len total l have kept =
     let regions : total ≡ bytes_held s.memory = all_bytes s.memory total have in
     let receives = receives_small s.receive_queue len l.receive_length kept in
     let queue = l.queue 0 in
-    omega (arith, regions, receives, l.receive, queue, l.hello, l.responses, ends_left_fewer 0 s.send_queue.send_ends, ends_left_fewer 0 s.send_queue.response_ends, last_small (has_ended s))
+    omega (arith, regions, receives, l.receive, queue, l.hello, l.responses, ends_left_fewer 0 s.send_queue.send_ends, ends_left_fewer 0 s.send_queue.response_ends, last_small (has_ended s), held_short s.send_queue.held l.messages)
 
 -- ---- The calls
 
@@ -112,20 +118,20 @@ one_answer answers i sum n all a lt is of so_far =
 -- ---- Both
 
 pub held_is : (e : EndpointState) (len sends next sent wished grant releases kept more rooms waits : ℕ) (calls : List OutstandingCall) (answers : List AnsweredCall) (rest : ℕ) (r : RequesterState) → (requester_view e.link sent wished sends next grant calls answers releases).state ≡ r → RequesterBounds len e sends next calls answers →
-    kept ≡ bytes_kept e → more ≡ calls_bytes (map stored_view calls) → rooms ≡ rooms_bytes len (map stored_view calls) → waits ≡ end_size * length e.link.state.send_queue.send_ends → rest ≡ answers_bytes answers → kept + more + rooms + waits + rest ≡ bytes_held_by r
+    kept ≡ bytes_kept e → more ≡ calls_bytes (map stored_view calls) → rooms ≡ rooms_bytes len (map stored_view calls) → waits ≡ end_size * length e.link.state.send_queue.send_ends + message_size * length e.link.state.send_queue.held → rest ≡ answers_bytes answers → kept + more + rooms + waits + rest ≡ bytes_held_by r
 unfolding bytes_held_by
 held_is e len sends next sent wished grant releases kept more rooms waits calls answers rest r is w kept_is more_is rooms_is waits_is rest_is =
-    let here : FPDU_MAX + bytes_of e.link.state + calls_bytes (map stored_view calls) + rooms_bytes e.link.state.receive_queue.receive_length (map stored_view calls) + end_size * length e.link.state.send_queue.send_ends + answers_bytes answers ≡ bytes_held_by r =
+    let here : FPDU_MAX + bytes_of e.link.state + calls_bytes (map stored_view calls) + rooms_bytes e.link.state.receive_queue.receive_length (map stored_view calls) + end_size * length e.link.state.send_queue.send_ends + message_size * length e.link.state.send_queue.held + answers_bytes answers ≡ bytes_held_by r =
     ap bytes_held_by is in
     let same : rooms_bytes e.link.state.receive_queue.receive_length (map stored_view calls) ≡ rooms_bytes len (map stored_view calls) = ap (λ (n : ℕ). rooms_bytes n (map stored_view calls)) w.link.receive_length in
     omega (arith, here, same, w.staging, no_outside e w.outside, kept_is, more_is, rooms_is, waits_is, rest_is)
 
 pub held_bound : (e : EndpointState) (len sends next kept more rooms waits : ℕ) (calls : List OutstandingCall) (answers : List AnsweredCall) → RequesterBounds len e sends next calls answers → receives_kept e.link.state.receive_queue + e.link.state.receive_queue.lent ≡ e.link.state.receive_queue.receives →
-    kept ≡ bytes_kept e → more ≡ calls_bytes (map stored_view calls) → rooms ≡ rooms_bytes len (map stored_view calls) → waits ≡ end_size * length e.link.state.send_queue.send_ends → kept + more + rooms + waits ≤ held_unit * (length calls + 4)
+    kept ≡ bytes_kept e → more ≡ calls_bytes (map stored_view calls) → rooms ≡ rooms_bytes len (map stored_view calls) → waits ≡ end_size * length e.link.state.send_queue.send_ends + message_size * length e.link.state.send_queue.held → kept + more + rooms + waits ≤ held_unit * (length calls + 4)
 held_bound e len sends next kept more rooms waits calls answers w receives kept_is more_is rooms_is waits_is =
     let s1 : LinkState = e.link.state in
     let link = link_bytes s1 len (claims_total in_bytes calls) w.link (w.regions in_bytes bytes_count) (omega (arith, receives, w.link.receives)) in
-    let waiting : length s1.send_queue.send_ends ≤ length calls = omega (arith, w.counts.waiting, few_wait s1.send_queue.sends_left calls) in
+    let waiting : length s1.send_queue.send_ends + length s1.send_queue.held ≤ length calls = omega (arith, w.counts.waiting, few_wait s1.send_queue.sends_left calls) in
     omega (arith, link, waiting, w.staging, no_outside e w.outside, kept_is, more_is, rooms_is, waits_is, each_small len calls w.each)
 
 pub held_most : (wished kept rest : ℕ) (calls : List OutstandingCall) (answers : List AnsweredCall) (h : RequesterSide) → h.state.wished ≡ wished → h.state.outstanding ≡ map stored_view calls → h.state.answered ≡ answers → kept ≤ held_unit * (length calls + 4) → rest ≤ held_unit * length answers →

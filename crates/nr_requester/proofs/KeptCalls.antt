@@ -43,7 +43,7 @@ unfolding kept_submitted
 kept_accepted h call plan few =
     let c : StoredCall = stored_call h.state.next_xid h.state.sends call plan h.state.side.memory in
     let unsent : ltb h.state.sends h.state.sent ≡ false = le-ltb h.state.sends h.state.sent few in
-    let one : kept_of h.state.next_xid h.state.sends call plan h.state.side.memory.next ≡ kept_call h.state.sent c = λ i. record { xid = h.state.next_xid; send = h.state.sends; is_sent = sym unsent i; call = Some call; offered = c.offered; given = c.given; stags = sym (stags_are_lem h.state.side.memory plan) i } in
+    let one : kept_of h.state.next_xid h.state.sends call plan h.state.side.memory.next ≡ kept_call h.state.sent c = λ i. record { xid = h.state.next_xid; send = h.state.sends; is_sent = sym unsent i; call = Some call; read_at = c.read_at; offered = c.offered; given = c.given; stags = sym (stags_are_lem h.state.side.memory plan) i } in
     let count : length h.state.outstanding + 1 ≡ length (h.state.outstanding ++ c ∷ []) = sym (length-append h.state.outstanding (c ∷ [])) in
     let calls : map (kept_call h.state.sent) h.state.outstanding ++ kept_of h.state.next_xid h.state.sends call plan h.state.side.memory.next ∷ [] ≡ map (kept_call h.state.sent) (h.state.outstanding ++ c ∷ []) =
     ap (λ (x : KeptCall). map (kept_call h.state.sent) h.state.outstanding ++ x ∷ []) one ∙ sym (map_one h.state.sent h.state.outstanding c) in

@@ -16,7 +16,7 @@ use Rattle.nr_requester.specs.declared.outstanding.OutstandingCall.{OutstandingC
 use Rattle.nr_requester.specs.RequesterState.{StoredCall, RequesterState, stag_of, stags_of}
 use Rattle.nr_requester.specs.OpenCalls.{open_call}
 use Rattle.nr_requester.specs.AfterCalls.{without_answer}
-use Rattle.nr_requester.specs.HeldClaims.{IsWriteOf, IsOfferOf, OffersOwn}
+use Rattle.nr_requester.specs.HeldClaims.{IsWriteOf, IsOwnOffer, OffersOwn}
 use Rattle.nr_requester.specs.Views.{RequesterInvariant, IsAnswered, stored_view, requester_view}
 use Rattle.nr_requester.specs.HeldBytes.{AreDistinct, IsCount, region_size, RegionsHave, claim_size, claims_total, segments_offered, offered_segments_max, CallFits, RequesterBounds}
 use Rattle.nr_requester.specs.KeptLists.{ListsFit, OffersOneWrite, regions_kept, regions_held}
@@ -71,9 +71,9 @@ one_write claim [] is = omega arith
 one_write claim (chunk ∷ []) is = omega arith
 one_write claim (first ∷ second ∷ others) is = absurd is
 
-offers_one : (o : OutstandingCall) (call : Option Call) → o.call ≡ call → IfSome call (λ _. IsOfferOf o.claims o.offered) → is_some call ≡ true → length o.offered.write ≤ 1
+offers_one : (o : OutstandingCall) (call : Option Call) → o.call ≡ call → IfSome call (IsOwnOffer o.xid o.read_at o.offered o.claims) → is_some call ≡ true → length o.offered.write ≤ 1
 offers_one o None e is has = absurd cc
-offers_one o (Some call) e is has = one_write o.claims.write o.offered.write is.write
+offers_one o (Some call) e is has = one_write o.claims.write o.offered.write is.offer.write
 
 few_writes : (calls : List OutstandingCall) → AllByRecursion OffersOwn calls → AllByRecursion OffersOneWrite (map stored_view calls)
 few_writes [] h = tt

@@ -6,6 +6,8 @@ pub mod Marks
 pub mod CountedMarks
 pub mod AnsweredRegions
 pub mod Accepting
+pub mod HeldBack
+pub mod MaySubmit
 pub mod Answered
 pub mod Sized
 pub mod Sent
@@ -15,6 +17,7 @@ pub mod OneReceive
 pub mod Faults
 pub mod FrameSides
 pub mod FrameMoves
+pub mod WaitsApart
 pub mod Frames
 pub mod Greeting
 pub mod Feeding
@@ -66,3 +69,12 @@ pub mod KeptLists
 pub mod NamedRegions
 pub mod DeadRegions
 pub mod CountedReleases
+pub mod Reopening
+pub mod ReopenedLinks
+pub mod NextLinks
+pub mod NextAnswers
+pub mod NextBegins
+pub mod Resent
+pub mod ResentAnswers
+pub mod ResendStands
+pub mod AllResent

@@ -1,20 +1,22 @@
 -- The side of the link, as a sink takes bytes, as a call is accepted, and as the memory of a call is revoked.
-use Rattle.std.proofs.Common.{◌≡◌, ℕ, ◌+◌, ◌-◌, ◌^◌, ◌<◌, ◌≤◌, Bool, true, false, cond, List, [], ◌∷◌, ◌++◌, length, drop, None, Result, Ok, refl, sym, ap, subst, ◌∙◌, arith, append_assoc, length-append}
+use Rattle.std.proofs.Common.{◌≡◌, ℕ, ◌+◌, ◌-◌, ◌^◌, ◌<◌, ◌≤◌, Bool, true, false, cond, eqb, List, [], ◌∷◌, ◌++◌, length, map, drop, Option, None, Some, Result, Ok, refl, sym, ap, subst, ◌∙◌, arith, append_assoc, length-append}
+use Rattle.std.proofs.lemmas.Bool.{eq-eqb}
 use Rattle.std.proofs.lemmas.List.{append-nil, length-drop}
 use Rattle.nr_regions.specs.RegisteredMemory.{RegisteredMemory}
 use Rattle.nr_link.specs.Output.{msn_word, send}
 use Rattle.nr_endpoint.specs.LinkState.{LinkState}
-use Rattle.nr_endpoint.specs.SendQueue.{SendQueue, writable, written, with_send, next_number, send_output, ends_left}
+use Rattle.nr_endpoint.specs.SendQueue.{SendQueue, writable, written, with_send, with_held_sent, next_number, send_output, ends_left}
 use Rattle.nr_reduce.specs.declared.mark.LinkParameters.{LinkParameters}
 use Rattle.nr_reduce.specs.declared.outline.Plan.{Plan}
 use Rattle.nr_reduce.specs.History.{AcceptedCall}
-use Rattle.nr_reduce.specs.Plans.{TooLarge, buffers, call_message}
+use Rattle.nr_reduce.specs.Plans.{TooLarge, buffers, call_message, plan_of}
+use Rattle.nr_reduce.specs.KeptClient.{registered_all}
 use Rattle.nr_reduce.specs.Events.RunEvent.{CallSubmitted, MemoryRevoked}
 use Rattle.nr_reduce.specs.Written as reduce
-use Rattle.nr_reduce.specs.ClientState.{OutstandingCall, WaitingCall, ClientState, first_of, stag_unless, plan_for, call_payload}
-use Rattle.nr_reduce.specs.Client.{client_state_after, client_output, call_output, calls_output, call_ends, outstanding_of, plan_or}
+use Rattle.nr_reduce.specs.ClientState.{OutstandingCall, WaitingCall, ClientState, first_of, others_than, waiting_call, stag_unless, plan_unless, plan_for, call_payload}
+use Rattle.nr_reduce.specs.Client.{client_state_after, client_output, call_output, calls_output, call_ends, outstanding_of, plan_or, revoked_waiting}
 use Rattle.nr_reduce.proofs.LaterSends.{calls_later}
-use Rattle.nr_requester.specs.Standing.{HasEnds, sends_ends, LinkKeeps}
+use Rattle.nr_requester.specs.Standing.{HasEnds, sends_ends, LinkKeeps, waiting_message}
 use Rattle.nr_requester.specs.AfterCalls.{submitted, drained}
 use Rattle.nr_requester.proofs.Ends.{ends_drained, ends_added, left_or_waiting, all_wait}
 use Rattle.nr_requester.proofs.Queues.{next_word, word_word, send_word, output_append, output_revoked, ends_append, ends_many, ends_revoked}
@@ -85,7 +87,10 @@ link_drained opened s k n le few keeps =
           (ends_drained n k.written (length hello) k.response_ends s.send_queue.response_ends keeps.responses);
       left = left_same (n - length hello) s.send_queue.sends_left s.send_queue.send_ends (let l = keeps.left in omega (arith, l, few)) ∙ keeps.left;
       numbered = ap (λ (xs : List ℕ). length xs) (sends_same opened k n k.has_hello) ∙ keeps.numbered;
+      held = keeps.held;
       greeted = keeps.greeted;
+      granted = keeps.granted;
+      client_terms = keeps.client_terms;
     }
 
 -- ---- A call is accepted
@@ -120,18 +125,16 @@ ends_more written hello due fpdus out all queued h due_is some =
 output_some : (opened : LinkParameters) (msn : ℕ) (o : OutstandingCall) → 0 < length (call_output opened msn o)
 output_some opened msn o = (let later = (calls_later opened 0 0 msn (o ∷ []) (omega arith)).0 in omega (arith, later))
 
-module _ (opened : LinkParameters) (s : LinkState) (k : ClientState) (count : ℕ) (a : AcceptedCall) (plan : Plan) (keeps : LinkKeeps opened s k) (is : plan_for k a.xid a.call a.form ≡ Ok plan) (due_is : k.due ≡ k.written + length (writable s.has_hello s.send_queue)) (unwaited : k.waiting ≡ []) where
+-- a Send of a call is queued, after which these are held back
+abbrev pub queue_sent : List ℕ → List (List ℕ) → SendQueue → SendQueue
+queue_sent message held q = record (with_send message q) { held = held }
+
+module _ (opened : LinkParameters) (s : LinkState) (k : ClientState) (count : ℕ) (a : AcceptedCall) (message : List ℕ) (held : List (List ℕ)) (m : RegisteredMemory) (keeps : LinkKeeps opened s k) (queued : send_output s.send_queue None message ≡ call_output opened (k.sends + 1) (outstanding_of k a)) (due_is : k.due ≡ k.written + length (writable s.has_hello s.send_queue)) (left : held ≡ map (waiting_message opened) (others_than k.waiting a.xid)) where
   abbrev pub o : OutstandingCall
   o = outstanding_of k a
 
   abbrev pub out : List ℕ
   out = call_output opened (k.sends + 1) o
-
-  abbrev pub message : List ℕ
-  message = call_message a.xid opened.wished k.stag plan
-
-  queued : send_output s.send_queue None message ≡ out
-  queued = message_sent opened s k a plan keeps.number is unwaited
 
   abbrev pub k2 : ClientState
   k2 = client_state_after opened k (CallSubmitted count a)
@@ -162,9 +165,9 @@ module _ (opened : LinkParameters) (s : LinkState) (k : ClientState) (count : �
       ∙ ends_append opened k.due 1 k.outstanding o
       ∙ ap (λ (x : ℕ). call_ends opened k.due 1 k.outstanding ++ x ∷ []) at)
 
-  pub link_submitted : LinkKeeps opened (submitted s message (buffers k.stag plan)) (client_state_after opened k (CallSubmitted count a))
+  pub link_sent : LinkKeeps opened (record s { memory = m; send_queue = queue_sent message held s.send_queue }) (client_state_after opened k (CallSubmitted count a))
   unfolding client_state_after
-  link_submitted =
+  link_sent =
       let ends_are : sends_ends k.has_hello opened k2 ≡ all_ends k.has_hello ++ (k.written + length s.send_queue.hello + length s.send_queue.fpdus + length out) ∷ [] = same k.has_hello ∙ sends_by k.has_hello refl in
       let more : HasEnds k.written (length s.send_queue.hello) (all_ends k.has_hello ++ (k.written + length s.send_queue.hello + length s.send_queue.fpdus + length out) ∷ []) (s.send_queue.send_ends ++ length (s.send_queue.fpdus ++ out) ∷ []) =
       ends_more k.written (length s.send_queue.hello) (k.written + length s.send_queue.hello + length s.send_queue.fpdus) s.send_queue.fpdus out (all_ends k.has_hello) s.send_queue.send_ends keeps.sends refl (output_some opened (k.sends + 1) o) in
@@ -191,7 +194,10 @@ module _ (opened : LinkParameters) (s : LinkState) (k : ClientState) (count : �
         responses = keeps.responses;
         left = (let l = keeps.left in omega (arith, l, length-append s.send_queue.send_ends (length (s.send_queue.fpdus ++ send_output s.send_queue None message) ∷ [])));
         numbered = ap (λ (xs : List ℕ). length xs) ends_are ∙ (let n = keeps.numbered in omega (arith, n, length-append (all_ends k.has_hello) ((k.written + length s.send_queue.hello + length s.send_queue.fpdus + length out) ∷ [])));
+        held = left;
         greeted = keeps.greeted;
+        granted = keeps.granted;
+        client_terms = keeps.client_terms;
       }
     where
       same : (b : Bool) → sends_ends b opened (client_state_after opened k (CallSubmitted count a)) ≡ sends_ends b opened (record k { due = k.due + length (cond k.has_hello out []); send_ends = k.send_ends ++ cond k.has_hello ((k.due + length (cond k.has_hello out [])) ∷ []) []; outstanding = k.outstanding ++ o ∷ [] })
@@ -199,18 +205,72 @@ module _ (opened : LinkParameters) (s : LinkState) (k : ClientState) (count : �
       same false = refl
 
   -- what is due for it is what may be written more
-  pub queue_submitted : writable s.has_hello (with_send message s.send_queue) ≡ writable s.has_hello s.send_queue ++ client_output opened k (CallSubmitted count a)
+  pub output_sent : writable s.has_hello (queue_sent message held s.send_queue) ≡ writable s.has_hello s.send_queue ++ client_output opened k (CallSubmitted count a)
   unfolding client_output
-  queue_submitted =
-      ap (λ (h : Bool). writable h (with_send message s.send_queue)) keeps.has_hello
+  output_sent =
+      ap (λ (h : Bool). writable h (queue_sent message held s.send_queue)) keeps.has_hello
       ∙ by k.has_hello
       ∙ ap (λ (h : Bool). writable h s.send_queue ++ cond k.has_hello out []) (sym keeps.has_hello)
     where
-      by : (h : Bool) → writable h (with_send message s.send_queue) ≡ writable h s.send_queue ++ cond h out []
+      by : (h : Bool) → writable h (queue_sent message held s.send_queue) ≡ writable h s.send_queue ++ cond h out []
       by true = (λ i. s.send_queue.hello ++ (s.send_queue.fpdus ++ queued i)) ∙ sym (append_assoc s.send_queue.hello s.send_queue.fpdus out)
       by false = sym (append-nil (s.send_queue.hello ++ []))
 
+-- ---- A new call, while none waits to be sent again
+
+module _ (opened : LinkParameters) (s : LinkState) (k : ClientState) (count : ℕ) (a : AcceptedCall) (plan : Plan) (keeps : LinkKeeps opened s k) (is : plan_for k a.xid a.call a.form ≡ Ok plan) (due_is : k.due ≡ k.written + length (writable s.has_hello s.send_queue)) (unwaited : k.waiting ≡ []) where
+  none_held : s.send_queue.held ≡ map (waiting_message opened) (others_than k.waiting a.xid)
+  none_held = keeps.held ∙ ap (λ (ws : List WaitingCall). map (waiting_message opened) ws) unwaited ∙ sym (ap (λ (ws : List WaitingCall). map (waiting_message opened) (others_than ws a.xid)) unwaited)
+
+  pub link_submitted : LinkKeeps opened (submitted s (call_message a.xid opened.wished k.stag plan) (buffers k.stag plan)) (client_state_after opened k (CallSubmitted count a))
+  link_submitted = link_sent opened s k count a (call_message a.xid opened.wished k.stag plan) s.send_queue.held (registered_all s.memory (buffers k.stag plan)) keeps (message_sent opened s k a plan keeps.number is unwaited) due_is none_held
+
+  -- what is due for it is what may be written more
+  pub queue_submitted : writable s.has_hello (with_send (call_message a.xid opened.wished k.stag plan) s.send_queue) ≡ writable s.has_hello s.send_queue ++ client_output opened k (CallSubmitted count a)
+  queue_submitted = output_sent opened s k count a (call_message a.xid opened.wished k.stag plan) s.send_queue.held s.memory keeps (message_sent opened s k a plan keeps.number is unwaited) due_is none_held
+
+-- ---- The first call that waits is sent again
+
+-- it has its plan and its STag
+waits_plan : (k : ClientState) (w : WaitingCall) (ws : List WaitingCall) → k.waiting ≡ w ∷ ws → waiting_call k w.xid ≡ Some w
+waits_plan k w ws first = ap (λ (xs : List WaitingCall). first_of xs w.xid) first ∙ ap (λ (b : Bool). cond b (Some w) None) (eq-eqb w.xid w.xid refl)
+
+abbrev pub accepted_again : WaitingCall → AcceptedCall
+accepted_again w = record { xid = w.xid; call = w.call; form = w.form }
+
+message_again : (opened : LinkParameters) (s : LinkState) (k : ClientState) (w : WaitingCall) (ws : List WaitingCall) → k.waiting ≡ w ∷ ws → s.send_queue.last_send ≡ msn_word k.sends →
+    send_output s.send_queue None (waiting_message opened w) ≡ call_output opened (k.sends + 1) (outstanding_of k (accepted_again w))
+unfolding plan_for
+message_again opened s k w ws first number =
+    let a : AcceptedCall = accepted_again w in
+    let found : waiting_call k w.xid ≡ Some w = waits_plan k w ws first in
+    let plan : w.plan ≡ (outstanding_of k a).plan = sym (planned k a w.plan (ap (λ (o : Option WaitingCall). plan_unless o (plan_of (call_payload w.xid w.call) w.form k.up_max k.down_max)) found)) in
+    let stag : w.stag ≡ (outstanding_of k a).stag = sym (ap (λ (o : Option WaitingCall). stag_unless o k.stag) found) in
+    (λ i. send (next_number s.send_queue.last_send) (call_message w.xid opened.wished (stag i) (plan i))) ∙ sent_by opened s k (outstanding_of k a) number
+
+others_wait : (opened : LinkParameters) (held : List (List ℕ)) (k : ClientState) (w : WaitingCall) (ws : List WaitingCall) → k.waiting ≡ w ∷ ws → held ≡ map (waiting_message opened) k.waiting → drop 1 held ≡ map (waiting_message opened) (others_than k.waiting w.xid)
+others_wait opened held k w ws first is =
+    ap (λ (xs : List (List ℕ)). drop 1 xs) (is ∙ ap (λ (xs : List WaitingCall). map (waiting_message opened) xs) first)
+    ∙ sym (ap (λ (xs : List WaitingCall). map (waiting_message opened) (others_than xs w.xid)) first ∙ ap (λ (b : Bool). map (waiting_message opened) (cond b ws (w ∷ ws))) (eq-eqb w.xid w.xid refl))
+
+module _ (opened : LinkParameters) (s : LinkState) (k : ClientState) (count : ℕ) (w : WaitingCall) (ws : List WaitingCall) (keeps : LinkKeeps opened s k) (first : k.waiting ≡ w ∷ ws) (due_is : k.due ≡ k.written + length (writable s.has_hello s.send_queue)) where
+  pub link_resent : LinkKeeps opened (record s { send_queue = with_held_sent (waiting_message opened w) s.send_queue }) (client_state_after opened k (CallSubmitted count (accepted_again w)))
+  link_resent = link_sent opened s k count (accepted_again w) (waiting_message opened w) (drop 1 s.send_queue.held) s.memory keeps (message_again opened s k w ws first keeps.number) due_is (others_wait opened s.send_queue.held k w ws first keeps.held)
+
+  -- what is due for it is what may be written more
+  pub queue_resent : writable s.has_hello (with_held_sent (waiting_message opened w) s.send_queue) ≡ writable s.has_hello s.send_queue ++ client_output opened k (CallSubmitted count (accepted_again w))
+  queue_resent = output_sent opened s k count (accepted_again w) (waiting_message opened w) (drop 1 s.send_queue.held) s.memory keeps (message_again opened s k w ws first keeps.number) due_is (others_wait opened s.send_queue.held k w ws first keeps.held)
+
 -- ---- The memory of a call is revoked
+
+-- the message of a call stays if its memory is revoked
+messages_stay : (opened : LinkParameters) (xid : ℕ) (ws : List WaitingCall) → map (waiting_message opened) ws ≡ map (waiting_message opened) (map (revoked_waiting xid) ws)
+messages_stay opened xid [] = refl
+messages_stay opened xid (w ∷ ws) = λ i. by (eqb w.xid xid) i ∷ messages_stay opened xid ws i
+  where
+    by : (b : Bool) → waiting_message opened w ≡ waiting_message opened (cond b (record w { is_revoked = true }) w)
+    by true = refl
+    by false = refl
 
 pub link_revoked : (opened : LinkParameters) (s : LinkState) (k : ClientState) (count xid : ℕ) (m : RegisteredMemory) → LinkKeeps opened s k → LinkKeeps opened (record s { memory = m }) (client_state_after opened k (MemoryRevoked count xid))
 unfolding client_state_after
@@ -233,7 +293,10 @@ link_revoked opened s k count xid m keeps = record {
   responses = keeps.responses;
   left = keeps.left;
   numbered = ap (λ (xs : List ℕ). length xs) (same k.has_hello) ∙ keeps.numbered;
+  held = keeps.held ∙ messages_stay opened xid k.waiting;
   greeted = keeps.greeted;
+  granted = keeps.granted;
+  client_terms = keeps.client_terms;
 }
   where
     same : (b : Bool) → sends_ends b opened (client_state_after opened k (MemoryRevoked count xid)) ≡ sends_ends b opened k

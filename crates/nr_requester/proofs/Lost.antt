@@ -47,7 +47,7 @@ lost_client opened link h run xid end is s =
     subst (λ (x : EndState ClientState). ClientKeeps opened (kept_revoked (kept_client h.state) xid) x count) same (kept_revokes opened (kept_client h.state) e count xid s.kept.keeps) in
     record {
       wished = s.wished;
-      first = s.first;
+      resumes = s.resumes;
       kept = subst (λ (x : KeptClient). ClientRepresents opened link x (input_kept h) (queue_of h.state) run) (kept_after_revoke h xid)
           (record { keeps = keeps; received = s.kept.received; output = s.kept.output });
       sent = λ none. no_end end (sym is ∙ none);
@@ -65,6 +65,7 @@ lost_counted h xid link run is = counted_more link run (marks.Lost link xid) h.m
 pub lost_is_a_mark : LostIsAMark
 lost_is_a_mark h xid end is lt opened link run s = record {
   keeps = others_leave_client opened link (after_revoke h xid) run (marks.Lost link xid) (lost_client opened link h run xid end is s.keeps) refl refl refl;
-  answers = given_mark revoked_if opened link h (after_revoke h xid) run (marks.Lost link xid) xid revokes (tt, tt) (lost_gives link xid) lt s.answers (lost_given h xid);
+  first = s.first;
+  answers = given_mark revoked_if [] opened link h (after_revoke h xid) run (marks.Lost link xid) xid revokes (tt, tt) (lost_gives link xid) lt s.answers (lost_given h xid);
   counted = lost_counted h xid link run s.counted;
 }

@@ -1,5 +1,5 @@
 -- A requester stands for the marks of its owner's calls.
-use Rattle.std.proofs.Common.{◌≡◌, ℕ, ◌+◌, ◌^◌, ◌≤◌, Bool, true, cond, ◌&&◌, eqb, List, [], ◌∷◌, ◌++◌, length, take, drop, Option, None, refl, sym, ap, subst, ◌∙◌, arith, append-nil, take-append-drop, length-append}
+use Rattle.std.proofs.Common.{◌≡◌, ℕ, ◌+◌, ◌^◌, ◌≤◌, Bool, true, cond, ◌&&◌, eqb, List, [], ◌∷◌, ◌++◌, length, map, take, drop, Option, None, refl, sym, ap, subst, ◌∙◌, arith, append-nil, take-append-drop, length-append}
 use Rattle.std.specs.Prelude.{is_some}
 use Rattle.std.proofs.lemmas.List.{length-take}
 use Rattle.nr_wire.specs.declared.hello.Side.TheVariants.{Initiator, Responder}
@@ -21,10 +21,11 @@ use Rattle.nr_reduce.specs.Events.{RunEvent, if_own, events_at, events}
 use Rattle.nr_reduce.specs.Events.RunEvent.{MemoryRevoked, QueueWritten}
 use Rattle.nr_reduce.specs.EndRules.{EndState, next_end_state, next_end_state_by, end_state_after, live}
 use Rattle.nr_reduce.specs.Written as reduce
-use Rattle.nr_reduce.specs.ClientState.{ClientState}
+use Rattle.nr_reduce.specs.ClientState.{ClientState, waiting_from}
 use Rattle.nr_reduce.specs.Client.{client_rules, client_end, client_state_after}
 use Rattle.nr_reduce.specs.Run.{client, output_due}
-use Rattle.nr_reduce.specs.KeptClient.{KeptClient, kept_sent, kept_revoked, released_all, opened_client}
+use Rattle.nr_regions.specs.RegisteredMemory.{initial_memory}
+use Rattle.nr_reduce.specs.KeptClient.{KeptClient, kept_sent, kept_revoked, released_all, resumed_kept, resumed_memory, opened_client, CanResume}
 use Rattle.nr_reduce.specs.Standing.{ClientRepresents, ClientRunsOut}
 use Rattle.nr_reduce.proofs.Steps.{client_one}
 use Rattle.nr_reduce.proofs.Standing.{itself, client_stays_out_lem, client_begins_lem}
@@ -32,7 +33,7 @@ use Rattle.nr_reduce.proofs.KeptMarks.{revoke_stands_lem, revoke_stays_out, wrot
 use Rattle.nr_reduce.proofs.XidsFollow.{next_xid_follows}
 use Rattle.nr_reduce.proofs.CountedBytes.{client_bytes_written, client_bytes_due}
 use Rattle.nr_requester.specs.RequesterState.{RequesterSide, queue_of, kept_client, input_kept}
-use Rattle.nr_requester.specs.Standing.{LinkKeeps, KeepsClient}
+use Rattle.nr_requester.specs.Standing.{LinkKeeps, KeepsClient, waiting_message}
 use Rattle.nr_requester.specs.AfterCalls.{opened_as, drained, after_drain, after_revoke, stags_for}
 use Rattle.nr_requester.proofs.Queues.{written_writable}
 use Rattle.nr_requester.proofs.Links.{sent_is, link_drained, link_revoked}
@@ -80,6 +81,17 @@ state_next opened link run mark event none is goes_on =
     ∙ ap (λ (x : Option End). next_end_state (client_rules opened) (ended_as (client opened link run) x) event) none
     ∙ ap (λ (x : Option End). next_end_state_by (client_rules opened) (state_of opened link run) event x) goes_on)
 
+-- ---- How many Sends have a number
+
+few_above : (r : ResumedCall) (rs : List ResumedCall) (next : ℕ) → CanResume (r ∷ rs) next → r.xid + 1 + length rs ≤ next
+few_above r [] next can = (let lt = can.1.0 in omega (arith, lt))
+few_above r (q ∷ rs) next can = (let later = few_above q rs next can.1.1.1 in let lt = can.1.1.0.0 in omega (arith, later, lt))
+
+-- the xids of the calls that are sent again are below the first new one, and no two are the same
+resumed_few : (rs : List ResumedCall) (next : ℕ) → CanResume rs next → length rs ≤ next
+resumed_few [] next can = omega arith
+resumed_few (r ∷ rs) next can = (let few = few_above r rs next can in omega (arith, few))
+
 -- ---- A drain
 
 pub wrote_state : (opened : LinkParameters) (link : ℕ) (run : List Mark) (bytes : List ℕ) → (client opened link run).ended ≡ None →
@@ -122,7 +134,7 @@ pub drain_stands : (h : RequesterSide) (n : ℕ) → n ≤ length (queue_of h.st
     KeepsClient opened link (after_drain n h) (run ++ marks.Wrote link Initiator (take n (queue_of h.state)) ∷ [])
 drain_stands h n le fits opened link run s = record {
   wished = drain_wished h n ∙ s.wished;
-  first = s.first;
+  resumes = s.resumes;
   kept = subst (λ (k : KeptClient). ClientRepresents opened link k (input_kept (after_drain n h)) (queue_of (after_drain n h).state) (run ++ mark ∷ [])) (kept_drained h n)
       (subst (λ (i : InputState). ClientRepresents opened link (kept_sent (sent_after n h) (kept_client h.state)) i (queue_of (after_drain n h).state) (run ++ mark ∷ [])) (sym (drain_input h n))
       (subst (λ (q : List ℕ). ClientRepresents opened link (kept_sent (sent_after n h) (kept_client h.state)) (input_kept h) q (run ++ mark ∷ [])) (sym (drain_queue h n))
@@ -144,7 +156,7 @@ drain_stands h n le fits opened link run s = record {
     parts = subst (λ (q : List ℕ). ClientRepresents opened link (kept_client h.state) (input_kept h) q run) (sym (take-append-drop n queue)) s.kept
 
     few : k.sends ≤ 2 ^ 32
-    few = (let number = s.kept.keeps.xid in let follows = next_xid_follows opened link run in let none = ap (λ (rs : List ResumedCall). length rs) s.first.resumed in omega (arith, number, follows, none, fits))
+    few = (let number = s.kept.keeps.xid in let follows = next_xid_follows opened link run in let count = resumed_few opened.resumed opened.first_xid s.resumes in omega (arith, number, follows, count, fits))
 
     next : h.state.side.ended ≡ None → LinkKeeps opened (drained n h.state.side) (record k { written = k.written + n })
     next none = link_drained opened h.state.side k n le few (s.side none)
@@ -209,7 +221,7 @@ revoke_stands opened link h run xid bytes s =
     let mark : Mark = marks.Revoke link xid bytes in
     record {
       wished = l.wished ∙ s.wished;
-      first = s.first;
+      resumes = s.resumes;
       kept = subst (λ (k : KeptClient). ClientRepresents opened link k (input_kept (after_revoke h xid)) (queue_of (after_revoke h xid).state) (run ++ mark ∷ [])) (kept_after_revoke h xid)
           (subst (λ (i : InputState). ClientRepresents opened link (kept_revoked (kept_client h.state) xid) i (queue_of (after_revoke h xid).state) (run ++ mark ∷ [])) (sym l.input)
           (subst (λ (q : List ℕ). ClientRepresents opened link (kept_revoked (kept_client h.state) xid) (input_kept h) q (run ++ mark ∷ [])) (sym l.queue)
@@ -239,7 +251,7 @@ others_leave_client opened link h run mark s no_events no_write no_feed =
     ap (λ (e : EndState ClientState). e.state) (client_one opened link run mark ∙ ap (λ (es : List RunEvent). end_state_after (client_rules opened) (client opened link run) es) no_events) in
     record {
       wished = s.wished;
-      first = s.first;
+      resumes = s.resumes;
       kept = other_stands opened link (kept_client h.state) (input_kept h) (queue_of h.state) run mark s.kept no_events no_write no_feed;
       sent = s.sent;
       side = λ none. subst (λ (x : ClientState). LinkKeeps opened h.state.side x) (sym same) (s.side none);
@@ -247,16 +259,24 @@ others_leave_client opened link h run mark s no_events no_write no_feed =
 
 -- ---- As it is opened
 
-kept_opened : (opened : LinkParameters) (staging : List ℕ) → opened_client opened ≡ kept_client (opened_as opened.first_xid opened.first_stag opened.wished opened.client staging).state
-unfolding opened_as
-kept_opened opened staging = refl
+none_rise : (rs : List ResumedCall) (next : ℕ) → rs ≡ [] → CanResume rs next
+none_rise rs next none = subst (λ (xs : List ResumedCall). CanResume xs next) (sym none) tt
 
-some_units : (terms : SideTerms) → send_unit ≤ receive_length_for terms
+kept_opened : (opened : LinkParameters) (staging : List ℕ) → IsFirstLink opened → opened_client opened ≡ kept_client (opened_as opened.first_xid opened.first_stag opened.wished opened.client staging).state
+unfolding opened_as
+kept_opened opened staging first = λ i. record (opened_client opened) {
+  outstanding = length (first.resumed i);
+  calls = resumed_kept 0 opened.first_stag (first.resumed i);
+  memory = resumed_memory (initial_memory opened.first_stag) (first.resumed i);
+  agreed = first.agreed i;
+}
+
+pub some_units : (terms : SideTerms) → send_unit ≤ receive_length_for terms
 some_units terms = omega arith
 
-link_opened : (opened : LinkParameters) (link : ℕ) (staging : List ℕ) → LinkKeeps opened (opened_as opened.first_xid opened.first_stag opened.wished opened.client staging).state.side (state_of opened link [])
+link_opened : (opened : LinkParameters) (link : ℕ) (staging : List ℕ) → IsFirstLink opened → LinkKeeps opened (opened_as opened.first_xid opened.first_stag opened.wished opened.client staging).state.side (state_of opened link [])
 unfolding client events opened_as client_hello
-link_opened opened link staging = record {
+link_opened opened link staging first = record {
   side = refl;
   has_hello = refl;
   receive_length = refl;
@@ -275,7 +295,10 @@ link_opened opened link staging = record {
   responses = record { ends = refl; count = refl };
   left = refl;
   numbered = refl;
+  held = sym (ap (λ (resumed : List ResumedCall). map (waiting_message opened) (waiting_from opened.first_stag resumed)) first.resumed);
   greeted = refl;
+  granted = λ e. refl;
+  client_terms = refl;
 }
 
 -- its queue is its hello
@@ -283,13 +306,13 @@ queue_opened : (opened : LinkParameters) (staging : List ℕ) → client_hello o
 unfolding opened_as client_hello
 queue_opened opened staging = sym (append-nil (hello_with Initiator (initiator_private opened.client)))
 
-pub begins_client : (opened : LinkParameters) (link : ℕ) (staging : List ℕ) → IsFirstLink opened → opened.client.number ≡ 0 → KeepsClient opened link (opened_as opened.first_xid opened.first_stag opened.wished opened.client staging) []
+pub begins_client : (opened : LinkParameters) (link : ℕ) (staging : List ℕ) → IsFirstLink opened → KeepsClient opened link (opened_as opened.first_xid opened.first_stag opened.wished opened.client staging) []
 unfolding opened_as
-begins_client opened link staging first number = record {
+begins_client opened link staging first = record {
   wished = refl;
-  first = first;
-  kept = subst (λ (k : KeptClient). ClientRepresents opened link k (initial_input Responder) (queue_of (opened_as opened.first_xid opened.first_stag opened.wished opened.client staging).state) []) (kept_opened opened staging)
-      (subst (λ (q : List ℕ). ClientRepresents opened link (opened_client opened) (initial_input Responder) q []) (queue_opened opened staging) (client_begins_lem opened link first number));
+  resumes = none_rise opened.resumed opened.first_xid first.resumed;
+  kept = subst (λ (k : KeptClient). ClientRepresents opened link k (initial_input Responder) (queue_of (opened_as opened.first_xid opened.first_stag opened.wished opened.client staging).state) []) (kept_opened opened staging first)
+      (subst (λ (q : List ℕ). ClientRepresents opened link (opened_client opened) (initial_input Responder) q []) (queue_opened opened staging) (client_begins_lem opened link (none_rise opened.resumed opened.first_xid first.resumed)));
   sent = λ none. refl;
-  side = λ none. link_opened opened link staging;
+  side = λ none. link_opened opened link staging first;
 }

@@ -23,7 +23,7 @@ use Rattle.nr_reduce.specs.ClientMessages.{ReplyVerdict}
 use Rattle.nr_reduce.specs.ClientMessages.ReplyVerdict.{EndsLink, GivesOutcome}
 use Rattle.nr_reduce.specs.KeptCalls.{KeptCall, kept_payload, kept_lists, kept_body, kept_call as by_kept_call, kept_by, kept_in, kept_header, kept_verdict, kept_names_another, kept_invalidates_another, own_if, kept_named, kept_message_verdict}
 use Rattle.nr_requester.specs.declared.outstanding.OutstandingCall.{OutstandingCall}
-use Rattle.nr_requester.specs.HeldClaims.{claim_list, call_claims, all_claims, IsChunkOf, IsWriteOf, IsReplyOf, IsOfferOf, OffersOwn}
+use Rattle.nr_requester.specs.HeldClaims.{claim_list, call_claims, all_claims, IsChunkOf, IsWriteOf, IsReplyOf, IsOfferOf, IsOwnOffer, OffersOwn}
 use Rattle.nr_requester.specs.Judged.{header_reason, ComesBack, WriteComesBack, ReplyComesBack, by_stream, SameCall, SameCalls, kept_view, kept_views, Ends, Brings, outcome_by, LiesWithin}
 use Rattle.nr_requester.specs.declared.replies.Found.{Found}
 use Rattle.nr_requester.specs.Views.{HasRoom, given_stags, names_another, own_named}
@@ -64,10 +64,13 @@ each_back m claim [] (b ∷ bs) held is e = absurd cc
 each_back m claim (o ∷ []) (b ∷ bs) held is e = comes_back m claim o b held is (and_first (returns o b) (returns_each [] bs) e)
 each_back m claim (o ∷ o2 ∷ os) (b ∷ bs) held is e = absurd is
 
+own_offer : (c : OutstandingCall) (call : Call) → OffersOwn c → c.call ≡ Some call → IsOwnOffer c.xid c.read_at c.offered c.claims call
+own_offer c call own has = subst (λ (o : Option Call). IfSome o (IsOwnOffer c.xid c.read_at c.offered c.claims)) has own
+
 pub write_back : (long : Bool) (m : RegisteredMemory) (c : OutstandingCall) (call : Call) (back : ChunkLists) → AreHeldFrom m 0 (call_claims c.claims) → OffersOwn c → c.call ≡ Some call → answers_offer long c.offered back ≡ true → WriteComesBack m c.claims.write back.write
 unfolding answers_offer
 write_back long m c call back held own has e =
-    let is : IsOfferOf c.claims c.offered = subst (λ (o : Option Call). IfSome o (λ x. IsOfferOf c.claims c.offered)) has own in
+    let is : IsOfferOf c.claims c.offered = (own_offer c call own has).offer in
     let none : Bool = eqb (length back.read) 0 in
     let each : Bool = returns_each c.offered.write back.write in
     let rest : Bool = fills_first back.write && cond long (returns_stream c.offered.reply back.reply) (returns_none c.offered.reply back.reply) in
@@ -81,7 +84,7 @@ stream_back m claim (Some o) (Some b) held is e = comes_back m claim o b held is
 pub reply_back : (m : RegisteredMemory) (c : OutstandingCall) (call : Call) (back : ChunkLists) → AreHeldFrom m 0 (call_claims c.claims) → OffersOwn c → c.call ≡ Some call → answers_offer true c.offered back ≡ true → ReplyComesBack m c.claims.reply back.reply
 unfolding answers_offer
 reply_back m c call back held own has e =
-    let is : IsOfferOf c.claims c.offered = subst (λ (o : Option Call). IfSome o (λ x. IsOfferOf c.claims c.offered)) has own in
+    let is : IsOfferOf c.claims c.offered = (own_offer c call own has).offer in
     let none : Bool = eqb (length back.read) 0 in
     let each : Bool = returns_each c.offered.write back.write in
     let rest : Bool = fills_first back.write && returns_stream c.offered.reply back.reply in

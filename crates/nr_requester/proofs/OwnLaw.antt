@@ -11,6 +11,7 @@ use Rattle.nr_reduce.specs.Standing.{ClientRepresents, ClientRunsOut}
 use Rattle.nr_reduce.proofs.Standing.{AtEachMark_more, client_queue_lem}
 use Rattle.nr_reduce.proofs.Submitting.{accepted_keeps}
 use Rattle.nr_reduce.proofs.Unconcerned.{none_asked, none_granted}
+use Rattle.nr_reduce.proofs.Unresumed.{none_waits}
 use Rattle.nr_requester.specs.RequesterState.{queue_of, kept_client, input_kept}
 use Rattle.nr_requester.specs.Laws.{SubmitKeepsLaw, DrainKeepsLaw, DrainOutKeepsLaw, QueueIsAllDue, RefusedKeepsLaw, PieceKeepsLaw, DrainKeepsGrant, LawBegins, OthersKeepLaw}
 use Rattle.nr_requester.proofs.Accepting.{answers_as_client}
@@ -18,7 +19,7 @@ use Rattle.nr_requester.proofs.Accepting.{answers_as_client}
 pub submit_keeps_law : SubmitKeepsLaw
 submit_keeps_law opened link h run call form xid s answer numbers writable asked grant =
     let mark : Mark = marks.Submit link call form (submissions.Accepted xid) in
-    let kept = accepted_keeps opened link run call form xid (sym (answers_as_client opened link h run call form s) ∙ answer) s.keeps.kept.keeps.first.0 numbers asked writable in (
+    let kept = accepted_keeps opened link run call form xid (sym (answers_as_client opened link h run call form s) ∙ answer) (none_waits opened link run s.keeps.first.resumed) numbers asked writable in (
       AtEachMark_more (AskedMark IsPrefixOf opened link) [] run mark asked (λ same. kept.0),
       AtEachMark_more (WithinGrant opened link) [] run mark grant (λ same. kept.1),
     )

@@ -11,6 +11,7 @@ use Rattle.nr_reduce.specs.OfferedRegions.{Region, region_bytes, region_grants}
 use Rattle.nr_reduce.specs.ClientState.{ClientState, OutstandingCall, client_memory_at}
 use Rattle.nr_reduce.specs.Run.{client, placed_bytes, grants_of}
 use Rattle.nr_reduce.specs.EndRules.{EndState}
+use Rattle.nr_reduce.specs.KeptCalls.{numbered_calls}
 use Rattle.nr_requester.specs.Standing.{AnswersAfter, RequesterRepresents, RequesterRunsOut}
 use Rattle.nr_reduce.specs.Matched.{IsPrefixOf}
 use Rattle.nr_reduce.specs.Asked.{AskedMark, IsRevoked, revoked_bytes}
@@ -67,19 +68,19 @@ found_out P x o (p ∷ os) h there = by (eqb p.xid x) refl (λ e. found_out P x 
     by false own rest e = rest e
 
 -- the STags of a call that isn't revoked are those of its regions in the client's state
-stags_of_one : (k : ClientState) (next : ℕ) (d : KeptCall) → AllByRecursion (OffersPlan next k.regions) k.outstanding → IsWaiting k.outstanding d → is_some d.call ≡ true → d.stags ≡ call_stags d.xid k.regions
-stags_of_one k next d offers waits has = by (find (λ (o : OutstandingCall). eqb o.xid d.xid) k.outstanding) refl waits
+stags_of_one : (k : ClientState) (next : ℕ) (d : KeptCall) → AllByRecursion (OffersPlan next k.regions) (numbered_calls k) → IsWaiting (numbered_calls k) d → is_some d.call ≡ true → d.stags ≡ call_stags d.xid k.regions
+stags_of_one k next d offers waits has = by (find (λ (o : OutstandingCall). eqb o.xid d.xid) (numbered_calls k)) refl waits
   where
-    by : (x : Option OutstandingCall) → find (λ (o : OutstandingCall). eqb o.xid d.xid) k.outstanding ≡ x → HasRegionsOf d x → d.stags ≡ call_stags d.xid k.regions
+    by : (x : Option OutstandingCall) → find (λ (o : OutstandingCall). eqb o.xid d.xid) (numbered_calls k) ≡ x → HasRegionsOf d x → d.stags ≡ call_stags d.xid k.regions
     by None there h = absurd h
     by (Some o) there h =
-        let own = found_out (OffersPlan next k.regions) d.xid o k.outstanding offers there in
+        let own = found_out (OffersPlan next k.regions) d.xid o (numbered_calls k) offers there in
         h.stags
         ∙ ap (λ (b : Bool). stags_unless b (buffers o.stag o.plan)) (not_revoked d.call has)
         ∙ sym own.1.1
         ∙ ap (λ (x : ℕ). call_stags x k.regions) own.0
 
-stags_by_waits : (k : ClientState) (next sent xid : ℕ) (c : StoredCall) (cs : List StoredCall) → AllByRecursion (OffersPlan next k.regions) k.outstanding → AllByRecursion (IsWaiting k.outstanding) (map (kept_call sent) cs) →
+stags_by_waits : (k : ClientState) (next sent xid : ℕ) (c : StoredCall) (cs : List StoredCall) → AllByRecursion (OffersPlan next k.regions) (numbered_calls k) → AllByRecursion (IsWaiting (numbered_calls k)) (map (kept_call sent) cs) →
     find (λ d. eqb d.xid xid) cs ≡ Some c → is_some c.call ≡ true → stags_of c.claims ≡ call_stags xid k.regions
 stags_by_waits k next sent xid c [] offers waits there has = absurd (let wrong : None ≡ Some c = there in cc)
 stags_by_waits k next sent xid c (d ∷ cs) offers waits there has = by (eqb d.xid xid) refl (λ e. stags_by_waits k next sent xid c cs offers waits.1 e has) there
@@ -106,7 +107,7 @@ unfolding client
 offers_after opened link h run k = k.regions
 
 bytes_are_lem : (opened : LinkParameters) (link : ℕ) (h : RequesterSide) (run : List Mark) (xid : ℕ) (c : StoredCall) → HoldsPlaced opened link h run → CallsOffer (client opened link run).state.next_xid (client opened link run).state →
-    AllByRecursion (IsWaiting (client opened link run).state.outstanding) (map (kept_call h.state.sent) h.state.outstanding) →
+    AllByRecursion (IsWaiting (numbered_calls (client opened link run).state)) (map (kept_call h.state.sent) h.state.outstanding) →
     find (λ d. eqb d.xid xid) h.state.outstanding ≡ Some c → is_some c.call ≡ true → flat_map (λ s. bytes_under h.state.side.memory s) (stags_of c.claims) ≡ revoked_bytes opened link run xid
 bytes_are_lem opened link h run xid c holds offers waits there has =
     let k : ClientState = (client opened link run).state in
@@ -118,7 +119,7 @@ bytes_are_lem opened link h run xid c holds offers waits there has =
 
 -- the buffers of a call that is outstanding have these bytes
 buffers_are : (opened : LinkParameters) (link : ℕ) (h : RequesterSide) (run : List Mark) (xid : ℕ) → HoldsPlaced opened link h run → CallsOffer (client opened link run).state.next_xid (client opened link run).state →
-    AllByRecursion (IsWaiting (client opened link run).state.outstanding) (map (kept_call h.state.sent) h.state.outstanding) →
+    AllByRecursion (IsWaiting (numbered_calls (client opened link run).state)) (map (kept_call h.state.sent) h.state.outstanding) →
     IsOutstanding xid h.state → bytes_of_buffers (buffers_of xid h.state) ≡ revoked_bytes opened link run xid
 buffers_are opened link h run xid holds offers waits is =
     ap (λ (x : Option StoredCall). bytes_of_buffers (buffers_with h.state.side.memory x (find (λ (a : AnsweredCall). eqb a.xid xid) h.state.answered))) is.there

@@ -18,8 +18,9 @@ use Rattle.nr_reduce.specs.ClientState.{ClientState, client_memory_at}
 use Rattle.nr_reduce.specs.EndRules.{EndState}
 use Rattle.nr_reduce.specs.History.{bytes_received}
 use Rattle.nr_reduce.specs.Run.{client, placed_bytes, grants_of}
-use Rattle.nr_reduce.specs.Credits.{calls_outstanding, credits_granted}
+use Rattle.nr_reduce.specs.Credits.{credits_granted}
 use Rattle.nr_reduce.specs.KeptClient.{bytes_under, HoldsFor}
+use Rattle.nr_reduce.proofs.Numbered.{numbered_length}
 use Rattle.nr_requester.specs.RequesterState.{StoredCall, RequesterFeeding, feeding_of, stags_of, kept_call}
 use Rattle.nr_requester.specs.AfterPiece.{requester_ended, after_frame, after_piece}
 use Rattle.nr_requester.specs.Laws.{MemoryAsClient, MemoryOut, AgreesOut, CountsOut, RefusesOut, PieceStaysOut}
@@ -48,8 +49,8 @@ memory_out_lem opened link h stopped run out = stored_hold opened link stopped h
 -- ---- Of one that ran out of memory
 
 pub counts_out_lem : CountsOut
-unfolding calls_outstanding credits_granted
-counts_out_lem opened link h stopped run out = (out.out.keeps.outstanding, out.out.keeps.grant)
+unfolding credits_granted
+counts_out_lem opened link h stopped run out = (out.out.keeps.outstanding ∙ numbered_length (client opened link stopped).state, out.out.keeps.grant)
 
 pub agrees_out_lem : AgreesOut
 agrees_out_lem opened link h stopped run out = (

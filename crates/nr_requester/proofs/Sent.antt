@@ -47,6 +47,16 @@ unfolding after_register
 next_buffer m right true bytes = refl
 next_buffer m right false bytes = omega arith
 
+-- the STag after those of a plan
+pub registered_next : (m : RegisteredMemory) (p : Plan) → (registered_all m (buffers m.next p)).next ≡ m.next + regions_needed p
+unfolding regions_needed
+registered_next m p =
+    let a = next_buffer m Fetch (has_segment (Some p.read)) p.region in
+    let b = next_buffer (with_read m (offered_of p)) Fill (has_segment p.write) (replicate (total p.write) 0) in
+    let c = next_buffer (with_write_buffer m (offered_of p)) Fill (has_segment p.reply) (replicate (total p.reply) 0) in
+    let all : (with_offered m (offered_of p)).next ≡ m.next + (one_if (has_segment (Some p.read)) + one_if (has_segment p.write) + one_if (has_segment p.reply)) = omega (arith, a, b, c) in
+    ap (λ (x : RegisteredMemory). x.next) (registered_offered m m.next p) ∙ all
+
 count_one : (b : Bool) (bytes : List ℕ) → one_of (some_if b bytes) ≡ one_if b
 count_one true bytes = refl
 count_one false bytes = refl

@@ -35,6 +35,8 @@ pub record Delivers (s t : LinkState) : Type 0 where
   pub queue : t.send_queue ≡ s.send_queue
   pub hello : t.has_hello ≡ s.has_hello
   pub agreed : t.agreed ≡ s.agreed
+  pub terms : t.terms ≡ s.terms
+  pub earlier : t.earlier ≡ s.earlier
 
 pub record Leaves (s t : LinkState) : Type 0 where
   pub held : (c : Claim) → IsHeld s.memory c → IsHeld t.memory c
@@ -85,6 +87,8 @@ untagged_waits s f last opcode w queue msn offset payload quiet = by (message_co
       queue = none_asked (read_request_of segment) (no_request s.receive_queue.received last opcode w queue msn offset payload message e);
       hello = refl;
       agreed = refl;
+      terms = refl;
+      earlier = refl;
     })
 
 untagged_leaves : (s : LinkState) (f : Frame) (last : Bool) (opcode w queue msn offset : ℕ) (payload : List ℕ) → s.ended ≡ None → s.receive_queue.deliveries ≡ [] → s.reads ≡ [] → Leaves s (after_frame f (with_effect (Untagged last opcode w queue msn offset payload) s))

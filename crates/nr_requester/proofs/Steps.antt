@@ -119,6 +119,8 @@ message_told link0 link1 link2 sent wished sends next grant releases grant2 rele
               queue = ap (λ (x : LinkSide). x.state.send_queue) l;
               hello = ap (λ (x : LinkSide). x.state.has_hello) l;
               agreed = ap (λ (x : LinkSide). x.state.agreed) l;
+              terms = ap (λ (x : LinkSide). x.state.terms) l;
+              earlier = ap (λ (x : LinkSide). x.state.earlier) l;
               place = ap (λ (x : LinkSide). x.state.place) l;
               same = ap (λ (h : RequesterFeeding). h.state) same_calls;
             })
@@ -245,6 +247,8 @@ module _ (h : RequesterFeeding) (piece : List ℕ) (lives : h.state.side.ended �
           queue = out.queue ∙ d.queue;
           hello = out.hello ∙ d.hello;
           agreed = out.agreed ∙ d.agreed;
+          terms = out.terms ∙ d.terms;
+          earlier = out.earlier ∙ d.earlier;
           same = out.same;
         };
         whole = w.1;
@@ -282,6 +286,8 @@ module _ (h : RequesterFeeding) (piece : List ℕ) (lives : h.state.side.ended �
           queue = ap (λ (x : RequesterFeeding). x.state.side.send_queue) a;
           hello = ap (λ (x : RequesterFeeding). x.state.side.has_hello) a;
           agreed = ap (λ (x : RequesterFeeding). x.state.side.agreed) a;
+          terms = ap (λ (x : RequesterFeeding). x.state.side.terms) a;
+          earlier = ap (λ (x : RequesterFeeding). x.state.side.earlier) a;
           same = ap (λ (x : RequesterFeeding). x.state) is ∙ ap (λ (t : LinkState). record h.state { side = t }) (sym (ap (λ (x : RequesterFeeding). x.state.side) is));
         };
         whole = whole;

@@ -82,14 +82,14 @@ few_wait s (c ∷ cs) = elim (cases_lt c.send s) [
 
 -- ---- The queue
 
-pub counts_written : (n sends : ℕ) (q : SendQueue) (cs : List OutstandingCall) → AreRisingBy send_of cs sends → CountsFit sends q cs → CountsFit sends (written n q) cs
+pub counts_written : (n all sends : ℕ) (q : SendQueue) (cs : List OutstandingCall) → AreRisingBy send_of cs all → CountsFit sends q cs → CountsFit sends (written n q) cs
 unfolding written
-counts_written n sends q cs rising h =
+counts_written n all sends q cs rising h =
     let m : ℕ = n - length q.hello in
     let left : ℕ = length (ends_left m q.send_ends) in
     let passed : ℕ = ends_passed m q.send_ends in
     let fewer = ends_left_fewer m q.send_ends in
-    let more = more_gone q.sends_left sends passed cs rising in
+    let more = more_gone q.sends_left all passed cs rising in
     let later = fewer_gone (min (q.sends_left + passed) (2 ^ 64 - 1)) (q.sends_left + passed) cs (omega arith) in
     record {
       waiting = omega (arith, h.waiting, fewer, more, later);
@@ -104,12 +104,13 @@ unsent_append s (c ∷ cs) o le = elim (cases_lt c.send s) [
   | inr ge ↦ omega (arith, waits s c (cs ++ o ∷ []) ge, waits s c cs ge, unsent_append s cs o le)
 ]
 
-pub counts_sent : (sends end : ℕ) (q after : SendQueue) (cs : List OutstandingCall) (o : OutstandingCall) → after.sends_left ≡ q.sends_left → after.send_ends ≡ q.send_ends ++ end ∷ [] → o.send ≡ sends → CountsFit sends q cs →
+pub counts_sent : (sends end : ℕ) (q after : SendQueue) (cs : List OutstandingCall) (o : OutstandingCall) → after.sends_left ≡ q.sends_left → after.send_ends ≡ q.send_ends ++ end ∷ [] → after.held ≡ q.held → o.send ≡ sends → CountsFit sends q cs →
     CountsFit (sends + 1) after (cs ++ o ∷ [])
-counts_sent sends end q after cs o left ends number h =
+counts_sent sends end q after cs o left ends held number h =
     let one = unsent_append q.sends_left cs o (omega (arith, number, h.numbered)) in
     let count : length after.send_ends ≡ length q.send_ends + 1 = ap (λ (xs : List ℕ). length xs) ends ∙ length-append q.send_ends (end ∷ []) in
+    let same = ap (λ (messages : List (List ℕ)). length messages) held in
     record {
-      waiting = subst (λ (s : ℕ). length after.send_ends ≤ length (unsent s (cs ++ o ∷ []))) (sym left) (omega (arith, one, count, h.waiting));
+      waiting = subst (λ (s : ℕ). length after.send_ends + length after.held ≤ length (unsent s (cs ++ o ∷ []))) (sym left) (omega (arith, one, count, same, h.waiting));
       numbered = omega (arith, left, count, h.numbered);
     }

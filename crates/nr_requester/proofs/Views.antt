@@ -35,9 +35,9 @@ if_err (Err x) f h = f x h
 
 -- ---- As it is opened
 
-pub opened_stands : (h : RequesterSide) (first_xid first_stag wished : ℕ) (terms : SideTerms) → h ≡ opened_as first_xid first_stag wished terms h.staging → terms.number ≡ 0 → (opened : LinkParameters) (link : ℕ) → opened.first_xid ≡ first_xid → opened.first_stag ≡ first_stag → ClientOpened opened wished terms → RequesterRepresents opened link h []
-opened_stands h first_xid first_stag wished terms is number opened link xid stag with =
-    subst (λ (x : RequesterSide). RequesterRepresents opened link x []) ((λ i. opened_as (xid i) (stag i) (with.0 i) (with.1.0 i) h.staging) ∙ sym is) (begins opened link h.staging with.1.1 (ap (λ (t : SideTerms). t.number) with.1.0 ∙ number))
+pub opened_stands : (h : RequesterSide) (first_xid first_stag wished : ℕ) (terms : SideTerms) → h ≡ opened_as first_xid first_stag wished terms h.staging → (opened : LinkParameters) (link : ℕ) → opened.first_xid ≡ first_xid → opened.first_stag ≡ first_stag → ClientOpened opened wished terms → RequesterRepresents opened link h []
+opened_stands h first_xid first_stag wished terms is opened link xid stag with =
+    subst (λ (x : RequesterSide). RequesterRepresents opened link x []) ((λ i. opened_as (xid i) (stag i) (with.0 i) (with.1.0 i) h.staging) ∙ sym is) (begins opened link h.staging with.1.1)
 
 -- ---- After a drain
 

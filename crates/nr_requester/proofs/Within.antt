@@ -40,14 +40,14 @@ use Rattle.nr_requester.specs.declared.answer.AnsweredCall.{AnsweredCall}
 use Rattle.nr_requester.specs.declared.outstanding.OutstandingCall.{OutstandingCall}
 use Rattle.nr_requester.specs.AfterCalls.{submitted, sent_unless}
 use Rattle.nr_requester.specs.Sending.{IsPlan, offered_of}
-use Rattle.nr_requester.specs.HeldBytes.{NothingOutside, cred_bytes, call_bytes, stored_bytes, receive_max, call_max, QueueFits, LinkFits, region_size, IsCount, RegionsHave, send_of, CountsFit, in_bytes, claims_size, claims_len, claims_total, CallFits, PlanFits, RequesterBounds, reply_room, segments_offered, offered_segments_max}
+use Rattle.nr_requester.specs.HeldBytes.{NothingOutside, cred_bytes, call_bytes, stored_bytes, receive_max, call_max, FitsSend, QueueFits, LinkFits, region_size, IsCount, RegionsHave, AreRisingBy, send_of, CountsFit, in_bytes, claims_size, claims_len, claims_total, CallFits, PlanFits, RequesterBounds, reply_room, segments_offered, offered_segments_max}
 use Rattle.nr_endpoint.proofs.OutputSizes.{hello_len, written_hello}
 use Rattle.nr_endpoint.proofs.SendQueues.{ends_left_fewer}
 use Rattle.nr_requester.proofs.OutputBounds.{send_fits, written_fits}
 use Rattle.nr_requester.proofs.PlanBounds.{plan_bounds, plan_segments, plan_writes, payload_small}
 use Rattle.nr_requester.proofs.OutsideBounds.{opened_outside, same_outside}
 use Rattle.nr_requester.proofs.RegionBounds.{Both, bytes_count, offered_both, plan_short, plan_len}
-use Rattle.nr_requester.proofs.Sent.{count_offered, registered_offered}
+use Rattle.nr_requester.proofs.Sent.{count_offered, registered_offered, registered_next}
 use Rattle.nr_requester.proofs.HeldRegions.{rising_append}
 use Rattle.nr_requester.proofs.Unsent.{counts_written, counts_sent}
 
@@ -73,10 +73,14 @@ first_regions size first_stag fits = (
 receive_small : (terms : SideTerms) → receive_length_for terms ≤ receive_max
 receive_small terms = omega (arith, min-le_right (max terms.units 1) UNITS_MAX)
 
-first_link : (size : ℕ → ℕ) (first_stag : ℕ) (terms : SideTerms) → first_stag ≤ 2 ^ 32 →
+first_next : (first_stag : ℕ) → (initial_memory first_stag).next ≡ first_stag
+unfolding initial_memory
+first_next first_stag = refl
+
+first_link : (size : ℕ → ℕ) (first_stag : ℕ) (terms : SideTerms) → 0 < first_stag → first_stag ≤ 2 ^ 32 →
     LinkFits (receive_length_for terms) (initial_link Initiator 1 first_stag terms).state × RegionsHave size (initial_link Initiator 1 first_stag terms).state.memory 0
 unfolding initial_link
-first_link size first_stag terms fits =
+first_link size first_stag terms some fits =
     let b = first_regions size first_stag fits in (
       record {
         side = refl;
@@ -88,6 +92,8 @@ first_link size first_stag terms fits =
         hello = hello_len Initiator (initiator_private terms) (initiator_short terms);
         queue = λ n. omega arith;
         responses = omega arith;
+        messages = tt;
+        stag = (let same = first_next first_stag in omega (arith, same, some));
         regions = b.0;
       },
       b.1,
@@ -97,17 +103,21 @@ first_counts : (first_stag : ℕ) (terms : SideTerms) → CountsFit 0 (initial_l
 unfolding initial_link
 first_counts first_stag terms = record { waiting = omega arith; numbered = omega arith }
 
+none_held_first : (first_stag next : ℕ) (terms : SideTerms) → 0 + length (initial_link Initiator 1 first_stag terms).state.send_queue.held ≤ next
+unfolding initial_link
+none_held_first first_stag next terms = omega arith
+
 pub opened_within : (e : EndpointState) (len first_stag next : ℕ) (terms : SideTerms) (calls : List OutstandingCall) (answers : List AnsweredCall) → length e.staging ≡ FPDU_MAX → e.outside ≡ empty → e.link ≡ initial_link Initiator 1 first_stag terms → len ≡ receive_length_for terms →
-    first_stag < 2 ^ 32 → calls ≡ [] → answers ≡ [] → RequesterBounds len e 0 next calls answers
-opened_within e len first_stag next terms calls answers staging nothing is receives fits none empty =
+    0 < first_stag → first_stag < 2 ^ 32 → calls ≡ [] → answers ≡ [] → RequesterBounds len e 0 next calls answers
+opened_within e len first_stag next terms calls answers staging nothing is receives some fits none empty =
     let le : first_stag ≤ 2 ^ 32 = omega (arith, fits) in
     let all : RequesterBounds (receive_length_for terms) e 0 next [] [] = record {
       staging = staging;
       outside = opened_outside e first_stag terms is nothing (omega (arith, fits));
       numbers = tt;
-      order = omega arith;
-      link = subst (λ (x : LinkSide). LinkFits (receive_length_for terms) x.state) (sym is) (first_link in_bytes first_stag terms le).0;
-      regions = λ size counts. subst (λ (x : LinkSide). RegionsHave size x.state.memory 0) (sym is) (first_link size first_stag terms le).1;
+      order = subst (λ (x : LinkSide). 0 + length x.state.send_queue.held ≤ next) (sym is) (none_held_first first_stag next terms);
+      link = subst (λ (x : LinkSide). LinkFits (receive_length_for terms) x.state) (sym is) (first_link in_bytes first_stag terms some le).0;
+      regions = λ size counts. subst (λ (x : LinkSide). RegionsHave size x.state.memory 0) (sym is) (first_link size first_stag terms some le).1;
       counts = subst (λ (x : LinkSide). CountsFit 0 x.state.send_queue []) (sym is) (first_counts first_stag terms);
       each = tt;
       kept = tt;
@@ -151,6 +161,8 @@ sent_state size counts s plan len xid credit total i lives stags l have =
         hello = l.hello;
         queue = subst (λ (b : Bool). QueueFits b (with_send message s.send_queue)) (sym live) (send_fits s.send_queue message small (subst (λ (b : Bool). QueueFits b s.send_queue) live l.queue));
         responses = l.responses;
+        messages = l.messages;
+        stag = (let same = registered_next s.memory plan in let some = l.stag in omega (arith, same, some));
         regions = after.0;
       },
       after.1,
@@ -160,9 +172,9 @@ sum_sent : (size : ℕ → ℕ) (calls : List OutstandingCall) (o : OutstandingC
 sum_sent size calls o claims is = omega (arith, ap (λ (c : Claims). claims_size size c) is, total_append size calls o)
 
 pub sent_within : (e e2 : EndpointState) (len sends next xid credit : ℕ) (calls calls2 : List OutstandingCall) (answers answers2 : List AnsweredCall) (o : OutstandingCall) (plan : Plan) → RequesterBounds len e sends next calls answers → e2.staging ≡ e.staging → (NothingOutside e → NothingOutside e2) →
-    e2.link ≡ with_state (submitted e.link.state (call_message xid credit e.link.state.memory.next plan) (buffers e.link.state.memory.next plan)) e.link → IsPlan plan → e.link.state.ended ≡ None →
+    e2.link ≡ with_state (submitted e.link.state (call_message xid credit e.link.state.memory.next plan) (buffers e.link.state.memory.next plan)) e.link → IsPlan plan → e.link.state.ended ≡ None → length e.link.state.send_queue.held ≡ 0 →
     e.link.state.memory.next + regions_needed plan ≤ 2 ^ 32 → o.claims ≡ claims_of e.link.state.memory (offered_of plan) → o.offered ≡ lists_of e.link.state.memory.next plan → stored_bytes o.call ≤ call_max → o.room.bytes ≡ [] → o.room.len ≡ reply_room len o.offered → o.room.len ≤ len + (total plan.write + (total plan.reply + 3)) → o.send ≡ sends → calls2 ≡ calls ++ o ∷ [] → answers2 ≡ answers → RequesterBounds len e2 (sends + 1) (next + 1) calls2 answers2
-sent_within e e2 len sends next xid credit calls calls2 answers answers2 o plan w same none link_is i lives stags claims lists small empty offered room number more kept =
+sent_within e e2 len sends next xid credit calls calls2 answers answers2 o plan w same none link_is i lives unheld stags claims lists small empty offered room number more kept =
     let s : LinkState = e.link.state in
     let after : LinkState = submitted s (call_message xid credit s.memory.next plan) (buffers s.memory.next plan) in
     let state : e2.link.state ≡ after = ap (λ (l : LinkSide). l.state) link_is in
@@ -172,15 +184,17 @@ sent_within e e2 len sends next xid credit calls calls2 answers answers2 o plan 
     let sum : (size : ℕ → ℕ) → claims_total size calls + claims_size size (claims_of s.memory (offered_of plan)) ≡ claims_total size (calls ++ o ∷ []) = λ size. sum_sent size calls o _ claims in
     let fits : PlanFits plan = plan_bounds i.payload i.form i.up i.down plan i.is in
     let short = plan_len s.memory plan fits in
+    let alone : sends + length s.send_queue.held ≡ sends = omega (arith, unheld) in
     let all : RequesterBounds len e2 (sends + 1) (next + 1) (calls ++ o ∷ []) answers = record {
       staging = ap (λ (xs : List ℕ). length xs) same ∙ w.staging;
       outside = none w.outside;
-      numbers = rising_append send_of calls o sends w.numbers number;
-      order = omega (arith, w.order);
+      numbers = subst (λ (x : LinkState). AreRisingBy send_of (calls ++ o ∷ []) (sends + 1 + length x.send_queue.held)) (sym state)
+          (subst (λ (n : ℕ). AreRisingBy send_of (calls ++ o ∷ []) (sends + 1 + n)) (sym unheld) (subst (λ (n : ℕ). AreRisingBy send_of (calls ++ o ∷ []) n) (omega arith) (rising_append send_of calls o sends (subst (λ (n : ℕ). AreRisingBy send_of calls n) alone w.numbers) number)));
+      order = (let count = ap (λ (x : LinkState). length x.send_queue.held) state in omega (arith, w.order, unheld, count));
       link = subst (λ (x : LinkState). LinkFits len x) (sym state) (sent in_bytes bytes_count).0;
       regions = λ size is. subst (λ (x : LinkState). RegionsHave size x.memory (claims_total size (calls ++ o ∷ []))) (sym state) (subst (λ (n : ℕ). RegionsHave size after.memory n) (sum size) (sent size is).1);
       counts = subst (λ (x : LinkState). CountsFit (sends + 1) x.send_queue (calls ++ o ∷ [])) (sym state)
-          (counts_sent sends _ s.send_queue after.send_queue calls o refl refl number w.counts);
+          (counts_sent sends _ s.send_queue after.send_queue calls o refl refl refl number w.counts);
       each = all_append (CallFits len) calls o w.each (record { call = small; offer = omega (arith, own, short); segments = subst (λ (l : ChunkLists). segments_offered l ≤ offered_segments_max) (sym lists) (plan_segments i.payload i.form i.up i.down s.memory.next plan i.short i.is); writes = subst (λ (l : ChunkLists). length l.write ≤ 1) (sym lists) (plan_writes s.memory.next plan); written = (let none : length o.room.bytes ≡ 0 = ap (λ (xs : List ℕ). length xs) empty in omega (arith, none)); room = offered; short = (let back = fits.back in omega (arith, room, back, w.link.receive)) });
       kept = w.kept;
       distinct = w.distinct;
@@ -208,6 +222,14 @@ written_responses : (n : ℕ) (q : SendQueue) → length q.response_ends ≤ ope
 unfolding written
 written_responses n q h = omega (arith, h, ends_left_fewer (n - length q.hello) q.response_ends)
 
+written_messages : (n : ℕ) (q : SendQueue) → AllByRecursion FitsSend q.held → AllByRecursion FitsSend (written n q).held
+unfolding written
+written_messages n q h = h
+
+written_held : (n : ℕ) (q : SendQueue) → (written n q).held ≡ q.held
+unfolding written
+written_held n q = refl
+
 drained_link : (len : ℕ) (s : LinkState) (n : ℕ) → LinkFits len s → LinkFits len (record s { send_queue = written n s.send_queue })
 drained_link len s n l = record {
   side = l.side;
@@ -219,6 +241,8 @@ drained_link len s n l = record {
   hello = omega (arith, l.hello, written_hello n s.send_queue);
   queue = written_fits (has_ended s) n s.send_queue l.queue;
   responses = written_responses n s.send_queue l.responses;
+  messages = written_messages n s.send_queue l.messages;
+  stag = l.stag;
   regions = l.regions;
 }
 
@@ -234,18 +258,18 @@ drained_within e e2 len sends next n calls answers w same out is =
     record {
       staging = ap (λ (xs : List ℕ). length xs) same ∙ w.staging;
       outside = same_outside e e2 (ap (λ (x : LinkState). x.memory.next) state) out w.outside;
-      numbers = w.numbers;
-      order = w.order;
+      numbers = subst (λ (x : LinkState). AreRisingBy send_of calls (sends + length x.send_queue.held)) (sym state) (subst (λ (messages : List (List ℕ)). AreRisingBy send_of calls (sends + length messages)) (sym (written_held n s.send_queue)) w.numbers);
+      order = (let count = ap (λ (x : LinkState). length x.send_queue.held) state in let same = ap (λ (messages : List (List ℕ)). length messages) (written_held n s.send_queue) in omega (arith, w.order, count, same));
       link = subst (λ (x : LinkState). LinkFits len x) (sym state) (drained_link len s n w.link);
       regions = λ size is. subst (λ (x : LinkState). RegionsHave size x.memory (claims_total size calls)) (sym state) (w.regions size is);
-      counts = subst (λ (x : LinkState). CountsFit sends x.send_queue calls) (sym state) (counts_written n sends s.send_queue calls w.numbers w.counts);
+      counts = subst (λ (x : LinkState). CountsFit sends x.send_queue calls) (sym state) (counts_written n (sends + length s.send_queue.held) sends s.send_queue calls w.numbers w.counts);
       each = w.each;
       kept = w.kept;
       distinct = w.distinct;
     }
 
 -- the number of Sends that it knows to have left
-pub few_left : (l : LinkSide) (sends next : ℕ) (calls : List OutstandingCall) → sends ≤ next → CountsFit sends l.state.send_queue calls → next ≤ 2 ^ 32 → l.state.send_queue.sends_left ≤ 2 ^ 32
+pub few_left : (l : LinkSide) (sends next : ℕ) (calls : List OutstandingCall) → sends + length l.state.send_queue.held ≤ next → CountsFit sends l.state.send_queue calls → next ≤ 2 ^ 32 → l.state.send_queue.sends_left ≤ 2 ^ 32
 few_left l sends next calls order counts le = (let number = counts.numbered in omega (arith, order, number, le))
 
 written_left : (n : ℕ) (q : SendQueue) → q.sends_left ≤ 2 ^ 32 → q.sends_left ≤ (written n q).sends_left

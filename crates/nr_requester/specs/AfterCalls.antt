@@ -19,11 +19,15 @@ use Rattle.nr_requester.specs.RequesterState.{stags_of, StoredCall, RequesterSid
 use Rattle.nr_requester.specs.CountedMarks.{has_bytes, one_mark_more, marks_if, with_releases}
 use Rattle.nr_requester.specs.Sending.{offered_of}
 
+-- the terms of a client with a number
+abbrev pub numbered_terms : (number units : ℕ) → (invalidates : Bool) → SideTerms
+numbered_terms number units invalidates = record { units = units; number = number; invalidates = invalidates }
+
 unfoldable pub opened_as : (first_xid first_stag wished : ℕ) → SideTerms → (staging : List ℕ) → RequesterSide
 opened_as first_xid first_stag wished terms staging = record {
   awaited = HelloFrom Responder;
   rest = [];
-  state = record { side = initial_state Initiator 1 first_stag terms; sent = 0; wished = wished; sends = 0; next_xid = first_xid; grant = 1; outstanding = []; answered = []; local_releases = 0 };
+  state = record { side = initial_state Initiator 1 first_stag terms None; sent = 0; wished = wished; sends = 0; next_xid = first_xid; grant = 1; outstanding = []; answered = []; local_releases = 0 };
   staging = staging;
   marks = 0;
 }
@@ -44,6 +48,7 @@ stored_call xid send call plan m = record {
   send = send;
   call = Some call;
   is_forgotten = false;
+  read_at = plan.read_at;
   offered = lists_of m.next plan;
   given = map (λ b. b.stag) (buffers m.next plan);
   claims = claims_of m (offered_of plan);
@@ -87,7 +92,7 @@ no_claims = record { read = None; write = None; reply = None }
 
 -- the memory of a call is revoked: its regions are released, and the call is handed back
 abbrev pub revoked_if : Bool → StoredCall → StoredCall
-revoked_if true c = record { xid = c.xid; send = c.send; call = None; is_forgotten = c.is_forgotten; offered = c.offered; given = c.given; claims = no_claims }
+revoked_if true c = record { xid = c.xid; send = c.send; call = None; is_forgotten = c.is_forgotten; read_at = c.read_at; offered = c.offered; given = c.given; claims = no_claims }
 revoked_if false c = c
 
 abbrev pub revoked_call : ℕ → StoredCall → StoredCall
@@ -118,7 +123,7 @@ after_revoke h xid = record h {
 
 -- the outcome of a call is handed over, or given up: then the call's regions stay until its message comes
 abbrev pub forgotten_if : Bool → StoredCall → StoredCall
-forgotten_if true c = record { xid = c.xid; send = c.send; call = c.call; is_forgotten = true; offered = c.offered; given = c.given; claims = c.claims }
+forgotten_if true c = record { xid = c.xid; send = c.send; call = c.call; is_forgotten = true; read_at = c.read_at; offered = c.offered; given = c.given; claims = c.claims }
 forgotten_if false c = c
 
 abbrev pub forgotten_call : ℕ → StoredCall → StoredCall

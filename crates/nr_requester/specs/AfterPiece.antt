@@ -123,4 +123,6 @@ pub record RanOut (before after : RequesterFeeding) : Type 0 where
   pub queue : after.state.side.send_queue ≡ before.state.side.send_queue
   pub hello : after.state.side.has_hello ≡ before.state.side.has_hello
   pub agreed : after.state.side.agreed ≡ before.state.side.agreed
+  pub terms : after.state.side.terms ≡ before.state.side.terms
+  pub earlier : after.state.side.earlier ≡ before.state.side.earlier
   pub same : after.state ≡ record before.state { side = after.state.side }

@@ -1,5 +1,5 @@
 -- What a requester answers to a call that it is given, by what it keeps.
-use Rattle.std.specs.Prelude.{◌≡◌, ℕ, ◌-◌, ◌^◌, ◌<◌, nat_le, if◌then◌else◌, length, Option, None, Some, Result, Ok, Err}
+use Rattle.std.specs.Prelude.{◌≡◌, ℕ, ◌-◌, ◌^◌, ◌<◌, if◌then◌else◌, length, Option, None, Some, Result, Ok, Err}
 use Rattle.nr_link.specs.declared.end.End.{End}
 use Rattle.nr_reduce.specs.declared.call.Call.{Call}
 use Rattle.nr_reduce.specs.declared.call.Form.{Form}
@@ -10,8 +10,9 @@ use Rattle.nr_reduce.specs.declared.outline.Plan.{Plan}
 use Rattle.nr_reduce.specs.Limits.{numbers_end}
 use Rattle.nr_reduce.specs.Plans.{TooLarge, regions_needed, plan_of}
 use Rattle.nr_reduce.specs.ClientState.{call_payload}
-use Rattle.nr_reduce.specs.SubmitAnswer.{unless_spent}
+use Rattle.nr_reduce.specs.SubmitAnswer.{unless_spent, unless_far_by}
 use Rattle.nr_requester.specs.RequesterState.{RequesterState, RequesterSide}
+use Rattle.nr_requester.specs.Sending.{has_credit, least_stored}
 use Rattle.nr_requester.specs.AfterCalls.{after_submit}
 
 -- the plan of a call under the next xid, by what is agreed
@@ -21,15 +22,18 @@ plan_under r call form = plan_of (call_payload r.next_xid call) form r.side.agre
 abbrev pub answer_by_plan : RequesterState → Result Plan TooLarge → Submission
 answer_by_plan r (Err large) = submissions.Refused (refusals.TooLarge large.need large.room)
 answer_by_plan r (Ok plan) =
-    if nat_le r.grant (length r.outstanding) then submissions.Refused (refusals.NoCredit (length r.outstanding) r.grant)
-    else unless_spent (numbers_end - r.next_xid) 1
-    (unless_spent (numbers_end - r.side.memory.next) (regions_needed plan) (submissions.Accepted r.next_xid))
+    if has_credit r then
+    unless_far_by r.side.terms.number r.next_xid (least_stored r.outstanding)
+    (unless_spent (numbers_end - r.next_xid) 1
+    (unless_spent (numbers_end - r.side.memory.next) (regions_needed plan) (submissions.Accepted r.next_xid)))
+    else submissions.Refused (refusals.NoCredit (length r.outstanding) r.grant)
 
 abbrev pub answer_if : RequesterState → Call → Form → Option End → Submission
 answer_if r call form (Some end) = submissions.Refused (refusals.Ended end)
 answer_if r call form None = answer_by_plan r (plan_under r call form)
 
--- refused as ended, too large, without credit, or without numbers, in this order; else accepted under the next xid
+-- Refused as ended, too large, without credit, above the window of a client with a number, or without numbers, in this order; else accepted under
+-- the next xid.
 unfoldable pub answer_of : RequesterState → Call → Form → Submission
 answer_of r call form = answer_if r call form r.side.ended
 

@@ -50,9 +50,9 @@ abbrev pub segments_offered : ChunkLists → ℕ
 segments_offered lists = length lists.read + (sum_by (λ chunk. length chunk) lists.write + reply_segments lists.reply)
 
 -- The size of an item of each list, in bytes: of a call that is outstanding, of one that was answered, of a segment of a read list, of a write chunk, of a
--- segment of that or of a reply chunk, and of the end of a Send.
+-- segment of that or of a reply chunk, of the end of a Send, and of a message that is held back.
 abbrev pub call_size : ℕ
-call_size = 392
+call_size = 400
 
 abbrev pub answer_size : ℕ
 answer_size = 288
@@ -68,6 +68,9 @@ segment_size = 16
 
 abbrev pub end_size : ℕ
 end_size = 8
+
+abbrev pub message_size : ℕ
+message_size = 24
 
 -- the bytes of the chunk lists that a call offered
 abbrev pub offer_held : ChunkLists → ℕ
@@ -109,12 +112,12 @@ abbrev pub rooms_bytes : (receive_length : ℕ) → List StoredCall → ℕ
 rooms_bytes receive_length [] = 0
 rooms_bytes receive_length (c ∷ calls) = reply_room receive_length c.offered + rooms_bytes receive_length calls
 
--- The bytes of the staging buffer, the receives, the regions and the output, and those of the calls, of the rooms of their replies, of the ends of Sends
--- that wait, and of the answers.
+-- The bytes of the staging buffer, the receives, the regions and the output, the messages that are held back among it; and those of the calls, of the rooms
+-- of their replies, of the ends of Sends that wait, of the items of messages that are held back, and of the answers.
 unfoldable pub bytes_held_by : RequesterState → ℕ
 bytes_held_by r =
     FPDU_MAX + bytes_of r.side + calls_bytes r.outstanding + rooms_bytes r.side.receive_queue.receive_length r.outstanding + end_size * length r.side.send_queue.send_ends
-    + answers_bytes r.answered
+    + message_size * length r.side.send_queue.held + answers_bytes r.answered
 
 -- ---- Bounds
 
@@ -166,6 +169,10 @@ last_max false = 0
 abbrev pub QueueFits : Bool → SendQueue → Type 0
 QueueFits ended q = QueueWithin send_frames_max response_max (last_max ended) 0 q
 
+-- a message that is held back is no longer than a Send may be
+abbrev pub FitsSend : List ℕ → Type 0
+FitsSend message = length message ≤ receive_max
+
 -- no region is longer than it may be
 abbrev pub RegionsFit : RegisteredMemory → Type 0
 RegionsFit m = (stag : ℕ) (region : Region) → held_region m stag ≡ Some region → length region.buf ≤ region_max
@@ -181,6 +188,8 @@ pub record LinkFits (len : ℕ) (s : LinkState) : Type 0 where
   pub hello : length s.send_queue.hello ≤ hello_max
   pub queue : QueueFits (has_ended s) s.send_queue
   pub responses : length s.send_queue.response_ends ≤ open_reads_max
+  pub messages : AllByRecursion FitsSend s.send_queue.held
+  pub stag : 0 < s.memory.next
   pub regions : RegionsFit s.memory
 
 -- What is counted of a region goes by its length: its bytes, or one for each region.
@@ -213,9 +222,9 @@ send_of c = c.send
 abbrev pub unsent : (sent : ℕ) → List OutstandingCall → List OutstandingCall
 unsent sent calls = filter (λ c. not (nat_lt c.send sent)) calls
 
--- a Send that waits is that of an outstanding call, and has a number
+-- a Send that waits in the queue, or is held back, is that of an outstanding call; and one in the queue has a number
 pub record CountsFit (sends : ℕ) (q : SendQueue) (calls : List OutstandingCall) : Type 0 where
-  pub waiting : length q.send_ends ≤ length (unsent q.sends_left calls)
+  pub waiting : length q.send_ends + length q.held ≤ length (unsent q.sends_left calls)
   pub numbered : q.sends_left + length q.send_ends ≤ sends
 
 -- what is counted of the regions of a call, and of all calls
@@ -272,13 +281,13 @@ AreDistinct [] = Unit {0}
 AreDistinct (a ∷ answers) = AllByRecursion (λ (b : AnsweredCall). b.xid ≢ a.xid) answers × AreDistinct answers
 
 -- What holds of each requester beside `RequesterInvariant`: the size of its staging buffer, and the bounds of its side of the link, of its calls and
--- its answers; its regions are those of its calls, in bytes and in number; a Send that waits is that of an outstanding call, and no more Sends have a number than
--- xids were given.
+-- its answers; its regions are those of its calls, in bytes and in number; a Send that waits is that of an outstanding call, and no more Sends have a number or
+-- are held back than xids were given.
 pub record RequesterBounds (len : ℕ) (e : EndpointState) (sends next : ℕ) (calls : List OutstandingCall) (answers : List AnsweredCall) : Type 0 where
   pub staging : length e.staging ≡ FPDU_MAX
   pub outside : NothingOutside e
-  pub numbers : AreRisingBy send_of calls sends
-  pub order : sends ≤ next
+  pub numbers : AreRisingBy send_of calls (sends + length e.link.state.send_queue.held)
+  pub order : sends + length e.link.state.send_queue.held ≤ next
   pub link : LinkFits len e.link.state
   pub regions : (size : ℕ → ℕ) → IsCount size → RegionsHave size e.link.state.memory (claims_total size calls)
   pub counts : CountsFit sends e.link.state.send_queue calls

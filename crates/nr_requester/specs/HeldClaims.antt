@@ -4,8 +4,13 @@ use Rattle.nr_header.specs.declared.header.RdmaSegment.{RdmaSegment}
 use Rattle.nr_header.specs.declared.header.ChunkLists.{ChunkLists}
 use Rattle.nr_regions.specs.RegisteredMemory.{RegisteredMemory, Claim, IsHeld, AreHeldFrom}
 use Rattle.nr_endpoint.specs.declared.offering.Claims.{Claims}
+use Rattle.nr_rpc.specs.Credential.{CanWriteCred}
+use Rattle.nr_reduce.specs.declared.call.Call.{Call}
 use Rattle.nr_reduce.specs.Plans.{segments_from}
+use Rattle.nr_reduce.specs.PlansByLists.{plan_by_lists}
+use Rattle.nr_reduce.specs.ClientState.{call_payload}
 use Rattle.nr_requester.specs.declared.outstanding.OutstandingCall.{OutstandingCall}
+use Rattle.nr_requester.specs.Sending.{IsPlan}
 
 abbrev pub claim_list : Option Claim → List Claim
 claim_list None = []
@@ -37,9 +42,15 @@ pub record IsOfferOf (claims : Claims) (offered : ChunkLists) : Type 0 where
   pub write : IsWriteOf claims.write offered.write
   pub reply : IsReplyOf claims.reply offered.reply
 
+-- The same of a call, which can be sent again: its credential can be written, and what is made again of its lists is a plan of it.
+pub record IsOwnOffer (xid : ℕ) (read_at : Option ℕ) (offered : ChunkLists) (claims : Claims) (call : Call) : Type 0 where
+  pub offer : IsOfferOf claims offered
+  pub cred : CanWriteCred call.cred
+  pub plan : IsPlan (plan_by_lists (call_payload xid call) read_at offered)
+
 -- so it is of a call that isn't revoked
 abbrev pub OffersOwn : OutstandingCall → Type 0
-OffersOwn c = IfSome c.call (λ call. IsOfferOf c.claims c.offered)
+OffersOwn c = IfSome c.call (IsOwnOffer c.xid c.read_at c.offered c.claims)
 
 -- Registered one after the other: what was held before still is, and these are held under the next STags.
 pub record SentHeld (before after : RegisteredMemory) (claims : Claims) : Type 0 where

@@ -63,7 +63,7 @@ abbrev pub by_stream : ℕ → Call → List ℕ → Option (List ℕ) → Reply
 by_stream xid call stream moved = reply_by_payload xid (whole (OfReply call.prog call.vers call.proc) stream moved)
 
 abbrev pub with_room : OutstandingCall → PayloadRoom → OutstandingCall
-with_room c room = record { xid = c.xid; send = c.send; call = c.call; is_forgotten = c.is_forgotten; offered = c.offered; given = c.given; claims = c.claims; room = room }
+with_room c room = record { xid = c.xid; send = c.send; call = c.call; is_forgotten = c.is_forgotten; read_at = c.read_at; offered = c.offered; given = c.given; claims = c.claims; room = room }
 
 -- only the bytes in its room change
 abbrev pub SameCall : (before after : OutstandingCall) → Type 0

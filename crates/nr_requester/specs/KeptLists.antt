@@ -26,7 +26,7 @@ OffersOneWrite c = is_some c.call ≡ true → length c.offered.write ≤ 1
 -- The outstanding calls are at most the credits that can be granted. A call has at most three regions, and no region is registered but those
 -- of the calls, also of no bytes. The lists that a call offered have at most one write chunk, until the call is revoked, and no more
 -- segments than a Send of the largest length that can be agreed on has room for. Each answer that wasn't handed over is that of an open
--- ticket, no two have one xid, and they are at most the next xid. The Sends that wait are of outstanding calls. At most eight Read
+-- ticket, no two have one xid, and they are at most the next xid. The Sends that wait, or are held back, are of outstanding calls. At most eight Read
 -- Responses wait. There is one receive, no message waits in it, and no Read Request is open.
 pub record ListsFit (r : RequesterState) : Type 0 where
   pub outstanding : length r.outstanding ≤ credits_max
@@ -37,7 +37,7 @@ pub record ListsFit (r : RequesterState) : Type 0 where
   pub answers : length r.answered ≤ r.next_xid
   pub distinct : AreDistinct r.answered
   pub tickets : AllByRecursion (λ (a : AnsweredCall). open_call a.xid r ≡ Some a.call) r.answered
-  pub sends : length r.side.send_queue.send_ends ≤ length r.outstanding
+  pub sends : length r.side.send_queue.send_ends + length r.side.send_queue.held ≤ length r.outstanding
   pub responses : length r.side.send_queue.response_ends ≤ open_reads_max
   pub receives : r.side.receive_queue.receives ≡ 1
   pub events : r.side.receive_queue.deliveries ≡ []

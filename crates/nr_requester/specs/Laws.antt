@@ -23,8 +23,8 @@ use Rattle.nr_reduce.specs.OutcomesDue.{outcomes_due}
 use Rattle.nr_reduce.specs.Run.{client, output_due, placed_bytes}
 use Rattle.nr_reduce.specs.Opening.{IsOpened, IsFirstLink}
 use Rattle.nr_reduce.specs.Asked.{AskedSoFar, IsAll, IsAwaited, revoked_bytes}
-use Rattle.nr_reduce.specs.SubmitAnswer.{submit_answer}
-use Rattle.nr_reduce.specs.Credits.{calls_outstanding, credits_granted, KeepsGrant}
+use Rattle.nr_reduce.specs.SubmitAnswer.{calls_counted, submit_answer}
+use Rattle.nr_reduce.specs.Credits.{credits_granted, KeepsGrant}
 use Rattle.nr_reduce.specs.KeptClient.{bytes_under}
 use Rattle.nr_requester.specs.RequesterState.{StoredCall, RequesterSide, feeding_of, stags_of, queue_of}
 use Rattle.nr_requester.specs.Standing.{RequesterRepresents, RequesterRunsOut, StandsOn, StaysOut}
@@ -38,17 +38,17 @@ use Rattle.nr_requester.specs.Buffers.{bytes_of_buffers}
 use Rattle.nr_requester.specs.OpenCalls.{open_call, remaining_call, found_answer, buffers_of}
 
 abbrev pub Begins : Type 0
-Begins = (opened : LinkParameters) (link : ℕ) (staging : List ℕ) → IsFirstLink opened → opened.client.number ≡ 0 → RequesterRepresents opened link (opened_as opened.first_xid opened.first_stag opened.wished opened.client staging) []
+Begins = (opened : LinkParameters) (link : ℕ) (staging : List ℕ) → IsFirstLink opened → RequesterRepresents opened link (opened_as opened.first_xid opened.first_stag opened.wished opened.client staging) []
 
 -- It answers a call as its client does.
 abbrev pub AnswersAsClient : Type 0
 AnswersAsClient = (opened : LinkParameters) (link : ℕ) (h : RequesterSide) (run : List Mark) (call : Call) (form : Form) → RequesterRepresents opened link h run →
     answer_of h.state call form ≡ submit_answer (client opened link run) call form
 
--- It knows how many calls are outstanding, and the credits that are granted, also after an End.
+-- It knows how many calls are outstanding or wait to be sent again, and the credits that are granted, also after an End.
 abbrev pub CountsAsClient : Type 0
 CountsAsClient = (opened : LinkParameters) (link : ℕ) (h : RequesterSide) (run : List Mark) → RequesterRepresents opened link h run →
-    (length h.state.outstanding ≡ calls_outstanding opened link run) × (h.state.grant ≡ credits_granted opened link run)
+    (length h.state.outstanding ≡ calls_counted (client opened link run).state) × (h.state.grant ≡ credits_granted opened link run)
 
 -- It knows how long a Send may be in each direction, and whether its calls' replies may be Sends with Invalidate, also after an End.
 abbrev pub AgreesAsClient : Type 0
@@ -164,7 +164,7 @@ MemoryOut = (opened : LinkParameters) (link : ℕ) (h : RequesterSide) (stopped 
 
 abbrev pub CountsOut : Type 0
 CountsOut = (opened : LinkParameters) (link : ℕ) (h : RequesterSide) (stopped run : List Mark) → RequesterRunsOut opened link h stopped run →
-    (length h.state.outstanding ≡ calls_outstanding opened link stopped) × (h.state.grant ≡ credits_granted opened link stopped)
+    (length h.state.outstanding ≡ calls_counted (client opened link stopped).state) × (h.state.grant ≡ credits_granted opened link stopped)
 
 abbrev pub AgreesOut : Type 0
 AgreesOut = (opened : LinkParameters) (link : ℕ) (h : RequesterSide) (stopped run : List Mark) → RequesterRunsOut opened link h stopped run →

@@ -7,6 +7,7 @@ pub mod AfterCalls
 pub mod AfterPiece
 pub mod Answers
 pub mod Sending
+pub mod MaySubmit
 pub mod HeldClaims
 pub mod Buffers
 pub mod OpenCalls
@@ -18,3 +19,7 @@ pub mod KeptLists
 pub mod Takes
 pub mod Judged
 pub mod Fed
+pub mod Reopening
+pub mod ReopenedLinks
+pub mod Resends
+pub mod private

@@ -23,13 +23,14 @@ abbrev pub stags_of : Claims → List ℕ
 stags_of c = stag_of c.read ++ (stag_of c.write ++ stag_of c.reply)
 
 -- A call that is outstanding: the number of its Send on the link, from 0 on in the order in which Sends are queued; the call, until its memory is
--- revoked; whether its owner gave up the answer; the lists that its reply has to repeat; the STags that it was given; its regions, and none once they
--- are released.
+-- revoked; whether its owner gave up the answer; the position of its read chunk, if it has one; the lists that its reply has to repeat; the STags that
+-- it was given; its regions, and none once they are released.
 pub record StoredCall : Type 0 where
   pub xid : ℕ
   pub send : ℕ
   pub call : Option Call
   pub is_forgotten : Bool
+  pub read_at : Option ℕ
   pub offered : ChunkLists
   pub given : List ℕ
   pub claims : Claims
@@ -82,7 +83,7 @@ queue_of r = writable r.side.has_hello r.side.send_queue
 
 -- A call as a client keeps it, if the first `sent` Sends have completely left.
 abbrev pub kept_call : (sent : ℕ) → StoredCall → KeptCall
-kept_call sent c = record { xid = c.xid; send = c.send; is_sent = nat_lt c.send sent; call = c.call; offered = c.offered; given = c.given; stags = stags_of c.claims }
+kept_call sent c = record { xid = c.xid; send = c.send; is_sent = nat_lt c.send sent; call = c.call; read_at = c.read_at; offered = c.offered; given = c.given; stags = stags_of c.claims }
 
 abbrev pub kept_calls : RequesterState → List KeptCall
 kept_calls r = map (kept_call r.sent) r.outstanding
@@ -100,6 +101,8 @@ kept_client r = record {
   up_max = r.side.agreed.up;
   down_max = r.side.agreed.down;
   invalidates = r.side.agreed.invalidates;
+  number = r.side.terms.number;
+  agreed = r.side.earlier;
 }
 
 abbrev pub input_kept : RequesterSide → InputState

@@ -1,19 +1,20 @@
 -- A call on its way out: its chunks, and the buffers that it offers.
-use Rattle.std.specs.Prelude.{◌≡◌, ℕ, ◌+◌, ◌-◌, ◌^◌, ◌<◌, ◌≤◌, nat_le, nat_lt, if◌then◌else◌, Ok, Bool, true, false, List, ◌++◌, length, replicate, Option, None, Some, IfSome}
+use Rattle.std.specs.Prelude.{◌≡◌, ℕ, ◌+◌, ◌-◌, ◌^◌, ◌<◌, ◌≤◌, ◌==◌, ◌&&◌, nat_lt, if◌then◌else◌, Ok, Bool, true, false, List, [], ◌∷◌, ◌++◌, length, replicate, Option, None, Some, IfSome}
 use Rattle.nr_rpc.specs.declared.head.CallTarget.{CallTarget}
 use Rattle.nr_rpc.specs.Call.{call_head, call_of_target}
 use Rattle.nr_endpoint.specs.declared.offering.Offered.{Offered}
 use Rattle.nr_reduce.specs.declared.outline.Plan.{Plan}
 use Rattle.nr_reduce.specs.Plans.{has_segment, total, plan_of}
 use Rattle.nr_reduce.specs.Limits.{numbers_end}
-use Rattle.nr_reduce.specs.SubmitAnswer.{unless_spent}
+use Rattle.nr_reduce.specs.SubmitAnswer.{unless_spent, unless_far_by}
 use Rattle.nr_reduce.specs.CallOutlines.{outline_plan}
 use Rattle.nr_reduce.specs.declared.call.Call.{Call}
 use Rattle.nr_reduce.specs.declared.call.Form.{Form}
+use Rattle.nr_reduce.specs.declared.call.Refused.{Refused}
 use Rattle.nr_reduce.specs.declared.call.Refused.TheVariants as refusals
 use Rattle.nr_reduce.specs.declared.call.Submission.{Submission}
 use Rattle.nr_reduce.specs.declared.call.Submission.TheVariants as submissions
-use Rattle.nr_requester.specs.RequesterState.{RequesterState}
+use Rattle.nr_requester.specs.RequesterState.{StoredCall, RequesterState}
 use Rattle.nr_requester.specs.HeldBytes.{receive_max}
 use Rattle.nr_requester.specs.declared.messages.PlannedCall.{PlannedCall}
 
@@ -44,17 +45,34 @@ pub record IsPlan (p : Plan) : Type 0 where
   pub short : up ≤ receive_max
   pub is : plan_of payload form up down ≡ Ok p
 
+-- A credit is left for a new call: fewer calls are outstanding than are granted. None is left while a Send is held back, which has to be queued
+-- before that of a new call.
+abbrev pub has_credit : RequesterState → Bool
+has_credit r = (length r.side.send_queue.held == 0) && nat_lt (length r.outstanding) r.grant
+
 -- numbers and a credit are left for a call with `needed` regions
 pub record HasNumbers (r : RequesterState) (needed : ℕ) : Type 0 where
   pub xid : r.next_xid < 2 ^ 32
   pub stags : r.side.memory.next + needed ≤ 2 ^ 32
+  pub none_held : length r.side.send_queue.held ≡ 0
   pub credit : length r.outstanding < r.grant
+
+-- the least xid of the calls that are outstanding: they are in the order of their xids
+abbrev pub least_stored : List StoredCall → Option ℕ
+least_stored [] = None
+least_stored (c ∷ calls) = Some c.xid
+
+abbrev pub unless_refused : Option Refused → Submission → Submission
+unless_refused None answer = answer
+unless_refused (Some refused) answer = submissions.Refused refused
 
 abbrev pub answer_for : RequesterState → ℕ → Submission
 answer_for r needed =
-    if nat_le r.grant (length r.outstanding) then submissions.Refused (refusals.NoCredit (length r.outstanding) r.grant)
-    else unless_spent (numbers_end - r.next_xid) 1
-    (unless_spent (numbers_end - r.side.memory.next) needed (submissions.Accepted r.next_xid))
+    if has_credit r then
+    unless_far_by r.side.terms.number r.next_xid (least_stored r.outstanding)
+    (unless_spent (numbers_end - r.next_xid) 1
+    (unless_spent (numbers_end - r.side.memory.next) needed (submissions.Accepted r.next_xid)))
+    else submissions.Refused (refusals.NoCredit (length r.outstanding) r.grant)
 
 -- the word of an xid; if none is left, 0 has the same bytes
 abbrev pub xid_word : ℕ → ℕ

@@ -1,5 +1,5 @@
 -- The marks that a requester stands for.
-use Rattle.std.specs.Prelude.{◌≡◌, ℕ, ◌+◌, ◌≤◌, Bool, true, false, not, ◌==◌, List, [], ◌∷◌, ◌++◌, length, None}
+use Rattle.std.specs.Prelude.{◌≡◌, ℕ, ◌+◌, ◌≤◌, Bool, true, false, not, ◌==◌, List, [], ◌∷◌, ◌++◌, length, map, None}
 use Rattle.nr_wire.specs.declared.hello.Side.TheVariants.{Initiator}
 use Rattle.nr_link.specs.Output.{msn_word}
 use Rattle.nr_link.specs.KeptSends.{received_within}
@@ -11,11 +11,13 @@ use Rattle.nr_reduce.specs.declared.mark.LinkParameters.{LinkParameters}
 use Rattle.nr_reduce.specs.declared.mark.Mark.{Mark}
 use Rattle.nr_reduce.specs.declared.mark.Mark.TheVariants as marks
 use Rattle.nr_reduce.specs.Written.{ends_waiting}
-use Rattle.nr_reduce.specs.ClientState.{ClientState}
+use Rattle.nr_reduce.specs.ClientState.{ClientState, WaitingCall}
+use Rattle.nr_reduce.specs.Plans.{call_message}
 use Rattle.nr_reduce.specs.Client.{calls_output, call_ends}
-use Rattle.nr_reduce.specs.History.{accepted_calls, bytes_received}
+use Rattle.nr_reduce.specs.History.{AcceptedCall, accepted_calls, bytes_received}
 use Rattle.nr_reduce.specs.Events.{events}
 use Rattle.nr_reduce.specs.EndRules.{live}
+use Rattle.nr_reduce.specs.KeptClient.{CanResume}
 use Rattle.nr_reduce.specs.Run.{client}
 use Rattle.nr_reduce.specs.Standing.{ClientRepresents, ClientRunsOut}
 use Rattle.nr_requester.specs.RequesterState.{RequesterSide, queue_of, kept_client, input_kept}
@@ -34,9 +36,13 @@ abbrev pub sends_ends : Bool → LinkParameters → ClientState → List ℕ
 sends_ends true opened k = k.send_ends
 sends_ends false opened k = call_ends opened k.due 1 k.outstanding
 
+-- the message of a call that waits to be sent again
+abbrev pub waiting_message : LinkParameters → WaitingCall → List ℕ
+waiting_message opened w = call_message w.xid opened.wished w.stag w.plan
+
 -- The side of the link of a client in this state, which hasn't ended. It never reads; its one receive is free, or has a Send that is begun, and
 -- what is agreed for the server's Sends fits it.
--- Sends of calls that were accepted before the server's hello wait in the queue.
+-- Sends of calls that were accepted before the server's hello wait in the queue, and those of calls that wait to be sent again are held back.
 pub record LinkKeeps (opened : LinkParameters) (s : LinkState) (k : ClientState) : Type 0 where
   pub side : s.side ≡ Initiator
   pub has_hello : s.has_hello ≡ k.has_hello
@@ -56,24 +62,32 @@ pub record LinkKeeps (opened : LinkParameters) (s : LinkState) (k : ClientState)
   pub responses : HasEnds k.written (length s.send_queue.hello) k.response_ends s.send_queue.response_ends
   pub left : s.send_queue.sends_left + length s.send_queue.send_ends ≡ k.sends
   pub numbered : length (sends_ends k.has_hello opened k) ≡ k.sends
+  pub held : s.send_queue.held ≡ map (waiting_message opened) k.waiting
   pub greeted : k.has_hello ≡ not (s.place == 0)
+  pub granted : k.has_hello ≡ false → k.grant ≡ 1
+  pub client_terms : k.terms ≡ opened.client
 
 -- A requester that hasn't run out of memory keeps the client of these marks: what that client asks for; its input is what they fed to it,
--- until it has ended; and its queue is the output that is due by them and isn't written. Its link was not reopened.
+-- until it has ended; and its queue is the output that is due by them and isn't written. Its link may be one that was reopened: then the calls
+-- with which that was opened could be sent again.
 pub record KeepsClient (opened : LinkParameters) (link : ℕ) (h : RequesterSide) (run : List Mark) : Type 0 where
   pub wished : h.state.wished ≡ opened.wished
-  pub first : IsFirstLink opened
+  pub resumes : CanResume opened.resumed opened.first_xid
   pub kept : ClientRepresents opened link (kept_client h.state) (input_kept h) (queue_of h.state) run
   pub sent : h.state.side.ended ≡ None → h.state.sent ≡ h.state.side.send_queue.sends_left
   pub side : h.state.side.ended ≡ None → LinkKeeps opened h.state.side (client opened link run).state
 
--- the answers that it keeps are those of these marks
-abbrev pub AnswersAfter : LinkParameters → ℕ → RequesterSide → List Mark → Type 0
-AnswersAfter opened link h run = KeepsAnswers opened (events link Initiator run) (is_due link run) (accepted_calls link run) h.state
+-- the answers that it keeps are those of these marks, with some calls before those that these accept
+abbrev pub AnswersWith : List AcceptedCall → LinkParameters → ℕ → RequesterSide → List Mark → Type 0
+AnswersWith calls opened link h run = KeepsAnswers opened (events link Initiator run) (is_due link run) (calls ++ accepted_calls link run) h.state
 
--- It stands for these marks of its link: it keeps their client and their answers, and counts them.
+abbrev pub AnswersAfter : LinkParameters → ℕ → RequesterSide → List Mark → Type 0
+AnswersAfter opened link h run = AnswersWith [] opened link h run
+
+-- It stands for these marks of its link, which was not reopened: it keeps their client and their answers, and counts them.
 pub record RequesterRepresents (opened : LinkParameters) (link : ℕ) (h : RequesterSide) (run : List Mark) : Type 0 where
   pub keeps : KeepsClient opened link h run
+  pub first : IsFirstLink opened
   pub answers : AnswersAfter opened link h run
   pub counted : h.marks ≡ counted_marks link run
 

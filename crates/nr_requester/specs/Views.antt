@@ -35,7 +35,7 @@ own_named stags None = None
 own_named stags (Some stag) = own_of stags stag
 
 abbrev pub stored_view : OutstandingCall → StoredCall
-stored_view c = record { xid = c.xid; send = c.send; call = c.call; is_forgotten = c.is_forgotten; offered = c.offered; given = given_stags c.given; claims = c.claims }
+stored_view c = record { xid = c.xid; send = c.send; call = c.call; is_forgotten = c.is_forgotten; read_at = c.read_at; offered = c.offered; given = given_stags c.given; claims = c.claims }
 
 abbrev pub claim_len : Option Claim → ℕ
 claim_len None = 0
@@ -55,11 +55,11 @@ IsAnswered next_xid outstanding a = (a.xid < next_xid) × (find (λ (c : Outstan
 
 -- a call that is given up: it is handed back, and its regions are released
 abbrev pub given_up : OutstandingCall → OutstandingCall
-given_up c = record { xid = c.xid; send = c.send; call = None; is_forgotten = c.is_forgotten; offered = c.offered; given = c.given; claims = no_claims; room = c.room }
+given_up c = record { xid = c.xid; send = c.send; call = None; is_forgotten = c.is_forgotten; read_at = c.read_at; offered = c.offered; given = c.given; claims = no_claims; room = c.room }
 
 -- a call whose owner gave up the answer
 abbrev pub forgot : OutstandingCall → OutstandingCall
-forgot c = record { xid = c.xid; send = c.send; call = c.call; is_forgotten = true; offered = c.offered; given = c.given; claims = c.claims; room = c.room }
+forgot c = record { xid = c.xid; send = c.send; call = c.call; is_forgotten = true; read_at = c.read_at; offered = c.offered; given = c.given; claims = c.claims; room = c.room }
 
 -- What holds of each requester: its numbers are in range, a credit is granted, and no more calls are outstanding than can be; no event waits
 -- and no receive is lent; the regions of its calls are held, and are those that the calls offer; xids rise; it reads nothing of

@@ -4,22 +4,23 @@ ghost use Rattle.std.specs.Prelude.{◌≡◌, ◌+◌, ◌*◌, ◌^◌, ◌≤
 ghost use Rattle.std.specs.List.{AllByRecursion};
 ghost use Rattle.nr_reduce.specs.Limits.{credits_max};
 ghost use Rattle.nr_reduce.specs.ClientMessages.{outcome_bytes};
-ghost use Rattle.nr_requester.specs.HeldBytes.{call_size, offer_held, cred_bytes, call_bytes, stored_bytes, calls_bytes, rooms_total, buffer_len, answer_bytes, answers_bytes, AnswerFits, bytes_held_by, held_unit};
+ghost use Rattle.nr_requester.specs.HeldBytes.{call_size, offer_held, cred_bytes, call_bytes, stored_bytes, calls_bytes, end_size, message_size, rooms_total, buffer_len, answer_bytes, answers_bytes, AnswerFits, bytes_held_by, held_unit};
 ghost use Rattle.nr_requester.specs.Views.{stored_view};
 ghost use Rattle.nr_requester.specs.HeldBytes.{OffersFew};
 
 use crate::answer::AnsweredCall;
 use crate::outstanding::OutstandingCall;
 use crate::requester::Requester;
+use nr_endpoint::Endpoint;
 use nr_reduce::{Call, Outcome};
 use nr_rpc::Cred;
 use nr_xdr::Octets;
 use std::mem::size_of;
 
-/// The sizes of an outstanding call, of an answer, and of the end of a Send.
-const CALL_SIZE: u128 = 392;
+/// The sizes of an outstanding call, of an answer, of the end of a Send, and of a message that is held back.
+const CALL_SIZE: u128 = 400;
 
-const _: () = prove!(size_of::<OutstandingCall>() == 392);
+const _: () = prove!(size_of::<OutstandingCall>() == 400);
 
 const ANSWER_SIZE: u128 = 288;
 
@@ -28,6 +29,10 @@ const _: () = prove!(size_of::<AnsweredCall>() == 288);
 const END_SIZE: u128 = 8;
 
 const _: () = prove!(size_of::<usize>() == 8);
+
+const MESSAGE_SIZE: u128 = 24;
+
+const _: () = prove!(size_of::<Octets>() == 24);
 
 fn cred_bytes(cred: &Cred) -> usize
     ensures { result ≡ cred_bytes cred.now }
@@ -130,9 +135,17 @@ fn answers_bytes(answers: &[AnsweredCall]) -> u128
     sum
 }
 
+/// The bytes of the ends of Sends that wait, and of the items of messages that are held back.
+fn waiting_bytes(endpoint: &Endpoint) -> u128
+    ensures { result ≡ end_size * length endpoint.now.link.state.send_queue.send_ends + message_size * length endpoint.now.link.state.send_queue.held }
+{
+    END_SIZE * endpoint.sends_waiting() as u128 + MESSAGE_SIZE * endpoint.sends_held() as u128
+}
+
 impl Requester {
     /// How many bytes are kept: the staging buffer, the receive, the regions, the output, the calls with the names of their machines and the lists that
-    /// they offered, the rooms of their replies, the ends of Sends that wait, and the answers with their buffers, each item by the size of its type. At most
+    /// they offered, the rooms of their replies, the ends of Sends that wait, the messages of those that are held back, and the answers with their buffers, each
+    /// item by the size of its type. At most
     /// 5,242,880 for each call that is outstanding or each credit that was wished for, whichever are more, for each answer that wasn't taken,
     /// and four times that. Takes no memory.
     pub fn held(&self) -> u128
@@ -143,7 +156,7 @@ impl Requester {
         self.endpoint.held()
             + calls_bytes(self.outstanding.as_slice())
             + rooms_bytes(self.outstanding.as_slice())
-            + END_SIZE * self.endpoint.sends_waiting() as u128
+            + waiting_bytes(&self.endpoint)
             + answers_bytes(self.answered.as_slice())
     }
 }

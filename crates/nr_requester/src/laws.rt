@@ -1,5 +1,8 @@
 //! Laws of a requester.
 
+ghost use Rattle.nr_requester.specs.Reopening.{AnswersStay, CallsGoOn, NextBegins};
+ghost use Rattle.nr_requester.specs.ReopenedLinks.{FirstLinksAreKept};
+ghost use Rattle.nr_requester.specs.Resends.{ResendIsAMark, ResendsAreMarks};
 ghost use Rattle.nr_requester.specs.Laws.{Begins, AnswersAsClient, AgreesAsClient, AgreesOut, CountsAsClient, CountsMarks, SubmitIsAMark, PieceIsAMark, PieceRunsOut, DrainIsAMark, RevokeIsAMark, RevokeStaysOut, ForgetIsAMark, DoneIsAMark, AnswersAreDue, AnswersOut, EndAsClient, FirstIsDueFirst, FirstOut, OthersLeaveIt, MemoryAsClient, MemoryOut, CountsOut, CountsMarksOut, RefusesOut, PieceStaysOut, OthersStayOut, LawBegins, OthersKeepLaw, RevokeKeepsLaw, BuffersArePlaced, RevokedOut, SubmitKeepsLaw, DrainKeepsLaw, DrainOutKeepsLaw, QueueIsAllDue, RefusedKeepsLaw, PieceKeepsLaw, DrainKeepsGrant, OpenIsAwaited, OpenOut, AwaitedIsOpen, AwaitedOut, ForgetKeepsLaw, ForgetOutKeepsLaw, DoneKeepsLaw, DoneOutKeepsLaw, LostKeepsLaw, NamedRegionIsNotCounted};
 
 /// A requester stands for the marks of its link, from its opening on: what it keeps is what the client of the run asks for, and what it
@@ -67,4 +70,21 @@ pub fn requesters_keep_their_law()
 /// one: so many are counted when they are released (RFC 5040 section 4.7).
 pub fn releases_are_counted()
     ensures { NamedRegionIsNotCounted }
+{}
+
+/// A requester that stands for the marks of its link, has kept the client's law and hasn't ended, keeps what its next link is opened with: each
+/// call whose answer is awaited, under its xid, by the plan by which it was sent, with its regions under STags that are new; and the messages of
+/// their Sends. It keeps the answers of the link that it leaves. So it
+/// stands for no marks of the next link. There it stands for the Submits of the calls that it sends again, as its grant allows.
+pub fn calls_go_on()
+    ensures next { CallsGoOn }
+    ensures answers { AnswersStay }
+    ensures begins { NextBegins }
+    ensures resent { ResendIsAMark }
+    ensures all { ResendsAreMarks }
+{}
+
+/// A requester that stands for the marks of its first link keeps what one keeps of a link that may be one of several.
+pub fn first_links_are_kept()
+    ensures { FirstLinksAreKept }
 {}

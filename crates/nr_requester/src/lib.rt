@@ -34,10 +34,14 @@ mod revoking;
 mod submitting;
 mod taking;
 mod ticket;
+mod window;
 
 pub use answer::{AnsweredCall, Buffers};
 pub use dismantling::Remains;
-pub use laws::{releases_are_counted, requesters_keep_their_law, requesters_stand_for_marks};
+pub use laws::{
+    calls_go_on, first_links_are_kept, releases_are_counted, requesters_keep_their_law,
+    requesters_stand_for_marks,
+};
 pub use requester::Requester;
 pub use taking::{Done, Take};
 pub use ticket::Ticket;

@@ -1,7 +1,7 @@
 //! The message of a call, and what it offers.
 
-ghost use Rattle.std.specs.Prelude.{◌≡◌, ◌+◌, ◌^◌, ◌<◌, ◌≤◌, [], ◌++◌, length, sum, replicate, option_map, Some, IfOk, IfSome};
-ghost use Rattle.nr_reduce.specs.CallOutlines.{lengths_of, chunk_lengths};
+ghost use Rattle.std.specs.Prelude.{◌≡◌, ℕ, List, ◌+◌, ◌^◌, ◌<◌, ◌≤◌, [], ◌++◌, length, sum, replicate, option_map, Some, IfOk, IfSome};
+ghost use Rattle.nr_reduce.specs.CallOutlines.{lengths_of, chunk_lengths, outline_plan};
 ghost use Rattle.nr_reduce.specs.Plans.{segments_from, entries_from, has_segment, one_if, read_list, write_list, reply_chunk, lists_of, regions_needed, total, body_by};
 ghost use Rattle.nr_header.specs.declared.header.ChunkLists.{ChunkLists};
 ghost use Rattle.nr_header.specs.Header.{header_encoding, lists_body, ChunksFit};
@@ -237,6 +237,16 @@ pub fn lists_of(alloc: Global, stag: u64, plan: PlannedCall<'_>) -> Result<Offer
 }
 
 // ---- The message
+
+/// The position of the read chunk, if there is one.
+pub fn read_position(outline: Outline<'_>) -> Option<u32>
+    ensures { (payload : List ℕ) → result ≡ (outline_plan payload outline.entry).read_at }
+{
+    match outline.read {
+        Some(chunk) => Some(chunk.position),
+        None => None,
+    }
+}
 
 /// Whether all of a payload goes in the chunk at position 0.
 fn is_long(plan: PlannedCall<'_>) -> bool

@@ -59,8 +59,8 @@ pub fn is_given(given: GivenStags, stag: u32) -> bool
 }
 
 /// A call that is outstanding: accepted, and no message of its xid was received. The number of its Send on the link; the call, until its
-/// memory is revoked; whether its owner gave up the answer; the lists that its reply has to repeat; the STags that it was given; its regions;
-/// the room in which its reply is put together.
+/// memory is revoked; whether its owner gave up the answer; the position of its read chunk; the lists that its reply has to repeat; the STags
+/// that it was given; its regions; the room in which its reply is put together.
 #[derive(Drop)]
 pub struct OutstandingCall {
     /// Its transaction ID (XID).
@@ -71,6 +71,8 @@ pub struct OutstandingCall {
     pub call: Option<Call>,
     /// Whether its owner gave up the answer.
     pub is_forgotten: bool,
+    /// The position of its read chunk, if it has one (RFC 8166 section 3.4.4).
+    pub read_at: Option<u32>,
     /// The chunk lists of its message, which the reply has to repeat (RFC 8166 section 3.4.6).
     pub offered: OfferedLists,
     /// The STags that it was given, also after its regions are released: its reply may name one of them (RFC 5040 section 4.7).

@@ -6,7 +6,7 @@ ghost use Rattle.nr_outside.specs.Faults.{Rises};
 ghost use Rattle.nr_wire.specs.declared.hello.Side.TheVariants.{Initiator};
 ghost use Rattle.nr_wire.specs.Constants.{FPDU_MAX};
 ghost use Rattle.nr_wire.specs.Stream.{IsPartial};
-ghost use Rattle.nr_link.specs.Agreement.{IsSendLimit, default_terms, sized_terms, terms_with};
+ghost use Rattle.nr_link.specs.Agreement.{IsSendLimit, default_terms, terms_with};
 ghost use Rattle.nr_endpoint.specs.Hellos.{receive_length_for};
 ghost use Rattle.nr_endpoint.specs.declared.fault.DrainFault.TheVariants as drains;
 ghost use Rattle.nr_reduce.specs.Opening.{ClientOpened};
@@ -21,7 +21,7 @@ ghost use Rattle.nr_requester.specs.Fed.{fed_bytes};
 ghost use Rattle.nr_requester.specs.KeptLists.{ListsFit};
 ghost use Rattle.nr_requester.specs.OpenCalls.{found_call, found_answer, IsFresh, KeepsTickets};
 ghost use Rattle.nr_endpoint.specs.LinkState.{has_ended};
-ghost use Rattle.nr_requester.specs.AfterCalls.{opened_as, after_drain, sent_unless};
+ghost use Rattle.nr_requester.specs.AfterCalls.{numbered_terms, opened_as, after_drain, sent_unless};
 ghost use Rattle.nr_requester.specs.CountedMarks.{marks_if};
 
 use crate::answer::AnsweredCall;
@@ -92,7 +92,13 @@ impl Requester {
         ensures fed { IfOk result (λ r. fed_bytes r ≡ 0) }
         ensures stands { IfOk result (λ r. (opened : LinkParameters) (link : ℕ) → opened.first_xid ≡ first_xid → opened.first_stag ≡ first_stag → ClientOpened opened credits default_terms → RequesterRepresents opened link r []) }
     {
-        Requester::new(alloc, first_xid, first_stag, credits, 1, false)
+        Requester::new(
+            alloc,
+            first_xid,
+            first_stag,
+            credits,
+            SideTerms::default_terms(),
+        )
     }
 
     /// A client end whose first xid and first STag are 1. A Send in either direction has at most 1,024 bytes.
@@ -120,7 +126,41 @@ impl Requester {
         ensures fed { IfOk result (λ r. fed_bytes r ≡ 0) }
         ensures stands { IfOk result (λ r. (opened : LinkParameters) (link : ℕ) → opened.first_xid ≡ 1 → opened.first_stag ≡ 1 → ClientOpened opened credits (terms_with units invalidates) → RequesterRepresents opened link r []) }
     {
-        Requester::new(alloc, 1, 1, credits, units, invalidates)
+        Requester::new(
+            alloc,
+            1,
+            1,
+            credits,
+            SideTerms::unnumbered(units, invalidates),
+        )
+    }
+
+    /// The same of a client with a number, which isn't 0: its hello says it. Then `submit` accepts no call whose xid is 64 or more above the
+    /// least one of a call that is outstanding. A server that keeps the replies of numbered clients executes none of its calls twice.
+    pub fn open_numbered(
+        alloc: Global,
+        client: u64,
+        credits: u32,
+        units: u8,
+        invalidates: bool,
+    ) -> Result<Requester, Memory>
+        requires { 0 < client }
+        ensures state { IfOk result (λ r. r ≡ opened_as 1 1 credits (numbered_terms client units invalidates) r.staging) }
+        ensures staging { IfOk result (λ r. length r.staging ≡ FPDU_MAX) }
+        ensures fed { IfOk result (λ r. fed_bytes r ≡ 0) }
+        ensures stands { IfOk result (λ r. (opened : LinkParameters) (link : ℕ) → opened.first_xid ≡ 1 → opened.first_stag ≡ 1 → ClientOpened opened credits (numbered_terms client units invalidates) → RequesterRepresents opened link r []) }
+    {
+        Requester::new(
+            alloc,
+            1,
+            1,
+            credits,
+            SideTerms {
+                units,
+                number: client,
+                invalidates,
+            },
+        )
     }
 
     #[tactic(auto, unfolding(crate::specs::AfterCalls::opened_as, nr_endpoint::specs::LinkState::initial_link))]
@@ -129,24 +169,18 @@ impl Requester {
         first_xid: u32,
         first_stag: u32,
         credits: u32,
-        units: u8,
-        invalidates: bool,
+        terms: SideTerms,
     ) -> Result<Requester, Memory>
         requires { 0 < first_stag }
-        ensures state { IfOk result (λ r. r ≡ opened_as first_xid first_stag credits (terms_with units invalidates) r.staging) }
+        ensures state { IfOk result (λ r. r ≡ opened_as first_xid first_stag credits terms r.staging) }
         ensures staging { IfOk result (λ r. length r.staging ≡ FPDU_MAX) }
         ensures fed { IfOk result (λ r. fed_bytes r ≡ 0) }
     {
-        let terms = SideTerms {
-            units,
-            number: 0,
-            invalidates,
-        };
         let endpoint = Endpoint::open(alloc, Side::Initiator, 1, first_stag, terms)?;
         Ok(Requester {
             alloc,
             endpoint,
-            receive_length: receive_length(units),
+            receive_length: receive_length(terms),
             sent: 0,
             wished: credits,
             sends: 0,
@@ -164,6 +198,13 @@ impl Requester {
         ensures { result ≡ self.now.state.side.ended }
     {
         self.endpoint.end()
+    }
+
+    /// The number of the client, which its hello says; 0 if it has none. Takes no memory.
+    pub fn client(&self) -> u64
+        ensures { result ≡ self.now.state.side.terms.number }
+    {
+        self.endpoint.terms().number
     }
 
     /// How many calls are outstanding: accepted, and no message of their xid was received.
@@ -282,11 +323,11 @@ impl Requester {
     }
 }
 
-/// The length of a receive of these units, in bytes.
-fn receive_length(units: u8) -> u32
-    ensures { result ≡ receive_length_for (sized_terms units) }
+/// The length of a receive of a side with these terms, in bytes.
+fn receive_length(terms: SideTerms) -> u32
+    ensures { result ≡ receive_length_for terms }
 {
-    SEND_UNIT * u32::from(units.max(1).min(UNITS_MAX))
+    SEND_UNIT * u32::from(terms.units.max(1).min(UNITS_MAX))
 }
 
 /// The count of marks after one mark more, if that is counted.

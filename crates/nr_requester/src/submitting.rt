@@ -4,13 +4,17 @@ ghost use Rattle.std.specs.Prelude.{◌≡◌, ◌≢◌, ◌+◌, ◌^◌, ◌<
 ghost use Rattle.nr_rpc.specs.Credential.{CanWriteCred};
 ghost use Rattle.nr_endpoint.specs.Offering.{claims_of};
 ghost use Rattle.nr_reduce.specs.Plans.{regions_needed, lists_of, total};
+ghost use Rattle.nr_reduce.specs.PlansByLists.{plan_by_lists};
+ghost use Rattle.nr_reduce.specs.ClientState.{call_payload};
 ghost use Rattle.nr_reduce.specs.CallOutlines.{outline_plan, OutlineAnswers};
 ghost use Rattle.nr_reduce.specs.declared.call.Refused.TheVariants as refusals;
+ghost use Rattle.nr_reduce.specs.declared.call.Submission.{Submission};
 ghost use Rattle.nr_reduce.specs.declared.call.Submission.TheVariants as submissions;
+ghost use Rattle.nr_reduce.specs.SubmitAnswer.{unless_far_by};
 ghost use Rattle.nr_reduce.specs.declared.mark.Mark.TheVariants as marks;
 ghost use Rattle.nr_requester.specs.AfterCalls.{with_submitted, after_submit};
 ghost use Rattle.nr_requester.specs.Answers.{answer_of, plan_under, WasSent};
-ghost use Rattle.nr_requester.specs.Sending.{IsPlan, HasNumbers, answer_for, offered_of, xid_word, target_under, head_under, call_plan};
+ghost use Rattle.nr_requester.specs.Sending.{IsPlan, HasNumbers, has_credit, least_stored, unless_refused, answer_for, offered_of, xid_word, target_under, head_under, call_plan};
 ghost use Rattle.nr_requester.specs.HeldClaims.{SentHeld, IsOfferOf};
 ghost use Rattle.nr_requester.specs.HeldBytes.{call_bytes, call_max, receive_max, NothingOutside};
 ghost use Rattle.nr_requester.specs.Standing.{StandsOn};
@@ -18,7 +22,9 @@ ghost use Rattle.nr_requester.specs.Fed.{fed_bytes};
 ghost use Rattle.nr_requester.specs.OpenCalls.{OpensTicket};
 
 use crate::answer::AnsweredCall;
-use crate::messages::{PlannedCall, lists_of, message_of, offered_of, regions_needed, reply_room};
+use crate::messages::{
+    PlannedCall, lists_of, message_of, offered_of, read_position, regions_needed, reply_room,
+};
 use crate::offered::OfferedLists;
 use crate::outstanding::{OutstandingCall, given_by};
 use crate::requester::{Requester, marks_if};
@@ -31,6 +37,9 @@ use std::alloc::Global;
 
 /// How many numbers there are.
 const NUMBERS_END: u64 = 4294967296;
+
+/// The xids of a client's outstanding calls, and the next one, are fewer than this apart.
+const WINDOW: u64 = 64;
 
 /// What is kept of a call that went out: its lists and its regions.
 #[derive(Drop)]
@@ -167,17 +176,54 @@ fn make_room(
 }
 
 impl Requester {
-    /// Why a call with this many regions isn't accepted, if it isn't: without credit, or without numbers.
+    /// The least xid of a call that is outstanding.
+    pub(crate) fn oldest(&self) -> Option<u32>
+        ensures { result ≡ least_stored self.now.state.outstanding }
+    {
+        match self.outstanding.as_slice().first() {
+            Some(call) => Some(call.xid),
+            None => None,
+        }
+    }
+
+    /// Why the next xid is too far above the least one, if it is: only that of a client with a number can be.
+    pub(crate) fn beyond_window(&self) -> Option<Refused>
+        ensures { (answer : Submission) → unless_far_by self.now.state.side.terms.number self.now.state.next_xid (least_stored self.now.state.outstanding) answer ≡ unless_refused result answer }
+    {
+        if self.endpoint.terms().number == 0 {
+            return None;
+        }
+        match self.oldest() {
+            Some(oldest) if self.next_xid.saturating_sub(u64::from(oldest)) >= WINDOW => {
+                Some(Refused::Window {
+                    oldest,
+                    next: self.next_xid,
+                })
+            }
+            _ => None,
+        }
+    }
+
+    /// Whether a credit is left for a new call: none is while a Send is held back.
+    pub(crate) fn has_credit(&self) -> bool
+        ensures { result ≡ has_credit self.now.state }
+    {
+        self.endpoint.sends_held() == 0 && (self.outstanding.len() as u32) < self.grant
+    }
+
+    /// Why a call with this many regions isn't accepted, if it isn't: without credit, beyond its window, or without numbers.
     fn refusal(&self, needed: u64) -> Option<Refused>
         ensures answer { MatchOption result (answer_for self.now.state needed ≡ submissions.Accepted self.now.state.next_xid) (λ r. answer_for self.now.state needed ≡ submissions.Refused r) }
         ensures numbers { result ≡ None → HasNumbers self.now.state needed }
     {
-        let out = self.outstanding.len() as u32;
-        if out >= self.grant {
+        if !self.has_credit() {
             return Some(Refused::NoCredit {
-                out,
+                out: self.outstanding.len() as u32,
                 grant: self.grant,
             });
+        }
+        if let Some(refused) = self.beyond_window() {
+            return Some(refused);
         }
         let left = NUMBERS_END - self.next_xid;
         if left < 1 {
@@ -197,6 +243,8 @@ impl Requester {
         requires planned { IsPlan (outline_plan (head.now ++ call.args) outline) }
         requires numbers { HasNumbers self.old.state (regions_needed (outline_plan (head.now ++ call.args) outline)) }
         requires small { call_bytes call ≤ call_max }
+        requires cred { CanWriteCred call.cred }
+        requires again { IsPlan (plan_by_lists (call_payload self.old.state.next_xid call) (outline_plan (head.now ++ call.args) outline).read_at (lists_of self.old.state.side.memory.next (outline_plan (head.now ++ call.args) outline))) }
         ensures xid { IfOk result (λ xid. xid ≡ self.old.state.next_xid) }
         ensures state { OnOk result (self.new ≡ after_submit self.old call (outline_plan (head.now ++ call.args) outline.entry)) }
         ensures returned { IfErr result (λ c. c ≡ call) }
@@ -224,6 +272,7 @@ impl Requester {
             Ok(sent) => sent,
             Err(_) => return Err(call),
         };
+        let read_at = read_position(outline);
         let given = given_by(&claims);
         let send = self.sends;
         self.sends += 1;
@@ -234,6 +283,7 @@ impl Requester {
             send,
             call: Some(call),
             is_forgotten: false,
+            read_at,
             offered: lists,
             given,
             claims,
@@ -277,6 +327,8 @@ impl Requester {
         requires live { self.old.state.side.ended ≡ None }
         requires planned { IsPlan (outline_plan (head.now ++ call.args) outline) }
         requires small { call_bytes call ≤ call_max }
+        requires cred { CanWriteCred call.cred }
+        requires again { IsPlan (plan_by_lists (call_payload self.old.state.next_xid call) (outline_plan (head.now ++ call.args) outline).read_at (lists_of self.old.state.side.memory.next (outline_plan (head.now ++ call.args) outline))) }
         ensures accepted { IfOk result (λ xid. (answer_for self.old.state (regions_needed (outline_plan (head.now ++ call.args) outline.entry)) ≡ submissions.Accepted xid) × (xid ≡ self.old.state.next_xid)) }
         ensures state { OnOk result ((self.new ≡ after_submit self.old call (outline_plan (head.now ++ call.args) outline.entry)) × (self.old.state.next_xid < 2 ^ 32)) }
         ensures refused { IfErr result (λ e. e.1 ≢ refusals.Memory → answer_for self.old.state (regions_needed (outline_plan (head.now ++ call.args) outline.entry)) ≡ submissions.Refused e.1) }
@@ -361,8 +413,9 @@ impl Requester {
         }
     }
 
-    /// Submits a call in a form. Refused, in this order: the link has ended; the call is too large; no credit is left; too few xids or
-    /// STags are left. Or memory ran out. A refused call comes back, and nothing changes.
+    /// Submits a call in a form. Refused, in this order: the link has ended; the call is too large; no credit is left; the client has a
+    /// number, and the next xid is 64 or more above the least one of an outstanding call; too few xids or STags are left. Or memory ran out. A
+    /// refused call comes back, and nothing changes. While Sends are held back no credit is left: calls that are outstanding use all of them.
     pub fn submit(&mut self, call: Call, form: Form) -> Result<Ticket, (Call, Refused)>
         requires { CanWriteCred call.cred }
         ensures accepted { IfOk result (λ xid. answer_of self.old.state call form ≡ submissions.Accepted xid) }

@@ -189,7 +189,7 @@ greeted_has w d m r ends bytes q none h =
 -- ---- What is written last has bytes
 
 abbrev empty_queue : SendQueue
-empty_queue = record { hello = []; fpdus = []; send_ends = []; response_ends = []; sends_left = 0; last_send = 0; last_request = 0 }
+empty_queue = record { hello = []; fpdus = []; send_ends = []; response_ends = []; sends_left = 0; last_send = 0; last_request = 0; held = [] }
 
 terminates : (at reason : ℕ) → 5 ≤ reason → final_output (ends.Bad at reason) ≡ terminate_message reason
 unfolding final_output

@@ -17,12 +17,11 @@ use Rattle.nr_reduce.specs.declared.mark.LinkParameters.{LinkParameters}
 use Rattle.nr_reduce.specs.declared.mark.Mark.{Mark}
 use Rattle.nr_reduce.specs.declared.mark.Mark.TheVariants as marks
 use Rattle.nr_reduce.specs.ClientState.{ClientState}
-use Rattle.nr_reduce.specs.Credits.{calls_outstanding}
 use Rattle.nr_reduce.specs.EndRules.{EndState}
 use Rattle.nr_reduce.specs.History.{bytes_sent}
 use Rattle.nr_reduce.specs.Opening.{IsOpened}
 use Rattle.nr_reduce.specs.Run.{output_due}
-use Rattle.nr_reduce.specs.SubmitAnswer.{submit_answer}
+use Rattle.nr_reduce.specs.SubmitAnswer.{calls_counted, submit_answer}
 use Rattle.nr_links.specs.Limits.{read_max}
 use Rattle.nr_requester.specs.RequesterState.{RequesterSide, queue_of}
 use Rattle.nr_requester.specs.Answers.{answer_of}
@@ -209,13 +208,12 @@ keeps_ended opened link run v w (xid ∷ xids) live (mid, (forgets, rest)) =
 -- as many calls stay outstanding
 keeps_waiting : (opened : LinkParameters) (link : ℕ) (run : List Mark) (v w : LinkView) (xids : List ℕ) → IsLive opened link v.requester run → ForgetsCalls xids v w
     → length w.requester.state.outstanding ≡ length v.requester.state.outstanding
-unfolding calls_outstanding
 keeps_waiting opened link run v w [] live same = ap (λ (x : LinkView). length x.requester.state.outstanding) same
 keeps_waiting opened link run v w (xid ∷ xids) live (mid, (forgets, rest)) =
     let next = forgets.0.0 opened link run live in
     keeps_waiting opened link (run ++ marks.Forget link xid ∷ []) mid w xids next rest
     ∙ (counts_as_client opened link mid.requester (run ++ marks.Forget link xid ∷ []) next.stands).0
-    ∙ ap (λ e. length e.state.outstanding) (client_still opened link xid run)
+    ∙ ap (λ (e : EndState ClientState). calls_counted e.state) (client_still opened link xid run)
     ∙ sym (counts_as_client opened link v.requester run live.stands).0
 
 -- if all that may be written is written, it stays so

@@ -16,7 +16,7 @@ use Rattle.nr_laws.specs.Stays.{ConveyedMark, NotRevokedMark}
 use Rattle.nr_laws.proofs.NeitherEnds.{matched_calls_complete}
 use Rattle.nr_laws.proofs.NoOldCalls.{no_old_call}
 use Rattle.nr_requester.specs.RequesterState.{RequesterSide}
-use Rattle.nr_requester.proofs.Accepting.{counts_as_client}
+use Rattle.nr_requester.proofs.MaySubmit.{outstanding_as_client}
 use Rattle.nr_client.specs.declared.call_end.CallEnd.TheVariants as calls
 use Rattle.nr_client.specs.declared.client_end.ClientEnd.{ClientEnd}
 use Rattle.nr_client.specs.declared.client_end.ClientEnd.TheVariants as client
@@ -62,7 +62,7 @@ record WaitsAt (opened : LinkParameters) (link : ℕ) (run : List Mark) : Type 0
 waits_at : (opened : LinkParameters) (link : ℕ) (run : List Mark) (b : LinkView) → IsLive opened link b.requester run → CauseAt calls.Closed b → WaitsAt opened link run
 waits_at opened link run b live cause =
     let (ended, (at_end, (few, (some, none)))) = cause in
-    record { written = written_now opened link run b.requester none live; waiting = subst (λ (k : ℕ). 0 < k) (counts_as_client opened link b.requester run live.stands).0 some }
+    record { written = written_now opened link run b.requester none live; waiting = subst (λ (k : ℕ). 0 < k) (outstanding_as_client opened link b.requester run live.stands) some }
 
 live_at : (result : Result (Unit {0}) ClientEnd) (opened : LinkParameters) (link : ℕ) (h : RequesterSide) (ahead : List ℕ) (run : List Mark) → result ≡ Err (client.Link calls.Closed)
     → StandsAt result opened link h ahead run → IsLive opened link h run

@@ -1,7 +1,6 @@
 -- Why a call has no answer: what the value has says it of each history that it stands for.
-use Rattle.std.proofs.Common.{◌≡◌, ◌≢◌, ℕ, ◌<◌, ◌-◌, Bool, true, false, ltb, if◌then◌else◌, List, length, Option, Some, None, Result, Ok, Err, refl, sym, ap, subst, ◌∙◌, unwrap_or}
-use Rattle.std.specs.Prelude.{⊤, nat_le, nat_lt}
-use Rattle.std.proofs.lemmas.Bool.{lt-leb}
+use Rattle.std.proofs.Common.{◌≡◌, ◌≢◌, ℕ, ◌<◌, ◌-◌, ◌&&◌, Bool, true, false, ltb, if◌then◌else◌, List, length, Option, Some, None, Result, Ok, Err, refl, sym, ap, subst, ◌∙◌, unwrap_or}
+use Rattle.std.specs.Prelude.{⊤, ◌==◌, nat_lt}
 use Rattle.nr_link.specs.declared.end.End.{End}
 use Rattle.nr_link.specs.declared.end.End.TheVariants as ends
 use Rattle.nr_reduce.specs.declared.call.Call.{Call}
@@ -11,13 +10,17 @@ use Rattle.nr_reduce.specs.declared.call.Refused.TheVariants as refusals
 use Rattle.nr_reduce.specs.declared.call.Submission.{Submission}
 use Rattle.nr_reduce.specs.declared.call.Submission.TheVariants as submissions
 use Rattle.nr_reduce.specs.declared.outline.Plan.{Plan}
-use Rattle.nr_reduce.specs.Credits.{calls_outstanding, credits_granted}
+use Rattle.nr_reduce.specs.Credits.{credits_granted}
 use Rattle.nr_reduce.specs.Limits.{numbers_end}
 use Rattle.nr_reduce.specs.Plans.{TooLarge, regions_needed}
-use Rattle.nr_reduce.specs.SubmitAnswer.{unless_spent}
+use Rattle.nr_reduce.specs.SubmitAnswer.{calls_counted, unless_spent}
+use Rattle.nr_reduce.proofs.Numbered.{numbered_length}
 use Rattle.nr_requester.specs.RequesterState.{RequesterSide, RequesterState}
 use Rattle.nr_requester.specs.Answers.{answer_by_plan, answer_if, answer_of, plan_under}
-use Rattle.nr_requester.proofs.Accepting.{answers_as_client, counts_as_client}
+use Rattle.nr_requester.specs.MaySubmit.{client_may_submit, is_far, may_submit, may_submit_by}
+use Rattle.nr_requester.specs.Sending.{least_stored}
+use Rattle.nr_requester.proofs.Accepting.{answers_as_client}
+use Rattle.nr_requester.proofs.MaySubmit.{answer_by_numbers, answer_cases, answer_in_window, may_as_client, outstanding_as_client}
 use Rattle.nr_reduce.specs.ClientState.{ClientState}
 use Rattle.nr_reduce.specs.EndRules.{EndState, live}
 use Rattle.nr_reduce.specs.Run.{client}
@@ -110,33 +113,14 @@ abbrev end_in : Submission → Option End
 end_in (submissions.Refused why) = end_in_refused why
 end_in answer = None
 
--- an answer for another cause than that no credit is left, or that an xid is too far above the least one
+-- it isn't refused since no credit is left, or since its xid is too far above the least one
 abbrev Credited : Submission → Type 0
 Credited (submissions.Refused why) = HasCredit why
 Credited answer = ⊤
 
-unless : (P : Submission → Type 0) (b : Bool) (x y : Submission) → P x → P y → P (if b then x else y)
-unless P true x y px py = px
-unless P false x y px py = py
-
-passes : (P : Submission → Type 0) (b : Bool) (x y : Submission) → b ≡ false → P y → P (if b then x else y)
-passes P true x y never py = absurd (true_false never)
-passes P false x y never py = py
-
-abbrev numbered : RequesterState → Plan → Submission
-numbered r plan = unless_spent (numbers_end - r.next_xid) 1 (unless_spent (numbers_end - r.side.memory.next) (regions_needed plan) (submissions.Accepted r.next_xid))
-
-if_numbered : (P : Submission → Type 0) (r : RequesterState) (plan : Plan) → ((left need : ℕ) → P (submissions.Refused (refusals.Spent left need))) → P (submissions.Accepted r.next_xid) → P (numbered r plan)
-if_numbered P r plan spent accepted =
-    unless P (nat_lt (numbers_end - r.next_xid) 1) (submissions.Refused (refusals.Spent (numbers_end - r.next_xid) 1))
-    (unless_spent (numbers_end - r.side.memory.next) (regions_needed plan) (submissions.Accepted r.next_xid)) (spent (numbers_end - r.next_xid) 1)
-    (unless P (nat_lt (numbers_end - r.side.memory.next) (regions_needed plan)) (submissions.Refused (refusals.Spent (numbers_end - r.side.memory.next) (regions_needed plan)))
-    (submissions.Accepted r.next_xid) (spent (numbers_end - r.side.memory.next) (regions_needed plan)) accepted)
-
 no_end : (r : RequesterState) (p : Result Plan TooLarge) → end_in (answer_by_plan r p) ≡ None
 no_end r (Err large) = refl
-no_end r (Ok plan) = unless (λ (s : Submission). end_in s ≡ None) (nat_le r.grant (length r.outstanding)) (submissions.Refused (refusals.NoCredit (length r.outstanding) r.grant)) (numbered r plan) refl
-    (if_numbered (λ (s : Submission). end_in s ≡ None) r plan (λ left need. refl) refl)
+no_end r (Ok plan) = answer_cases (λ (s : Submission). end_in s ≡ None) r plan refl (λ oldest. refl) (λ left need. refl) refl
 
 has_end : (r : RequesterState) (call : Call) (form : Form) (end : Option End) → end_in (answer_if r call form end) ≡ end
 has_end r call form (Some end) = refl
@@ -146,18 +130,26 @@ answers_end : (r : RequesterState) (call : Call) (form : Form) → end_in (answe
 unfolding answer_of
 answers_end r call form = has_end r call form r.side.ended
 
-credited_by_plan : (r : RequesterState) (p : Result Plan TooLarge) → length r.outstanding < r.grant → Credited (answer_by_plan r p)
-credited_by_plan r (Err large) credit = tt
-credited_by_plan r (Ok plan) credit = passes Credited (nat_le r.grant (length r.outstanding)) (submissions.Refused (refusals.NoCredit (length r.outstanding) r.grant)) (numbered r plan)
-    (lt-leb r.grant (length r.outstanding) credit) (if_numbered Credited r plan (λ left need. tt) tt)
+numbered : (r : RequesterState) (plan : Plan) → Credited (answer_by_numbers r plan)
+numbered r plan =
+    unless (nat_lt (numbers_end - r.next_xid) 1) (numbers_end - r.next_xid) 1 (unless_spent (numbers_end - r.side.memory.next) (regions_needed plan) (submissions.Accepted r.next_xid))
+    (unless (nat_lt (numbers_end - r.side.memory.next) (regions_needed plan)) (numbers_end - r.side.memory.next) (regions_needed plan) (submissions.Accepted r.next_xid) tt)
+  where
+    unless : (b : Bool) (left need : ℕ) (answer : Submission) → Credited answer → Credited (if b then submissions.Refused (refusals.Spent left need) else answer)
+    unless true left need answer h = tt
+    unless false left need answer h = h
 
-credited_if : (r : RequesterState) (call : Call) (form : Form) (end : Option End) → length r.outstanding < r.grant → Credited (answer_if r call form end)
-credited_if r call form (Some end) credit = tt
-credited_if r call form None credit = credited_by_plan r (plan_under r call form) credit
+credited_by_plan : (r : RequesterState) (p : Result Plan TooLarge) → r.side.ended ≡ None → may_submit r ≡ true → Credited (answer_by_plan r p)
+credited_by_plan r (Err large) none may = tt
+credited_by_plan r (Ok plan) none may = subst Credited (sym (answer_in_window r plan none may)) (numbered r plan)
 
-credited : (r : RequesterState) (call : Call) (form : Form) → length r.outstanding < r.grant → Credited (answer_of r call form)
+credited_if : (r : RequesterState) (call : Call) (form : Form) (end : Option End) → r.side.ended ≡ end → may_submit r ≡ true → Credited (answer_if r call form end)
+credited_if r call form (Some end) is may = tt
+credited_if r call form None is may = credited_by_plan r (plan_under r call form) is may
+
+credited : (r : RequesterState) (call : Call) (form : Form) → may_submit r ≡ true → Credited (answer_of r call form)
 unfolding answer_of
-credited r call form credit = credited_if r call form r.side.ended credit
+credited r call form may = credited_if r call form r.side.ended refl may
 
 abbrev NotMemory : Refused → Type 0
 NotMemory refusals.Memory = ⊥
@@ -169,26 +161,37 @@ SaysSo r call form why = why ≢ refusals.Memory → answer_of r call form ≡ s
 said : (r : RequesterState) (call : Call) (form : Form) (why : Refused) → NotMemory why → SaysSo r call form why → answer_of r call form ≡ submissions.Refused why
 said r call form why other says = says (λ same. subst NotMemory same other)
 
--- a call isn't refused with NoCredit while a credit is left, and never with Window, since the client has no number
-pub credit_left : (r : RequesterState) (call : Call) (form : Form) (why : Refused) → length r.outstanding < r.grant → SaysSo r call form why → HasCredit why
-credit_left r call form refusals.Memory credit says = tt
-credit_left r call form (refusals.Ended end) credit says = tt
-credit_left r call form (refusals.TooLarge need room) credit says = tt
-credit_left r call form (refusals.Spent left need) credit says = tt
-credit_left r call form (refusals.NoCredit out grant) credit says = subst Credited (said r call form (refusals.NoCredit out grant) tt says) (credited r call form credit)
-credit_left r call form (refusals.Window oldest next) credit says = subst Credited (said r call form (refusals.Window oldest next) tt says) (credited r call form credit)
+-- a call that may be submitted isn't refused with NoCredit or with Window
+pub credit_left : (r : RequesterState) (call : Call) (form : Form) (why : Refused) → may_submit r ≡ true → SaysSo r call form why → HasCredit why
+credit_left r call form refusals.Memory may says = tt
+credit_left r call form (refusals.Ended end) may says = tt
+credit_left r call form (refusals.TooLarge need room) may says = tt
+credit_left r call form (refusals.Spent left need) may says = tt
+credit_left r call form (refusals.NoCredit out grant) may says = subst Credited (said r call form (refusals.NoCredit out grant) tt says) (credited r call form may)
+credit_left r call form (refusals.Window oldest next) may says = subst Credited (said r call form (refusals.Window oldest next) tt says) (credited r call form may)
 
 none_memory : None ≡ Some ends.Memory → ⊥
 none_memory e = absurd cc
 
--- the calls that are outstanding, and the credits, of one that ran out of memory
-out_counts : (opened : LinkParameters) (link : ℕ) (r : RequesterSide) (run : List Mark) → IsOut opened link r run → (length r.state.outstanding ≡ calls_outstanding opened link run) × (r.state.grant ≡ credits_granted opened link run)
-unfolding calls_outstanding credits_granted
+-- the calls that it keeps, and the credits, of one that ran out of memory
+out_counts : (opened : LinkParameters) (link : ℕ) (r : RequesterSide) (run : List Mark) → IsOut opened link r run → (length r.state.outstanding ≡ calls_counted (client opened link run).state) × (r.state.grant ≡ credits_granted opened link run)
+unfolding credits_granted
 out_counts opened link r run out =
     let same : client opened link run ≡ live (record (client opened link out.stopped).state { written = out.stands.written }) = out.stands.same in (
-      out.stands.out.keeps.outstanding ∙ sym (ap (λ (e : EndState ClientState). length e.state.outstanding) same),
+      out.stands.out.keeps.outstanding ∙ numbered_length (client opened link out.stopped).state ∙ sym (ap (λ (e : EndState ClientState). calls_counted e.state) same),
       out.stands.out.keeps.grant ∙ sym (ap (λ (e : EndState ClientState). e.state.grant) same),
     )
+
+-- one that has ended tells only whether a credit is left
+ended_may : (r : RequesterState) (end : End) → r.side.ended ≡ Some end → may_submit r ≡ nat_lt (length r.outstanding) r.grant
+unfolding may_submit
+ended_may r end is =
+    ap (λ (o : Option End). may_submit_by o r.grant (length r.outstanding) (length r.side.send_queue.held == 0) (is_far r.side.terms.number r.next_xid (least_stored r.outstanding))) is
+    ∙ alone (nat_lt (length r.outstanding) r.grant)
+  where
+    alone : (b : Bool) → (b && true) ≡ b
+    alone true = refl
+    alone false = refl
 
 module _ {O C : Type 0} (taken : O → Option (List ℕ)) (faults : O → ℕ) (allows : Call → Form → Type 0) where
   client_refuses : (m : RequesterWithSink O C) (h : List Entry) (call : Call) (form : Form) (why : Refused) → Stands taken faults allows m h → end_in_refused why ≡ None → NotMemory why → SaysSo m.requester.state call form why → ClientRefuses why call form h
@@ -212,24 +215,25 @@ module _ {O C : Type 0} (taken : O → Option (List ℕ)) (faults : O → ℕ) (
   refused_is m h call form (refusals.Window oldest next) st says = client_refuses m h call form (refusals.Window oldest next) st refl tt says
   refused_is m h call form (refusals.Spent left need) st says = client_refuses m h call form (refusals.Spent left need) st refl tt says
 
-  -- whether a credit is left
-  pub says_credit : (m : RequesterWithSink O C) (h : List Entry) → Stands taken faults allows m h → SaysCredit (nat_lt (length m.requester.state.outstanding) m.requester.state.grant) h
+  -- whether a call may be submitted
+  pub says_credit : (m : RequesterWithSink O C) (h : List Entry) → Stands taken faults allows m h → SaysCredit (may_submit m.requester.state) h
   says_credit m h st other opened link before fits = by_out (is_out_of_memory m.stopped) refl where
-    by_out : (b : Bool) → is_out_of_memory m.stopped ≡ b → nat_lt (length m.requester.state.outstanding) m.requester.state.grant ≡ nat_lt (calls_outstanding opened link (run_of before 0 link h)) (credits_granted opened link (run_of before 0 link h))
+    by_out : (b : Bool) → is_out_of_memory m.stopped ≡ b → may_submit m.requester.state ≡ client_may_submit opened link (run_of before 0 link h)
     by_out true out = absurd (other (sym st.stopped ∙ out_is m.stopped out))
     by_out false out =
         let f = subst (λ b. RepresentsHistoryIf b st.initial m.requester h) out st.represents in
         let l = f.1 opened link before (fits_initial h st.initial opened link before st.is_initial fits) in
-        let counts = counts_as_client opened link m.requester (run_of before 0 link h) l.stands in
-        ap (λ (n : ℕ). nat_lt n m.requester.state.grant) counts.0 ∙ ap (λ (n : ℕ). nat_lt (calls_outstanding opened link (run_of before 0 link h)) n) counts.1
+        may_as_client opened link m.requester (run_of before 0 link h) l.stands
 
-  pub says_credit_out_of_memory : (m : RequesterWithSink O C) (h : List Entry) → Stands taken faults allows m h → SaysCreditOutOfMemory (nat_lt (length m.requester.state.outstanding) m.requester.state.grant) h
+  pub says_credit_out_of_memory : (m : RequesterWithSink O C) (h : List Entry) → Stands taken faults allows m h → SaysCreditOutOfMemory (may_submit m.requester.state) h
   says_credit_out_of_memory m h st memory =
       let f = subst (λ b. RepresentsHistoryIf b st.initial m.requester h) (ap is_out_of_memory (st.stopped ∙ memory)) st.represents in (
         f.1.0,
         λ opened link before fits.
             (let counts = out_counts opened link m.requester (run_of before f.1.0 link h) (f.1.1 opened link before (fits_initial h st.initial opened link before st.is_initial fits)) in
-            ap (λ (n : ℕ). nat_lt n m.requester.state.grant) counts.0 ∙ ap (λ (n : ℕ). nat_lt (calls_outstanding opened link (run_of before f.1.0 link h)) n) counts.1),
+            ended_may m.requester.state ends.Memory f.0
+            ∙ ap (λ (n : ℕ). nat_lt n m.requester.state.grant) counts.0
+            ∙ ap (λ (n : ℕ). nat_lt (calls_counted (client opened link (run_of before f.1.0 link h)).state) n) counts.1),
       )
 
   -- whether a call is outstanding
@@ -237,7 +241,7 @@ module _ {O C : Type 0} (taken : O → Option (List ℕ)) (faults : O → ℕ) (
   outstanding_is m h none some st opened link before fits =
       let f : RepresentsHistoryIf false st.initial m.requester h = subst (λ (o : Option Stop). RepresentsHistory st.initial m.requester o h) none st.represents in
       let l = f.1 opened link before (fits_initial h st.initial opened link before st.is_initial fits) in
-      subst (λ (n : ℕ). 0 < n) (counts_as_client opened link m.requester (run_of before 0 link h) l.stands).0 some
+      subst (λ (n : ℕ). 0 < n) (outstanding_as_client opened link m.requester (run_of before 0 link h) l.stands) some
 
   -- the history keeps the law
   pub law_of : (m : RequesterWithSink O C) (h : List Entry) → Stands taken faults allows m h → KeepsLaw h

@@ -54,7 +54,7 @@ IsCause (calls.TooLarge need room) call form history = ClientRefuses (refusals.T
 IsCause calls.Memory call form history = ⊤
 IsCause end call form history = LinkEnded end history
 
--- a refusal of a call while a credit is left, by a client without a number
+-- a refusal of a call while a credit is left and the next xid isn't too far above the least one
 abbrev pub HasCredit : Refused → Type 0
 HasCredit (refusals.NoCredit out grant) = ⊥
 HasCredit (refusals.Window oldest next) = ⊥

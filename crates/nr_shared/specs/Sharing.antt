@@ -4,7 +4,10 @@ use Rattle.nr_reduce.specs.declared.call.Call.{Call}
 use Rattle.nr_reduce.specs.declared.call.Form.{Form}
 use Rattle.nr_reduce.specs.declared.mark.LinkParameters.{LinkParameters}
 use Rattle.nr_reduce.specs.declared.mark.Mark.{Mark}
-use Rattle.nr_reduce.specs.Credits.{calls_outstanding, credits_granted}
+use Rattle.nr_reduce.specs.Credits.{credits_granted}
+use Rattle.nr_reduce.specs.Run.{client}
+use Rattle.nr_reduce.specs.SubmitAnswer.{calls_counted}
+use Rattle.nr_requester.specs.MaySubmit.{client_may_submit}
 use Rattle.nr_turnstile.specs.Passes.{Rests, Misses, home_of, id_of, seen_by}
 use Rattle.nr_shared.specs.declared.entry.Entry.{Entry}
 use Rattle.nr_shared.specs.declared.entry.Entry.TheVariants as entries
@@ -24,15 +27,16 @@ use Rattle.nr_shared.specs.Callers.{HasOpenCall, IsCaller, KeepsLaw, KeepsOpen}
 use Rattle.nr_shared.specs.Ending.{IsRefused}
 use Rattle.nr_shared.specs.Waiting.{IsTakeTurn, OpensCall, RevokesCall}
 
--- whether a credit is left, by the run of a history at which memory didn't run out
+-- Whether a call may be submitted, by the run of a history at which memory didn't run out: a credit is left, and, if the client has a number and hasn't
+-- ended, the next xid isn't too far above the least one.
 abbrev pub SaysCredit : Bool → List Entry → Type 0
 SaysCredit has history = stop_of history ≢ Some causes.Memory → (opened : LinkParameters) (link : ℕ) (before : List Mark) → FitsHistory history opened link before →
-    has ≡ nat_lt (calls_outstanding opened link (run_of before 0 link history)) (credits_granted opened link (run_of before 0 link history))
+    has ≡ client_may_submit opened link (run_of before 0 link history)
 
--- the same if memory ran out: by what was fed before, of which `n` bytes are of the piece at which it ran out
+-- The same if memory ran out: only whether a credit is left, by what was fed before, of which `n` bytes are of the piece at which it ran out.
 abbrev pub SaysCreditOutOfMemory : Bool → List Entry → Type 0
 SaysCreditOutOfMemory has history = stop_of history ≡ Some causes.Memory → (n : ℕ) × ((opened : LinkParameters) (link : ℕ) (before : List Mark) → FitsHistory history opened link before →
-    has ≡ nat_lt (calls_outstanding opened link (run_of before n link history)) (credits_granted opened link (run_of before n link history)))
+    has ≡ nat_lt (calls_counted (client opened link (run_of before n link history)).state) (credits_granted opened link (run_of before n link history)))
 
 module _ {I O C : Type 0} where
   -- The pass is a caller's, of this shared requester, and outside of both turns. Its source is that of this requester. What it has seen keeps

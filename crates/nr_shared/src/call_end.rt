@@ -32,7 +32,7 @@ pub enum CallEnd {
 impl CallEnd {
     ghost use Rattle.nr_shared.specs.Ending.{HasCredit, IsCause, IsRefused};
 
-    /// The end of a call that was refused so while a credit is left, by a client without a number.
+    /// The end of a call that was refused so while a credit is left and the next xid isn't too far above the least one.
     pub(crate) fn of_refused(refused: Refused) -> CallEnd
         requires { HasCredit refused }
         ensures { (call : Call) (form : Form) (history : List Entry) → IsRefused refused call form history → IsCause result call form history }

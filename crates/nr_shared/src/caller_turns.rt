@@ -35,7 +35,7 @@ pub enum PollTurn {
 pub enum SubmitTurn {
     /// The call was accepted.
     Accepted(Ticket),
-    /// No credit is left.
+    /// No credit is left, or the next xid is too far above the least one.
     NoCredit(Call, Form),
     /// The call isn't accepted.
     Ended(CallEnd),
@@ -44,9 +44,9 @@ pub enum SubmitTurn {
 /// Whether a call can be submitted.
 #[derive(Clone, Copy)]
 pub enum CreditState {
-    /// A credit is left.
+    /// A credit is left, and the next xid isn't too far above the least one.
     Left,
-    /// No credit is left.
+    /// No credit is left, or it is.
     NoCredit,
     /// The link has ended.
     Ended(CallEnd),
@@ -83,7 +83,7 @@ pub(crate) fn poll_under<O: Sink, C: CallRule>(
     }
 }
 
-/// Whether a credit is left, or the link has ended.
+/// Whether a call may be submitted, or the link has ended.
 fn credit_state_under<O: Sink, C: CallRule>(turn: &mut MainTurn<'_, O, C>) -> CreditState
     requires ready { IsReady O.taken O.faults C.allows turn.old }
     ensures same { IsSameTurn turn.old turn.new }
@@ -103,7 +103,7 @@ fn credit_state_under<O: Sink, C: CallRule>(turn: &mut MainTurn<'_, O, C>) -> Cr
     }
 }
 
-/// Writes the output that is due. Then, if a credit is left, submits a call and writes it.
+/// Writes the output that is due. Then, if a call may be submitted, submits this one and writes it.
 pub(crate) fn submit_if_credit_under<O: Sink, C: CallRule>(
     turn: &mut MainTurn<'_, O, C>,
     call: Call,
@@ -134,7 +134,7 @@ pub(crate) fn submit_if_credit_under<O: Sink, C: CallRule>(
     }
 }
 
-/// Whether more of the stream is needed: nothing has ended, a call is outstanding, and the answer of the call isn't there, or no credit is left.
+/// Whether more of the stream is needed: nothing has ended, a call is outstanding, and the answer of the call isn't there, or no call may be submitted.
 pub(crate) fn needs_input_under<O: Sink, C: CallRule>(
     turn: &mut MainTurn<'_, O, C>,
     ticket: Option<&Ticket>,
@@ -160,7 +160,7 @@ pub(crate) fn needs_input_under<O: Sink, C: CallRule>(
     }
 }
 
-/// Whether a credit is left.
+/// Whether a call may be submitted.
 pub(crate) fn credit_under<O: Sink, C: CallRule>(turn: &mut MainTurn<'_, O, C>) -> bool
     requires ready { IsReady O.taken O.faults C.allows turn.old }
     ensures same { IsSameTurn turn.old turn.new }

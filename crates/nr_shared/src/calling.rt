@@ -21,8 +21,8 @@ use nr_requester::{Done, Ticket};
 use std::sync::Wait;
 
 impl<I: Source, O: Sink, C: CallRule> SharedRequester<I, O, C> {
-    /// Makes a call that the rule allows, and waits for its outcome. It is submitted once a credit is left. If there is no outcome, a call that
-    /// was submitted is forgotten.
+    /// Makes a call that the rule allows, and waits for its outcome. It is submitted once a credit is left, and, if the client has a
+    /// number, its xid is less than 64 above the least one of an outstanding call. If there is no outcome, a call that was submitted is forgotten.
     pub fn call<R: Wait>(
         &self,
         rt: &R,
@@ -47,7 +47,7 @@ impl<I: Source, O: Sink, C: CallRule> SharedRequester<I, O, C> {
         }
     }
 
-    /// Submits a call that the rule allows, once a credit is left. `wait`, `forget` or `try_revoke` takes its ticket.
+    /// Submits a call that the rule allows, once it can be, as `call` does. `wait`, `forget` or `try_revoke` takes its ticket.
     pub fn submit<R: Wait>(
         &self,
         rt: &R,
@@ -132,7 +132,8 @@ impl<I: Source, O: Sink, C: CallRule> SharedRequester<I, O, C> {
         self.forget_turn(rt, &mut pass.main, ticket);
     }
 
-    /// Whether a credit is left at this moment.
+    /// Whether at this moment a credit is left and, if the client has a number, the next xid is less than 64 above the least one of an
+    /// outstanding call. If it has ended, only whether a credit is left.
     pub fn has_credit<R: Wait>(&self, rt: &R, pass: &mut Pass<I, O, C>) -> bool
         requires { SharedRests self.now pass.old }
         ensures rests { SharedRests self.now pass.new }

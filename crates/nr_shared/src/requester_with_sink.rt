@@ -1,11 +1,12 @@
 //! A requester with its sink. Each call of it adds entries to one history.
 
-ghost use Rattle.std.specs.Prelude.{◌≡◌, ◌≢◌, ℕ, ◌+◌, ◌<◌, ◌≤◌, length, None, Some, true, is_some, [], ◌∷◌, ◌++◌, List, nat_lt, IfOk, IfErr, IfSome, OnErr};
+ghost use Rattle.std.specs.Prelude.{◌≡◌, ◌≢◌, ℕ, ◌+◌, ◌<◌, ◌≤◌, length, None, Some, true, is_some, [], ◌∷◌, ◌++◌, List, IfOk, IfErr, IfSome, OnErr};
 ghost use Rattle.nr_rpc.specs.Credential.{CanWriteCred};
 ghost use Rattle.nr_reduce.specs.declared.call.Submission.TheVariants as submissions;
 ghost use Rattle.nr_reduce.specs.declared.call.Refused.TheVariants as refusals;
 ghost use Rattle.nr_reduce.specs.declared.call.Call.{Call};
 ghost use Rattle.nr_requester.specs.Answers.{answer_of};
+ghost use Rattle.nr_requester.specs.MaySubmit.{may_submit};
 ghost use Rattle.nr_requester.specs.OpenCalls.{found_answer};
 
 use crate::call_end::CallEnd;
@@ -118,11 +119,11 @@ impl<O: Sink, C: CallRule> RequesterWithSink<O, C> {
         }
     }
 
-    /// Whether a credit is left.
+    /// Whether a credit is left, and the next xid isn't too far above the least one.
     pub(crate) fn has_credit(&self) -> bool
-        ensures { result ≡ nat_lt (length self.now.requester.state.outstanding) self.now.requester.state.grant }
+        ensures { result ≡ may_submit self.now.requester.state }
     {
-        self.requester.outstanding() < self.requester.grant() as usize
+        self.requester.may_submit()
     }
 
     /// Submits a call.

@@ -41,7 +41,7 @@ pub record ReadsAhead {V : Type 0} (rel : CallRelations V) (v : V) (size at next
   pub next_is : next ≡ next_offset size at xids
   pub open_all : AreOpen rel v xids
 
--- the next piece is asked for; or it is not, since all are, or no credit is left, or the maximum of READs is outstanding
+-- the next piece is asked for; or it is not, since all are, or no call may be submitted, or the maximum of READs is outstanding
 abbrev pub MayAsk : {V : Type 0} → CallRelations V → (size next : ℕ) → List ℕ → V → Type 0
 MayAsk rel size next xids v = (next < size) × ((xids ≡ []) ⊎ (rel.has_credit v × (length xids < reads_max)))
 

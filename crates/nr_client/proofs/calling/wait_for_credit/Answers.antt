@@ -1,4 +1,5 @@
-use Rattle.std.proofs.Common.{◌≤◌, length, arith, refl, inr, inl, ◌∙◌}
+use Rattle.std.proofs.Common.{arith, refl, inr, inl, ◌∙◌}
+use Rattle.nr_client.specs.Steps.{LacksCredit}
 use Rattle.nr_client.specs.Transfers.{link_bytes}
 use Rattle.nr_client.proofs.Turns.{never_waits, no_turn, same_sink, same_source, started_with, turn_to, turns_compose}
 use Rattle.nr_client.proofs.calling.wait_for_credit.Goals as goal
@@ -14,7 +15,7 @@ returns-in-Err-clause-err g c =
 pub returns-in-Err-clause-at_once : goal.returns-in-Err-clause-at_once
 returns-in-Err-clause-at_once g c credit =
     let (fits, tickets, sources, sinks, at_once, started, goes) = c.loop-requester.invariant in
-    let none : c.loop-requester.requester.state.grant ≤ length c.loop-requester.requester.state.outstanding = c.lacks_credit.ensures.lacks c.loop-requester-test.true in
+    let none : LacksCredit c.loop-requester.requester = c.lacks_credit.ensures.lacks c.loop-requester-test.true in
     absurd (never_waits c.args.requester.now c.loop-requester.requester (at_once credit).0 credit none)
 
 pub returns-in-Err-clause-source_count : goal.returns-in-Err-clause-source_count
@@ -37,7 +38,7 @@ loop-requester-smaller g c =
 pub loop-requester-preserved : goal.loop-requester-preserved
 loop-requester-preserved g c =
     let (fits, tickets, sources, sinks, at_once, started, goes) = c.loop-requester.invariant in
-    let none : c.loop-requester.requester.state.grant ≤ length c.loop-requester.requester.state.outstanding = c.lacks_credit.ensures.lacks c.loop-requester-test.true in (
+    let none : LacksCredit c.loop-requester.requester = c.lacks_credit.ensures.lacks c.loop-requester-test.true in (
       c.in-Ok.ensures.fits,
       λ xid. c.in-Ok.ensures.tickets xid ∙ tickets xid,
       c.in-Ok.ensures.source_count ∙ sources,

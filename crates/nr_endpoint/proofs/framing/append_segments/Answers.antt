@@ -1,4 +1,4 @@
-use Rattle.std.proofs.Common.{◌≡◌, ◌≤◌, ◌<◌, ◌+◌, ◌*◌, length, refl, arith}
+use Rattle.std.proofs.Common.{◌≡◌, ◌≤◌, ◌<◌, ◌+◌, ◌*◌, length, refl, arith, ◌∙◌}
 use Rattle.std.specs.Prelude.{min}
 use Rattle.std.proofs.lemmas.List.{append-nil}
 use Rattle.nr_link.specs.Limits.{segment_max}
@@ -7,7 +7,7 @@ use Rattle.nr_endpoint.proofs.Cuts.{pieces_none, payload_short, writable_from, p
 use Rattle.nr_endpoint.proofs.framing.append_segments.Goals as goal
 
 pub loop-i-init : goal.loop-i-init
-loop-i-init c = record { items = rw (pieces_none c.args.operation c.args.bytes.now, append-nil) refl; spare = omega arith }
+loop-i-init c = record { items = rw (pieces_none c.args.operation c.args.bytes.now, append-nil) refl; spare = omega arith; kept = refl }
 
 pub append_segment-requires-clause-writable : goal.append_segment-requires-clause-writable
 append_segment-requires-clause-writable c =
@@ -27,6 +27,7 @@ loop-i-preserved c =
     record {
       items = piece_pushed _ _ _ _ c.args.operation c.args.bytes.now c.loop-i.i c.loop-i.invariant.items c.append_segment.ensures.bytes is;
       spare = spare_after _ c.args.operation _ _ c.args.bytes.now c.loop-i.i _ _ _ is c.loop-i.invariant.spare c.append_segment.ensures.spare;
+      kept = c.append_segment.ensures.kept ∙ c.loop-i.invariant.kept;
     }
 
 pub returns-clause-bytes : goal.returns-clause-bytes

@@ -8,4 +8,5 @@ abbrev pub invariant-loop-i : goal.invariant-loop-i
 invariant-loop-i l = record {
   items : l.out.items ≡ l.initial.out.items ++ pieces l.operation l.bytes l.i;
   spare : l.initial.out.spare ≤ l.out.spare + (27 * l.i + min (length l.bytes) (segment_max * l.i));
+  kept : l.out.kept ≡ l.initial.out.kept;
 }

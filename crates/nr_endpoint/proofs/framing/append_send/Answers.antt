@@ -6,8 +6,8 @@ use Rattle.nr_wire.specs.Segment.Segment.{Untagged}
 use Rattle.nr_endpoint.proofs.Cuts.{send_pushed}
 use Rattle.nr_endpoint.proofs.framing.append_send.Goals as goal
 
-pub returns : goal.returns
-returns c =
+pub returns-clause-bytes : goal.returns-clause-bytes
+returns-clause-bytes c =
     send_pushed _ c.args.out.now.items c.as_slice.result.now c.args.front.now c.args.stream.now c.segment_tail.result.now c.args.named c.args.msn c.requires.size
     (c.as_slice.ensures.value ∙ c.untagged_header-header.ensures.bytes (c.args.front.now ++ c.args.stream.now) (length-append c.args.front.now c.args.stream.now)
     ∙ (λ i. segment_header (Untagged true (c.send_opening-opcode.ensures.opcode i) (c.send_opening-opcode.ensures.word i) QUEUE_SEND c.args.msn 0 (c.args.front.now ++ c.args.stream.now))))

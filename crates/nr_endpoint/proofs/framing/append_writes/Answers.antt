@@ -22,4 +22,5 @@ loop-write-preserved c =
     record {
       bytes = write_goes c.args.writes.now c.loop-write.write-index d _ c.loop-write.out.items c.append_segments.new.out.items c.loop-write-test.true c.loop-write.invariant.bytes is;
       spare = omega (arith, c.loop-write.invariant.spare, c.append_segments.ensures.spare, writes_room_next 27 c.args.writes.now c.loop-write.write-index d c.loop-write-test.true);
+      kept = c.append_segments.ensures.kept ∙ c.loop-write.invariant.kept;
     }

@@ -16,6 +16,7 @@ loop-count-preserved g c =
     record {
       count = omega (arith, bound, length-drop at bytes, so_far.count);
       left = c.advance.ensures.items ∙ ap (drop n) so_far.left ∙ drop-drop n at bytes;
+      spare = c.advance.ensures.spare ∙ so_far.spare;
       took = rw (take-add at n bytes) (Appends-trans _ _ _ (take at bytes) (take n (drop at bytes)) so_far.took took);
       faults = write.counted ∙ so_far.faults;
     }

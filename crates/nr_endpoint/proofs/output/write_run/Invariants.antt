@@ -6,6 +6,7 @@ abbrev pub invariant-loop-count : goal.invariant-loop-count
 invariant-loop-count g l = record {
   count : l.count ≤ length l.initial.run.items;
   left : l.run.items ≡ drop l.count l.initial.run.items;
+  spare : l.run.spare ≡ l.initial.run.spare;
   took : Appends (g.K.Sink.taken l.initial.sink) (g.K.Sink.taken l.sink) (take l.count l.initial.run.items);
   faults : g.K.Sink.faults l.sink ≡ g.K.Sink.faults l.initial.sink;
 }

@@ -1,6 +1,6 @@
 use Rattle.nr_reduce.proofs.Keeping.{kept_judges, kept_responds, kept_answers, kept_counts}
 use Rattle.nr_reduce.proofs.Releasing.{kept_stays, kept_revokes, kept_hands_back, kept_completes}
-use Rattle.nr_reduce.proofs.Submits.{kept_places, kept_writes, kept_greets, kept_submits}
+use Rattle.nr_reduce.proofs.Submits.{kept_places, kept_writes, kept_greets, kept_resends, kept_submits}
 use Rattle.nr_reduce.proofs.Taking.{kept_takes, kept_ends}
 use Rattle.nr_reduce.proofs.standing_laws.clients_keep_enough.Goals as goal
 
@@ -42,6 +42,9 @@ returns-clause-written c = kept_writes
 
 pub returns-clause-greeted : goal.returns-clause-greeted
 returns-clause-greeted c = kept_greets
+
+pub returns-clause-resent : goal.returns-clause-resent
+returns-clause-resent c = kept_resends
 
 pub returns-clause-submitted : goal.returns-clause-submitted
 returns-clause-submitted c = kept_submits

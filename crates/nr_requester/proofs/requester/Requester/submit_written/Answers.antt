@@ -4,7 +4,7 @@ use Rattle.nr_reduce.specs.declared.call.Refused.{Refused}
 use Rattle.nr_reduce.specs.CallOutlines.{outline_plan}
 use Rattle.nr_requester.proofs.Views.{if_ok, if_err}
 use Rattle.nr_requester.proofs.Within.{call_small}
-use Rattle.nr_requester.proofs.Answered.{is_plan_lem, live_answer, accepted_answer, refused_answer, too_large_answer}
+use Rattle.nr_requester.proofs.Answered.{is_plan_lem, again_lem, live_answer, accepted_answer, refused_answer, too_large_answer}
 use Rattle.nr_requester.proofs.requester.Requester.submit_written.Goals as goal
 
 pub returns-in-Ok-clause-accepted : goal.returns-in-Ok-clause-accepted
@@ -31,3 +31,7 @@ accept-requires-clause-small c =
 pub accept-requires-clause-planned : goal.accept-requires-clause-planned
 accept-requires-clause-planned c =
     is_plan_lem c.args.self.now.state c.args.call c.args.form.now (outline_plan (c.args.head.now ++ c.args.call.args) c.in-Ok.outline) c.planned.ensures.short c.in-Ok.ensures.outline
+
+pub accept-requires-clause-again : goal.accept-requires-clause-again
+accept-requires-clause-again c =
+    again_lem c.args.self.now.state c.args.call c.args.form.now (outline_plan (c.args.head.now ++ c.args.call.args) c.in-Ok.outline) c.planned.ensures.short c.in-Ok.ensures.outline

@@ -4,7 +4,7 @@ use Rattle.nr_wire.specs.declared.stream.Awaited.TheVariants.{Hello as HelloFrom
 use Rattle.nr_wire.proofs.Frames.{partial_nil}
 use Rattle.nr_endpoint.specs.LinkState.{initial_link}
 use Rattle.nr_endpoint.specs.Calls.{after_calls}
-use Rattle.nr_endpoint.proofs.endpoint.Endpoint.open.Goals as goal
+use Rattle.nr_endpoint.proofs.endpoint.Endpoint.with_earlier.Goals as goal
 
 pub invariant_of-result : goal.invariant_of-result
 invariant_of-result c = record {

@@ -1,0 +1,67 @@
+-- What a requester keeps of links that follow on one another: of the present one, and of those that it left.
+use Rattle.std.specs.Prelude.{◌≡◌, ℕ, ◌+◌, ◌≤◌, min, Bool, true, false, not, ◌&&◌, List, [], ◌∷◌, ◌++◌, map, is_some}
+use Rattle.std.specs.List.{AllByRecursion, filter}
+use Rattle.nr_wire.specs.declared.hello.Side.TheVariants.{Initiator}
+use Rattle.nr_reduce.specs.declared.mark.Mark.{Mark}
+use Rattle.nr_reduce.specs.declared.mark.LinkParameters.{LinkParameters}
+use Rattle.nr_reduce.specs.Asked.{as_accepted, client_calls}
+use Rattle.nr_reduce.specs.Events.{events}
+use Rattle.nr_reduce.specs.SubmitAnswer.{calls_to_resend}
+use Rattle.nr_reduce.specs.Run.{client}
+use Rattle.nr_requester.specs.declared.answer.AnsweredCall.{AnsweredCall}
+use Rattle.nr_requester.specs.RequesterState.{RequesterState, RequesterSide}
+use Rattle.nr_requester.specs.CountedMarks.{marks_max, marks_of}
+use Rattle.nr_requester.specs.KeptAnswers.{HandsBack, IsAsked, completed_of, is_due}
+use Rattle.nr_requester.specs.OpenCalls.{found_answer}
+use Rattle.nr_requester.specs.Standing.{AnswersWith, KeepsClient, RequesterRepresents}
+
+-- the answers that belong to one link, and a requester with these alone
+abbrev pub own_answers : (ℕ → Bool) → RequesterState → List AnsweredCall
+own_answers is_own r = filter (λ a. is_own a.xid) r.answered
+
+abbrev pub own_side : (ℕ → Bool) → RequesterSide → RequesterSide
+own_side is_own h = record h { state = record h.state { answered = own_answers is_own h.state } }
+
+-- ---- The present link
+
+-- A call is one of the present link unless it was answered before that began: so each that is outstanding or still comes.
+pub record HasOwnCalls (is_own : ℕ → Bool) (r : RequesterState) : Type 0 where
+  pub outstanding : AllByRecursion (λ c. is_own c.xid ≡ true) r.outstanding
+  pub to_come : (xid : ℕ) → r.next_xid ≤ xid → is_own xid ≡ true
+
+-- It stands for these marks of its present link, which may be one that was reopened: it keeps their client, and the answers that belong to the link;
+-- and it counts them, beside the marks that it had made before the link began. All calls that could be sent again were.
+pub record RequesterKeeps (is_own : ℕ → Bool) (earlier : ℕ) (opened : LinkParameters) (link : ℕ) (h : RequesterSide) (run : List Mark) : Type 0 where
+  pub keeps : KeepsClient opened link h run
+  pub calls : HasOwnCalls is_own h.state
+  pub answers : AnswersWith (map as_accepted opened.resumed) opened link (own_side is_own h) run
+  pub counted : h.marks ≡ min (earlier + marks_of link run) marks_max
+  pub resent : calls_to_resend (client opened link run) ≡ []
+
+-- For every list of marks that the first one stood for, the second stands for that list with one mark more.
+abbrev pub KeepsOn : RequesterSide → (ℕ → Mark) → RequesterSide → Type 0
+KeepsOn before mark after = (is_own : ℕ → Bool) (earlier : ℕ) (opened : LinkParameters) (link : ℕ) (run : List Mark) →
+    RequesterKeeps is_own earlier opened link before run → RequesterKeeps is_own earlier opened link after (run ++ mark link ∷ [])
+
+-- ---- A link that it left
+
+-- It keeps the answers of a link that it left after some of these marks: the outcomes that are due, each with its call and its buffers. No call that
+-- is outstanding or still comes belongs to that link.
+pub record KeepsEarlier (is_own : ℕ → Bool) (opened : LinkParameters) (link : ℕ) (h : RequesterSide) (run : List Mark) : Type 0 where
+  pub outstanding : AllByRecursion (λ c. is_own c.xid ≡ false) h.state.outstanding
+  pub to_come : (xid : ℕ) → h.state.next_xid ≤ xid → is_own xid ≡ false
+  pub outcomes : map completed_of (own_answers is_own h.state) ≡ filter (λ c. is_due link run c.xid) (client opened link run).state.outcomes
+  pub hands_back : AllByRecursion (HandsBack opened (events link Initiator run)) (own_answers is_own h.state)
+  pub calls : AllByRecursion (λ a. IsAsked (client_calls opened link run) a.xid a.call) (own_answers is_own h.state)
+
+-- A call that was answered when a link was left belongs to the link on which its answer came; all others to those that follow.
+abbrev pub next_own : RequesterState → ℕ → Bool
+next_own r xid = not (is_some (found_answer xid r))
+
+abbrev pub earlier_own : (ℕ → Bool) → RequesterState → ℕ → Bool
+earlier_own is_own r xid = is_own xid && is_some (found_answer xid r)
+
+-- ---- A requester whose link is the first
+
+abbrev pub FirstLinksAreKept : Type 0
+FirstLinksAreKept = (opened : LinkParameters) (link : ℕ) (h : RequesterSide) (run : List Mark) → RequesterRepresents opened link h run → RequesterKeeps (λ xid. true) 0 opened link h run

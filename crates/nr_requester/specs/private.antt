@@ -1,0 +1,2 @@
+-- Definitions that only private code cites.
+pub mod Resuming

@@ -1,0 +1,277 @@
+//! A requester leaves its connection and begins the next one.
+
+ghost use Rattle.std.specs.Prelude.{◌≡◌, ℕ, ◌+◌, ◌^◌, ◌<◌, ◌≤◌, [], ◌++◌, length, map, take, drop, option_map, Some, None, IfSome, IfErr, OnOk, OnErr};
+ghost use Rattle.std.specs.List.{AllByRecursion};
+ghost use Rattle.nr_reduce.specs.declared.call.Refused.TheVariants as refusals;
+ghost use Rattle.nr_reduce.specs.Plans.{has_segment, one_if};
+ghost use Rattle.nr_reduce.specs.PlansByLists.{write_lengths};
+ghost use Rattle.nr_requester.specs.AfterCalls.{stored_call};
+ghost use Rattle.nr_requester.specs.Fed.{fed_bytes};
+ghost use Rattle.nr_requester.specs.HeldBytes.{receive_max};
+ghost use Rattle.nr_requester.specs.HeldClaims.{OffersOwn};
+ghost use Rattle.nr_requester.specs.OpenCalls.{KeepsTickets};
+ghost use Rattle.nr_requester.specs.RequesterState.{awaited_call};
+ghost use Rattle.nr_requester.specs.Reopening.{calls_again_from, stags_for_call, stags_for_calls, reopen_refusal, after_reopen, ReopenStands};
+ghost use Rattle.nr_requester.specs.Views.{stored_view};
+ghost use Rattle.nr_requester.specs.private.Resuming.{AreResumed, awaited_calls, with_calls, made_again, resumed_link};
+
+use crate::again::resume_call;
+use crate::outstanding::{OutstandingCall, given_by};
+use crate::requester::Requester;
+use crate::submitting::{Sent, SentCall};
+use nr_endpoint::Endpoint;
+use nr_reduce::{Call, Refused};
+use nr_xdr::Memory;
+use std::alloc::Global;
+
+/// The call, if its owner awaits the answer.
+fn awaited(stored: &OutstandingCall) -> Option<&Call>
+    ensures { option_map (λ call. call.now) result ≡ awaited_call (stored_view stored.now) }
+{
+    if stored.is_forgotten {
+        return None;
+    }
+    match &stored.call {
+        Some(call) => Some(call),
+        None => None,
+    }
+}
+
+// ---- How many STags the calls need
+
+fn region_if(len: usize) -> u64
+    ensures is { (lengths : List ℕ) → length lengths ≡ len → result ≡ one_if (has_segment (Some lengths)) }
+    ensures one { result ≤ 1 }
+{
+    if len == 0 { 0 } else { 1 }
+}
+
+/// How many regions the read chunk of a call has.
+fn read_regions(stored: &OutstandingCall) -> u64
+    ensures is { (payload : List ℕ) → result ≡ one_if (has_segment (Some (plan_by_lists payload stored.now.read_at stored.now.offered).read)) }
+    ensures one { result ≤ 1 }
+{
+    match stored.read_at {
+        Some(_) => region_if(stored.offered.as_slices().read.len()),
+        None => 0,
+    }
+}
+
+/// How many regions its write chunk has.
+fn write_regions(stored: &OutstandingCall) -> u64
+    ensures is { result ≡ one_if (has_segment (write_lengths stored.now.offered.write)) }
+    ensures one { result ≤ 1 }
+{
+    match stored.offered.as_slices().write.first() {
+        Some(chunk) => region_if(chunk.len()),
+        None => 0,
+    }
+}
+
+/// How many regions its reply chunk has.
+fn reply_regions(stored: &OutstandingCall) -> u64
+    ensures is { result ≡ one_if (has_segment (option_map segment_lengths stored.now.offered.reply)) }
+    ensures one { result ≤ 1 }
+{
+    match stored.offered.as_slices().reply {
+        Some(segments) => region_if(segments.len()),
+        None => 0,
+    }
+}
+
+/// How many STags a call needs to be sent again.
+fn stags_for_call(stored: &OutstandingCall) -> u64
+    ensures is { result ≡ stags_for_call (stored_view stored.now) (awaited_call (stored_view stored.now)) }
+    ensures few { result ≤ 3 }
+{
+    match awaited(stored) {
+        Some(_) => read_regions(stored) + write_regions(stored) + reply_regions(stored),
+        None => 0,
+    }
+}
+
+fn stags_for_calls(calls: &[OutstandingCall]) -> u64
+    requires { length calls.now ≤ credits_max }
+    ensures { result ≡ stags_for_calls (map stored_view calls.now) }
+{
+    let mut sum: u64 = 0;
+    'calls: for i in 0..calls.len() {
+        sum += stags_for_call(&calls[i]);
+    }
+    sum
+}
+
+// ---- The calls are made again
+
+/// Makes a call again, if its owner awaits the answer, without the call itself. Nothing changes if memory runs out but the endpoint.
+fn resume_one(
+    alloc: Global,
+    endpoint: &mut Endpoint,
+    credit: u32,
+    receive_length: u32,
+    stored: &OutstandingCall,
+    made: &mut Vec<OutstandingCall>,
+) -> Result<(), Memory>
+    requires receive { receive_length ≤ receive_max }
+    requires live { endpoint.old.link.state.ended ≡ None }
+    requires offers { OffersOwn stored.now }
+    requires stags { endpoint.old.link.state.memory.next + stags_for_call (stored_view stored.now) (awaited_call (stored_view stored.now)) ≤ 2 ^ 32 }
+    ensures made { OnOk result (IsMadeAgain credit receive_length stored.now endpoint.old endpoint.new made.old.items made.new.items) }
+{
+    let Some(call) = awaited(stored) else {
+        return Ok(());
+    };
+    let SentCall {
+        sent: Sent { lists, claims },
+        room,
+    } = resume_call(alloc, endpoint, credit, receive_length, call, stored)?;
+    let given = given_by(&claims);
+    let send = made.len() as u64;
+    made.push(OutstandingCall {
+        xid: stored.xid,
+        send,
+        call: None,
+        is_forgotten: false,
+        read_at: stored.read_at,
+        offered: lists,
+        given,
+        claims,
+        room,
+    })?;
+    Ok(())
+}
+
+/// Makes all calls again that go on, in their order, without the calls themselves.
+fn resume_all(
+    alloc: Global,
+    endpoint: &mut Endpoint,
+    credit: u32,
+    receive_length: u32,
+    next_xid: u64,
+    calls: &[OutstandingCall],
+    made: &mut Vec<OutstandingCall>,
+) -> Result<(), Memory>
+    requires receive { receive_length ≤ receive_max }
+    requires offers { AllByRecursion OffersOwn calls.now }
+    requires stags { endpoint.old.link.state.memory.next + stags_for_calls (map stored_view calls.now) ≤ 2 ^ 32 }
+    requires none { made.old.items ≡ [] }
+    requires begun { AreResumed receive_length next_xid endpoint.old calls.now 0 [] }
+    ensures resumed { OnOk result (AreResumed receive_length next_xid endpoint.new calls.now (length calls.now) (with_calls (awaited_calls calls.now) made.new.items)) }
+    ensures again { OnOk result (made_again endpoint.new (with_calls (awaited_calls calls.now) made.new.items) ≡ calls_again_from credit (map stored_view calls.now) (made_again endpoint.old [])) }
+    ensures link { OnOk result (endpoint.new.link ≡ resumed_link endpoint.old.link (made_again endpoint.new [])) }
+    ensures count { OnOk result (length made.new.items ≡ length (awaited_calls calls.now)) }
+{
+    'calls: for i in 0..calls.len() {
+        resume_one(alloc, endpoint, credit, receive_length, &calls[i], made)?;
+    }
+    Ok(())
+}
+
+/// Moves the calls that go on to what was made again of them.
+fn move_calls(calls: &mut Vec<OutstandingCall>, made: &mut Vec<OutstandingCall>)
+    requires { length made.old.items ≡ length (awaited_calls calls.old.items) }
+    ensures { made.new.items ≡ with_calls (awaited_calls calls.old.items) made.old.items }
+{
+    let mut at = 0;
+    'calls: for i in 0..calls.len() {
+        if let Some(call) = take_awaited(&mut calls[i]) {
+            made[at].call = Some(call);
+            at += 1;
+        }
+    }
+}
+
+/// Takes a call out of what is kept of it, if its owner awaits the answer.
+fn take_awaited(stored: &mut OutstandingCall) -> Option<Call>
+    ensures { result ≡ awaited_call (stored_view stored.old) }
+{
+    if stored.is_forgotten {
+        return None;
+    }
+    stored.call.take()
+}
+
+impl Requester {
+    /// Why it doesn't leave its connection, if it doesn't.
+    fn reopen_refusal(&self) -> Option<Refused>
+        ensures refusal { result ≡ reopen_refusal self.now.state }
+        ensures live { result ≡ None → self.now.state.side.ended ≡ None }
+        ensures left { result ≡ None → self.now.state.side.memory.next + stags_for_calls self.now.state.outstanding ≤ 2 ^ 32 }
+    {
+        if let Some(end) = self.end() {
+            return Some(Refused::Ended(end));
+        }
+        let left = self.endpoint.regions().stags_left();
+        let need = stags_for_calls(self.outstanding.as_slice());
+        if left < need {
+            return Some(Refused::Spent { left, need });
+        }
+        None
+    }
+
+    /// The endpoint of the next connection, and what goes on of the calls, without the calls themselves.
+    fn next_link(&self) -> Result<(Endpoint, Vec<OutstandingCall>), Memory>
+    {
+        let mut endpoint = Endpoint::open_again(
+            self.alloc,
+            1,
+            NUMBERS_END - self.endpoint.regions().stags_left(),
+            self.endpoint.terms(),
+            self.endpoint.last_agreement(),
+        )?;
+        let mut made = Vec::new(self.alloc);
+        match resume_all(
+            self.alloc,
+            &mut endpoint,
+            self.wished,
+            self.receive_length,
+            self.next_xid,
+            self.outstanding.as_slice(),
+            &mut made,
+        ) {
+            Ok(()) => Ok((endpoint, made)),
+            Err(memory) => {
+                drop(endpoint);
+                drop(made);
+                Err(memory)
+            }
+        }
+    }
+
+    /// Goes on with this endpoint and what was made again of the calls.
+    fn go_on(&mut self, endpoint: Endpoint, mut made: Vec<OutstandingCall>) {
+        move_calls(&mut self.outstanding, &mut made);
+        self.outstanding = made;
+        self.endpoint = endpoint;
+        self.sent = 0;
+        self.sends = 0;
+        self.grant = 1;
+    }
+
+    /// Leaves the present connection and begins the next one, with a hello. Forgotten and revoked calls are dropped; each other outstanding
+    /// call's buffers are registered under new STags, those that the server fills as zeros, and its Send waits to be sent again under its xid
+    /// as soon as the new connection's grant allows it (`feed`). Answers that came and were not taken stay. Refused, in this order: the link
+    /// has ended; too few STags are left. Or memory ran out. A refused requester doesn't change. Its output has to go to the new connection,
+    /// whose server has to agree on what the earlier ones did.
+    pub fn reopen(&mut self) -> Result<(), Refused>
+        requires { 0 < self.old.state.side.terms.number }
+        ensures accepted { OnOk result (reopen_refusal self.old.state ≡ None) }
+        ensures reopened { OnOk result (self.new ≡ after_reopen self.old self.new.staging) }
+        ensures refused { IfErr result (λ e. e ≢ refusals.Memory → reopen_refusal self.old.state ≡ Some e) }
+        ensures err { OnErr result (self.new ≡ self.old) }
+        ensures stands { OnOk result (ReopenStands self.old self.new) }
+        ensures tickets { OnOk result (KeepsTickets self.old.state self.new.state) }
+        ensures fed { OnOk result (fed_bytes self.new ≡ 0) }
+    {
+        if let Some(refused) = self.reopen_refusal() {
+            return Err(refused);
+        }
+        match self.next_link() {
+            Ok((endpoint, made)) => {
+                self.go_on(endpoint, made);
+                Ok(())
+            }
+            Err(_) => Err(Refused::Memory),
+        }
+    }
+}
